@@ -69,7 +69,7 @@ def here(program, run, folder, lights):
     """The same of a run here, and whether it is to be trusted."""
     out = folder / f"out-{lights}"
     words = [shared.TOP / "tools/streetsim-run", *run, "--lights", lights, "--program", program, "--out", out]
-    told = shared.run([*words, "--every", 0, "--counted", "busiest"], folder)
+    told = shared.run([*words, "--every", 0], folder)
     with open(out / "trips.csv", encoding="utf-8") as file:
         seconds = [int(row["duration"]) for row in csv.DictReader(file) if row["duration"]]
     greens = defaultdict(list)

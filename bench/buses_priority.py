@@ -9,10 +9,10 @@ import shared
 
 sys.path.insert(0, f"{shared.SUMO_HOME}/tools")
 
-from streetsim.actuated.logic import GO
-from streetsim.buses.coordinated import Coordinated
-from streetsim.buses.planned import SEEN
-from streetsim.buses.priority import bounded
+from streetsim.control.actuated_logic import GO
+from streetsim.control.bus_coordinated import Coordinated
+from streetsim.control.bus_planned import SEEN
+from streetsim.control.bus_priority import bounded
 
 SPEED = 13.9  # metres a second
 EACH, DWELL = 180, 20  # seconds between buses of a direction, at their stop
@@ -123,7 +123,7 @@ def seen_before(traci, bus):
 def here(program, folder, seed, priority):
     words = ["x.net.xml", "x.add.xml", "--routes", "x.rou.xml", "-o", "run.jsonl", "--map", "map.json", "--seed", seed]
     shared.run([shared.TOP / "tools/streetsim-import", *words], folder)
-    more = ["--until", UNTIL, "--every", 0, "--counted", "busiest", "--program", program, "--out", "out"]
+    more = ["--until", UNTIL, "--every", 0, "--program", program, "--out", "out"]
     more += ["--priority", "bus"] if priority else []
     shared.run([shared.TOP / "tools/streetsim-run", "run.jsonl", "--map", "map.json", *more], folder)
     with open(folder / "out/trips.csv", encoding="utf-8") as file:

@@ -18,7 +18,7 @@ from shared import TOP, run
 sys.path.insert(0, str(TOP / "tools/tests"))
 from crosses import LAST, a_green, cases, demand  # noqa: E402
 from streetsim.model.folder import read_folder  # noqa: E402
-from streetsim.results.compare import read_tripinfo, trip_times_of  # noqa: E402
+from streetsim.report.beside_sumo import read_tripinfo, trip_times_of  # noqa: E402
 
 
 def in_sumo(net, routes, folder):

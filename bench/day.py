@@ -1,18 +1,21 @@
 #!/usr/bin/python3
-"""A day of a city: 900 signals and 240,000 vehicles by the tools, and the processor time of both sides.
+"""A day of a city: 900 signals and 240,000 vehicles by the tools and by SUMO, and what both take.
 
-Usage: bench/day.py PROGRAM [--side N] [--junctions TYPE] [--vehicles N] [--folder FOLDER] [--until S] \
+Usage: bench/day.py PROGRAM [--side N] [--type TYPE] [--vehicles N] [--folder FOLDER] [--until S] [--sumo] \
 [WORDS for streetsim-run ..]
        bench/day.py PROGRAM --route ITERATIONS [--vehicles N] [--folder FOLDER] [--until S] \
 [WORDS for streetsim-route ..]
 
-Makes the network by SUMO's netgenerate (30 by 30 junctions 200 m apart, one lane; with --side and --junctions others: \
+Makes the network by SUMO's netgenerate (30 by 30 junctions 200 m apart, one lane; with --side and --type others: \
 priority has
 no lights), and vehicles between random edges along the grid with two peaks, where the folder does not have them yet; \
-imports them and runs them, or with --route finds ways for their
-trips by streetsim-route. Prints calls, seconds and memory.
+imports them and runs them, with --sumo in SUMO too, with its tripinfo, summary, queues, edges, lanes and statistics, \
+or with --route finds ways for their
+trips by streetsim-route. Prints seconds of the processor, of all processes, and the most memory that all of them had \
+at once, looked at ten times a second.
 """
 import argparse
+import contextlib
 import random
 import re
 import resource
@@ -20,10 +23,9 @@ import subprocess
 import time
 from pathlib import Path
 
+import shared
 from shared import TOP
-from streetsim.cli import import_ as importing, run as running
-from streetsim.outputs import folder as making
-from streetsim.run.record import Recorder
+
 
 SIDE = 30
 # Vehicles of each hour, of 1,000.
@@ -113,20 +115,42 @@ def megabytes(who):
     return resource.getrusage(who).ru_maxrss / 1024
 
 
-class Counted(Recorder):
-    """Says how many calls the run took, and keeps it."""
+def measured(name, command, folder):
+    """Runs a command in a folder, and prints a row of what it and all that it starts took."""
+    begin, before, most = time.monotonic(), spent(resource.RUSAGE_CHILDREN), 0
+    environment = {**shared.with_sumo(), "PYTHONDONTWRITEBYTECODE": ""}
+    with subprocess.Popen([str(word) for word in command], cwd=folder, env=environment) as process:
+        while process.poll() is None:
+            most = max(most, sum(map(resident, family(process.pid))))
+            time.sleep(0.1)
+    took = spent(resource.RUSAGE_CHILDREN) - before
+    print(f"| {name} | {time.monotonic() - begin:.0f} | {took:.1f} | {most / 1024:.0f} |", flush=True)
 
-    calls = 0
 
-    def record(self):
-        records = super().record()
-        Counted.calls = records.calls
-        asking = records.asking
-        print(
-            f"{records.calls:,} calls; polls every {asking.every:,} s, {len(asking.measured):,} lanes counted",
-            flush=True,
-        )
-        return records
+def family(process):
+    """The numbers of a process and of all that it has started, and these."""
+    found = [process]
+    for one in found:
+        for told in Path(f"/proc/{one}/task").glob("*/children"):
+            with contextlib.suppress(OSError):
+                found += map(int, told.read_text().split())
+    return found
+
+
+def resident(process):
+    """The memory of a process, KB; 0 where it has ended."""
+    with contextlib.suppress(OSError):
+        if found := re.search(r"VmRSS:\s*(\d+)", Path(f"/proc/{process}/status").read_text()):
+            return int(found[1])
+    return 0
+
+
+def sumo_words(network, routes, folder, until):
+    data = (f'<{kind}Data id="{kind}" file="{kind}.xml" freq="900"/>' for kind in ("edge", "lane"))
+    (folder / "outputs.add.xml").write_text(f"<additional>{''.join(data)}</additional>", encoding="utf-8")
+    words = ["sumo", "-n", network, "-r", routes, "--end", until, "-a", folder / "outputs.add.xml", "--no-step-log"]
+    files = ["--tripinfo-output", "t.xml", "--summary-output", "s.xml", "--queue-output", "q.xml"]
+    return [*words, "--no-warnings", "--time-to-teleport", 300, *files, "--statistic-output", "st.xml"]
 
 
 def main():
@@ -134,38 +158,30 @@ def main():
     made.add_argument("program")
     made.add_argument("--vehicles", type=int, default=240_000)
     made.add_argument("--side", type=int, default=SIDE, help="junctions in a row")
-    made.add_argument("--junctions", default="traffic_light", help="their type: traffic_light, priority, ..")
+    made.add_argument("--type", default="traffic_light", help="of junctions: traffic_light, priority, ..")
     made.add_argument("--until", type=int)
     made.add_argument("--folder", type=Path, default="/tmp/streetsim-day")
+    made.add_argument("--sumo", action="store_true", help="run it in SUMO too")
     made.add_argument("--route", type=int, metavar="ITERATIONS")
     words, more = made.parse_known_args()
-    folder = words.folder
+    folder, words.program = words.folder.resolve(), Path(words.program).resolve()
     folder.mkdir(exist_ok=True)
     network, routes, run, mapped = (folder / name for name in ("net.xml", "rou.xml", "run.jsonl", "map.json"))
     if not routes.exists():
-        make_network(network, words.side, words.junctions)
+        make_network(network, words.side, words.type)
         make_routes(routes, words.vehicles, words.side)
     if words.route is not None:
         find_ways(words, more, network, routes, folder / "trips.xml")
         return
+    until = words.until or 86_400
+    print("| What | s by the clock | s of processors | most memory, MB |\n|---|---|---|---|", flush=True)
     if not run.exists():
-        begin = spent(resource.RUSAGE_SELF)
-        importing.main([str(network), "--routes", str(routes), "-o", str(run), "--map", str(mapped)])
-        print(f"import: {spent(resource.RUSAGE_SELF) - begin:.1f} s of processor time", flush=True)
-    making.Recorder = Counted
-    begin, here, there = time.monotonic(), spent(resource.RUSAGE_SELF), spent(resource.RUSAGE_CHILDREN)
-    arguments = [
-        run, "--map", mapped, "--until", words.until or 86_400, "--program", words.program, "--out", folder / "out",
-        *more,
-    ]
-    running.main([str(word) for word in arguments])
-    here, there = spent(resource.RUSAGE_SELF) - here, spent(resource.RUSAGE_CHILDREN) - there
-    print(f"{time.monotonic() - begin:.1f} s by the clock; what streetsim took has further runs in it")
-    print("| Vehicles | calls | processor, s: tools | streetsim | memory, MB: tools | streetsim |")
-    print(f"|{'---|' * 6}")
-    memory = megabytes(resource.RUSAGE_SELF), megabytes(resource.RUSAGE_CHILDREN)
-    cells = f"{Counted.calls:,} | {here:.1f} | {there:.1f} | {memory[0]:.0f} | {memory[1]:.0f}"
-    print(f"| {words.vehicles:,} | {cells} |")
+        command = [TOP / "tools/streetsim-import", network, "--routes", routes, "-o", run, "--map", mapped]
+        measured("import", command, folder)
+    command = [TOP / "tools/streetsim-run", run, "--map", mapped, "--until", until, "--program", words.program]
+    measured("run", [*command, "--out", folder / "out", *more], folder)
+    if words.sumo:
+        measured("SUMO", sumo_words(network, routes, folder, until), folder)
 
 
 if __name__ == "__main__":

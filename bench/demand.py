@@ -21,21 +21,18 @@ from collections import defaultdict
 from dataclasses import dataclass, replace
 from pathlib import Path
 
-from shared import SAMPLES, SUMO_HOME, TOP, parser_of, run, with_sumo, work_of
+from shared import SAMPLES, SUMO_HOME, TOP, parser_of, with_sumo, work_of
 
 from streetsim.base.report import Report
-from streetsim.counts.judging import judged
-from streetsim.counts.passing import CountsByEdges
-from streetsim.counts.reading import read_counts
-from streetsim.counts.running import passed_by_count, run_demand
-from streetsim.counts.values import Count
-from streetsim.routes.loading import read_town
-from streetsim.routes.watching import Ground
-from streetsim.sessions.prepared import program_digest
+from streetsim.demand.judging import judged
+from streetsim.demand.passing import CountsByEdges
+from streetsim.demand.running import passed_by_count, run_demand
+from streetsim.demand.values import Count
+from streetsim.search.route_loading import read_town
+from streetsim.search.route_watching import RunGround
+from streetsim.search.run_prepared import program_digest
 from streetsim.sumo.network import Options
-from streetsim.ways.costs import flat_costs
-from streetsim.ways.empty import times_and_capacities_without_routes
-from streetsim.ways.trips import connected_trips, read_trips
+from streetsim.sumo.trips import connected_trips, read_trips
 
 HOUR, SHARE, ERROR = 3600, 0.4, 0.05
 TRUE_SEED, JUDGE_SEED = 11, 101
@@ -61,8 +58,6 @@ class Case:
         folder.mkdir(parents=True, exist_ok=True)
         self.options = Options()
         self.town = self.read()
-        free, _ = times_and_capacities_without_routes(self.town.net, self.town.graph, self.options)
-        self.costs = flat_costs(self.town.graph, list(free))
 
     def read(self):
         return read_town(str(self.network.net), [str(one) for one in self.network.additional], self.options, Report())
@@ -72,8 +67,8 @@ class Case:
         town = self.read()
         trips = read_trips([str(one) for one in routes], town.net, town.graph, town.types, self.options, Report())
         all_ = connected_trips(trips.all, town.net, town.graph, True, Report())
-        ground = Ground(self.program, program_digest(self.program), town.graph, 300, 2 * HOUR + 7200, 2)
-        done = run_demand(ground, town.loaded(all_), self.costs, seed)
+        ground = RunGround(self.program, program_digest(self.program), town.graph, 300, 2 * HOUR + 7200, 2)
+        done = run_demand(ground, town.loaded(all_), seed)
         by_edges, kinds = CountsByEdges(counts, town.graph), [""] * len(all_)
         values = passed_by_count(by_edges, [trip.path for trip in all_], kinds, done.left)
         return values, len(all_), done.rescues

@@ -23,15 +23,15 @@ import lone
 import shared
 from lone import Junction, Stream, Trips
 from shared import TOP, run
-from streetsim.base.serving import serving_client
+from streetsim.control.settings import Settings
+from streetsim.kernel.serving import serving_program
 from streetsim.model.folder import read_folder
 from streetsim.model.mapping import read_map
 from streetsim.model.runs import read_run
-from streetsim.results.compare import read_tripinfo, trip_times_of
-from streetsim.run.crowded import used_shares
-from streetsim.run.gaps import reds_of, signal_lines
-from streetsim.run.rounds import Round, places_of, with_lines
-from streetsim.run.settings import Settings
+from streetsim.observe.giving_way_crowded import used_shares
+from streetsim.observe.giving_way_gaps import reds_of, signal_lines
+from streetsim.observe.giving_way_rounds import made_round, with_lines
+from streetsim.report.beside_sumo import read_tripinfo, trip_times_of
 
 END = 7500  # seconds, when most have arrived
 LEVELS = (0.6, 0.8, 1.0, 1.2, 1.4, 1.6)  # of the flows that are drawn
@@ -95,7 +95,7 @@ def in_sumo(net: Path, routes: Path, folder: Path, seed: int) -> Trips:
 def here(net: Path, routes: Path, folder: Path, program: str) -> tuple[Trips, dict[str, float]]:
     """Trips, and by edge the greatest share of its lane's time that is taken."""
     run([TOP / "tools/streetsim-import", net, "--routes", routes, "-o", "run.jsonl", "--map", "run.map.json"], folder)
-    words = ["run.jsonl", "--map", "run.map.json", "--until", END, "--every", 0, "--rescue", 0, "--counted", "busiest"]
+    words = ["run.jsonl", "--map", "run.map.json", "--until", END, "--every", 0, "--rescue", 0]
     run([TOP / "tools/streetsim-run", *words, "--out", "out", "--program", program], folder)
     return trip_times_of(read_folder(str(folder / "out"))), shares_of(folder, program)
 
@@ -103,10 +103,10 @@ def here(net: Path, routes: Path, folder: Path, program: str) -> tuple[Trips, di
 def shares_of(folder: Path, program: str) -> dict[str, float]:
     """By edge the greatest share of its lane's time that is taken, by two rounds as a run makes them."""
     given, mapping = read_run(folder / "run.jsonl"), read_map(folder / "run.map.json")
-    made, settings, places = given, Settings(END, rescue=0), places_of(mapping)
+    made, settings = given, Settings(END, rescue=0)
     for _ in range(2):
-        with partial(serving_client, program, given.path, 1)() as sim:
-            passed = Round(sim, made, mapping, settings, places, lambda *_: None).make_round()
+        serve = partial(serving_program, program, given.path)
+        passed = made_round(serve, made, mapping, settings, lambda *_: None)
         reds = reds_of(mapping, passed, given.start())
         made = with_lines(given, signal_lines(mapping, reds, given.start()))
     found: dict[str, float] = defaultdict(float)

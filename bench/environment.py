@@ -1,5 +1,5 @@
 #!/usr/bin/python3
-"""Steps a second of the environment for learning, streetsim.env, beside the same one over SUMO's own traci.
+"""Steps a second of the environment for learning, streetsim.env, beside the same one over SUMO's libsumo and traci.
 
 Usage: bench/environment.py [--seconds N]     (STREETSIM_PROGRAM names the program; sumo and sumo-tools are installed)
 
@@ -18,6 +18,7 @@ import tempfile
 import time
 from collections.abc import Iterator
 from contextlib import contextmanager
+from functools import partial
 from pathlib import Path
 
 from shared import SAMPLES, SUMO_HOME, TOP
@@ -25,7 +26,10 @@ from shared import SAMPLES, SUMO_HOME, TOP
 os.environ.setdefault("SUMO_HOME", SUMO_HOME)
 sys.path.insert(1, f"{SUMO_HOME}/tools")
 
-import traci  # noqa: E402  SUMO's own
+import traci as sumo_traci  # noqa: E402  SUMO's own
+
+sys.path[:0] = ["/usr/lib/python3/dist-packages"]  # whose libsumo has its program, which that of SUMO_HOME lacks
+import libsumo  # noqa: E402
 from streetsim.env import SignalEnv  # noqa: E402
 
 EVERY, YELLOW, GREEN = 5, 3, 6  # seconds, seconds, steps
@@ -39,7 +43,8 @@ NETS = {
 class OverSumo:
     """The environment's steps over SUMO's traci."""
 
-    def __init__(self, words: list[str]) -> None:
+    def __init__(self, words: list[str], traci) -> None:
+        self.traci = traci
         traci.start(["sumo", *words, "--no-step-log", "--no-warnings", "--ignore-route-errors"])
         light, lane = traci.trafficlight, traci.lane
         self.lanes = {name: list(dict.fromkeys(light.getControlledLanes(name))) for name in light.getIDList()}
@@ -60,6 +65,7 @@ class OverSumo:
             )
 
     def step(self, actions: dict[str, int]) -> dict[str, list[float]]:
+        traci = self.traci
         changed = [name for name, action in actions.items() if action != self.now[name]]
         for name in changed:
             before, after = self.greens[name][self.now[name]], self.greens[name][actions[name]]
@@ -78,8 +84,8 @@ class OverSumo:
 
 
 @contextmanager
-def sumo(words: list[str]) -> Iterator[tuple[OverSumo, dict[str, int]]]:
-    made = OverSumo(words)
+def over(traci, words: list[str]) -> Iterator[tuple[OverSumo, dict[str, int]]]:
+    made = OverSumo(words, traci)
     yield made, {name: len(greens) for name, greens in made.greens.items()}
     traci.close()
 
@@ -123,13 +129,17 @@ def processor_of_children() -> float:
 def main() -> None:
     parser = argparse.ArgumentParser(description=__doc__, formatter_class=argparse.RawDescriptionHelpFormatter)
     parser.add_argument("--seconds", type=int, default=1800)
+    parser.add_argument("--times", type=int, default=3, help="of which the fastest counts")
     words = parser.parse_args()
-    print("| Network | steps a processor second over SUMO's traci | here | load |\n|---|---|---|---|")
+    print("| Network | steps a processor second over libsumo | over SUMO's traci | here | here by libsumo | load |")
+    print("|---|---|---|---|---|---|")
     for name, (net, routes) in NETS.items():
         given = ["-n", str(net), "-r", str(routes), "--seed", "1"]
         begin = time.time()
-        rates = [measure(opened, given, words.seconds) for opened in (sumo, here)]
-        print(f"| {name} | {rates[0]:.0f} | {rates[1]:.0f} | {os.getloadavg()[0]:.1f} |", flush=True)
+        ways = partial(over, libsumo), partial(over, sumo_traci), here
+        rates = [max(measure(opened, given, words.seconds) for _ in range(words.times)) for opened in ways]
+        told = " | ".join(f"{rate:.0f}" for rate in rates)
+        print(f"| {name} | {told} | {rates[2] / rates[0]:.2f} | {os.getloadavg()[0]:.1f} |", flush=True)
         print(f"({time.time() - begin:.0f} s)", file=sys.stderr)
 
 

@@ -17,7 +17,7 @@ from statistics import fmean, median
 import shared
 from shared import TOP, run
 from streetsim.model.folder import read_folder
-from streetsim.results.compare import read_tripinfo, trip_times_of
+from streetsim.report.beside_sumo import read_tripinfo, trip_times_of
 
 LAST, END = 3600, 7200  # seconds: of departures, of the run
 ARM, OUT, APART = 500, 300, 2500  # metres of an arm that leads to a junction, of one from it, between junctions

@@ -15,7 +15,7 @@ from collections import Counter
 from pathlib import Path
 
 from shared import SHIPPED, run
-from streetsim.results.compare import read_tripinfo
+from streetsim.report.beside_sumo import read_tripinfo
 
 RILSA = SHIPPED / "RiLSA_example1"
 FIRST, LAST = 600, 3900  # seconds of the count

@@ -1,16 +1,16 @@
 #!/usr/bin/python3
 """Frames and steps a second of the live page in headless Chromium, playing at 10 steps a second.
 
-Usage: bench/live.py PAGE_PROGRAM CORRIDOR_RUN CORRIDOR_MAP [--module STREET_PAGE_WASM] [--seconds N] [--picture FILE]
+Usage: bench/live.py PROGRAM CORRIDOR_RUN CORRIDOR_MAP [--seconds N] [--picture FILE]
 
 The corridor is a run file and a map as streetsim-import wrote them; \
 the grid is that of steps.py, with 10,000 vehicles, in four
 views: the whole, a scale at which some hundred lanes are seen, one junction, \
-and the view with as many lanes as are asked in each step,
-which costs the most. With --module the same pages run by the engine
-inside them. It needs Debian's python3-selenium and chromium-driver. The load of the machine is printed beside.
+and the view with as many lanes as vehicles are drawn on,
+which costs the most. It needs Debian's python3-selenium and chromium-driver. The load of the machine is printed beside.
 """
 import argparse
+import contextlib
 import json
 import os
 import tempfile
@@ -23,9 +23,12 @@ from pathlib import Path
 import shared  # noqa: F401  # which finds the tools
 import steps
 from selenium import webdriver
+from streetsim.base import limits
+from streetsim.control.settings import Settings
 from streetsim.live.bridge import Bridge
-from streetsim.live.engine import Engine
-from streetsim.live.page import live_page, own_lines
+from streetsim.live.page import live_page
+from streetsim.live.session import PageSession
+from streetsim.live.world import PageRun
 from streetsim.model.mapping import Map, MapLink, read_map
 from streetsim.model.runs import Run, read_run
 
@@ -38,7 +41,7 @@ const lanes = () => shown().reduce((sum, link) => sum + link.lanes, 0);
 scene.moved = false; scene.fit();
 const middle = session.data.nodes[Math.floor(session.data.nodes.length / 2)];
 if (scale) { scene.moved = true; [scene.x, scene.y, scene.scale] = [middle.x, middle.y, scale === "most" ? 2 : scale]; }
-if (scale === "most") { while (lanes() <= MOST_LOOKS) scene.scale *= 0.99; scene.scale /= 0.99; }
+if (scale === "most") { while (lanes() <= MOST_LANES) scene.scale *= 0.99; scene.scale /= 0.99; }
 if (!playing) toggle();
 return lanes();
 """
@@ -89,13 +92,11 @@ def browser() -> Iterator[webdriver.Chrome]:
 @contextmanager
 def served(run: Run, mapping: Map, program: str) -> Iterator[str]:
     """The address of a page that the bridge serves."""
-    engines = [Engine(program, own_lines(run)) for _ in range(2)]
-    with Bridge(engines, live_page(run, mapping)) as bridge:
+    of = PageRun(run, mapping, Settings(limits.CLOCK, 0), program)
+    with contextlib.closing(PageSession(of)) as session, Bridge(session, live_page(of)) as bridge:
         threading.Thread(target=bridge.serve_forever, daemon=True).start()
         yield bridge.address
         bridge.shutdown()
-    for engine in engines:
-        engine.close()
 
 
 def opened(page: webdriver.Chrome, address: str, begin: int) -> None:
@@ -120,28 +121,20 @@ def measure(page: webdriver.Chrome, name: str, scale: float | str | None, second
     )
 
 
-def measure_all(
-    page: webdriver.Chrome, words: argparse.Namespace, folder: Path, how: str, module: bytes | None
-) -> None:
+def measure_all(page: webdriver.Chrome, words: argparse.Namespace, folder: Path) -> None:
+    """Prints a row for each view of the corridor and the grid."""
     corridor = read_run(words.corridor), read_map(words.map)
     for name, (run, mapping), begin, views in (
         ("corridor", corridor, 900, {"whole": None}),
         (f"grid of {VEHICLES:,}", grid(folder), 500, VIEWS),
     ):
-        if module:
-            path = folder / "page.html"
-            path.write_bytes(live_page(run, mapping, module))
-            opened(page, path.as_uri(), begin)
-        else:
-            context = served(run, mapping, words.program)
-            opened(page, context.__enter__(), begin)
-        for view, scale in views.items():
-            measure(page, f"{name}, {view}, {how}", scale, words.seconds)
-            if words.picture and name == "corridor" and not module:
-                page.save_screenshot(words.picture)
-        if not module:
+        with served(run, mapping, words.program) as address:
+            opened(page, address, begin)
+            for view, scale in views.items():
+                measure(page, f"{name}, {view}", scale, words.seconds)
+                if words.picture and name == "corridor":
+                    page.save_screenshot(words.picture)
             page.get("about:blank")
-            context.__exit__(None, None, None)
 
 
 def main() -> None:
@@ -149,7 +142,6 @@ def main() -> None:
     parser.add_argument("program")
     parser.add_argument("corridor")
     parser.add_argument("map")
-    parser.add_argument("--module")
     parser.add_argument("--seconds", type=int, default=6)
     parser.add_argument("--picture")
     words = parser.parse_args()
@@ -158,9 +150,7 @@ def main() -> None:
         "|---|---|---|---|---|---|"
     )
     with tempfile.TemporaryDirectory() as folder, browser() as page:
-        measure_all(page, words, Path(folder), "bridge", None)
-        if words.module:
-            measure_all(page, words, Path(folder), "one file", Path(words.module).read_bytes())
+        measure_all(page, words, Path(folder))
 
 
 if __name__ == "__main__":

@@ -1,6 +1,7 @@
 """Lone junctions side by side in one network: made by netconvert, run in SUMO and here, and who passes them counted.
 
-A junction has arms of 500 m to the west, east, north and south. One stream is looked at, others go along or across.
+A junction has arms to the west, east, north and south, of 500 m if not told. One stream is looked at, others go along
+or across.
 """
 
 import math
@@ -12,8 +13,8 @@ from dataclasses import dataclass
 from pathlib import Path
 
 from shared import TOP, run
-from streetsim.results.compare import read_tripinfo, trip_times_of
 from streetsim.model.folder import read_folder
+from streetsim.report.beside_sumo import read_tripinfo, trip_times_of
 
 FIRST, LAST = 600, 3900  # seconds of the count
 ARM, OUT, SPEED = 500, 200, 13.89  # metres of an arm that leads to the junction, and of one from it; metres a second
@@ -40,6 +41,10 @@ class Junction:
     looked_at: tuple[Stream, ...] = ()
     others: tuple[Stream, ...] = ()
     lanes: int = 1  # of the main street
+    arm: int = ARM
+    out: int = OUT
+    speed: float = SPEED
+    radius: int = RADIUS
 
     @property
     def type(self) -> str:
@@ -52,45 +57,45 @@ class Junction:
 def plain(junction: Junction, x: float) -> tuple[list[str], list[str]]:
     """Nodes and edges of a lone junction, in SUMO's plain XML."""
     if junction.kind == "roundabout":
-        return roundabout(junction.name, x)
+        return roundabout(junction, x)
     nodes, edges = [f'<node id="{junction.name}" x="{x}" y="0" type="{junction.type}"/>'], []
     for arm in junction.arms:
         lanes = junction.lanes if arm in "we" else 1
-        edges += arm_of(junction.name, junction.name, arm, junction.priority(arm), lanes)
-        nodes += ends_of(junction.name, arm, x, 0)
+        edges += arm_of(junction, junction.name, arm, junction.priority(arm), lanes)
+        nodes += ends_of(junction, arm, x, 0)
     return nodes, edges
 
 
-def ends_of(name: str, arm: str, x: float, radius: float) -> list[str]:
+def ends_of(junction: Junction, arm: str, x: float, radius: float) -> list[str]:
     """The far ends of an arm."""
     right, up = PLACES[arm]
     return [
-        f'<node id="{name}{arm}{side}" x="{x + right * (radius + length)}" y="{up * (radius + length)}"/>'
-        for side, length in (("in", ARM), ("out", OUT))
+        f'<node id="{junction.name}{arm}{side}" x="{x + right * (radius + length)}" y="{up * (radius + length)}"/>'
+        for side, length in (("in", junction.arm), ("out", junction.out))
     ]
 
 
-def arm_of(name: str, node: str, arm: str, priority: int, lanes: int = 1) -> list[str]:
+def arm_of(junction: Junction, node: str, arm: str, priority: int, lanes: int = 1) -> list[str]:
     """The two edges of an arm."""
-    usual = f'numLanes="{lanes}" speed="{SPEED}" priority="{priority}"'
+    name, usual = junction.name, f'numLanes="{lanes}" speed="{junction.speed}" priority="{priority}"'
     return [
         f'<edge id="{name}{arm}c" from="{name}{arm}in" to="{node}" {usual}/>',
         f'<edge id="{name}c{arm}" from="{node}" to="{name}{arm}out" {usual}/>',
     ]
 
 
-def roundabout(name: str, x: float) -> tuple[list[str], list[str]]:
-    nodes, edges = [], []
+def roundabout(junction: Junction, x: float) -> tuple[list[str], list[str]]:
+    nodes, edges, name, radius = [], [], junction.name, junction.radius
     for at, arm in enumerate(ROUND):
         begin, following = at * math.pi / 2, ROUND[(at + 1) % 4]
         nodes.append(
-            f'<node id="{name}{arm}" x="{x + RADIUS * math.cos(begin):.2f}" y="{RADIUS * math.sin(begin):.2f}" '
+            f'<node id="{name}{arm}" x="{x + radius * math.cos(begin):.2f}" y="{radius * math.sin(begin):.2f}" '
             'type="priority"/>'
         )
-        nodes += ends_of(name, arm, x, RADIUS)
-        edges += arm_of(name, f"{name}{arm}", arm, 5)
+        nodes += ends_of(junction, arm, x, radius)
+        edges += arm_of(junction, f"{name}{arm}", arm, 5)
         angles = (begin + part * math.pi / 8 for part in range(5))
-        shape = " ".join(f"{x + RADIUS * math.cos(angle):.2f},{RADIUS * math.sin(angle):.2f}" for angle in angles)
+        shape = " ".join(f"{x + radius * math.cos(angle):.2f},{radius * math.sin(angle):.2f}" for angle in angles)
         ring = f'numLanes="1" speed="{RING}" priority="10" shape="{shape}"'
         edges.append(f'<edge id="{name}q{arm}" from="{name}{arm}" to="{name}{following}" {ring}/>')
     return nodes, edges
@@ -154,13 +159,13 @@ def in_sumo(net: Path, routes: Path, folder: Path, seed: int) -> Trips:
     return read_tripinfo(str(trips))
 
 
-def here(net: Path, routes: Path, folder: Path, program: str) -> Trips:
-    run([TOP / "tools/streetsim-import", net, "--routes", routes, "-o", "run.jsonl", "--map", "run.map.json"], folder)
+def here(net: Path, routes: Path, folder: Path, program: str, tools: Path = TOP / "tools") -> Trips:
+    run([tools / "streetsim-import", net, "--routes", routes, "-o", "run.jsonl", "--map", "run.map.json"], folder)
     words = [
-        "run.jsonl", "--map", "run.map.json", "--until", LAST, "--every", 0, "--rescue", 0, "--counted", "busiest",
+        "run.jsonl", "--map", "run.map.json", "--until", LAST, "--every", 0, "--rescue", 0,
         "--out", "out",
     ]
-    run([TOP / "tools/streetsim-run", *words, "--program", program], folder)
+    run([tools / "streetsim-run", *words, "--program", program], folder)
     return trip_times_of(read_folder(str(folder / "out")))
 
 

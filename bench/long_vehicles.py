@@ -15,7 +15,7 @@ from statistics import fmean
 import shared
 from shared import SAMPLES, TOP, run
 from streetsim.model.folder import read_folder
-from streetsim.results.compare import edge_counts_of, geh, read_edgedata, read_tripinfo, trip_times_of
+from streetsim.report.beside_sumo import edge_counts_of, geh, read_edgedata, read_tripinfo, trip_times_of
 
 PLAIN, LIT = "priority", "traffic_light"
 NODES = ("a", -800, 0, PLAIN), ("b", 0, 0, LIT), ("c", 400, 0, PLAIN), ("d", 0, -400, PLAIN), ("e", 0, 400, PLAIN)

@@ -14,7 +14,7 @@ from pathlib import Path
 import shared
 from shared import TOP, run
 from streetsim.model.folder import read_folder
-from streetsim.results.compare import read_tripinfo, trip_times_of
+from streetsim.report.beside_sumo import read_tripinfo, trip_times_of
 
 FLOWS = (200, 400, 600, 800)  # vehicles an hour of the main street
 KINDS = {"both sides, none left": ("sn", 0.0), "one side, 20 % left": ("s", 0.2), "both sides, 20 % left": ("sn", 0.2)}
@@ -81,7 +81,7 @@ def main():
         folder,
     )
     words = [
-        "run.jsonl", "--map", "run.map.json", "--until", LAST, "--every", 0, "--rescue", 0, "--counted", "busiest",
+        "run.jsonl", "--map", "run.map.json", "--until", LAST, "--every", 0, "--rescue", 0,
         "--out", "out",
     ]
     run([TOP / "tools/streetsim-run", *words, "--program", Path(args.program).resolve()], folder)

@@ -1,10 +1,9 @@
 #!/usr/bin/python3
-"""Prints what rounds of giving way cost, and how much the seconds between their polls and their number change mean \
-trips.
+"""Prints what rounds of giving way cost, and how much their number changes mean trips.
 
 Usage: bench/rounds.py PROGRAM RUN.jsonl MAP.json --until S [--seeds 1-3]
 
-Times are processor seconds of the tools and of streetsim. Without rounds a run polls as it does with them, every 600 s.
+Times are processor seconds of the tools and of streetsim.
 """
 
 import os
@@ -15,19 +14,17 @@ from statistics import fmean
 import shared
 from streetsim.cli import run as running
 from streetsim.model.folder import read_folder
-from streetsim.run import rounds
 
-# Rounds, and seconds between their polls.
-CASES = [(0, 10), (1, 10), (2, 10), (3, 10), (2, 30), (2, 120), (2, 300), (2, 600), (2, 1800)]
+ROUNDS = range(5)
 
 
-def run(args, count, every):
+def run(args, count):
     """Mean trips by seed, and processor seconds a run."""
-    rounds.EVERY = every
     before = os.times()
     with tempfile.TemporaryDirectory() as folder:
         words = [
             args.run, "--map", args.map, "--until", str(args.until), "--every", "600", "--seeds", args.seeds,
+            "--departures", "listed",
             "--jobs", "1",
         ]
         running.main([*words, "--rounds", str(count), "--out", folder, "--program", args.program])
@@ -44,11 +41,11 @@ def main():
     parser.add_argument("--seeds", default="1-3")
     args = parser.parse_args()
     rows, usual = [], None
-    for count, every in CASES:
-        means, spent = run(args, count, every)
+    for count in ROUNDS:
+        means, spent = run(args, count)
         usual = usual or spent
-        rows.append(f"| {count} | {every if count else ''} | {fmean(means):.1f} | {spent:.1f} | {spent / usual:.1f} |")
-    print("| Rounds | polls every, s | mean trip, s | processor, s | times |\n|---|---|---|---|---|")
+        rows.append(f"| {count} | {fmean(means):.1f} | {spent:.1f} | {spent / usual:.1f} |")
+    print("| Rounds | mean trip, s | processor, s | times |\n|---|---|---|---|")
     print(*rows, sep="\n")
 
 

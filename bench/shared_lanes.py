@@ -20,7 +20,7 @@ from shared import TOP, run
 sys.path.insert(0, str(TOP / "tools/tests"))
 from crosses import FIRST, FULL, LAST, demand  # noqa: E402
 from streetsim.model.folder import read_folder  # noqa: E402
-from streetsim.results.compare import read_tripinfo, trip_times_of  # noqa: E402
+from streetsim.report.beside_sumo import read_tripinfo, trip_times_of  # noqa: E402
 
 NET = TOP / "tools/tests/data/cross1.net.xml.gz"
 # Greens of the other street and of this one, shares that turn left in percent, vehicles an hour against them, and the

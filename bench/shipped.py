@@ -14,7 +14,7 @@ import shared
 from streetsim.base.client import Client
 from streetsim.base.files import Fault
 from streetsim.base.report import Report
-from streetsim.importing.convert import convert
+from streetsim.sumo.import_files import convert
 from streetsim.sumo.network import Options
 
 

@@ -16,7 +16,7 @@ from dataclasses import dataclass
 import shared
 from shared import TOP, run
 from streetsim.model.folder import read_folder
-from streetsim.results.compare import read_tripinfo, trip_times_of
+from streetsim.report.beside_sumo import read_tripinfo, trip_times_of
 
 METRES, APART, LAST = 400, 3000, 3600
 FREE = [(limit - 0.17) * 7.5 for limit in (1, 2, 3)]  # metres a second when free, of limits

@@ -16,7 +16,7 @@ import subprocess
 import sys
 
 import shared
-from shared import CORRIDOR, SAMPLES, TOP
+from shared import CORRIDOR, TOP
 
 SECTIONS = {  # of pages: the headings of their walks
     "README": ("A walk of ten minutes",),
@@ -25,8 +25,8 @@ SECTIONS = {  # of pages: the headings of their walks
     "ROUTES": ("A walk of two minutes",),
     "COUNTS": ("A walk of five commands",),
 }
-INSTALLING = "mkdir "  # a block with it is left out: the tools are run as they are here, in the folder of this call,
-EXAMPLE = ["streetsim-example", "corridor", "--out", "."]  # which has the files of the walks
+INSTALLING = "mkdir "  # a block with it is left out: the tools are run as they are here, in the folder of this call
+EXAMPLES = ("corridor", "town")  # whose files the walks take
 
 
 def blocks(page, heading):
@@ -86,11 +86,11 @@ def main():
         **shared.with_sumo(),
         "PATH": f"{TOP / 'tools'}:{os.environ['PATH']}",
         "STREETSIM_PROGRAM": args.program,
-        "data": str(SAMPLES),
     }
-    for path in CORRIDOR.iterdir():
-        (folder / path.name).unlink(missing_ok=True)
-    subprocess.run(EXAMPLE, cwd=folder, env=surroundings, check=True)
+    for name in EXAMPLES:
+        for path in (CORRIDOR.parent / name).iterdir():
+            (folder / path.name).unlink(missing_ok=True)
+        subprocess.run(["streetsim-example", name, "--out", "."], cwd=folder, env=surroundings, check=True)
     runs = runner(folder, surroundings)
     wrong = sum(walk(page, heading, runs) for page in args.only.split(",") for heading in SECTIONS[page])
     print("each walk prints what its page says" if not wrong else f"{wrong} commands print other lines, or fail")

@@ -73,11 +73,10 @@ class Works:
 def chosen(mapping, lines, counts):
     """The works on a network, by its map and its run."""
     links = mapping["links"]
-    passing = Counter(links[at][0] for line in lines if line["cmd"] == "enter" for at in line["plan"])
-    lanes, metres = Counter(), {}
-    for link in links:
-        lanes[link[0]] += len(link[1])
-        metres[link[0]] = link[6]
+    passing = Counter(links["edge"][at] for line in lines if line["cmd"] == "enter" for at in line["plan"])
+    lanes, metres = Counter(), dict(zip(links["edge"], links["metres"], strict=True))
+    for edge, own in zip(links["edge"], links["lanes"], strict=True):
+        lanes[edge] += len(own)
     for wanted, count in counts.items():
         names = [name for name, _ in passing.most_common() if lanes[name] == wanted and metres[name] >= LEAST]
         names = names if wanted == 1 else names[: (len(names) + 1) // 2]
@@ -122,7 +121,7 @@ def sumo_trip(name, works, seed, folder):
 def here_trip(name, works, closing, seeds, folder, program, merge):
     """The mean trips here, and the rescues, of each seed; the lane of the works is joint also without them."""
     words = [f"{name}.jsonl", "--map", f"{name}.map.json", "--until", UNTIL, "--every", 0, "--jobs", 1]
-    words += ["--seeds", seeds, "--out", "here", "--program", program]
+    words += ["--seeds", seeds, "--departures", "listed", "--out", "here", "--program", program]
     if closing:
         words += [f"--close={works.closing()}", "--merge", merge]
     elif works.lanes > 1:

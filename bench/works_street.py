@@ -100,7 +100,7 @@ def here(case: Case, works: Stretch | None, seed: int, label: str, program: str,
         words.append(f"--close={works.closing()}")
     elif joint:
         words.append(f"--joint={joint}")
-    words += ["--seeds", f"{seed}-{seed}"]
+    words += ["--seeds", f"{seed}-{seed}", "--departures", "listed"]
     told = run([TOP / "tools/streetsim-run", *words], case.folder)
     out = out / f"seed-{seed}"
     with open(out / "trips.csv", encoding="utf-8") as file:

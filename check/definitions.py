@@ -3,6 +3,7 @@
 
     check/definitions.py rows             evaluates every worked row; the status is 0 if all are true
     check/definitions.py serve < LINES    serves a session from nothing loaded, as the program does
+    check/definitions.py record < LINES   the record of such a session, as the program writes it
     check/definitions.py words            lists which words of which files are evaluated, and which are not
 
 `--top FOLDER` names another repository, or a copy of its folder `crates`. \
@@ -15,13 +16,15 @@ from collections.abc import Iterator
 from dataclasses import dataclass
 from pathlib import Path
 
-from antt import Parser, Refused, clause_parts
+from antt import Parser, Refused
 from translate import Program
 from words import NONE, Record, Variant, some
 
 TOP = Path(__file__).resolve().parent.parent
 MACHINE = "street_base.specs.Outcomes"
 RUNNING = "street_line.specs.Runs"
+RECORD = "street_base.specs.Record"
+KEPT = "street_line.specs.KeptSessions"
 WHOLE = Variant("Outcome.Whole")
 # A row about all states, numbers or lists is evaluated at these, as far as its premises leave them free.
 STATES = "street_base.proofs.rows.States"
@@ -54,12 +57,14 @@ def without_end(line):
 @dataclass
 class Served:
     """The reply to each line of a session, none for a blank one; the calls that were made, the reply to each,
-    and the state that they leave."""
+    and the state that they leave; and of each line with steps the line and the blocks of its steps, as the record has
+    them."""
 
     replies: list
     calls: list
     answers: list
     state: object
+    blocks: list
 
 
 class Definitions:
@@ -78,7 +83,7 @@ class Definitions:
         said, served_line = self.word(RUNNING, "said"), self.word(RUNNING, "served_line")
         fault_line = self.word("street_text.specs.FaultLines", "fault_line")
         entry = self.word("street_desk.specs.History", "entry")
-        served = Served([], [], [], NONE)
+        served = Served([], [], [], NONE, [])
         for line in lines:
             what = said(list(line))
             if what.name == "silent":
@@ -86,24 +91,42 @@ class Definitions:
             elif what.name == "faulty":
                 served.replies.append(without_end(fault_line(what.parts[0]).parts[0]))
             elif len(served.calls) == most:
-                served.replies.append(without_end(served_line(Variant("Served.Full"))))
+                served.replies.append(without_end(served_line(Variant("Served.Full")).parts[0]))
             else:
-                reply, served.state = self.call(served.state, what.parts[0])
-                served.answers.append(without_end(served_line(Variant("Served.Answered", (reply,)))))
+                reply, served.state, blocks = self.call(served.state, what.parts[0])
+                if blocks:
+                    served.blocks.append((line, blocks))
+                served.answers.append(without_end(served_line(Variant("Served.Answered", (reply,))).parts[0]))
                 served.replies.append(served.answers[-1])
                 served.calls.append(entry(0, what.parts[0], WHOLE))
         return served
 
     def call(self, state, command):
-        """The reply to a command, and the state after it."""
+        """The reply to a command, the state after it, and the blocks of its steps in the record."""
         reply = self.word(MACHINE, "reply_to")(state, command, WHOLE)
         after = self.word(MACHINE, "state_after")(state, command, WHOLE)
+        blocks = b""
+        if command.name == "Command.Advance" and reply.name == "Reply.Clock":
+            blocks = bytes(self.word(RECORD, "blocks")(command.parts[0], state.parts[0]))
         self.program.forget()
-        return reply, after
+        return reply, after, blocks
 
     def lines(self, text):
         """The lines of a text, by the definition; for short texts alone, since each line doubles its work."""
         return [bytes(line) for line in self.word("street_stream.specs.Lines", "lines_of")(list(text))]
+
+    # ---- sessions that are kept
+
+    def keep(self, had, text):
+        """What a kept session leaves, where its file had the first text and it reads the second: `Ok` of how many lines
+        were done again, the replies and the file; or `Err` of the file's first bad line."""
+        left = self.word(KEPT, "kept_session")(list(had), list(text))
+        self.program.forget()
+        return left
+
+    def ended(self, had):
+        """The lines of a kept file that have ended."""
+        return bytes(self.word(KEPT, "ended")(list(had)))
 
     # ---- tapes
 
@@ -226,21 +249,33 @@ def show_words(definitions):
 
 def serve_input(definitions):
     """Serves standard input."""
-    lines = sys.stdin.buffer.read().split(b"\n")
-    for reply in definitions.serve(lines).replies:
+    for reply in definitions.serve(input_lines()).replies:
         if reply is not None:
             sys.stdout.buffer.write(reply + b"\n")
     return 0
 
 
+def record_input(definitions):
+    """Writes the record of standard input's session."""
+    lines = input_lines()
+    for _, blocks in definitions.serve(lines, len(lines)).blocks:
+        sys.stdout.buffer.write(blocks)
+    return 0
+
+
+def input_lines():
+    return sys.stdin.buffer.read().split(b"\n")
+
+
 def main():
     parser = argparse.ArgumentParser(description=__doc__, formatter_class=argparse.RawDescriptionHelpFormatter)
-    parser.add_argument("what", choices=["rows", "serve", "words"])
+    parser.add_argument("what", choices=["rows", "serve", "record", "words"])
     parser.add_argument("--top", type=Path, default=TOP)
     words = parser.parse_args()
     definitions = Definitions(words.top)
     with deep_calls():
-        return {"rows": show_rows, "serve": serve_input, "words": show_words}[words.what](definitions)
+        doing = {"rows": show_rows, "serve": serve_input, "record": record_input, "words": show_words}
+        return doing[words.what](definitions)
 
 
 if __name__ == "__main__":

@@ -255,3 +255,33 @@ class Maker:
             return
         command[name] = "here"
         self.lines.append(json.dumps(command).replace('"here"', self.pick(*NO_NUMBERS)).encode())
+
+
+# Nodes of a crowd in a ring, cells of each lane, vehicles, and the steps.
+RING, CELLS, CARS, STEPS = 48, 100, 4_800, 90
+# Two streets leave each node: to the next node and to the fifth after it.
+AHEAD = (1, 5)
+
+
+def crowd():
+    """The lines of a session with so many vehicles in cells (LINES.md, `--workers`) that threads share its steps."""
+    links = [
+        [len(AHEAD) * node + at, node, (node + ahead) % RING, 2, CELLS, 3 + at]
+        for node in range(RING)
+        for at, ahead in enumerate(AHEAD)
+    ]
+    after = {link[0]: [len(AHEAD) * link[2] + at for at in range(len(AHEAD))] for link in links}
+    turns = [[link, lane, to, lane] for link, goals in after.items() for to in goals for lane in (0, 1)]
+    commands = [{
+        "cmd": "load", "nodes": [[node, 2, 3] for node in range(RING)], "links": links, "turns": turns, "zone": 12,
+        "dawdle": 150, "change": 400, "seed": 46,
+    }]
+    for car in range(CARS):
+        plan = [car % len(links)]
+        for bit in range(4):
+            plan.append(after[plan[-1]][car >> bit & 1])
+        commands.append({"cmd": "enter", "plan": plan, "lane": car // len(links) % 2, "depart": 0, "size": 1 + car % 3})
+    for _ in range(3):
+        commands += [{"cmd": "advance", "steps": STEPS // 3}, {"cmd": "count"}]
+    commands += [{"cmd": "lane", "link": link[0], "lane": lane} for link in links for lane in (0, 1)]
+    return [json.dumps(command, separators=(",", ":")).encode() for command in commands]

@@ -6,6 +6,7 @@
     check/sessions.py --file SESSION.jsonl        one session from a file
 
 The program serves each session with 1, 3 and 64 workers, writes its tape and replays it. \
+With `--record` it serves each with these workers once more, and its record is compared too. \
 The first session in which anything differs is made
 small and printed as lines to paste; the status is then 1. \
 `--program PATH` names the program, and `--top FOLDER` another repository's definitions.
@@ -52,10 +53,10 @@ class Difference:
 
 
 class Comparison:
-    """The definitions beside a program."""
+    """The definitions beside a program; its record is compared too where that is wanted."""
 
-    def __init__(self, program, top=TOP):
-        self.program, self.definitions = program, Definitions(top)
+    def __init__(self, program, top=TOP, records=False):
+        self.program, self.definitions, self.records = program, Definitions(top), records
 
     def difference(self, lines, most=MOST_CALLS):
         """The first difference in a session that has places for so many calls, or none."""
@@ -70,7 +71,10 @@ class Comparison:
                 if found:
                     return Difference(lines, words, [], *found, [])
             found = self.of_tape(served, tape) or self.of_replay(served, tape) or self.of_changed_tape(lines, tape)
-        return Difference(lines, [*places, "--tape", "FILE"], *found) if found else None
+            if found:
+                return Difference(lines, [*places, "--tape", "FILE"], *found)
+            # A session with a record has no end of places.
+            return self.of_record(lines, served, Path(folder) / "record") if self.records and not places else None
 
     def run(self, words, text=b""):
         """The lines that the program writes; its status and what it says of it stand behind them
@@ -78,6 +82,21 @@ class Comparison:
         done = subprocess.run([self.program, *words], input=text, capture_output=True, timeout=60, check=False)
         ended = b"" if done.returncode == 0 else b"status %d: %s\n" % (done.returncode, done.stderr.strip())
         return (done.stdout + ended).split(b"\n")
+
+    def of_record(self, lines, served, record):
+        """Whether the program replies the same where it writes a record, and the record is the one defined."""
+        steps = [(line, block) for line, blocks in served.blocks for block in blocks_shown(blocks)]
+        text = b"".join(line + b"\n" for line in lines)
+        for workers in WORKERS:
+            words = ["--workers", str(workers), "--record"]
+            found = first_difference(lines, served.replies, self.run([*words, record], text))
+            if found:
+                return Difference(lines, [*words, "FILE"], [], *found, [])
+            got = blocks_shown(record.read_bytes())
+            found = first_difference([line for line, _ in steps], [block for _, block in steps], got)
+            if found:
+                return Difference(lines, [*words, "FILE"], ["(the record)"], *found, [])
+        return None
 
     def of_tape(self, served, tape):
         """Whether the tape is that of the calls, and reads as these calls."""
@@ -119,6 +138,17 @@ class Comparison:
             tried.add(tuple(lines))
             best = self.difference(lines, most) or best
         return best
+
+
+def blocks_shown(record):
+    """Each block of a record in hexadecimal digits, the head and each row as a word; what is torn as it is, last."""
+    blocks, at = [], 0
+    while at < len(record):
+        rows = int.from_bytes(record[at + 4:at + 8], "little")
+        block = record[at:at + 16 * (1 + rows)]
+        blocks.append(block.hex(" ", -16).encode())
+        at += len(block)
+    return blocks
 
 
 def first_difference(lines, wanted, got):
@@ -181,9 +211,9 @@ def plain(line):
 
 # ---- many sessions, on all processors
 
-def start_worker(program, top):
+def start_worker(program, top, records):
     global comparison
-    comparison = Comparison(program, top)
+    comparison = Comparison(program, top, records)
 
 
 def fault_of_seed(seed):
@@ -195,12 +225,12 @@ def fault_of_seed(seed):
     return (shown(comparison.smaller(found, most)) if found else None), len(lines)
 
 
-def compare(program, top, seeds, until=None):
-    """Compares the sessions of these seeds, until a time if one is given: how many sessions and lines,
-    and the first fault shown, or none."""
+def compare(program, top, seeds, until=None, records=False):
+    """Compares the sessions of these seeds, until a time if one is given, and their records if that is wanted:
+    how many sessions and lines, and the first fault shown, or none."""
     sessions = lines = 0
     with concurrent.futures.ProcessPoolExecutor(
-        len(os.sched_getaffinity(0)), initializer=start_worker, initargs=(program, top)
+        len(os.sched_getaffinity(0)), initializer=start_worker, initargs=(program, top, records)
     ) as pool:
         for start in range(0, len(seeds), BATCH):
             batch = seeds[start:start + BATCH]
@@ -214,7 +244,7 @@ def compare(program, top, seeds, until=None):
 
 def compare_file(words):
     """Compares the session of a file, and tells where it differs."""
-    found = Comparison(words.program, words.top).difference(words.file.read_bytes().splitlines())
+    found = Comparison(words.program, words.top, words.record).difference(words.file.read_bytes().splitlines())
     print(shown(found) if found else "no difference")
     return 1 if found else 0
 
@@ -224,7 +254,8 @@ def compare_random(words):
     start = time.monotonic()
     count = words.count if words.seconds is None else 1_000_000_000
     until = None if words.seconds is None else start + words.seconds
-    sessions, lines, fault = compare(words.program, words.top, range(words.first, words.first + count), until)
+    seeds = range(words.first, words.first + count)
+    sessions, lines, fault = compare(words.program, words.top, seeds, until, words.record)
     if fault:
         print(fault)
     print(
@@ -240,6 +271,7 @@ def main():
     parser.add_argument("--seconds", type=float)
     parser.add_argument("--first", type=int, default=0)
     parser.add_argument("--file", type=Path)
+    parser.add_argument("--record", action="store_true")
     parser.add_argument("--program", type=Path, default=PROGRAM)
     parser.add_argument("--top", type=Path, default=TOP)
     words = parser.parse_args()

@@ -14,8 +14,8 @@ SIGNS = {
     "/": "//", "%": "%", "^": "**", "×": "and", "⊎": "or",
 }
 
-# Words that are asked the same again and again in a step; what they return is kept until a command is done.
-REMEMBERED = {"front_over", "moved", "changes"}
+# Words that are asked the same again and again; what they return is kept until a command is done.
+REMEMBERED = {"front_over", "moved", "changes", "changed", "step", "cut"}
 
 
 def minus(a, b):

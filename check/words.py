@@ -242,6 +242,7 @@ def word_at(double_rounds, key, stream, place):
 WORDS = {
     "nat_lt": (2, lambda a, b: a < b),
     "nat_le": (2, lambda a, b: a <= b),
+    "suc": (1, lambda n: n + 1),
     "min": (2, min),
     "not": (1, lambda a: not a),
     "length": (1, len),
@@ -272,6 +273,7 @@ WORDS = {
     "option_map": (2, lambda f, o: o if o is NONE else some(f(o.parts[0]))),
     "option_and_then": (2, lambda f, o: o if o is NONE else f(o.parts[0])),
     "option_map_or": (3, lambda f, o, other: other if o is NONE else f(o.parts[0])),
+    "option_to_list": (1, lambda o: [] if o is NONE else [o.parts[0]]),
     "option_or": (2, lambda a, b: b if a is NONE else a),
     "codes": (1, lambda text: list(text.encode())),
     "bytes_eq": (2, lambda a, b: a == b),
@@ -287,7 +289,9 @@ WORDS = {
     "as_array": (1, part_of("array")),
     "compact_text": (1, compact_text),
 }
-VALUES = {"true": "True", "false": "False", "zero": "0", "⊤": "True", "⊥": "False", "None": "NONE", "w64": "8"}
+VALUES = {
+    "true": "True", "false": "False", "zero": "0", "⊤": "True", "⊥": "False", "None": "NONE", "w32": "4", "w64": "8",
+}
 CONSTRUCTORS = {
     "Some", "Ok", "Err", "null", "boolean", "number", "string", "array", "object", "unsigned", "negative", "float",
     "no_items", "item", "no_members", "member",

@@ -11,20 +11,13 @@ from pathlib import Path
 
 TOP = Path(__file__).resolve().parents[1]
 CRATE = "street_sim"
-# The program of a live page, which ./build --page makes.
-PAGE = "street_page"
 # What a check of a crate reads.
 READ = ("src", "specs", "proofs")
 
 
-def program(top: Path = TOP, crate: str = CRATE) -> Path:
+def program(top: Path = TOP) -> Path:
     """The program's file, built or not."""
-    return top / "crates" / crate / "out" / crate
-
-
-def page_module(top: Path = TOP) -> Path:
-    """The file of the page's program for browsers, built or not."""
-    return program(top, PAGE).with_suffix(".wasm")
+    return top / "crates" / CRATE / "out" / CRATE
 
 
 def crates(top: Path = TOP, crate: str = CRATE) -> dict[str, list[str]]:
@@ -42,15 +35,15 @@ def crates(top: Path = TOP, crate: str = CRATE) -> dict[str, list[str]]:
     return found
 
 
-def sources(top: Path = TOP, crate: str = CRATE) -> list[Path]:
+def sources(top: Path = TOP) -> list[Path]:
     """The files that the program's check reads, in order."""
-    folders = [top / "crates" / name / part for name in crates(top, crate) for part in READ]
+    folders = [top / "crates" / name / part for name in crates(top) for part in READ]
     return sorted(path for folder in folders for path in folder.rglob("*") if path.is_file())
 
 
-def sum_of_sources(top: Path = TOP, crate: str = CRATE) -> str:
-    """The sum of the sources of a program, with the crates' lines."""
-    return sum_of_files(top, sources(top, crate), repr(crates(top, crate)))
+def sum_of_sources(top: Path = TOP) -> str:
+    """The sum of the sources of the program, with the crates' lines."""
+    return sum_of_files(top, sources(top), repr(crates(top)))
 
 
 def sum_of_files(top: Path, paths: Iterable[Path], begin: str = "") -> str:

@@ -77,6 +77,7 @@ def metadata(project: dict[str, Any], folder: str, tag: str) -> dict[str, bytes]
         f"Version: {project['version']}",
         f"Summary: {project['description']}",
         f"Requires-Python: {project['requires-python']}",
+        *(f"Requires-Dist: {one}" for one in project["dependencies"]),
         *(f"Provides-Extra: {extra}" for extra in extras),
         *(f"Requires-Dist: {one}; extra == '{extra}'" for extra, names in extras.items() for one in names),
     ]

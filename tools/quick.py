@@ -141,7 +141,8 @@ def told(part: Part) -> bool:
     start = time.monotonic()
     fault = part.fault()
     seconds = time.monotonic() - start
-    print(f"{fault}{part.name}: {'FAILED' if fault else 'passed'} in {seconds:.0f} s", flush=True)
+    # One write, so that no other check's line comes between the text and its line's end.
+    print(f"{fault}{part.name}: {'FAILED' if fault else 'passed'} in {seconds:.0f} s\n", end="", flush=True)
     return not fault
 
 

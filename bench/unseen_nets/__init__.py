@@ -9,7 +9,7 @@ A kind and a seed give the same files wherever Debian's sumo is the same. `level
 the busiest approach has, reckoned plainly from lanes, greens and ways (passing.py), with no simulation.
 """
 
-from .kinds import KINDS
+from .kinds import KINDS, USUAL
 from .making import Made, make
 
-__all__ = ["KINDS", "Made", "make"]
+__all__ = ["KINDS", "USUAL", "Made", "make"]

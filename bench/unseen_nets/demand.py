@@ -10,8 +10,9 @@ from typing import Any
 from shared import run
 
 from .passing import scale_for
+from .plain import Draft
 
-SECONDS = 3600
+SECONDS = 3600  # in which vehicles depart, where nothing else is said
 SAMPLE = 2000  # trips by which the number of vehicles is found
 FRINGE = 8.0  # times as many begin and end at an edge that leads in or out as at another of 200 m
 NEAR = 250.0  # metres: nobody drives less far
@@ -20,6 +21,16 @@ TYPES = (
     '<vType id="truck" vClass="truck" length="12" accel="1.3"/>'
     '<vType id="trailer" vClass="trailer" length="18" accel="1.1"/>'
 )
+
+
+@dataclass(frozen=True)
+class Amount:
+    """How much drives: the share of what it can pass that the busiest approach has, or so many vehicles, that depart
+    within so many seconds."""
+
+    level: float
+    vehicles: int | None
+    seconds: int
 
 
 @dataclass(frozen=True)
@@ -43,10 +54,10 @@ class Trips:
     trucks: float
     known: dict[str, set[str]] = field(default_factory=dict)  # edges to which one comes from an edge
 
-    def write(self, path: Path, count: int, seed: int) -> None:
-        """Writes so many trips of an hour, in the order of departure."""
+    def write(self, path: Path, count: int, seconds: int, seed: int) -> None:
+        """Writes so many trips of some seconds, in the order of departure."""
         draws, lines = Random(seed), []
-        for number, depart in enumerate(sorted(draws.uniform(0, SECONDS) for _ in range(count))):
+        for number, depart in enumerate(sorted(draws.uniform(0, seconds) for _ in range(count))):
             begin, end = self.pair(draws)
             kind = draws.choice(("truck", "trailer")) if draws.random() < self.trucks else "car"
             lines.append(
@@ -120,16 +131,31 @@ def find_ways(folder: Path, routes: str, seed: int) -> None:
     (folder / routes.replace(".rou.xml", ".rou.alt.xml")).unlink(missing_ok=True)
 
 
-def write_demand(folder: Path, net: Any, seed: int, level: float, vehicles: int | None, trucks: float) -> int:
-    """Writes demand.rou.xml: so many vehicles, or so many that the busiest approach has this share of what it can pass;
-    gives their number."""
-    trips = trips_on(net, trucks)
+def write_flows(folder: Path, draft: Draft, seed: int, much: Amount) -> int:
+    """Writes demand.rou.xml of a draft's flows, so many times as many as the level says; gives their number."""
+    draws, found, hours = Random(seed), [], much.seconds / 3600
+    for flow in draft.flows:
+        departs = (int(draws.uniform(0, much.seconds)) for _ in range(round(flow.hourly * much.level * hours)))
+        found += [(depart, f"{flow.name}.{at}", flow) for at, depart in enumerate(departs)]
+    lines = [
+        f'<vehicle id="{name}" type="{flow.kind}" depart="{depart}" departLane="best" departSpeed="max">'
+        f'<route edges="{flow.edges}"/></vehicle>'
+        for depart, name, flow in sorted(found, key=lambda one: one[:2])
+    ]
+    text = "\n".join(lines)
+    (folder / "demand.rou.xml").write_text(f"<routes>{TYPES}{draft.types}{text}</routes>\n", encoding="utf-8")
+    return len(lines)
+
+
+def write_demand(folder: Path, net: Any, seed: int, much: Amount, trucks: float) -> int:
+    """Writes demand.rou.xml of trips between edges; gives their number."""
+    trips, vehicles = trips_on(net, trucks), much.vehicles
     if vehicles is None:
-        trips.write(folder / "trips.xml", SAMPLE, seed)
+        trips.write(folder / "trips.xml", SAMPLE, much.seconds, seed)
         find_ways(folder, "sample.rou.xml", seed)
-        times = scale_for(net, ways_of(folder / "sample.rou.xml"), SECONDS / 3600, level)
+        times = scale_for(net, ways_of(folder / "sample.rou.xml"), much.seconds / 3600, much.level)
         (folder / "sample.rou.xml").unlink()
         vehicles = max(1, round(SAMPLE * times))
-    trips.write(folder / "trips.xml", vehicles, seed + 1)
+    trips.write(folder / "trips.xml", vehicles, much.seconds, seed + 1)
     find_ways(folder, "demand.rou.xml", seed)
     return len(ways_of(folder / "demand.rou.xml"))

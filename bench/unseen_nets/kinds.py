@@ -5,6 +5,7 @@ from dataclasses import dataclass, replace
 from pathlib import Path
 from random import Random
 
+from .lanes import bus_lane, lane_drop, limit, types, zipper
 from .plain import Draft
 from .streets import arterial, cross, street
 from .towns import Build, grid, mains, radial, random_town, rings
@@ -46,6 +47,9 @@ TURN_LANES = grid(*LIGHTS, "--turn-lanes", "1", "--turn-lanes.length", "60", lan
 KINDS: dict[str, Kind] = {
     "street": Kind("a main street of two or three lanes, with a light or none, trucks, turn lanes", street),
     "arterial": Kind("a main street with four to seven fixed lights", arterial),
+    "permissive-arterial": Kind(
+        "an arterial whose left turns are all permissive", with_words(arterial, "--tls.left-green.time", "0")
+    ),
     "grid": Kind("a grid with fixed lights", grid(*LIGHTS)),
     "turn-lanes": Kind("a grid with fixed lights and left-turn lanes of 60 m", TURN_LANES),
     "town": Kind("a random town of one and two lanes, lights where netgenerate guesses them", random_town(*GUESSED)),
@@ -71,6 +75,16 @@ KINDS: dict[str, Kind] = {
     "delay-town": Kind("a random town with delay-based lights", with_lights(random_town(*GUESSED), "delay_based")),
     "nema-cross": Kind("a lone NEMA light", with_lights(cross, "NEMA")),
     "nema-arterial": Kind("an arterial with NEMA lights", with_lights(arterial, "NEMA")),
+    "lane-drop": Kind("a street whose second lane ends, behind a light or without", lane_drop),
+    "zipper": Kind("two streets that become one by turns", zipper),
+    "bus-lane": Kind("a street of two lights with lanes for buses alone", bus_lane),
+    "limit": Kind("a lone street with any limit", limit),
+    "types": Kind("a street of three lights and vehicles of a drawn type", types),
     "bus-arterial": Kind("an arterial with lines of buses that stop", with_buses(arterial)),
     "bus-town": Kind("a random town with lines of buses that stop", with_buses(random_town(*GUESSED))),
 }
+# With fixed lights or none, and without buses.
+USUAL = (
+    *("town", "radial", "arterial", "grid", "turn-lanes", "one-way", "left-hand", "shared-legs", "right-on-red"),
+    *("slow", "mains", "equal", "stops", "all-way", "roundabouts", "priority"),
+)

@@ -9,7 +9,7 @@ from random import Random
 from shared import SUMO_HOME, run
 
 from .buses import write_buses
-from .demand import ways_of, write_demand
+from .demand import SECONDS, Amount, ways_of, write_demand, write_flows
 from .kinds import KINDS
 
 SUMOLIB = f"{SUMO_HOME}/tools"
@@ -17,7 +17,7 @@ SUMOLIB = f"{SUMO_HOME}/tools"
 
 @dataclass(frozen=True)
 class Made:
-    """A network and its demand of an hour; `folder` holds net.net.xml, demand.rou.xml and, with buses, their files."""
+    """A network and its demand; `folder` holds net.net.xml, demand.rou.xml and, with buses, their files."""
 
     folder: Path
     kind: str
@@ -26,6 +26,8 @@ class Made:
     vehicles: int  # of the demand, without buses
     buses: bool = False
     drawn: dict[str, object] = field(default_factory=dict)  # what the seed gave
+    words: tuple[str, ...] = ()  # for streetsim-import
+    seconds: int = SECONDS  # in which the vehicles depart
 
     @property
     def name(self) -> str:
@@ -44,15 +46,19 @@ class Made:
         return [self.folder / "stops.add.xml"] if self.buses else []
 
 
-def make(kind: str, seed: int, work: Path, level: float = 0.8, vehicles: int | None = None) -> Made:
+def make(
+    kind: str, seed: int, work: Path, level: float = 0.8, vehicles: int | None = None, seconds: int = SECONDS
+) -> Made:
     """A network and a demand, in a folder of their own below `work`; made where they are not there yet.
 
-    level: the share of what it can pass that the busiest approach has; vehicles: so many instead.
+    level: the share of what it can pass that the busiest approach has; vehicles: so many instead; seconds: in which
+    they depart.
     """
     if kind not in KINDS:
         raise SystemExit(f"no kind is called {kind}: {', '.join(KINDS)}")
     amount = f"{level:g}" if vehicles is None else f"{vehicles}v"
-    folder = work.resolve() / f"{kind}-{seed}-{amount}"
+    length = "" if seconds == SECONDS else f"-{seconds}s"
+    folder = work.resolve() / f"{kind}-{seed}-{amount}{length}"
     note = folder / "made.json"
     if note.exists():
         return Made(folder, **json.loads(note.read_text(encoding="utf-8")))
@@ -61,10 +67,14 @@ def make(kind: str, seed: int, work: Path, level: float = 0.8, vehicles: int | N
     draft = KINDS[kind].build(draws, folder)
     run([*draft.words, "--no-turnarounds", "true", "--no-warnings", "-o", "net.net.xml"], folder)
     net = read_net(folder / "net.net.xml")
-    found = write_demand(folder, net, seed, level, vehicles, draft.trucks)
+    much = Amount(level, vehicles, seconds)
+    if draft.flows:
+        found = write_flows(folder, draft, seed, much)
+    else:
+        found = write_demand(folder, net, seed, much, draft.trucks)
     if draft.lines:
         write_buses(folder, net, ways_of(folder / "demand.rou.xml"), draft.lines, draws)
-    made = Made(folder, kind, seed, level, found, bool(draft.lines), draft.drawn)
+    made = Made(folder, kind, seed, level, found, bool(draft.lines), draft.drawn, draft.importing, seconds)
     fields = {name: value for name, value in asdict(made).items() if name != "folder"}
     note.write_text(json.dumps(fields, indent=1) + "\n", encoding="utf-8")
     return made

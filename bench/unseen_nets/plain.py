@@ -14,11 +14,14 @@ class Plain:
     def node(self, name: str, x: float, y: float, kind: str = "priority") -> None:
         self.nodes.append(f'<node id="{name}" x="{x:.2f}" y="{y:.2f}" type="{kind}"/>')
 
-    def edge(self, begin: str, end: str, lanes: int, kmh: int, priority: int, pocket: int = 0) -> None:
-        """An edge from node to node; pocket: metres of one more lane before its end, for those who turn left."""
+    def edge(
+        self, begin: str, end: str, lanes: int, kmh: int, priority: int, pocket: int = 0, inside: str = ""
+    ) -> None:
+        """An edge from node to node; pocket: metres of one more lane before its end, for those who turn left; inside:
+        what is said of its lanes."""
         head = f'<edge id="{begin}-{end}" from="{begin}" to="{end}" speed="{kmh * KMH:.2f}" priority="{priority}"'
         if not pocket:
-            self.edges.append(f'{head} numLanes="{lanes}"/>')
+            self.edges.append(f'{head} numLanes="{lanes}">{inside}</edge>')
             return
         few, all_of_them = (" ".join(map(str, range(count))) for count in (lanes, lanes + 1))
         split = f'<split pos="0" lanes="{few}"/><split pos="-{pocket}" lanes="{all_of_them}"/>'
@@ -37,6 +40,16 @@ class Plain:
 
 
 @dataclass(frozen=True)
+class Flow:
+    """Vehicles along a way, at random."""
+
+    name: str
+    edges: str
+    hourly: float  # at level 1
+    kind: str = "car"  # its type
+
+
+@dataclass(frozen=True)
 class Draft:
     """How a network is made, and what its demand is like."""
 
@@ -44,3 +57,6 @@ class Draft:
     trucks: float = 0.0  # share of vehicles of 12 and 18 m
     lines: int = 0  # of buses that stop
     drawn: dict[str, object] = field(default_factory=dict)  # what the seed gave, for whoever reads a table
+    flows: tuple[Flow, ...] = ()  # all that drives, in place of trips between edges
+    types: str = ""  # more types of vehicles, in SUMO's words
+    importing: tuple[str, ...] = ()  # more words for streetsim-import

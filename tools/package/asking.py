@@ -12,7 +12,7 @@ from functools import partial
 from pathlib import Path
 
 WIDE = "10000"  # columns, so that no line of a help is broken
-OPTION = re.compile(r"^ {2,}(?:-\w\b[^-\n]*, )?(--[\w-]+)", re.MULTILINE)
+OPTION = re.compile(r"^ {2,}(?:-\w\b[^-\n]*, )?(--[\w.-]+)", re.MULTILINE)
 COMMANDS = re.compile(r"^ {2}\{([\w,-]+)\}$", re.MULTILINE)
 
 

@@ -37,8 +37,7 @@ def copy_commit(top: Path, tree: Path) -> None:
     """The files of the commit, and beside them what was proved with its record."""
     with tarfile.open(fileobj=BytesIO(git(top, "archive", "HEAD"))) as archive:
         archive.extractall(tree)
-    made = [path for part in (proved.PROGRAM, proved.PAGE) for path in proved.files_of(top, part).values()]
-    for path in (*made, proved.record_of(top)):
+    for path in (*proved.files_of(top).values(), proved.record_of(top)):
         to = tree / path.relative_to(top)
         to.parent.mkdir(parents=True, exist_ok=True)
         shutil.copy(path, to)

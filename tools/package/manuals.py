@@ -8,7 +8,7 @@ from pathlib import Path
 
 from package.asking import Said
 
-HEADS = (("usage: ", "Usage: "), ("\npositional arguments:\n", "\nArguments:\n"), ("\noptions:\n", "\nOptions:\n"))
+WORD = re.compile(r"^  \S.*$(?:\n {3,}\S.*$)*", re.MULTILINE)  # of a help, with what is told of it
 SPEAKS = "#!/bin/sh\ncat <<'END_OF_THE_HELP'\n{text}\nEND_OF_THE_HELP\n"
 ALSO = """[SEE ALSO]
 All commands, with examples and a walk of ten minutes:
@@ -31,13 +31,11 @@ refused, or a tape or a kept session has a bad line. Standard error says which.
 
 def told(said: Said) -> str:
     """A help as help2man reads it, with the options of the commands that are its first word."""
-    text = said.text
+    text = said.text.replace("usage: ", "Usage: ", 1)
+    text, sign, examples = text.partition("\nExamples:\n")
     for word, inner in said.inner.items():
-        _, _, own = inner.partition("\noptions:\n")
-        text += f"\nWith {word}:\n{own}"
-    for head, other in HEADS:
-        text = text.replace(head, other)
-    return text
+        text += f"\nWith {word}:\n" + "\n".join(WORD.findall(inner)) + "\n"
+    return text + sign + examples
 
 
 def name_of(said: Said) -> str:

@@ -28,10 +28,9 @@ def write(text: str, to: Path) -> None:
 
 
 def programs(tree: Path, prefix: Path) -> None:
-    """The programs, byte for byte, and the command that starts the first one."""
-    for part in (proved.PROGRAM, proved.PAGE):
-        for name, path in proved.files_of(tree, part).items():
-            put(path, prefix / name, 0o644 if path.suffix else 0o755)
+    """The program, byte for byte, and the command that starts it."""
+    for name, path in proved.files_of(tree).items():
+        put(path, prefix / name, 0o755)
     put(WRAPPER, prefix / "bin/streetsim", 0o755)
 
 

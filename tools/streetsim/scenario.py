@@ -1,26 +1,25 @@
 """A run under SUMO's names and units (metres, metres a second, seconds), with TraCI's calls where one fits."""
 import warnings
 from collections.abc import Iterable, Sequence
-from dataclasses import replace
-from heapq import heappop, heappush
 from math import ceil
-from typing import Self
+from typing import Self, TypedDict, Unpack
 
-from streetsim.base import client
+from streetsim.base import client as replies
 from streetsim.base.files import FilePath
 from streetsim.base.words import ROUNDS
+from streetsim.control.works_sites import WorksOptions, why_parallel, with_works
+from streetsim.kernel.loop import NEVER, Controller, Observer
 from streetsim.model import tables
+from streetsim.model.freeflow import Alone
 from streetsim.model.mapping import Place
-from streetsim.model.runs import Line, Run, read_with_map
-from streetsim.model.stops import unmade_stops_told
-from streetsim.run import rows
-from streetsim.run.records import Records
-from streetsim.simulation.calls import METRES, Calls, LaneCalls, SimulationCalls, StretchCalls, VehicleCalls
+from streetsim.model.runs import Line, read_with_map
+from streetsim.observe.trips import End, seconds_at_stops, trip_rows
+from streetsim.simulation.asked import ScriptSettings
+from streetsim.simulation.calls import METRES, CallGroup, LaneCalls, SimulationCalls, StretchCalls, VehicleCalls
 from streetsim.simulation.detours import Detours
 from streetsim.simulation.errors import NotHere
 from streetsim.simulation.fleet import NOWHERE, OnRoad
 from streetsim.simulation.simulation import Simulation as Running
-from streetsim.works.sites import WorksOptions, why_parallel, with_works
 
 __all__ = ["NOWHERE", "ListedScenario", "NotHere", "Scenario", "TrafficLight"]
 
@@ -40,71 +39,90 @@ ADVICE = {
 }
 
 
+class ScenarioWishes(TypedDict, total=False):
+    """What else a scenario is asked for: whether vehicles make their stops; for how many seconds one stands until it is
+    rescued (0: nobody is); classes or lines of vehicles for which lights wait, and how many seconds before the stop
+    line they are seen; whether departures are drawn by the seed; and the user's own observers and controllers."""
+
+    stops: bool
+    drawn: bool
+    rescue: int
+    priority: Sequence[str]
+    seen: int | None
+    observers: Sequence[Observer]
+    controllers: Sequence[Controller]
+
+
 class Scenario(Running):
     """A running simulation of a run file and its map. Edges or lanes that are to be closed later are named as joint,
     where they are not yet so. Where vehicles of the file give way without a light, so many rounds of the run come
     first; yielding says how many lines they gave. Vehicles of a script give way to those of the file alone, and nobody
     of the file to them. Before works on one lane of a joint link the lanes take turns, until stop_merging is called.
-    Detectors drive lights of SUMO's types actuated and NEMA; in a ListedScenario they show their listed seconds."""
+    Detectors drive lights of SUMO's types actuated and NEMA; in a ListedScenario they show their listed seconds. Each
+    vehicle of the file makes its stops. Observers see each second of the run, and controllers act behind the
+    scenario's own (streetsim.kernel.loop)."""
+
+    lights_driven = True
 
     def __init__(
         self, run: FilePath, mapping: FilePath, program: str | None = None, workers: int = 1,
-        joint: Iterable[str] = (), rounds: int = ROUNDS,
+        joint: Iterable[str] = (), rounds: int = ROUNDS, **wishes: Unpack[ScenarioWishes],
     ) -> None:  # fmt: skip
         """run, mapping: paths of a run file and its map; program: as find_program takes it; workers: threads of the
         program; joint: edges or lanes to be closed later; rounds: runs that are made before. Fault (streetsim.files)
         where files cannot be read or do not fit, a round fails, or there is no program; Refused (streetsim.client)
         where a line is. Warns (Python's warnings) of lights and stops that are other than in SUMO."""
         source, read, _ = with_works(*read_with_map(run, mapping), mapping, [], WorksOptions(tuple(joint)))
-        super().__init__(source, read, rounds, program, workers)
-        for told in filter(None, (*self.driving.lights.notes(), unmade_stops_told(len(self.map.visits)))):
+        super().__init__(source, read, ScriptSettings(rounds, driven=self.lights_driven, **wishes), program, workers)
+        for told in self.notes:
             warnings.warn(told, stacklevel=2)
-        self.detours = Detours(self)
-        # Of vehicles that may not have departed: (depart, number, name), the earliest first.
-        self.later: list[tuple[int, int, str]] = []
-        self.going: dict[int, str] = {}  # number: name, of vehicles that may be on their way
         self.detectors: dict[str, int] = {}  # by name: number
-        names = iter(self.map.cars)
-        for line in self.source.enters:
-            command, name = line.command, next(names, f"#{len(self.fleet.cars)}")
-            self.add(name, command["plan"], command["lane"], command["depart"], command.get("size", 1))
-        self.simulation, self.vehicle, self.route = Simulation(self), Vehicle(self), Route(self)
-        self.lane, self.edge = Lane(self), Edge(self)
-        self.inductionloop, self.trafficlight = InductionLoop(self), TrafficLight(self)
+        self.simulation, self.vehicle, self.route = ScenarioSimulation(self), ScenarioVehicle(self), ScenarioRoute(self)
+        self.lane, self.edge = ScenarioLane(self), ScenarioEdge(self)
+        self.inductionloop, self.trafficlight = ScenarioLoop(self), TrafficLight(self)
+
+    def own_later(self) -> Iterable[Controller]:
+        """What sends vehicles round shut edges."""
+        self.detours = Detours(self)
+        return [self.detours]
 
     def __enter__(self) -> Self:
         """Gives the scenario itself; the program runs since it was made."""
         return self
 
     def __exit__(self, kind: type[BaseException] | None, *fault: object) -> None:
-        """Ends the program, ProgramEnded (streetsim.client) where it failed; after an exception it is killed."""
-        self.client.__exit__(kind, *fault)
+        """Ends the run, ProgramEnded (streetsim.client) where the program failed; after an exception it is killed."""
+        if kind is None:
+            self.finish()
+        else:
+            self.kill()
+
+    @property
+    def client(self) -> replies.Client:
+        """A client of the program, which from then on knows all vehicles of the file. Steps are made by
+        simulationStep."""
+        self.kernel.enter_due(NEVER)
+        return self.program.client
 
     def simulationStep(self, time: float = 0) -> None:
         """Makes one step (time 0), or all until the clock is at time seconds, rounded up, as in SUMO."""
         self.step(time)
 
-    def go_on(self, target: int) -> None:
-        """Goes on, at least a step, to target or where a vehicle may have to leave its way (`divert`)."""
-        self.detours.turn_off()
-        self.advance(self.detours.next_clock(target))
-
     def add(self, name: str, plan: Sequence[int], lane: int, depart: int, size: int = 1) -> None:
         """Adds a vehicle; plan: numbers of links; lane: of the first; size: cells. ValueError if its name is taken."""
-        if name in self.fleet.cars:
+        if name in self.fleet.numbers:
             raise ValueError(f"there is a vehicle {name!r} already")
+        self.kernel.enter_due(NEVER)  # those of the file come before it
         self.enter(name, plan, lane, depart, size)
-        self.detours.departs[name] = depart
 
-    def enter(
-        self, name: str, plan: Iterable[int], lane: int, depart: int, size: int = 1, driven: Sequence[int] = ()
-    ) -> int:
-        """As in Running; vehicle.getIDList looks for the vehicle once it may have departed. New ones come by `add`."""
-        car = super().enter(name, plan, lane, depart, size, driven)
-        heappush(self.later, (depart, car, name))
-        return car
+    def car(self, name: str) -> int:
+        """The number of a vehicle in the program, which is told of all of the file where it does not know it; KeyError
+        for an unknown name."""
+        if self.fleet.car(name) is None:
+            self.kernel.enter_due(NEVER)
+        return self.kernel.vehicles.car[self.fleet.numbers[name]]
 
-    def lane_state(self, name: str) -> client.Lane:
+    def lane_state(self, name: str) -> replies.Lane:
         """The program's reply on a lane, by SUMO's name; KeyError for an unknown one."""
         return self.client.lane(*self.lane_of[name])
 
@@ -142,11 +160,20 @@ class Scenario(Running):
 
     def trips(self) -> list[tuple[object, ...]]:
         """Rows as in trips.csv (tables.TRIPS), as they are at this clock, one for each vehicle."""
-        plans, departs = self.fleet.plans, self.detours.departs
-        lines = [Line(0, "", {"plan": plan, "depart": departs[name]}) for name, plan in plans.items()]
-        run = Run("", Line(0, "", {"dawdle": 0, **self.source.load.command}), enters=lines)
-        records = Records(ends=[*self.vehicles(self.fleet.cars.values())])
-        return list(rows.trips(records, run, replace(self.map, cars=list(plans))))
+        fleet, dawdle = self.fleet, self.source.load.command.get("dawdle", 0) / 1000
+        alone, stood, rescues = Alone(self.map, dawdle), seconds_at_stops(self.steering.stops()), self.steering.rescue
+        lines = (Line(0, "", {"plan": plan, "depart": at}) for plan, at in zip(fleet.plans, fleet.departs, strict=True))
+        more = ((alone.trip(plan), stood[at], rescues.count[at]) for at, plan in enumerate(fleet.plans))
+        ends = map(self.end_of, range(len(fleet.names)))
+        return list(trip_rows(zip(fleet.names, lines, ends, more, strict=True)))
+
+    def end_of(self, number: int) -> End:
+        """How a vehicle ended, or where it is."""
+        if self.view.ended[number]:
+            arrival = int(self.view.arrival[number])
+            return (arrival, "arrived") if arrival else (None, "taken")
+        where = self.view.there.get(number)
+        return None, "waiting" if where is None else "buffer" if where.cell is None else "cell"
 
     def write_trips(self, path: FilePath) -> None:
         """Writes the rows of trips to a file of CSV, below the names of the columns; Fault where that fails."""
@@ -156,36 +183,44 @@ class Scenario(Running):
 class ListedScenario(Scenario):
     """A scenario whose lights show the seconds that their programs list."""
 
-    driven = False
+    lights_driven = False
 
 
-class Part(Calls[Scenario]):
+class ScenarioPart(CallGroup[Scenario]):
     """One domain of a scenario's calls, as vehicle or lane."""
 
     def __init__(self, scenario: Scenario) -> None:
         """scenario: of which the calls are."""
         super().__init__(lambda: scenario)
-        self.scenario, self.name = scenario, type(self).__name__.lower()
+        self.scenario = scenario
 
     def advice(self, called: str) -> str:
         """What to do instead of a call that is not here; called: "domain.call"."""
         return ADVICE.get(called, "streetsim has nothing for it; see tools/PYTHON.md")
 
 
-class Simulation(Part, SimulationCalls[Scenario]):
+class ScenarioSimulation(ScenarioPart, SimulationCalls[Scenario]):
     """Calls on the run itself: its time, and how many vehicles are left."""
 
+    name = "simulation"
 
-class Route(Part):
+
+class ScenarioRoute(ScenarioPart):
     """Calls on the routes that a script adds."""
+
+    name = "route"
+
     def add(self, name: str, edges: Iterable[str]) -> None:
         """Names a route along edges, for vehicle.add, in place of an earlier one of that name; ValueError where an edge
         is unknown, two have no connection, or there is none."""
         self.scenario.routes[name] = self.scenario.connections.plan_along(list(edges))
 
 
-class Vehicle(Part, VehicleCalls[Scenario]):
+class ScenarioVehicle(ScenarioPart, VehicleCalls[Scenario]):
     """Calls on vehicles of the file and of the script; KeyError for a name that neither has."""
+
+    name = "vehicle"
+
     def add(self, name: str, route: str, depart: float | None = None, size: int = 1) -> None:
         """Adds a vehicle of size cells (1 to 4) on a route that route.add named; it departs at depart seconds, rounded
         up (None: now; one that is over: at once). ValueError where its name is taken, KeyError where the route was not
@@ -196,76 +231,74 @@ class Vehicle(Part, VehicleCalls[Scenario]):
 
     def remove(self, name: str) -> None:
         """Takes a vehicle out, wherever it is; Gone (streetsim.client) where it has ended."""
-        self.scenario.client.takeout(self.scenario.fleet.cars[name])
+        self.scenario.car(name)
+        self.scenario.take_out(self.scenario.fleet.numbers[name])
 
     def getIDList(self) -> tuple[str, ...]:
-        """The names of the vehicles on lanes or in junctions. Those that have ended are not asked for again."""
-        scenario = self.scenario
-        while scenario.later and scenario.later[0][0] < scenario.clock:
-            _, car, name = heappop(scenario.later)
-            scenario.going[car] = name
-        replies = scenario.vehicles(scenario.going)
-        for reply in replies:
-            if reply.state in ("arrived", "taken"):
-                del scenario.going[reply.car]
-        return tuple(scenario.going[reply.car] for reply in replies if reply.state in ("cell", "buffer"))
+        """The names of the vehicles on lanes or in junctions."""
+        return self.scenario.names_of(sorted(self.scenario.view.numbers))
 
-    def reply_on(self, name: str) -> client.Vehicle:
+    def reply_on(self, name: str) -> replies.Vehicle:
         """The program's reply on a vehicle; KeyError for an unknown name."""
-        return self.scenario.client.vehicle(self.scenario.fleet.cars[name])
+        return self.scenario.client.vehicle(self.scenario.car(name))
 
     def simulation_with(self, name: str) -> Scenario:
         """The scenario; KeyError for an unknown vehicle."""
-        if name not in self.scenario.fleet.cars:
+        if name not in self.scenario.fleet.numbers:
             raise KeyError(name)
         return self.scenario
 
     def on_road(self, name: str) -> OnRoad | None:
         """Where a vehicle on the road is; None before it departs and after its end, KeyError for an unknown name."""
-        reply = self.reply_on(name)
-        return OnRoad(*reply.place, reply.cell, reply.speed or 0) if reply.state in ("cell", "buffer") else None
+        return self.scenario.view.there.get(self.scenario.fleet.numbers[name])
 
     def on_road_for_lane(self, name: str) -> OnRoad | None:
         """As on_road; None in a junction too."""
         return where if (where := self.on_road(name)) is not None and where.cell is not None else None
 
 
-class Stretch(Part, StretchCalls[Scenario]):
-    """Calls on lanes and edges; each asks the program anew. KeyError for an unknown name."""
+class ScenarioStretch(ScenarioPart, StretchCalls[Scenario]):
+    """Calls on lanes and edges. KeyError for an unknown name."""
 
     def places(self, name: str) -> list[Place]:
         """All (link, lane) of a lane or an edge, by its name; each class below gives its own."""
         raise NotImplementedError
 
-    def lane_entries(self, name: str) -> list[Sequence[int]]:
-        """(number, front cell, cells a step, and size in cells where above 1) of each vehicle, from a lane's end."""
-        return [entry for place in self.places(name) for entry in self.scenario.client.lane(*place).cells]
-
-    def cars(self, name: str) -> list[int]:
+    def numbers(self, name: str) -> list[int]:
         """The numbers of the vehicles on it, from the stop line; of an edge, lane after lane."""
-        return [entry[0] for entry in self.lane_entries(name)]
+        return [number for place in self.places(name) for number in self.scenario.view.on_lane(place)]
 
     def speeds(self, name: str) -> list[float]:
-        """Metres a second of each vehicle on it, in the order of `cars`."""
-        return [entry[2] * METRES for entry in self.lane_entries(name)]
+        """Metres a second of each vehicle on it, in the order of `numbers`."""
+        there = self.scenario.view.there
+        return [there[number].speed * METRES for number in self.numbers(name)]
 
 
-class Lane(LaneCalls[Scenario], Stretch):
+class ScenarioLane(LaneCalls[Scenario], ScenarioStretch):
     """Calls on lanes, which can be closed."""
+
+    name = "lane"
+
     def close(self, lane: str) -> None:
         """Closes a whole lane, by its name; ValueError as Scenario.close has it."""
         self.scenario.close(lane)
 
 
-class Edge(Stretch):
+class ScenarioEdge(ScenarioStretch):
     """Calls on edges: on all lanes of an edge together."""
+
+    name = "edge"
+
     def places(self, name: str) -> list[Place]:
         """All (link, lane) of an edge."""
         return self.scenario.lanes_on(name)
 
 
-class InductionLoop(Part):
+class ScenarioLoop(ScenarioPart):
     """Calls on detectors that a script places. KeyError for an unknown name."""
+
+    name = "inductionloop"
+
     def add(self, name: str, lane: str, place: float, period: int) -> None:
         """Places a detector at place metres of a lane, with rows of period seconds, 1 to 100,000, from now on, instead
         of an earlier one of that name. KeyError for an unknown lane, ValueError for a place beyond it, BadCount
@@ -274,15 +307,15 @@ class InductionLoop(Part):
         if not 0 <= place <= ceil(self.scenario.map.links[link].metres):
             raise ValueError(f"lane {lane!r} has no place at {place:g} m")
         cell, _ = self.scenario.map.links[link].cells_between(place, place)
-        self.scenario.detectors[name] = self.scenario.client.meter(link, index, cell, period)
+        self.scenario.detectors[name] = self.scenario.program.client.meter(link, index, cell, period)
 
     def getIDList(self) -> tuple[str, ...]:
         """The names of the detectors that the script placed."""
         return tuple(self.scenario.detectors)
 
-    def last_row(self, name: str) -> client.Row | None:
+    def last_row(self, name: str) -> replies.Row | None:
         """The row of the last full period of a detector; None before its end."""
-        rows = self.scenario.client.read(self.scenario.detectors[name]).rows
+        rows = self.scenario.program.client.read(self.scenario.detectors[name]).rows
         return rows[-1] if rows else None
 
     def getLastIntervalVehicleNumber(self, name: str) -> int:
@@ -301,8 +334,11 @@ class InductionLoop(Part):
         return row.density * 100 if row else 0.0
 
 
-class TrafficLight(Part):
+class TrafficLight(ScenarioPart):
     """Calls on the lights of the network."""
+
+    name = "trafficlight"
+
     def getIDList(self) -> tuple[str, ...]:
         """The names of all lights, sorted."""
         return tuple(sorted({light for light, _ in self.scenario.map.signals}))
@@ -318,6 +354,6 @@ class TrafficLight(Part):
 
     def getRedYellowGreenState(self, name: str) -> str:
         """What a light that detectors drive shows now, SUMO's letter for each signal; NotHere for other lights."""
-        if (driven := self.scenario.driving.driver.controller_of(name)) is None:
+        if (driven := self.scenario.driver.controller_of(name)) is None:
             raise NotHere(f"trafficlight.getRedYellowGreenState: detectors do not drive {name!r}; its plan is set")
         return driven.logic.state()

@@ -59,14 +59,17 @@ class ClusterCase(Case):
         )
         subprocess.run([DEBIAN, "-c", script], check=True, capture_output=True, timeout=200)
 
-    def kill_worker_during(self, worker, words):
-        """Runs a tool, during which a worker is killed by its number, once it has run something."""
+    def kill_worker_during(self, workers, words):
+        """Runs a tool, during which the first worker that has run something is killed, by its number."""
+        begins = [(worker, self.time_of_runs(worker.pid)) for worker in workers]
         with subprocess.Popen(list(map(str, words)), stdout=subprocess.PIPE, stderr=subprocess.PIPE, text=True) as tool:
-            begin = self.time_of_runs(worker.pid)
-            while tool.poll() is None and self.time_of_runs(worker.pid) < begin + 0.1:
-                time.sleep(0.05)
-            ended = tool.poll()
-            os.kill(worker.pid, signal.SIGKILL)
+            ran, ended = [], None
+            while not ran and ended is None:
+                time.sleep(0.005)
+                ended = tool.poll()
+                ran = [worker for worker, begin in begins if self.time_of_runs(worker.pid) > begin]
+            for worker in ran[:1]:
+                os.kill(worker.pid, signal.SIGKILL)
             try:
                 told = tool.communicate(timeout=120)
             except subprocess.TimeoutExpired:

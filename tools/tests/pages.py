@@ -2,15 +2,20 @@
 Chromium, and what a hand does."""
 import json
 import shutil
+import subprocess
 import threading
 import time
 from contextlib import contextmanager
 from importlib.util import find_spec
 
-from support import MAP, NUMBERED, PAGE_PROGRAM, RED, Case, needs_package
+from support import MAP, NUMBERED, PROGRAM, RED, Case, needs_package
+from streetsim.base import limits
+from streetsim.control.actuated_lights import driven_lights
+from streetsim.control.settings import Settings
 from streetsim.live.bridge import Bridge
-from streetsim.live.engine import Engine
-from streetsim.live.page import live_page, own_lines
+from streetsim.live.page import live_page
+from streetsim.live.session import PageSession
+from streetsim.live.world import PageRun
 from streetsim.model.mapping import read_map
 from streetsim.model.runs import read_run
 
@@ -31,10 +36,16 @@ class LiveCase(Case):
         self.map_path = self.write("map.json", json.dumps({**MAP, "cars": ["v", "w", "x"]}))
         self.run_file, self.mapping = read_run(self.run_path), read_map(self.map_path)
 
+    def page_run(self, **more):
+        """The run as a page shows it; more: what else is asked of it, as Settings has it."""
+        settings = Settings(limits.CLOCK, 0, **{"lights": driven_lights(self.run_file, self.mapping), **more})
+        return PageRun(self.run_file, self.mapping, settings, PROGRAM)
+
     @contextmanager
-    def bridge(self):
-        engines = [Engine(PAGE_PROGRAM, own_lines(self.run_file)) for _ in range(2)]
-        with Bridge(engines, live_page(self.run_file, self.mapping)) as bridge:
+    def bridge(self, **more):
+        of = self.page_run(**more)
+        session = PageSession(of)
+        with Bridge(session, live_page(of)) as bridge:
             thread = threading.Thread(target=bridge.serve_forever, daemon=True)
             thread.start()
             try:
@@ -42,8 +53,7 @@ class LiveCase(Case):
             finally:
                 bridge.shutdown()
                 thread.join()
-                for engine in engines:
-                    engine.close()
+                session.close()
 
 
 # A crossing of two streets with a light; links 0 to 3 lead in from west, east, south and north, links 4 to 7 out again.
@@ -106,6 +116,22 @@ def crossing_files():
     return [load, {**CROSSING_PLAN, "phases": phases}, *enters], mapping
 
 
+def state_after(text, lanes=((0, 0), (1, 0))):
+    """[vehicle, link, lane, cell, speed] of all on the cells of some lanes, and the clock, after a session's lines."""
+    asked = [{"cmd": "lane", "link": link, "lane": lane} for link, lane in lanes]
+    lines = text + "".join(json.dumps(one) + "\n" for one in [*asked, {"cmd": "count"}])
+    done = subprocess.run([PROGRAM, "--endless"], input=lines, capture_output=True, text=True, check=True)
+    *replies, count = map(json.loads, done.stdout.splitlines()[-len(lanes) - 1 :])
+    found = zip(lanes, replies, strict=True)
+    rows = [[car, *place, cell, speed] for place, reply in found for car, cell, speed, *_ in reply["cells"]]
+    return sorted(rows), count["clock"]
+
+
+def told_by(message):
+    """What a message to a page tells as JSON, before the vehicles."""
+    return json.loads(message[4 : 4 + int.from_bytes(message[:4], "little")])
+
+
 class PageCase(LiveCase):
     """The page in Chromium, by clicks."""
 
@@ -137,6 +163,15 @@ class PageCase(LiveCase):
         finally:
             made.quit()
 
+    def state(self, browser, world="now"):
+        """What state_after gives, as the page shows it."""
+        cars = browser.execute_script(
+            "return [...session[arguments[0]].cars].map(([car, [link, lane, , cell, speed]]) => "
+            "[car, link.number, lane, cell, speed])",
+            world,
+        )
+        return sorted(cars), browser.execute_script("return session.clock")
+
     def open(self, browser, address):
         browser.get(address)
         self.wait(browser, "return document.body.dataset.ready || ''")
@@ -157,7 +192,7 @@ class PageCase(LiveCase):
         self.idle(browser)
 
     def idle(self, browser):
-        self.wait(browser, "return turn.then(() => !busy)")
+        self.wait(browser, "return turn.then(() => !busy && !reading)")
 
     def shown(self, browser):
         return json.loads(browser.execute_script("return document.body.dataset.shown"))

@@ -1,12 +1,11 @@
 """Runs of a program to which requests for memory are refused (data/refuse.c, loaded before it)."""
 import dataclasses
 import os
-import shutil
 import subprocess
 import tempfile
 from concurrent.futures import ThreadPoolExecutor
-from pathlib import Path
 
+from preloaded import library_of
 from support import DATA, Case
 
 SOURCE = DATA / "refuse.c"
@@ -28,30 +27,12 @@ class Run:
     unfreed: int
 
 
-def found(name):
-    """A tool of the kit's, else of the path, else none."""
-    rt = shutil.which("rt")
-    kit = Path(rt).resolve().parents[1] / "toolchain/bin" / name if rt else None
-    return str(kit) if kit and kit.exists() else shutil.which(name)
-
-
-def why_not():
-    """Why no request can be refused here, or none."""
-    missing = [name for name in ("clang", "ld.lld") if found(name) is None]
-    return f"there is no {missing[0]} to build {SOURCE.name} with" if missing else None
-
-
 class RefusingCase(Case):
     """A test that refuses memory to a program."""
 
     def setUp(self):
         super().setUp()
-        self.library = self.folder / "refuse.so"
-        words = [
-            found("clang"), "-shared", "-fPIC", "-O1", "-nostdlib", f"--ld-path={found('ld.lld')}", "-o", self.library,
-            SOURCE,
-        ]
-        subprocess.run(words, check=True, timeout=60)
+        self.library = library_of(SOURCE, self.folder)
 
     def run_refusing(self, command, first, last, text=b"", folder=None):
         """A run to which the requests from number `first` to number `last` are refused."""

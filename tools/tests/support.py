@@ -1,5 +1,6 @@
 """What the tests share: the simulator to test with, small SUMO networks, running a tool."""
 import os
+import re
 import shutil
 import subprocess
 import sys
@@ -18,16 +19,6 @@ QUICK = bool(os.environ.get("STREETSIM_QUICK"))
 PROGRAM = None if QUICK else os.environ.get("STREETSIM_PROGRAM") or (str(BUILT) if BUILT.exists() else None)
 needs_simulator = unittest.skipIf(PROGRAM is None, "no simulator: build streetsim, or set STREETSIM_PROGRAM")
 
-# What a live page asks, as ./test and `./build --page` make it: for this machine, and for browsers.
-BUILT_PAGE = TOOLS.parent / "crates/street_page/out/street_page"
-PAGE_PROGRAM = os.environ.get("STREETSIM_PAGE") or (str(BUILT_PAGE) if BUILT_PAGE.exists() else None)
-PAGE_MODULE = Path(os.environ.get("STREETSIM_PAGE_MODULE") or BUILT_PAGE.with_suffix(".wasm"))
-needs_page_program = unittest.skipIf(
-    PAGE_PROGRAM is None, "no program of a page: ./build --page makes it, or set STREETSIM_PAGE"
-)
-# Where the kit's insides changed, ./test and `./build --page` say what changed, and leave the module out.
-needs_page_module = unittest.skipUnless(PAGE_MODULE.exists(), "kit without a page")
-
 
 def needs_package(name, found):
     """Skips a test where a package of Debian's is not installed.
@@ -37,6 +28,12 @@ def needs_package(name, found):
 
 needs_sumo = needs_package("sumo", shutil.which("sumo") and not QUICK)
 needs_sumo_tools = needs_package("sumo-tools", SCENARIOS.exists() and not QUICK)
+
+
+def shown_run():
+    """What the first run of the walk prints, as tools/README.md shows it."""
+    text = (TOOLS / "README.md").read_text(encoding="utf-8")
+    return re.search(r"^2,400 vehicles, .*\n", text, re.MULTILINE)[0]
 
 
 # One link of 10 cells into another of 10, limit 5, nobody dawdles.
@@ -82,11 +79,12 @@ class Case(unittest.TestCase):
         return str(path)
 
     def tool(self, name, *words, status=0):
-        """Runs a tool; gives its standard output and error."""
+        """Runs a tool; gives its standard output and error. status: that it is to have; None: any."""
         done = subprocess.run(
             [TOOLS / f"streetsim-{name}", *map(str, words)], capture_output=True, text=True, check=False
         )
-        self.assertEqual(done.returncode, status, done.stderr)
+        if status is not None:
+            self.assertEqual(done.returncode, status, done.stderr)
         return done.stdout, done.stderr
 
 

@@ -2,23 +2,22 @@
 import csv
 import json
 import unittest
-from functools import partial
 from math import inf
 from types import SimpleNamespace
 
 from support import PROGRAM, Case, lane, needs_simulator, net
-from streetsim.actuated.detectors import Layout, LitLane, LitTurn, Spot, Stretch, extending, spots
-from streetsim.actuated.driver import Driver, gap_at
-from streetsim.actuated.lights import Driven, driven_lights, phase_of
-from streetsim.actuated.logic import Actuated, Ended, Phase
-from streetsim.actuated.showing import Shown, lasting, plan_command
-from streetsim.base.client import Row, Rows
 from streetsim.base.report import Report
-from streetsim.importing.convert import convert
+from streetsim.control.actuated_detectors import DetectorSpot, Layout, LeadingLane, LitLane, LitTurn, extending, spots
+from streetsim.control.actuated_driver import Driver
+from streetsim.control.actuated_lights import Driven, driven_lights, phase_of
+from streetsim.control.actuated_logic import Actuated, ActuatedPhase as Phase, EndedPhase
+from streetsim.control.actuated_showing import NodesOfLight, lasting, plan_command
+from streetsim.control.bus_coordinated import Coordinated
+from streetsim.control.lights import Lights
 from streetsim.model.mapping import map_from
 from streetsim.model.runs import run_of_texts
-from streetsim.buses.coordinated import Coordinated
 from streetsim.sumo.converting import run_and_map
+from streetsim.sumo.import_files import convert
 from streetsim.sumo.network import Options
 
 # Two greens of 5 to 50 s with 3 s of yellow after each; detector 0 is of the first, 1 of the second.
@@ -122,7 +121,7 @@ STATES = ("Gr", "yr", "rG", "ry")
 def layout(ways, speeds=(10.0, 10.0), parameters=None, alone=True, metres=100.0):
     names = ("a_0", "b_0")
     lanes = {
-        name: LitLane(name, speed, alone, (Stretch(name, metres), Stretch("before_0", 50.0)))
+        name: LitLane(name, speed, alone, (LeadingLane(name, metres), LeadingLane("before_0", 50.0)))
         for name, speed in zip(names, speeds)
     }
     return Layout(ways, lanes, parameters or {})
@@ -134,16 +133,16 @@ PLAIN = [LitTurn(0, "a_0", "x_0"), LitTurn(1, "b_0", "y_0")]
 class Detectors(unittest.TestCase):
     def test_so_far_that_a_least_green_clears_the_way(self):
         # 2 s at 10 m/s are 20 m; 5 s of green let (5 / 1.9 + 0.5) * 7.5 = 23.5 m of a queue go.
-        self.assertEqual(spots(layout(PLAIN), TWO)["a_0"], Spot("a_0", 80.0))
+        self.assertEqual(spots(layout(PLAIN), TWO)["a_0"], DetectorSpot("a_0", 80.0))
         found = spots(layout(PLAIN, speeds=(20.0, 10.0)), TWO)["a_0"]
         self.assertAlmostEqual(found.metres, 100 - (5 / 1.9 + 0.5) * 7.5)
 
     def test_parameters_of_the_program(self):
         found = spots(layout(PLAIN, parameters={"detector-gap": "1"}), TWO)
-        self.assertEqual(found["b_0"], Spot("b_0", 90.0))
+        self.assertEqual(found["b_0"], DetectorSpot("b_0", 90.0))
 
     def test_on_the_lane_before_where_one_is_short(self):
-        self.assertEqual(spots(layout(PLAIN, metres=12.0), TWO)["a_0"], Spot("before_0", 42.0))
+        self.assertEqual(spots(layout(PLAIN, metres=12.0), TWO)["a_0"], DetectorSpot("before_0", 42.0))
 
     def test_none_where_no_phase_is_extended_or_a_parameter_names_the_lane(self):
         fixed = [Phase(state, 9, 9, 9) for state in STATES]
@@ -177,15 +176,12 @@ class Detectors(unittest.TestCase):
 
 class Reading(unittest.TestCase):
     def test_seconds_since_a_detector_saw_anybody(self):
-        rows = {
-            4: (Row(10, 1, 1, 2, 0), Row(11, 1, 0, 0, 0)),
-            5: (Row(10, 1, 0, 0, 1), Row(11, 1, 0, 0, 0)),
-            6: (Row(11, 1, 0, 0, 0),),
-        }
-        gap = partial(gap_at, 12, lambda meter: Rows(Row(12, 0, 0, 0, 0), rows[meter]), 4)
-        # Where nobody was, since the detector was placed, a second ago: in SUMO too a max-gap of 10 s holds the first
-        # green for 10 s.
-        self.assertEqual([gap(at) for at in range(3)], [1.5, 1.0, 1.0])
+        """Who passed within a second left in its middle; where nobody was since the begin, and for 32 s at most, it is
+        as if somebody had left then: in SUMO too a max-gap of 10 s holds the first green for 10 s."""
+        for start, clock, last, seconds in ((10, 12, 10.5, 1.5), (10, 12, 11, 1), (11, 12, -inf, 1), (0, 99, -inf, 32)):
+            lights = Lights(None)
+            lights.kernel, lights.sensors = SimpleNamespace(start=start), SimpleNamespace(last=[last])
+            self.assertEqual(lights.gap(clock, 0), seconds)
 
     def test_bounds_as_sumo_reads_them(self):
         self.assertEqual(phase_of([42, "G", 5, 50, []]), Phase("G", 42, 5, 50))
@@ -197,12 +193,12 @@ class Reading(unittest.TestCase):
         # Of 42 s as listed; the newest counts for a fifth: 42 + 0.2 (12 - 42) = 36, 36 + 0.2 (11 - 36) = 31. The first
         # phase of a run may have begun before it.
         phases = (Phase("G", 42, 5, 50, (0,)), Phase("y", 3, 3, 3))
-        shown = Shown(Driven("L", 0, phases, 2.0, (), (), ()), SimpleNamespace(links=[]))
+        shown = NodesOfLight(Driven("L", 0, phases, 2.0, (), (), ()), SimpleNamespace(links=[]))
         light = Actuated(phases, ())
         self.assertEqual(shown.learn(light), (42, 3))
-        light.ended = [Ended(1, 0, 1, "listed"), Ended(0, 1, 12, "gap"), Ended(1, 13, 3, "listed")]
+        light.ended = [EndedPhase(1, 0, 1, "listed"), EndedPhase(0, 1, 12, "gap"), EndedPhase(1, 13, 3, "listed")]
         self.assertEqual(shown.learn(light), (36, 3))
-        light.ended.append(Ended(0, 16, 11, "gap"))
+        light.ended.append(EndedPhase(0, 16, 11, "gap"))
         self.assertEqual(shown.learn(light), (31, 3))
 
     def test_a_plan_begins_now_and_stays(self):
@@ -271,8 +267,8 @@ class Runs(Case):
         [light] = self.lights().driven
         phases = [(one.least, one.most, one.detectors) for one in light.phases]
         self.assertEqual(phases, [(5, 40, (0,)), (3, 3, ()), (20, 20, ())])
-        # 23.5 m before the end of 200 m, which are 27 cells.
-        self.assertEqual([(one.link, one.lane, one.cell) for one in light.cells], [(0, 0, 23)])
+        # 23.5 m before the end of 200 m, which are 30 cells.
+        self.assertEqual([(one.link, one.lane, one.cell) for one in light.cells], [(0, 0, 26)])
 
     def test_what_is_not_driven_is_told(self):
         fixed, several = PHASES.replace("/>", ' earliestEnd="9"/>', 1), PHASES.replace("/>", ' next="1 2"/>', 1)
@@ -296,21 +292,6 @@ class Runs(Case):
     def test_parameters_without_an_effect_are_passed_over(self):
         more = PHASES + '<param key="jam-threshold" value="-1"/><param key="colour" value="red"/>'
         self.assertEqual([one.name for one in self.lights(more).driven], ["L"])
-
-    def test_detectors_are_given_to_the_lights_that_most_pass(self):
-        # Two lights with one detector each, and room for one: the others of the 1,024 are the user's own.
-        found = self.lights()
-        [light] = found.driven
-        self.assertEqual(found.detector_count, 1)
-        routes = '<routes><vehicle id="v" depart="0"><route edges="a b"/></vehicle></routes>'
-        loops = "".join(f'<inductionLoop id="d{at}" lane="a_0" pos="9" freq="60" file="x"/>' for at in range(1024))
-        paths = self.write("x.net.xml", street(PHASES)), [self.write("x.add.xml", f"<additional>{loops}</additional>")]
-        lines, mapping = run_and_map(
-            convert(*paths, [self.write("x.rou.xml", routes)], Options(), Report()), Report()
-        )
-        none = driven_lights(run_of_texts("run", lines), mapping)
-        self.assertEqual((none.driven, none.listed), ((), {"L": "as no more than 1,024 detectors are to be had"}))
-        self.assertEqual(none.listed_lights(mapping), [light.name])
 
     def rows(self, folder):
         with open(folder / "phases.csv", encoding="utf-8") as file:
@@ -356,7 +337,7 @@ class Runs(Case):
     def test_a_study_drives_them_as_streetsim_run_does(self):
         run, mapping = self.imported(departs=range(0, 300, 4))
         variants = '[variant.actuated]\n[variant.listed]\nlights = "listed"\n'
-        text = f'run = "{run}"\nmap = "{mapping}"\nuntil = 600\nseeds = "3"\n{variants}'
+        text = f'run = "{run}"\nmap = "{mapping}"\nuntil = 600\nseeds = "3"\ndepartures = "listed"\n{variants}'
         study, out = self.write("study.toml", text), self.folder / "out"
         told, _ = self.tool("study", study, "--out", out, "--jobs", 1, "--program", PROGRAM)
         self.assertIn("listed: 75 of 75 vehicles pass lights that are actuated in SUMO", told)
@@ -364,7 +345,8 @@ class Runs(Case):
         with open(out / "runs.csv", encoding="utf-8") as file:
             found = {row["variant"]: row for row in csv.DictReader(file)}
         for name in ("actuated", "listed"):
-            words = run, "--map", mapping, "--until", 600, "--rescue", 0, "--seeds", 3, "--lights", name
+            words = run, "--map", mapping, "--until", 600, "--rescue", 0, "--seeds", 3, "--departures", "listed"
+            words = *words, "--lights", name
             self.tool("run", *words, "--out", self.folder / name)
             with open(self.folder / name / "seeds.csv", encoding="utf-8") as file:
                 [row] = csv.DictReader(file)

@@ -2,25 +2,24 @@
 import csv
 import unittest
 import xml.etree.ElementTree as ElementTree
-from types import SimpleNamespace
 
 from support import PROGRAM, Case, lane, needs_simulator, net
-from streetsim.actuated.logic import Actuated, Phase
 from streetsim.base.files import Fault
 from streetsim.base.report import Report
-from streetsim.buses.coordinated import Coordinated
-from streetsim.buses.fleet import Fleet
-from streetsim.buses.planned import planned
-from streetsim.buses.priority import LESS_GAIN
-from streetsim.buses.stopping import PATIENCE, Road, Stopping
-from streetsim.importing.convert import convert
+from streetsim.control.actuated_logic import Actuated, ActuatedPhase as Phase
+from streetsim.control.bus_coordinated import Coordinated
+from streetsim.control.bus_fleet import BusFleet
+from streetsim.control.bus_planned import planned
+from streetsim.control.bus_priority import LESS_GAIN
+from streetsim.control.bus_stopping import PATIENCE, BusAtStop, Road
+from streetsim.control.merging_rule import SeenVehicle
 from streetsim.model.folder import read_folder
 from streetsim.model.runs import run_of_texts
 from streetsim.model.stops import MADE, MISSED, OTHER_LANE, STANDING, Visit
-from streetsim.run import rows
+from streetsim.observe.trips import stop_rows
 from streetsim.sumo.converting import run_and_map
+from streetsim.sumo.import_files import convert
 from streetsim.sumo.network import Options
-from streetsim.works.merging import Seen
 
 # A street of two edges; the first has two lanes.
 STREET = net(
@@ -77,19 +76,23 @@ class Files(Case):
         text = f'<vehicle id="v" type="bus" depart="0"><route edges="a b"/>{AT_FIRST}'
         _, mapping, _ = self.imported(f'{text}<stop busStop="second" duration="1"/><stop lane="b_0" endPos="300" '
                                       'duration="9"/></vehicle>')
-        # 150 m are 20 cells of 7.5 m; the last cell of a lane stays free, as it is closed while a bus stands.
-        places = [(one.link, one.lane, one.first, one.last) for one in mapping.visits]
-        first, second = mapping.links_of["a"][0], mapping.links_of["b"][0]
-        self.assertEqual(places, [(first, 0, 13, 19), (second, 0, 0, 19), (second, 0, 38, 38)])
+        # From 100 to 150 m, from 0 to 150, and at the end: there the last cell of a lane stays free, as it is closed
+        # while a bus stands.
+        cells = [mapping.links[mapping.links_of[name][0]].cells for name in "ab"]
+        places = [(mapping.links[one.link].edge, one.lane, one.first, one.last) for one in mapping.visits]
+        half = [round(one / 2) - 1 for one in cells]
+        second = ("b", 0, 0, half[1]), ("b", 0, cells[1] - 2, cells[1] - 2)
+        self.assertEqual(places, [("a", 0, cells[0] // 3, half[0]), *second])
         # SUMO's bus brakes with 4 and starts with 1.2 m/s2: 13.89 / 2 / 4 s, and 13.89 / 2 / 1.2 s less half a second.
         self.assertEqual((mapping.visits[0].braking, mapping.visits[0].starting), (1.74, 5.29))
 
     def test_an_end_by_its_former_name(self):
-        # SUMO 1.15 calls it deprecated, and stops there: 150 m are 20 cells.
+        # SUMO 1.15 calls it deprecated, and stops there: half of 300 m.
         _, mapping, _ = self.imported(
             '<vehicle id="v" depart="0"><route edges="a b"/><stop lane="a_0" pos="150" duration="9"/></vehicle>'
         )
-        self.assertEqual([(one.first, one.last) for one in mapping.visits], [(19, 19)])
+        half = round(mapping.links[mapping.links_of["a"][0]].cells / 2) - 1
+        self.assertEqual([(one.first, one.last) for one in mapping.visits], [(half, half)])
 
     def test_it_enters_on_the_lane_of_its_stop(self):
         text = "".join(
@@ -147,25 +150,24 @@ class Files(Case):
         self.assertIn("<busStop 'first'>: a second stop of this name", str(fault.exception))
 
 
-    def test_accelerations_count_where_vehicles_stop(self):
-        # One of three types has a vehicle that stops; a deceleration of another one has no effect.
+    def test_decelerations_count_where_vehicles_stop(self):
+        # One of three types has a vehicle that stops; a deceleration of another one has no effect. Others count.
         types = '<vType id="x" accel="1" decel="2"/><vType id="y" decel="3"/><vType id="z" sigma="0.5"/>'
         route = '<route edges="a b"/>{}'
         cars = "".join(f'<vehicle id="{one}" type="{one}" depart="0">{route}</vehicle>' for one in "xyz")
-        for stop, expected in ((AT_FIRST, (0, 1)), ("", (1, 2))):
+        for stop, expected in ((AT_FIRST, 1), ("", 2)):
             *_, report = self.imported(types + cars.format(stop, "", ""))
-            found = tuple(report.ignored[f"{name} of vTypes"] for name in ("accel", "decel"))
-            self.assertEqual((found, report.ignored["sigma of vTypes"]), (expected, 1))
+            found = [report.ignored[f"{name} of vTypes"] for name in ("decel", "accel", "sigma")]
+            self.assertEqual(found, [expected, 0, 0])
 
-    def test_a_greatest_speed_counts_at_stops_alone(self):
+    def test_a_greatest_speed_counts_at_stops(self):
         # SUMO's bus comes to its stop at 8 m/s: it loses 8 / 2 / 4 s as it brakes, and 8 / 2 / 1.2 s less half a
-        # second as it starts; here it drives as fast as the others before.
+        # second as it starts.
         slow = '<vType id="slow" vClass="bus" maxSpeed="8"/><vType id="other" maxSpeed="8"/>'
         cars = '<vehicle id="{0}" type="{0}" depart="0"><route edges="a b"/>{1}</vehicle>'
-        for stop, ignored, at_stops in ((AT_FIRST, 1, 1), ("", 2, 0)):
+        for stop, at_stops in ((AT_FIRST, 1), ("", 0)):
             _, mapping, report = self.imported(slow + cars.format("slow", stop) + cars.format("other", ""))
-            self.assertEqual(report.ignored["maxSpeed of vTypes"], ignored)
-            self.assertEqual(report.ignored["maxSpeed of vTypes, but at stops"], at_stops)
+            self.assertEqual([one for one in report.ignored if "maxSpeed" in one and report.ignored[one]], [])
             self.assertEqual([(one.braking, one.starting) for one in mapping.visits], [(1.0, 2.83)] * at_stops)
 
     def test_a_stop_past_which_the_run_leads_has_a_row(self):
@@ -178,8 +180,8 @@ class Files(Case):
         enter.command["plan"][0] = mapping.links_of["way"][0]
         plan = planned(run, mapping)
         self.assertEqual([one.stop for one in plan.visits], ["second"])
-        records = SimpleNamespace(stops=Fleet(plan, run, mapping).stop_outcomes())
-        found = [(row[2], row[3], row[4], row[-1]) for row in rows.stops(records, run, mapping)]
+        stops = BusFleet(plan, run, mapping).stop_outcomes()
+        found = [(row[2], row[3], row[4], row[-1]) for row in stop_rows(stops, run, mapping)]
         self.assertEqual(found, [("first", "a", 0, "not made"), ("second", "b", 0, "not reached")])
 
 
@@ -189,14 +191,14 @@ def visit(**more):
 
 
 def bus(cell, speed, size=2):
-    return Seen(9, cell, speed, size)
+    return SeenVehicle(9, cell, speed, size)
 
 
 class OneStop(unittest.TestCase):
     """A bus of two cells, a limit of 2 cells a second, a stop in cells 17 to 19."""
 
     def stopping(self, lanes=1, lane=0, **more):
-        return Stopping(visit(**more), Road(lanes, 2, 40), lane)
+        return BusAtStop(visit(**more), Road(lanes, 2, 40), lane)
 
     def closed(self, stopping, one, own=(), other=(), clock=100):
         stopping.decide_closed(clock, one, {stopping.lane: [*own, one], 1 - stopping.lane: [*other]})
@@ -206,8 +208,9 @@ class OneStop(unittest.TestCase):
         self.assertEqual(self.closed(self.stopping(), bus(17, 2)), set())  # comes to 19 at most
         self.assertEqual(self.closed(self.stopping(), bus(18, 1)), {(0, 20)})
         self.assertEqual(self.closed(self.stopping(), bus(16, 2)), set())
-        self.assertEqual(self.closed(self.stopping(), bus(18, 2), own=[Seen(1, 20, 2)]), set())  # who is ahead stops it
-        self.assertEqual(self.closed(self.stopping(), bus(18, 2), own=[Seen(1, 22, 2)]), {(0, 20)})
+        ahead = [SeenVehicle(1, 20, 2)]  # who stops it
+        self.assertEqual(self.closed(self.stopping(), bus(18, 2), own=ahead), set())
+        self.assertEqual(self.closed(self.stopping(), bus(18, 2), own=[SeenVehicle(1, 22, 2)]), {(0, 20)})
 
     def test_its_time_at_the_stop(self):
         one = self.stopping()
@@ -229,15 +232,15 @@ class OneStop(unittest.TestCase):
     def test_it_goes_earlier_for_those_who_stand_behind(self):
         one = self.stopping()
         one.decide_closed(100, bus(19, 2), {})
-        queue = [Seen(at, 17 - at, 0) for at in range(8)]  # 0.2 s each: 5.29 - 1.6 = 3.69
+        queue = [SeenVehicle(at, 17 - at, 0) for at in range(8)]  # 0.2 s each: 5.29 - 1.6 = 3.69
         self.assertEqual(one.decide_closed(122, bus(19, 0), {0: [bus(19, 0), *queue]}), 4)
 
     def test_in_a_queue_beside_the_stop_it_has_come(self):
         one = self.stopping()
-        self.assertEqual(self.closed(one, bus(17, 0), own=[Seen(1, 18, 0)]), {(0, 18)})
+        self.assertEqual(self.closed(one, bus(17, 0), own=[SeenVehicle(1, 18, 0)]), {(0, 18)})
         self.assertEqual(one.state, STANDING)
         one = self.stopping()
-        self.closed(one, bus(16, 0), own=[Seen(1, 17, 0)])
+        self.closed(one, bus(16, 0), own=[SeenVehicle(1, 17, 0)])
         self.assertNotEqual(one.state, STANDING)
 
     def test_passed(self):
@@ -248,30 +251,31 @@ class OneStop(unittest.TestCase):
     def test_on_two_lanes_it_keeps_its_lane(self):
         # It would change where its own gap is below its speed and one, and the other lane is free; two cells beyond
         # its speed a closed cell is too near for that.
-        slow = [Seen(1, 12, 1)]
+        slow = [SeenVehicle(1, 12, 1)]
         self.assertEqual(self.closed(self.stopping(2), bus(10, 1), own=slow), {(1, 13)})
         self.assertEqual(self.closed(self.stopping(2), bus(10, 1)), set())
         # Its rear is in cell 9: one in cell 3 is too near behind for a change, one in cell 2 is not.
-        self.assertEqual(self.closed(self.stopping(2), bus(10, 1), own=slow, other=[Seen(2, 3, 2)]), set())
-        self.assertEqual(self.closed(self.stopping(2), bus(10, 1), own=slow, other=[Seen(2, 2, 2)]), {(1, 13)})
+        self.assertEqual(self.closed(self.stopping(2), bus(10, 1), own=slow, other=[SeenVehicle(2, 3, 2)]), set())
+        self.assertEqual(self.closed(self.stopping(2), bus(10, 1), own=slow, other=[SeenVehicle(2, 2, 2)]), {(1, 13)})
         # One whose rear is in cell 13 is too near ahead, in cell 14 not.
-        self.assertEqual(self.closed(self.stopping(2), bus(10, 1), own=slow, other=[Seen(2, 13, 2)]), set())
-        self.assertEqual(self.closed(self.stopping(2), bus(10, 1), own=slow, other=[Seen(2, 15, 2, 2)]), {(1, 13)})
+        self.assertEqual(self.closed(self.stopping(2), bus(10, 1), own=slow, other=[SeenVehicle(2, 13, 2)]), set())
+        other = [SeenVehicle(2, 15, 2, 2)]
+        self.assertEqual(self.closed(self.stopping(2), bus(10, 1), own=slow, other=other), {(1, 13)})
 
     def test_on_the_wrong_lane_it_changes_where_there_is_room(self):
         one = self.stopping(2, lane=1)
         self.assertEqual(self.closed(one, bus(5, 2)), {(1, 8)})
         # Beside somebody it goes on one cell a second, and those behind it on the right lane are held.
-        self.assertEqual(self.closed(one, bus(10, 2), other=[Seen(1, 10, 2)]), {(1, 12), (0, 3)})
+        self.assertEqual(self.closed(one, bus(10, 2), other=[SeenVehicle(1, 10, 2)]), {(1, 12), (0, 3)})
         # Two cells before the stop it waits.
-        self.assertEqual(self.closed(one, bus(17, 1), other=[Seen(1, 18, 0)]), {(1, 18), (0, 10)})
+        self.assertEqual(self.closed(one, bus(17, 1), other=[SeenVehicle(1, 18, 0)]), {(1, 18), (0, 10)})
 
     def test_who_finds_no_room_stops_on_the_lane_beside(self):
         one = self.stopping(2, lane=1)
         for clock in range(PATIENCE):
             self.assertFalse(one.has_come(bus(17, 0)))
-            self.closed(one, bus(17, 0), other=[Seen(1, 18, 0)], clock=clock)
-        self.closed(one, bus(17, 0), other=[Seen(1, 18, 0)], clock=PATIENCE)
+            self.closed(one, bus(17, 0), other=[SeenVehicle(1, 18, 0)], clock=clock)
+        self.closed(one, bus(17, 0), other=[SeenVehicle(1, 18, 0)], clock=PATIENCE)
         self.assertEqual(one.state, STANDING)
         self.closed(one, bus(17, 0), clock=one.leaves)
         self.closed(one, bus(17, 0), clock=one.goes)
@@ -292,8 +296,10 @@ class Runs(Case):
         with open(out / f"{name}.csv", encoding="utf-8") as file:
             return list(csv.DictReader(file))
 
+    # In SUMO this bus alone takes as long on a street of 300 m as one takes for 40 cells here.
     ONE = (
-        '<vehicle id="v" type="bus" line="7" depart="0"><route edges="b"/>'
+        '<vType id="even" vClass="bus" sigma="0" speedFactor="0.92"/>'
+        '<vehicle id="v" type="even" line="7" depart="0" departSpeed="max"><route edges="b"/>'
         '<stop lane="b_0" startPos="100" endPos="150" duration="20" until="30"/></vehicle>'
     )
 
@@ -363,7 +369,10 @@ class Runs(Case):
     @needs_simulator
     def test_a_study_makes_them_as_streetsim_run_does(self):
         self.made(self.ONE)
-        text = f'run = "{self.folder}/run.jsonl"\nmap = "{self.folder}/map.json"\nuntil = 400\nseeds = "1"\n'
+        text = (
+            f'run = "{self.folder}/run.jsonl"\nmap = "{self.folder}/map.json"\nuntil = 400\nseeds = "1"\n'
+            'departures = "listed"\n'
+        )
         study = self.write("study.toml", text + '[variant.stops]\n[variant.none]\nstops = "none"\n')
         self.tool("study", study, "--out", self.folder / "study", "--jobs", 1, "--program", PROGRAM)
         found = {row["variant"]: row["mean_trip_s"] for row in self.table(self.folder / "study", "runs")}
@@ -457,11 +466,13 @@ class Planned(unittest.TestCase):
 
 
 class Priorities(Case):
-    BUSES = '<vehicle id="v" type="bus" line="7" depart="{}"><route edges="n s"/></vehicle>'
+    # In SUMO this bus alone takes as long on a street of 300 m before a light as one takes for 40 cells here.
+    EVEN = '<vType id="even" vClass="bus" sigma="0" speedFactor="0.952"/>'
+    BUSES = '<vehicle id="v" type="even" line="7" depart="{}" departSpeed="max"><route edges="n s"/></vehicle>'
 
     def made(self, depart, *words, status=0, program=CROSS, cars=""):
         net_file = self.write("x.net.xml", program)
-        routes = self.write("r.rou.xml", f"<routes>{BUS}{cars}{self.BUSES.format(depart)}</routes>")
+        routes = self.write("r.rou.xml", f"<routes>{self.EVEN}{cars}{self.BUSES.format(depart)}</routes>")
         run, mapping, out = self.folder / "run.jsonl", self.folder / "map.json", self.folder / "out"
         self.tool("import", net_file, "--routes", routes, "--dawdle", 0, "-o", run, "--map", mapping)
         return self.tool("run", run, "--map", mapping, "--until", 200, "--out", out, *words, status=status)
@@ -537,7 +548,10 @@ class Priorities(Case):
         self.made(71, "--priority", "bus")
         with_it = self.arrival()
         self.made(71)
-        text = f'run = "{self.folder}/run.jsonl"\nmap = "{self.folder}/map.json"\nuntil = 200\nseeds = "1"\n'
+        text = (
+            f'run = "{self.folder}/run.jsonl"\nmap = "{self.folder}/map.json"\nuntil = 200\nseeds = "1"\n'
+            'departures = "listed"\n'
+        )
         study = self.write("study.toml", text + '[variant.as_it_is]\n[variant.first]\npriority = "bus"\n')
         self.tool("study", study, "--out", self.folder / "study", "--jobs", 1, "--program", PROGRAM)
         with open(self.folder / "study/runs.csv", encoding="utf-8") as file:

@@ -4,13 +4,13 @@ import unittest
 from crosses import LAST, a_green, cases, demand
 from support import DATA, PROGRAM, Case, lane, needs_simulator, net
 from streetsim.base.report import Report
-from streetsim.importing.convert import convert
 from streetsim.model.folder import read_folder
-from streetsim.results.compare import trip_times_of
-from streetsim.sumo.crossing import Movement, set_heads, set_lane, wait_together
+from streetsim.report.beside_sumo import trip_times_of
+from streetsim.sumo.crossing import CrossingMovement, set_heads, set_lane, wait_together
 from streetsim.sumo.gaps import gap_capacity, gap_wait, until_first
 from streetsim.sumo.greens import green_here, hidden_middle, hidden_start, leaving, passing_here
 from streetsim.sumo.heads import Heads, passing_heads
+from streetsim.sumo.import_files import convert
 from streetsim.sumo.net import request_of
 from streetsim.sumo.network import Options
 from streetsim.sumo.yielding import lane_here, lane_queue, lane_there, seconds_for, settle, time_of
@@ -84,6 +84,10 @@ class Formulas(unittest.TestCase):
         self.assertEqual([request_of(name) for name in ("", "x", ":c_1")], [None, None, None])
 
 
+# The lanes to which ways lead.
+TARGETS = {("w", "on"): ("e", 0), ("w", "left"): ("n", 0), ("e", "on"): ("w", 0), ("e", "left"): ("s", 0)}
+
+
 class Lanes(unittest.TestCase):
     """A cross of one lane an arm, 42 s of 90 green, each vehicle of a queue 2 s."""
 
@@ -91,7 +95,7 @@ class Lanes(unittest.TestCase):
         green = (1 << 42) - 1
         runs = {start: 42 for start in runs}
         sure = 0 if runs else green
-        return Movement(way, lane, 0, 90, sure, green, [(0, 48)], flow, flow, 2.0, 2, runs)
+        return CrossingMovement(way, lane, TARGETS[way], 0, 90, sure, green, [(0, 48)], flow, flow, 2.0, 2, runs)
 
     def lanes(self, *flows):
         """Straight on and left from the west, and from the east, by vehicles an hour."""
@@ -190,10 +194,11 @@ class Heading(Lanes):
         self.assertAlmostEqual(passing_heads(Heads((0.0, 0.0), (1.0, 1.0), 2.0), 41), 20.5)
         self.assertAlmostEqual(passing_heads(Heads((0.5, 0.0), (0.0, 1.0), 2.0), 6), 0.875)
         # Half of both turn left. In 2 s both go, 1/2, or the other one waits, 1/4. Of one that waited and is freed, in
-        # 5 s, 0.4 pass in 2 s and 0.8 in 4 s: where the own one waits 0.2 and 0.5 in all, where the other one does 0.7
-        # and 1.25. So in 4 s 1/2 * 1.75 + 1/4 * 0.2 + 1/4 * 1.7, and in 6 s 1/2 * 2.35 + 1/4 * 0.5 + 1/4 * 2.25.
+        # 7 s, 2/7 pass in 2 s and 4/7 in 4 s: where the own one waits 1/7 and 5/14 in all, where the other one does
+        # 9/14 and 31/28. So in 4 s 1/2 * 7/4 + 1/4 * 1/7 + 1/4 * 23/14, and in 6 s 1/2 * 65/28 + 1/4 * 5/14
+        # + 1/4 * 59/28.
         halves = Heads((0.25, 0.25), (0.5, 0.5), 2.0)
-        for seconds, vehicles in ((0, 0), (2, 0.75), (4, 1.35), (6, 1.8625)):
+        for seconds, vehicles in ((0, 0), (2, 3 / 4), (4, 37 / 28), (6, 199 / 112)):
             self.assertAlmostEqual(passing_heads(halves, seconds), vehicles)
 
     def test_neither_side_takes_all(self):

@@ -4,36 +4,15 @@ import json
 import subprocess
 import unittest
 
-from support import PROGRAM, Case, needs_package, needs_simulator
-from test_page_works import DRIVE, NODE, in_node, street
+from pages import state_after, told_by
+from support import PROGRAM, Case, needs_simulator
+from test_page_works import street
+from streetsim.base import limits
+from streetsim.control.settings import Settings
 from streetsim.live.facts import departures_and_ends
-from streetsim.live.page import own_lines, page_data
-
-ENGINE = DRIVE[: DRIVE.index("(async () => {")]
-ACT = """
-(async () => {
-  const { program, lines, data } = JSON.parse(require("fs").readFileSync(0));
-  const make = () => new Session(new ProgramEngine(program, lines), data, lines.map(line => line + "\\n").join(""));
-  const [now, was] = [make(), make()], close = lane => ({ cmd: "close", link: 0, lane, first: 50, last: 60 });
-  const reopen = { cmd: "reopen", link: 0, lane: 1, first: 50, last: 60 };
-  await now.begin();
-  await now.advance(60);
-  await now.change("works", [{ clock: 60, command: close(0) }]);
-  await now.change("later", [{ clock: 200, command: close(1) }, { clock: 260, command: reopen }]);
-  await now.change("taken out", [{ clock: 60, command: { cmd: "takeout", car: 3 } }]);
-  await now.advance(440);
-  await was.begin();
-  await was.run(now.clock);
-  const gain = gained(was.ledger, now.ledger), saved = [was.saved(), now.saved()];
-  const refused = refusalOf(await now.change("none", [{ clock: now.clock, command: { ...close(0), link: 7 } }]));
-  const texts = now.changes.map(change => change.text);
-  await now.without(now.changes[0]);
-  const without = [now.saved(), now.clock, now.changes.map(change => change.text)];
-  while (now.changes.length) await now.without(now.changes[0]);
-  console.log(JSON.stringify({ gain, said: gainText(gain), saved, refused, texts, without, none: now.saved() }));
-  for (const session of [now, was]) session.engine.child.kill();
-})();
-"""
+from streetsim.live.session import PageSession
+from streetsim.live.words import gain_told
+from streetsim.live.world import PageRun
 
 
 def lost_and_ended(text, run, mapping):
@@ -57,32 +36,78 @@ def single_steps(line):
     return step * command["steps"] if command["cmd"] == "advance" else [line]
 
 
+def close(lane):
+    return {"cmd": "close", "link": 0, "lane": lane, "first": 50, "last": 60}
+
+
 @needs_simulator
-@needs_package("nodejs", NODE)
 class Compared(Case):
+    def setUp(self):
+        super().setUp()
+        self.run_file, self.mapping = street()
+        settings = Settings(limits.CLOCK, 0, rescue=0)
+        self.session = PageSession(PageRun(self.run_file, self.mapping, settings, PROGRAM))
+        self.addCleanup(self.session.close)
+        self.session.begin()
+        self.session.step(60)
+
+    def change(self, text, *commands):
+        told = self.session.change(text, [{"clock": clock, "command": command} for clock, command in commands])
+        return told_by(told)["refused"]
+
+    def texts(self):
+        return [one["text"] for one in self.session.changes]
+
     def test_the_difference_of_two_runs_by_lines(self):
-        run, mapping = street()
-        given = {
-            "program": PROGRAM, "lines": [line.decode().rstrip("\n") for line in own_lines(run)],
-            "data": page_data(run, mapping),
-        }  # fmt: skip
-        told = in_node(ACT, given, ENGINE)
-        was, now = (lost_and_ended(text, run, mapping) for text in told["saved"])
-        self.assertEqual(told["gain"]["seconds"], (was[0] - now[0]) / now[2])
-        self.assertEqual(told["gain"]["ended"], now[1] - was[1])
-        self.assertLess(told["gain"]["seconds"], -1)
-        self.assertEqual(
-            told["said"],
-            f"{-told['gain']['seconds']:.1f} s a trip more so far; {was[1] - now[1]} fewer have arrived",
-        )
+        session = self.session
+        self.change("works", (60, close(0)))
+        self.change("later", (200, close(1)), (260, {**close(1), "cmd": "reopen"}))
+        self.change("taken out", (60, {"cmd": "takeout", "car": 3}))
+        told = told_by(session.step(440))
+        texts = [session.text(which).decode() for which in (1, 0)]
+        counted = [lost_and_ended(text, self.run_file, self.mapping) for text in texts]
+        (lost_was, ended_was, _), (lost, ended, wished) = counted
+        self.assertEqual(told["gain"], {"seconds": (lost_was - lost) / wished, "ended": ended - ended_was})
+        self.assertEqual(told["said"], gain_told((lost_was - lost) / wished, ended - ended_was))
+        self.assertGreater(lost - lost_was, wished)
+        # The chart has a point for each second, of both.
+        now, was = told["worlds"]
+        self.assertEqual([point[0] for point in now["points"]], [*range(61, 501)])
+        for points, sums in ((now["points"], counted[1]), (was["points"], counted[0])):
+            self.assertEqual(points[-1][:3], [500, sums[0] / sums[2], sums[1]])
         # A refused command is no change, and each change is undone on its own: later ones that it was to send as well.
-        self.assertIn("NoLink", told["refused"])
-        self.assertEqual(told["texts"], ["works", "later", "taken out"])
-        saved, clock, texts = told["without"]
-        self.assertEqual((clock, texts), (500, ["later", "taken out"]))
+        self.assertIn("no such lane", self.change("none", (500, {**close(0), "link": 7})))
+        self.assertEqual(self.texts(), ["works", "later", "taken out"])
+        session.undo(0)
+        saved = session.text(0).decode()
+        self.assertEqual((session.now.clock, self.texts()), (500, ["later", "taken out"]))
         self.assertIn('"cmd":"close","link":0,"lane":1', saved)
         self.assertNotIn('"cmd":"close","link":0,"lane":0,"first":50', saved)
-        self.assertEqual(told["none"], told["saved"][0])
+        session.undo(1)
+        session.undo(0)
+        lanes = ((0, 0), (0, 1))
+        self.assertEqual(state_after(session.text(0).decode(), lanes), state_after(texts[0], lanes))
+
+    def test_the_traffic_as_it_was_runs_where_somebody_wants_it(self):
+        session = self.session
+        self.change("detector", (60, {"cmd": "meter", "link": 0, "lane": 0, "cell": 5, "period": 60}))
+        self.assertIsNone(session.was)
+        self.change("works", (60, close(0)))
+        self.assertEqual(session.was.clock, 60)
+        session.compare(False, False)
+        self.assertIsNone(session.was)
+        session.step(40)
+        session.compare(True, True)
+        self.assertEqual(session.was.clock, 100)
+        session.go_back(60)
+        self.assertEqual((session.now.clock, self.texts(), session.was), (60, [], None))
+
+
+class Told(unittest.TestCase):
+    def test_what_changes_gained(self):
+        self.assertEqual(gain_told(4.24, 0), "4.2 s a trip less so far; as many have arrived")
+        self.assertEqual(gain_told(-1.5, -1200), "1.5 s a trip more so far; 1,200 fewer have arrived")
+        self.assertEqual(gain_told(0.04, 3), "no difference in delay so far; 3 more have arrived")
 
 
 if __name__ == "__main__":

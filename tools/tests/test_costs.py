@@ -185,19 +185,19 @@ class Costs(Case):
         self.earlier(("rt ci street_base", base), ("./test", [("street_base", "edits", 30.0, 2), *sim]))
         self.gate(KEPT + KNOWN.format(2) + TRIED + PASSED)
         with (self.top / "crates.txt").open("a") as file:
-            file.write("street_page: street_base\n")
-        for name in ("street_sim", "street_page"):
+            file.write("street_more: street_base\n")
+        for name in ("street_sim", "street_more"):
             (self.top / f"crates/{name}/src").mkdir(parents=True, exist_ok=True)
-            (self.top / f"crates/{name}/src/main.rt").write_text("fn main() {}\n// page\n")
-        page = [("street_page", "proof", 20.0, 1), ("street_page", "compiled", 3.0, 0)]
-        self.earlier(("rt ci street_page", page))
+            (self.top / f"crates/{name}/src/main.rt").write_text("fn main() {}\n// more\n")
+        more = [("street_more", "proof", 20.0, 1), ("street_more", "compiled", 3.0, 0)]
+        self.earlier(("rt ci street_more", more))
         words = [sys.executable, "bench/costs.py", "--rows"]
-        subprocess.run([*words, "street_page"], cwd=self.top, check=True)
-        self.assertEqual(self.row("street_page"), ["2", "", "1", "", "", "20", "", "", "3", "3"])
+        subprocess.run([*words, "street_more"], cwd=self.top, check=True)
+        self.assertEqual(self.row("street_more"), ["2", "", "1", "", "", "20", "", "", "3", "3"])
         self.assertEqual(self.row("street_base"), ["3", "2", "43", "7", "2", "61", "1,002", "30", "", "1, 2"])
         self.assertEqual(self.row("all crates"), ["6", "2", "47", "7", "2", "90", "1,002", "30", "8"])
         text = (self.top / "docs/COSTS.md").read_text()
-        self.assertIn("| 2 | `./test` | 12 | 1 | 4.0 |\n| 3 | `rt ci street_page` | 12 | 0 | 4.0 |\n", text)
+        self.assertIn("| 2 | `./test` | 12 | 1 | 4.0 |\n| 3 | `rt ci street_more` | 12 | 0 | 4.0 |\n", text)
         done = subprocess.run([*words, "street_sim"], cwd=self.top, capture_output=True, text=True, check=False)
         self.assertEqual(
             (done.returncode, done.stderr), (1, "costs: no watched run has street_sim (proof), street_sim (compiled)\n")

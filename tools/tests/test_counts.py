@@ -1,6 +1,5 @@
 """Counts, zones, matrices and turn ratios as planners and SUMO write them, the fit and its whole vehicles."""
 import gzip
-import hashlib
 import io
 import json
 import random
@@ -10,26 +9,27 @@ from contextlib import redirect_stderr, redirect_stdout
 from types import SimpleNamespace
 from unittest import mock
 
-from support import FORK, MAP, Case, lane, needs_package, needs_simulator, net
+import numpy
+
+from support import DATA, FORK, MAP, NUMBERED, PROGRAM, Case, lane, needs_package, needs_simulator, net
 from streetsim.base.files import Fault
 from streetsim.base.report import Report
 from streetsim.cli import compare, demand
-from streetsim.counts import checking, demanding, judging, matrices, ratios, reading, science, zones
-from streetsim.counts.candidates import Pair, Way, with_given_routes
-from streetsim.counts.cells import clock_of
-from streetsim.counts.fitting import Expecting
-from streetsim.counts.judging import Compared, differences_of, is_part_of, without_parts
-from streetsim.counts.passing import CountsByEdges, Slices
-from streetsim.counts.seen import Driven, Traces, fewest_links, passed_in, plans_in
-from streetsim.counts.values import Count, Ratio
-from streetsim.counts.walking import Turns
-from streetsim.model.folder import Folder, read_folder
-from streetsim.model.mapping import map_from
+from streetsim.demand import checking, demanding, judging, matrices, ratios, reading, science, zones
+from streetsim.demand.candidates import Pair, Way, with_given_routes
+from streetsim.demand.cells import clock_of
+from streetsim.demand.fitting import Expecting
+from streetsim.demand.judging import ComparedCount, differences_of, is_part_of, without_parts
+from streetsim.demand.passing import CountsByEdges, Slices
+from streetsim.demand.seen import NEVER, Visits, edge_rows, movement_rows, passed_by_rows, passed_in
+from streetsim.demand.values import Count, Ratio
+from streetsim.demand.walking import Turns
+from streetsim.model.folder import read_folder
 from streetsim.model.tables import EDGES, TRIPS
-from streetsim.routes.loading import read_town
+from streetsim.search.route_loading import read_town
 from streetsim.sumo.network import Options
-from streetsim.ways.costs import TURN_BACK
-from streetsim.ways.graph import Graph
+from streetsim.sumo.way_costs import TURN_BACK
+from streetsim.sumo.way_graph import Graph
 
 try:
     science.numpy_and_scipy()
@@ -39,6 +39,7 @@ except Fault:
 needs_scipy = needs_package("python3-scipy", SCIPY)
 
 HEAD = "begin,end,from,to,vehicles\n"
+LOAD, ENTER = map(json.dumps, ({"cmd": "load", **NUMBERED}, {"cmd": "enter", "plan": [0, 1], "lane": 0, "depart": 0}))
 
 # Two entries and two exits, and a street between them that all use.
 HOURGLASS = net(
@@ -207,7 +208,7 @@ class Inputs(Case):
     def test_a_map_has_each_vehicle_once(self):
         # At a all vehicles and the trucks among them are counted, at b trucks alone, at a in another hour too.
         hourly = [
-            Compared(begin, begin + 3600, (edge,), kind, "", 9.0, 8.0, 3600)
+            ComparedCount(begin, begin + 3600, (edge,), kind, "", 9.0, 8.0, 3600)
             for begin, edge, kind in ((0, "a", ""), (0, "a", "truck"), (0, "b", "truck"), (3600, "a", "truck"))
         ]
         found = [(one.begin, one.edges[0], one.kind) for one in without_parts(hourly)]
@@ -218,7 +219,7 @@ class Inputs(Case):
     def test_a_map_has_turns_where_their_edge_is_not_counted(self):
         # The edge is counted in the first hour, a turn in both, and ways over that turn as well.
         hourly = [
-            Compared(begin, begin + 3600, tuple(edges), "", "", 9.0, passed, 3600)
+            ComparedCount(begin, begin + 3600, tuple(edges), "", "", 9.0, passed, 3600)
             for begin, edges, passed in ((0, "a", 8.0), (0, "ab", 2.0), (3600, "ab", 5.0), (3600, "abc", 1.0))
         ]
         self.assertEqual([one.passed for one in without_parts(hourly)], [8.0, 5.0])
@@ -227,20 +228,20 @@ class Inputs(Case):
 
     def test_a_map_of_periods_of_other_lengths(self):
         # Ten fewer in two hours, of all vehicles: five an hour. The trucks of the second hour are among these.
-        both = Compared(0, 7200, ("a",), "", "", 90.0, 80.0, 7200)
-        hourly = [both, *(Compared(at, at + 3600, ("b",), "", "", 9.0, 8.0, 3600) for at in (0, 3600))]
-        hourly.append(Compared(3600, 7200, ("a",), "truck", "", 9.0, 0.0, 3600))
+        both = ComparedCount(0, 7200, ("a",), "", "", 90.0, 80.0, 7200)
+        hourly = [both, *(ComparedCount(at, at + 3600, ("b",), "", "", 9.0, 8.0, 3600) for at in (0, 3600))]
+        hourly.append(ComparedCount(3600, 7200, ("a",), "truck", "", 9.0, 0.0, 3600))
         self.assertEqual(differences_of(hourly), {"a": -5.0, "b": -1.0})
         # Ten fewer in a quarter of an hour.
-        self.assertEqual(differences_of([Compared(0, 900, ("a",), "", "", 90.0, 80.0, 900)]), {"a": -40.0})
+        self.assertEqual(differences_of([ComparedCount(0, 900, ("a",), "", "", 90.0, 80.0, 900)]), {"a": -40.0})
 
     def test_a_map_of_many_hours_looks_at_those_in_common(self):
         """An edge and its turn in each of 300 hours: of each the two of its hour are looked at."""
         hourly = [
-            Compared(at * 3600, (at + 1) * 3600, tuple(edges), "", "", 9.0, 8.0, 3600)
+            ComparedCount(at * 3600, (at + 1) * 3600, tuple(edges), "", "", 9.0, 8.0, 3600)
             for at in range(300) for edges in ("a", "ab")
         ]  # fmt: skip
-        with mock.patch("streetsim.counts.judging.is_part_of", wraps=is_part_of) as looks:
+        with mock.patch("streetsim.demand.judging.is_part_of", wraps=is_part_of) as looks:
             self.assertEqual([one.edges for one in without_parts(hourly)], [("a",)] * 300)
         self.assertLessEqual(looks.call_count, 2 * len(hourly))
 
@@ -335,11 +336,6 @@ class Judging(Case):
         self.assertEqual((round(r, 6), round(slope, 6)), (1, 1))
         self.assertIsNone(judging.correlation_and_slope(judging.judged(counts[:1], [1]).each))
 
-    def test_fewest_links(self):
-        ways = {0: [1, 2], 1: [3], 2: [3], 3: [4]}
-        self.assertEqual(fewest_links(ways, 0, 4), [0, 1, 3, 4])
-        self.assertEqual(fewest_links(ways, 4, 0), [])
-
 
 class Passing(unittest.TestCase):
     """Edges a, b, .. have the numbers 0, 1, .."""
@@ -363,29 +359,49 @@ class Passing(unittest.TestCase):
 
 
 class Following(Case):
-    """Vehicles followed from poll to poll on a network of edges a, b, c, d, of a link each; d is beside b."""
+    """What passed in a run, by its tables and by its rows."""
 
-    def passed(self, driven, polls):
-        """How many passed each edge, by (clock, {link: vehicle}) of each poll."""
-        turns = [SimpleNamespace(link=link, next=following) for link, following in ((0, 1), (1, 2), (0, 3), (3, 2))]
-        links = [SimpleNamespace(edge=name) for name in "abcd"]
-        frames = [
-            {"clock": clock, "lanes": [[link, 0, [[car, 5, 1]], [], []] for link, car in there.items()]}
-            for clock, there in polls
-        ]
-        mapping = SimpleNamespace(links=links, turns=turns, kinds={}, cars=[])
-        folder = SimpleNamespace(path="run", mapping=mapping, every=10, polls=lambda: iter(frames))
-        return Traces(folder, [Count(0, 100, (name,), 1, "") for name in "abcd"], driven).passed_by_count()
+    def test_ways(self):
+        """One drives over edges 0, 1 and 2, one is rescued on 0 and goes on on 2, and one has come to 1."""
+        columns = [0, 0, 0, 1, 1, 2, 2], [0, 1, 2, 0, 2, 0, 1], [5, 9, 20, NEVER, 12, 6, NEVER]
+        visits = Visits(*map(numpy.array, columns))
+        for edges, vehicles, clocks in (
+            ([0], [0, 1, 2], [5, NEVER, 6]), ([0, 1], [0, 2], [5, 6]), ([0, 1, 2], [0], [9]), ([0, 2], [1], [NEVER]),
+            ([2, 0], [], []), ([0] * 9, [], []),
+        ):  # fmt: skip
+            found = [one.tolist() for one in visits.clocks_of(edges)]
+            self.assertEqual(found, [vehicles, clocks], edges)
 
-    def test_who_has_not_arrived_at_the_end(self):
-        self.assertEqual(self.passed([Driven((), 0, None)], [(10, {0: 0}), (20, {1: 0})]), [1, 0, 0, 0])
-        self.assertEqual(self.passed([Driven((), 0, 25)], [(10, {0: 0}), (20, {1: 0})]), [1, 1, 0, 0])
+    @needs_simulator
+    def test_rows_as_the_tables_of_a_run(self):
+        """Of the samples' town: all periods of edges; and turns in the whole run, as junction tables count a vehicle
+        when it has left the junction."""
+        files = [self.folder / "run.jsonl", "--map", self.folder / "map.json"]
+        town = [DATA / "town.net.xml.gz", "--routes", DATA / "town.rou.xml.gz"]
+        self.tool("import", *town, "-o", *files)
+        words = ["--until", 1800, "--period", 600, "--junctions", "--rescue", 0, "--program", PROGRAM]
+        self.tool("run", *files, *words, "--out", self.folder / "out")
+        folder = read_folder(str(self.folder / "out"))
+        edges, turns = edge_rows(folder), movement_rows(folder)
+        self.assertGreater((len(edges), len(turns)), (300, 700))
+        counts = [Count(begin, end, key, 1, "") for key, rows in edges.items() for begin, end, _ in rows]
+        self.assertEqual([*passed_by_rows(folder, counts)], [value for rows in edges.values() for *_, value in rows])
+        whole = [Count(0, 1800, key, 1, "") for key in turns]
+        found = [*passed_by_rows(folder, whole)]
+        self.assertEqual(found, [sum(value for *_, value in rows) for rows in turns.values()])
+        cars = [Count(0, 1800, key, 1, "", kind) for key in turns for kind in ("passenger", "truck")]
+        self.assertEqual([*passed_by_rows(folder, cars)], [one for value in found for one in (value, 0)])
 
-    def test_who_is_not_seen_at_each_poll(self):
-        """Link b is not polled (--edges)."""
-        plan = Driven((0, 1, 2), 0, 40)
-        self.assertEqual(self.passed([plan], [(10, {0: 0}), (20, {}), (30, {2: 0})]), [1, 1, 1, 0])
-        self.assertEqual(self.passed([plan], []), [1, 1, 1, 0])
+    @needs_simulator
+    def test_rows_of_some_edges(self):
+        files = [self.write("run.jsonl", f"{LOAD}\n{ENTER}\n"), "--map", self.write("map.json", json.dumps(MAP))]
+        words = ["--until", 60, "--program", PROGRAM, "--out", self.folder / "out"]
+        self.tool("run", *files, *words)
+        quarter = [Count(0, 30, ("b",), 1, "c.csv: line 2"), Count(30, 60, ("b",), 1, "c.csv: line 3")]
+        self.assertEqual(passed_in(read_folder(str(self.folder / "out")), quarter), [1, 0])
+        self.tool("run", *files, *words, "--edges", "a")
+        with self.assertRaisesRegex(Fault, "c.csv: line 2: .* nor rows.bin of all edges: run it with --junctions 30"):
+            passed_in(read_folder(str(self.folder / "out")), quarter)
 
     def test_a_turn_that_nobody_takes_for_a_while(self):
         """movements.csv has no row of that turn then, and there are no polls."""
@@ -408,28 +424,6 @@ class Following(Case):
         day = Count(0, 86_400, ("a", "b"), 1, "")
         self.assertEqual(passed_in(read_folder(str(self.folder)), [hour, day]), [9, 7])
         self.assertEqual(passed_in(read_folder(str(self.folder)), [quarter]), [2])
-
-    def test_the_run_file_of_another_run(self):
-        """As many vehicles on the same links, which go otherwise; the run's own file lies behind it."""
-        links, enter = [[0, 0, 1, 1, 10, 5], [1, 1, 2, 1, 10, 5]], {"cmd": "enter", "plan": [0, 1], "depart": 0}
-        own, other = (
-            "".join(json.dumps(line) + "\n" for line in ({"cmd": "load", "links": links}, {**enter, "plan": plan}))
-            for plan in ([0, 1], [1])
-        )
-        path, made = self.folder / "out", {"run": "one.jsonl", "lines": hashlib.sha256(own.encode()).hexdigest()}
-        path.mkdir()
-        folder = Folder(str(path), map_from("", MAP), [], 0, 10, 900, made)
-        (path / "run.jsonl.gz").write_bytes(gzip.compress(other.encode()))
-        self.assertEqual(plans_in(folder, 1), [()])
-        self.write("one.jsonl", own)
-        self.assertEqual(plans_in(folder, 1), [[0, 1]])
-        folder.made = {"run": "one.jsonl"}
-        self.assertEqual(plans_in(folder, 1), [[1]], "of a run whose setting has no sum")
-
-    def test_who_leaves_the_plan(self):
-        self.assertEqual(self.passed([Driven((0, 1), 0, 40)], [(10, {0: 0}), (20, {3: 0})]), [1, 0, 0, 1])
-        polls = [(10, {0: 0}), (20, {3: 0}), (30, {2: 0})]
-        self.assertEqual(self.passed([Driven((0, 1, 2), 0, 40)], polls), [1, 0, 1, 1])
 
 
 class Missing(Tool):
@@ -551,7 +545,7 @@ class Fit(Tool):
         basis = SimpleNamespace(given={}, counts=counts, ways=[], pairs=[], slices=[])
         with mock.patch.object(demanding, "Expecting") as made:
             counted = numpy.array([count.vehicles for count in counts])
-            demanding.expected_vehicles(basis, demanding.Asked(), "", numpy.eye(5), counted)
+            demanding.expected_vehicles(basis, demanding.DemandInputs(), "", numpy.eye(5), counted)
         _, own = made.return_value.vehicles_by_counts.call_args.args
         self.assertEqual(own.tolist(), [300.0])
 
@@ -576,7 +570,7 @@ class Fit(Tool):
         self.assertEqual((pair.source, pair.target, way.seconds), ("a", "b", 20 + TURN_BACK))
 
     def test_whole_vehicles_keep_sums(self):
-        from streetsim.counts.rounding import whole_vehicles
+        from streetsim.demand.rounding import whole_vehicles
 
         numpy, scipy = science.numpy_and_scipy()
         values = numpy.random.default_rng(4).random(2000) * 0.3

@@ -6,7 +6,7 @@ from support import FORK, MAP, lane, net
 from test_counts import HEAD, HOURGLASS, Tool, needs_scipy
 from streetsim.base.files import Fault
 from streetsim.cli import compare
-from streetsim.counts import passing
+from streetsim.demand import passing
 from streetsim.model.tables import EDGES, TRIPS
 
 O_FORMAT = "$OR;D2\n* times\n7.00 8.00\n* factor\n1.00\n"
@@ -160,13 +160,13 @@ class Faults(Tool):
             ("0,900,q,,3", "the run's map has no edge 'q'"),
             ("0,900,b,a,3", "no turn leads from edge 'b' to edge 'a' in the run"),
             ("900,1800,a,,3", "counted from 900 s on, and .* ends at 900 s"),
-            ("0,900,a,b,3", "neither this place and period in its tables nor polls"),
+            ("0,900,a,b,3", "neither this place and period in its tables nor rows.bin"),
         ):
             with self.assertRaisesRegex(Fault, told):
                 compare.main([str(self.folder), "--counts", self.write("c.csv", f"{HEAD}{row}\n")])
         for words, told in (
             ((), "what to compare with"),
-            (("--sumo", "x", "--counts", "y"), "two comparisons"),
+            (("--sumo", "x", "--counts", "y"), "comparisons of their own"),
             (("--sumo", "x", "--out", "y"), "--out is of --counts"),
         ):
             with self.assertRaisesRegex(Fault, told):

@@ -1,28 +1,28 @@
-"""Long runs: sampled lanes, and runs that repeat others."""
+"""Samples of lanes, and runs by hand and of many lanes."""
 import csv
 import json
-import os
 import unittest
-from unittest.mock import patch
+from collections import Counter
+from types import SimpleNamespace
 
+import numpy
+
+from seen import kernel_of, show
 from support import DATA, MAP, NUMBERED, PROGRAM, RED, Case, needs_simulator
-from streetsim.base import limits
-from streetsim.base.client import Row
-from streetsim.cli import run as running
+from streetsim.base.client import Client
+from streetsim.kernel.seconds import Taken
 from streetsim.model.mapping import map_from
-from streetsim.model.runs import Line, Run
-from streetsim.run.asking import told_of_polls
-from streetsim.run.edgedata import Edgedata, Samples, edge_rows
-from streetsim.run.settings import Settings
+from streetsim.model.runs import read_with_map
+from streetsim.observe.counts import Counts
+from streetsim.observe.sampling import Samples, samples_of
 
 
 class Schedules(Case):
     def test_samples(self):
         """As many in each period, one in each equal part, and no two parts at the same place."""
-        samples = Samples(0, 900, 5)
-        times, clock = [], 0
-        while (clock := samples.next_clock(clock)) <= 9000:
-            times.append(clock)
+        samples = Samples(0, 900, 0, 5)
+        clocks = numpy.arange(9001)
+        times = clocks[samples.among(clocks)].tolist()
         self.assertEqual(
             [sum(begin < time <= begin + 180 for time in times) for begin in range(0, 9000, 180)], [1] * 50
         )
@@ -30,44 +30,34 @@ class Schedules(Case):
         # Spread over a cycle of 90 s: each third has about a third.
         for third in range(3):
             self.assertAlmostEqual(sum(30 * third <= place % 90 < 30 * third + 30 for place in places), 50 / 3, delta=2)
+        # Of any stretch of seconds those that are in it, but for its first.
+        parts = clocks[:701], clocks[700:4001], clocks[4000:]
+        found = numpy.concatenate([part[samples.among(part)] for part in parts])
+        self.assertEqual(found.tolist(), times)
+
+    def test_polls_are_the_samples_where_there_are_enough(self):
+        for every, period, count in ((10, 900, 90), (90, 900, 10), (91, 900, 30), (0, 900, 30), (0, 7, 3), (0, 1, 0)):
+            clocks = numpy.arange(period + 1)
+            self.assertEqual(int(samples_of(0, period, every).among(clocks).sum()), count, (every, period))
 
     def test_edge_rows(self):
         """One vehicle was there at the begin; nine left, one was taken out, three are there at the end: twelve entered.
         Samples saw 2 and 4 vehicles on 75 m, which are 40 a kilometre, at 18 cells a step in all: 3 cells a step or
         22.5 m/s, so 75 m take 10 / 3 s."""
-        data = Edgedata(0, 900)
-        data.note_period_end(900, [(0, ((7, 3, 2),))])
-        data.note_sample(1000, [(0, ((7, 3, 2), (8, 2, 4)))])
-        data.note_sample(1100, [(0, ((7, 3, 3), (8, 2, 3), (9, 1, 3), (10, 0, 3)))])
-        data.note_taken_out(950, 0)
-        data.note_period_end(1800, [(0, ((1, 1, 1), (2, 2, 2), (3, 3, 3)))])
-        data.turn_into_means([(0, 0)])
-        counts = {(0, 0): {900: Row(900, 900, 9, 0, 0)}}
-        [row] = edge_rows(counts, data, map_from("map", MAP))
-        self.assertEqual(row[:5], (900, 1800, "a", 12, 9))
-        self.assertEqual([round(value, 3) for value in row[5:]], [40.0, 81.0, 3.333])
-
-
-class LongPolls(Case):
-    """Polls that would take longer than the run itself are told, by what a look and a second of a vehicle cost."""
-
-    def told(self, vehicles, **words):
-        mapping = map_from("map", {**MAP, "links": MAP["links"] * 1000})
-        load = Line(1, "", {"cmd": "load", "dawdle": 0})
-        enters = [Line(2, "", {"cmd": "enter", "plan": [0, 1], "depart": 0})] * vehicles
-        return told_of_polls(Run("run", load, enters=enters), mapping, Settings(**words))
-
-    def test_long_polls(self):
-        """2,000 lanes 8,640 times a day are 17.28 million looks at 7 us each, and each minute 2.88 million."""
-        wanted = "polls of 2,000 lanes every 10 s take some 121 s of the processor, and the run itself some 20 s: "
-        self.assertEqual(self.told(1, until=86_400), wanted + "--every 60 takes less")
-        wanted = "polls of 2,000 lanes every 1 s take some 84 s of the processor, and the run itself some 0 s: "
-        self.assertEqual(self.told(1, until=6_000, rescue=0, every=1), wanted + "--every 0 polls none")
-
-    def test_short_polls(self):
-        for words in ({"until": 4_000, "every": 1}, {"until": 86_400, "every": 0}, {"until": 86_400, "edges": ("c",)}):
-            self.assertEqual(self.told(1, **words), "")
-        self.assertEqual(self.told(1_200_000, until=86_400), "")
+        counts = Counts(900, Samples(0, 900, 0, 0))
+        counts.samples = SimpleNamespace(among=lambda clocks: numpy.isin(clocks, (1000, 1100)), any=True)
+        seen = {1000: [[7, 3, 2], [8, 2, 4]], 1100: [[7, 3, 3], [8, 2, 3], [9, 1, 3], [10, 0, 3]]}
+        seen |= {900: [[7, 3, 2]], 1800: [[1, 9, 1], [2, 2, 2], [3, 1, 3]]}
+        passing = {1200 + car: car for car in range(7, 16)}  # in each second one, who joins the buffer behind the line
+        frames = [
+            (clock, [[0, 0, seen.get(clock, []), [passing[clock]] if clock in passing else []]])
+            for clock in range(1, 1801)
+        ]
+        kernel = kernel_of(map_from("map", MAP), [[0, 1]] * 16)
+        kernel.vehicles.taken.append(Taken(950, 7, 16, 0, True))
+        show(kernel, frames, counts, parts=7)
+        row = next(row for row in counts.edge_rows() if row[0] == 900)
+        self.assertEqual(row, (900, 1800, "a", 12, 9, "40.00", "81.00", "3.33"))
 
 
 @needs_simulator
@@ -102,52 +92,67 @@ class ByHand(Case):
 
 
 @needs_simulator
-class Repeated(Case):
+class Many(Case):
+    """The samples' grid with a junction that is red from 60 s on, so that vehicles are rescued."""
+
     def run_grid(self, out, *words):
         run, mapped = self.folder / "run.jsonl", self.folder / "map.json"
         if not run.exists():
             words_ = [DATA / "grid.net.xml.gz", "--routes", DATA / "grid.rou.xml.gz", "-o", run, "--map", mapped]
             self.tool("import", *words_)
-            node = json.loads(mapped.read_text())["signals"][14][1]
-            with open(run, "a", encoding="utf-8") as file:  # a junction that is red from 60 s on
+            node = json.loads(mapped.read_text())["signals"]["node"][14]
+            with open(run, "a", encoding="utf-8") as file:
                 file.write(
                     json.dumps({"cmd": "signal", "node": node, "offset": 0, "phases": [[600, []]], "at": 60}) + "\n"
                 )
         arguments = [run, "--map", mapped, "--program", PROGRAM, "--until", 900, "--period", 300, "--rescue", 60]
-        with open(os.devnull, "w") as null, patch("sys.stdout", null), patch("sys.stderr", null):
-            running.main([str(word) for word in (*arguments, "--out", self.folder / out, *words)])
+        return self.tool("run", *arguments, "--out", self.folder / out, *words)
 
-    def test_further_runs_count_what_one_would(self):
-        """All 240 lanes in one run, and 100 in each of three, with rescues that are repeated at
-        their clocks: equal counts."""
+    def table(self, name):
+        with open(self.folder / "one" / name, encoding="utf-8") as file:
+            return list(csv.DictReader(file))
+
+    def test_counts_are_those_of_the_program(self):
+        """Its own detectors at the ends of lanes see the same vehicles, speeds and seconds."""
+        self.run_grid("one", "--rescue", 0)
+        run, mapping = read_with_map(self.folder / "run.jsonl", self.folder / "map.json")
+        places = mapping.lanes()
+        with Client(PROGRAM) as sim:
+            sim.batch(line.text for line in (run.load, *run.first, *run.enters))
+            for link, lane in places:
+                sim.meter(link, lane, mapping.links[link].cells - 1, 300)
+            sim.advance(60)
+            sim.batch(line.text for _, line in run.timed)
+            sim.advance(840)
+            metres = [mapping.links[link].cell_metres for link, _ in places]
+            seen = [(row, long) for number, long in enumerate(metres) for row in sim.read(number).rows]
+        rows = self.table("counts.csv")
+        self.assertEqual(len(rows), 3 * 240)
+        for row, (one, long) in zip(rows, seen, strict=True):
+            found = row["begin"], row["vehicles"], row["mean_speed_kmh"], row["occupancy_percent"]
+            self.assertEqual(found, (str(one.start), str(one.passes), one.kmh(long), f"{one.density * 100:.1f}"))
+        self.assertGreater(sum(one.passes for one, _ in seen), 1000)
+
+    def test_who_is_rescued_leaves_no_edge(self):
+        """Of each edge in each period: who left it passed a stop line, and who came to it left it, was taken out of it
+        or is still there."""
         self.run_grid("one")
-        with patch.object(limits, "METERS", 100):
-            self.run_grid("three")
-        for name in ("counts.csv", "trips.csv", "queues.csv", "summary.csv"):
-            self.assertEqual(
-                (self.folder / "three" / name).read_bytes(), (self.folder / "one" / name).read_bytes(), name
-            )
-        with open(self.folder / "one/trips.csv", encoding="utf-8") as file:
-            self.assertGreater(sum(int(row["rescues"]) for row in csv.DictReader(file)), 0)
-        tables = [self.edges(name) for name in ("one", "three")]
-        self.assertEqual(tables[0].keys(), tables[1].keys())
-        self.assertEqual(len(tables[0]), 3 * 120)
-        for key, row in tables[0].items():
-            self.assertEqual(
-                [row[name] for name in ("entered", "left")], [tables[1][key][name] for name in ("entered", "left")]
-            )
-        vehicles = [sum(float(row["density_per_km"]) for row in table.values()) for table in tables]
-        self.assertAlmostEqual(vehicles[1] / vehicles[0], 1, delta=0.05)
+        self.assertGreater(sum(int(row["rescues"]) for row in self.table("trips.csv")), 0)
+        passed, came = Counter(), Counter()
+        for row in self.table("counts.csv"):
+            passed[row["begin"], row["edge"]] += int(row["vehicles"])
+        for row in self.table("edges.csv"):
+            self.assertEqual(passed.pop((row["begin"], row["edge"]), 0), int(row["left"]))
+            came[row["edge"]] += int(row["entered"]) - int(row["left"])
+        self.assertEqual(+passed, Counter())
+        taken = sum(int(row["rescues"]) for row in self.table("trips.csv"))
+        there = int(self.table("summary.csv")[-1]["on_cells"])
+        self.assertAlmostEqual(sum(came.values()), there + taken, delta=taken)  # some were taken out of junctions
 
-    def edges(self, out):
-        with open(self.folder / out / "edges.csv", encoding="utf-8") as file:
-            return {(row["begin"], row["edge"]): row for row in csv.DictReader(file)}
-
-    def test_the_busiest_alone(self):
-        with patch.object(limits, "METERS", 100):
-            self.run_grid("busiest", "--counted", "busiest")
-        with open(self.folder / "busiest/counts.csv", encoding="utf-8") as file:
-            self.assertEqual(len({(row["link"], row["lane"]) for row in csv.DictReader(file)}), 100)
+    def test_a_word_of_earlier_versions(self):
+        _, told = self.run_grid("one", "--counted", "busiest")
+        self.assertEqual(told, "--counted has no effect any more: every lane is counted, in one run\n")
+        self.assertEqual(len(self.table("counts.csv")), 3 * 240)
 
 
 if __name__ == "__main__":

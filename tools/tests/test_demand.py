@@ -4,7 +4,7 @@ import unittest
 from support import FORK, SHARED, Case, lane, net
 from streetsim.base.files import Fault
 from streetsim.base.report import Report
-from streetsim.importing.convert import convert
+from streetsim.sumo.import_files import convert
 from streetsim.sumo.network import Options
 
 

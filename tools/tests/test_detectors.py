@@ -23,7 +23,9 @@ LOOPS = """<additional>
 class Detectors(Case):
     def run_import(self, additional, status=0, network=STREET):
         words = [self.write("x.net.xml", network), self.write("x.add.xml", additional), "--dawdle", 0]
-        routes = '<routes><vehicle id="v" depart="0"><route edges="a"/></vehicle></routes>'
+        # One of this type takes as long to 75 m in SUMO as here, so the street has as many cells as it is long.
+        routes = '<routes><vType id="t" accel="5.6" sigma="0" speedDev="0"/>'
+        routes += '<vehicle id="v" type="t" depart="0"><route edges="a"/></vehicle></routes>'
         words += ["--routes", self.write("x.rou.xml", routes), "-o", self.folder / "run.jsonl"]
         return self.tool("import", *words, "--map", self.folder / "map.json", status=status)[1]
 
@@ -84,8 +86,8 @@ class Detectors(Case):
         ):
             with self.subTest(element):
                 self.run_import(f"<additional>{element}</additional>")
-                [found] = read_json(self.folder / "map.json", ["detectors"])["detectors"]
-                self.assertEqual(found[4:6], cells)
+                found = read_json(self.folder / "map.json", ["detectors"])["detectors"]
+                self.assertEqual([*found["first"], *found["last"]], cells)
 
     @needs_simulator
     def test_tables(self):

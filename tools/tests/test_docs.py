@@ -20,7 +20,7 @@ FOREIGN = {"MSCFModel", "passingTime", "lefthand", "distributed", "comm", "tls",
 PICTURES = (".png", ".gz")
 # First pages stay short: lines, and bytes, at most.
 MOST_LINES = {"tools/README.md": 320}
-MOST_BYTES = {"docs/PROOFS.md": 25_000}
+MOST_BYTES = {"docs/PROOFS.md": 26_000}
 
 
 @cache

@@ -1,21 +1,24 @@
-"""Lights that detectors drive under scripts, scenarios and searches for routes."""
+"""Lights that detectors drive under scripts, scenarios, searches for routes and on pages."""
 import json
 import os
 import unittest
 
-from support import PROGRAM, Case, needs_package, needs_simulator
+from pages import told_by
+from support import PROGRAM, Case, needs_simulator
 from test_actuated import PHASES, street
 from test_nema import street as ringed
-from test_page_works import NODE, in_node
 from streetsim import traci
-from streetsim.base.client import line_of
+from streetsim.base import limits
 from streetsim.base.files import Fault
-from streetsim.live.driven import DrivenEngine
-from streetsim.live.page import own_lines, page_data
-from streetsim.model.mapping import Map, read_map
-from streetsim.model.runs import Run, read_run
-from streetsim.routes.watching import Ground
+from streetsim.control.actuated_lights import NONE_DRIVEN, driven_lights
+from streetsim.control.settings import Settings
+from streetsim.live.page import page_data
+from streetsim.live.session import PageSession
+from streetsim.live.world import PageRun
+from streetsim.model.mapping import read_map
+from streetsim.model.runs import read_run
 from streetsim.scenario import ListedScenario, NotHere, Scenario
+from streetsim.search.route_watching import RunGround
 
 NOBODY = '<routes><vehicle id="v" depart="900"><route edges="a b"/></vehicle></routes>'
 FIXED = """<additional><tlLogic id="L" type="static" programID="fixed" offset="0">
@@ -190,9 +193,9 @@ class Runs(Case):
     def test_a_search_for_routes(self):
         run, mapping = self.imported()
         read, found = read_run(run), read_map(mapping)
-        ground = Ground(PROGRAM, None, None, 300, 3600)
+        ground = RunGround(PROGRAM, None, None, 300, 3600)
         self.assertEqual([one.name for one in ground.lights(read, found).driven], ["L"])
-        listed = Ground(PROGRAM, None, None, 300, 3600, driven=False)
+        listed = RunGround(PROGRAM, None, None, 300, 3600, driven=False)
         self.assertEqual(listed.lights(read, found).listed_lights(found), ["L"])
 
     def test_a_plan_by_time_of_day_takes_the_place_of_detectors(self):
@@ -209,131 +212,56 @@ class Runs(Case):
         signals = json.loads((out / "setting.json").read_text(encoding="utf-8"))["signals"]
         self.assertIn("[[30, [[0, 0, 1]]], [30, []]]", json.dumps(signals))
 
+    def page_session(self):
+        run, mapping = map(str, self.imported())
+        read = read_run(run), read_map(mapping)
+        settings = Settings(limits.CLOCK, 0, rescue=0, lights=driven_lights(*read))
+        session = PageSession(PageRun(*read, settings, PROGRAM))
+        self.addCleanup(session.close)
+        session.begin()
+        return session
+
     def test_a_page(self):
-        # As above: 5 s of green, 3 of yellow, 20 of red; a reply to steps has what is shown from then on.
-        run, mapping = map(str, self.imported())
-        read = read_run(run), read_map(mapping)
-        engine = DrivenEngine(PROGRAM, own_lines(read[0]), lambda: (*read, []))
-        self.addCleanup(engine.close)
-        self.assertNotIn(b"error", b"".join(engine.begin_run()))
-        step, count, shown = b'{"cmd":"advance","steps":1}\n', b'{"cmd":"count"}\n', []
-        for _ in range(6):
-            replies = [*map(json.loads, engine.ask([step, count] * 10))]
-            self.assertTrue(all("admitted" in one for one in replies[1::2]))
-            shown += [(one["clock"], len(one["shown"])) for one in replies[::2] if "shown" in one]
-        self.assertEqual(shown, [(1, 1), (5, 1), (8, 1), (28, 1), (33, 1), (36, 1), (56, 1)])
-        # Of many steps at once the same; a plan that is set ends it, and one that is refused does not.
-        [reply] = map(json.loads, engine.ask([b'{"cmd":"advance","steps":22}\n']))
-        self.assertEqual((reply["clock"], len(reply["shown"])), (82, 2))
+        # As above: 5 s of green, 3 of yellow, 20 of red; a message has what is shown from then on.
+        session, shown = self.page_session(), []
+        for _ in range(60):
+            [world] = told_by(session.step(1))["worlds"]
+            shown += [world["clock"]] * len(world["shown"])
+        self.assertEqual(shown, [5, 8, 28, 33, 36, 56])
+        # Of many steps at once the last; a plan that is set ends it, and one that is refused does not.
+        [world] = told_by(session.step(22))["worlds"]
+        self.assertEqual((world["clock"], len(world["shown"])), (82, 1))
         plan = {"cmd": "signal", "node": 1, "offset": 0, "phases": [[0, []]]}
-        self.assertIn(b"error", engine.ask([line_of(plan)])[0])
-        self.assertEqual(len(json.loads(engine.ask([b'{"cmd":"advance","steps":8}\n'])[0])["shown"]), 2)
-        self.assertNotIn(b"error", engine.ask([line_of({**plan, "phases": [[60, []]]})])[0])
-        self.assertNotIn(b"shown", engine.ask([b'{"cmd":"advance","steps":300}\n'])[0])
+        self.assertIn("BadSignal", self.set_plan(session, plan)["refused"])
+        self.assertEqual(len(told_by(session.step(8))["worlds"][0]["shown"]), 1)
+        self.assertEqual(self.set_plan(session, {**plan, "phases": [[60, []]]})["refused"], "")
+        self.assertEqual(told_by(session.step(300))["worlds"][0]["shown"], [])
 
-    def test_a_page_whose_run_cannot_be_joint_runs_nothing(self):
+    def set_plan(self, session, command):
+        change = [{"clock": session.now.clock, "command": command}]
+        return told_by(session.change("plan", change))
+
+    def test_a_plan_that_is_undone_gives_the_light_back(self):
+        session = self.page_session()
+        session.step(40)
+        plan = {"cmd": "signal", "node": 1, "offset": 0, "phases": [[60, []]]}
+        now, was = self.set_plan(session, plan)["worlds"]
+        self.assertEqual((now["plans"][0]["phases"], now["shown"]), ([[60, []]], []))
+        # As it was it goes on to be driven.
+        now, was = told_by(session.step(60))["worlds"]
+        self.assertEqual(([], 1), (now["shown"], len(was["shown"])))
+        [now] = told_by(session.undo(0))["worlds"]
+        self.assertEqual((now["clock"], now["shown"]), (100, was["shown"]))
+
+    def test_what_a_page_says_of_its_lights(self):
         run, mapping = map(str, self.imported())
         read = read_run(run), read_map(mapping)
-        made = iter([(*read, []), None])
-        engine = DrivenEngine(PROGRAM, own_lines(read[0]), lambda: next(made) or self.refuse())
-        self.check_nothing_runs(engine)
-        engine.begin_run()
-        with self.assertRaisesRegex(Fault, "not joint"):
-            engine.begin_run()
-        self.check_nothing_runs(engine)
-
-    def check_nothing_runs(self, engine):
-        for line in (b'{"cmd":"count"}\n', b'{"cmd":"advance","steps":1}\n'):
-            with self.assertRaisesRegex(Fault, "nothing is running"):
-                engine.ask([line])
-
-    def refuse(self):
-        raise Fault("not joint")
-
-    def test_a_page_that_cannot_drive_says_so(self):
-        run, mapping = self.imported()
-        out = self.folder / "page.html"
-        module = self.write("page.wasm", "")
-        _, told = self.tool("live", run, "--map", mapping, "--program", module, "-o", out)
-        self.assertIn("lights show their listed seconds, as nobody looks at detectors", told)
-        read = read_run(str(run)), read_map(str(mapping))
-        self.assertEqual((page_data(*read)["driven"], page_data(*read)["listed"]), ([], ["L"]))
-        self.assertEqual(page_data(*read, driven=True)["driven"], ["L"])
-
-
-class Memory:
-    """A program whose memory lasts for so many steps, then for three more at the next line."""
-
-    def __init__(self, room):
-        self.clock, self.room = 0, room
-
-    def exchange(self, lines):
-        for steps in [json.loads(line)["steps"] for line in lines]:
-            made, self.room = min(steps, self.room), max(0, self.room - steps)
-            self.clock, self.room = self.clock + made, self.room or 3
-            if not made:
-                yield b'{"starved":true}\n'
-            elif made < steps:
-                yield b'{"clock":%d,"short":%d}\n' % (self.clock, made)
-            else:
-                yield b'{"clock":%d}\n' % self.clock
-
-    read = lane = None
-
-
-class Lights:
-    """Lights that are looked at each 10 s and begin nothing."""
-
-    def __init__(self):
-        self.looks = []
-
-    def next_clock(self):
-        return self.looks[-1] + 10 if self.looks else 10
-
-    def commands_after_look(self, clock, _senses):
-        self.looks.append(clock)
-        return ()
-
-
-class Short(unittest.TestCase):
-    """Where memory runs out within an advance, the clock is that of the steps that were made."""
-
-    def asked(self, room, *steps):
-        mapping = Map([], [], [], [], [], {}, [])
-        engine = DrivenEngine("", [], lambda: (Run(None, [], [], []), mapping, []))
-        engine.client, engine.driver = Memory(room), Lights()
-        texts = engine.ask([b'{"cmd":"advance","steps":%d}\n' % count for count in steps])
-        return [json.loads(text) for text in texts], engine.clock, engine.driver.looks
-
-    def test_within_the_steps_to_a_look(self):
-        replies, clock, looks = self.asked(4, 12)
-        self.assertEqual((replies, clock, looks), ([{"clock": 4, "short": 4}], 4, []))
-
-    def test_after_a_look(self):
-        # 10 s to the look, and 4 of the 15 after it: 14 in all, of which the reply tells.
-        replies, clock, looks = self.asked(14, 25)
-        self.assertEqual((replies, clock, looks), ([{"clock": 14, "short": 14}], 14, [10]))
-
-    def test_lines_between_looks(self):
-        # Two lines are sent together: the first makes 2 of 5 steps, the second 3 of 4; nobody is to be looked at.
-        replies, clock, looks = self.asked(2, 5, 4)
-        self.assertEqual((replies, clock, looks), ([{"clock": 2, "short": 2}, {"clock": 5, "short": 3}], 5, []))
-
-
-@needs_package("nodejs", NODE)
-class Page(unittest.TestCase):
-    def test_what_is_shown_until_a_plan_is_set(self):
-        act = """
-        const signals = [{ node: 1, offset: 0, phases: [] }];
-        const data = { links: [], signals, works: [], timed: [], start: 0, cars: [], departs: [], free: [] };
-        const session = new Session({ begin: async () => [] }, data, "");
-        session.begin().then(() => {
-          session.took({ line: "x" }, '{"clock":1,"shown":[{"cmd":"signal","node":1,"offset":9,"phases":[]}]}');
-          const seen = [session.clock, session.shown.get(1).offset, session.sent[0][1]];
-          session.takePlan({ node: 1, offset: 4, phases: [] });
-          console.log(JSON.stringify([...seen, session.shown.size]));
-        });"""
-        self.assertEqual(in_node(act, {}), [1, 9, '{"clock":1}', 0])
+        for lights, told in (
+            (NONE_DRIVEN, "One light shows listed seconds on this page, where SUMO's detectors would time it: L."),
+            (driven_lights(*read), "Detectors drive one light, until a plan is set there."),
+        ):
+            claim = page_data(PageRun(*read, Settings(limits.CLOCK, lights=lights), ""))["claim"]
+            self.assertTrue(claim.endswith(f"not proved. {told}"), claim)
 
 
 if __name__ == "__main__":

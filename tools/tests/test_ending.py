@@ -4,31 +4,32 @@ import json
 import unittest
 from types import SimpleNamespace
 
+from seen import blocks_of, kernel_of
 from support import MAP, NUMBERED, PROGRAM, RED, Case, lane, needs_simulator, net
-from streetsim.base.client import Census
-from streetsim.model.runs import Line, Run
-from streetsim.run.ending import Ending
+from streetsim.control.ending import Ending
+from streetsim.kernel.loop import NEVER
+from streetsim.kernel.seconds import Block
+from streetsim.model.mapping import map_from
 
 
 class Still(unittest.TestCase):
     def test_a_standstill_lasts_longer_than_all_phases_of_a_light_that_detectors_drive(self):
         """The run has no signal lines; all phases of its light, at their greatest length, last 700 s."""
-        settings = SimpleNamespace(lights=SimpleNamespace(longest=700), until=10_000)
-        records = SimpleNamespace(censuses=[Census(1, 0, 0, 1, 0, 0, 0)], ended="")
-        run = Run("run", Line(1, "", {}))
-        desk = SimpleNamespace(
-            run=run, settings=settings, records=records, is_to_come=lambda clock: False, sent=0, places=[],
-            poll_lanes=lambda places: {}, fleet=SimpleNamespace(is_holding=False), has_ended=lambda clock: False,
-            end_at=lambda clock: None,
-        )  # fmt: skip
-        ending = Ending(run)
+        kernel = kernel_of(map_from("", MAP), [[0]])
+        kernel.is_to_come, kernel.until = lambda clock: False, 10_000
+        buses = SimpleNamespace(fleet=SimpleNamespace(is_holding=False))
+        ending = Ending(buses, SimpleNamespace(next_clock=lambda: NEVER), 700)
+        ending.begin(kernel)
+        now = Block(blocks_of([(1, [[0, 0, [[0, 5, 0]], []]])]))
         for clock in range(60, 1_561, 60):
-            ending.decide_end(desk, clock)
-            self.assertEqual(bool(records.ended), clock >= 1_500, clock)
-            if records.ended:
+            kernel.clock = clock
+            self.assertEqual(ending.next_clock(), clock)
+            ending.act(clock, now)
+            self.assertEqual(bool(ending.ended), clock >= 1_500, clock)
+            if ending.ended:
                 break
         still = "no vehicle has changed its cell for 720 s, longer than the longest cycle, 700 s"
-        self.assertEqual(records.ended, f"ended at 1,500 s: {still}")
+        self.assertEqual((ending.ended, kernel.until), (f"ended at 1,500 s: {still}", 1_500))
 
 
 @needs_simulator
@@ -74,7 +75,8 @@ class Endings(Case):
         self.assertEqual(json.loads((self.folder / "out/setting.json").read_text())["not_trusted"], [])
 
     def test_each_seed_has_its_end(self):
-        self.assertIn("seed 1: 1 vehicles, 1 arrived", told := self.run_lines([0], "--seeds", "1-2"))
+        told = self.run_lines([0], "--seeds", "1-2", "--departures", "listed")
+        self.assertIn("seed 1: 1 vehicles, 1 arrived", told)
         self.assertIn("ended at 60 s: all have arrived", told)
 
     def test_roads_that_give_way(self):

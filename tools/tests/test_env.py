@@ -2,9 +2,10 @@
 import os
 import subprocess
 import sys
+from functools import partial
 
-from support import DATA, PROGRAM, TOOLS, Case, needs_simulator
-from streetsim.env import SignalEnv
+from support import PROGRAM, TOOLS, Case, needs_simulator
+from streetsim.env import OneSignal, ParallelSignals, SideBySide, SignalEnv
 
 CROSS = TOOLS / "examples/actuated"
 WORDS = ["-n", str(CROSS / "cross.net.xml.gz"), "-r", str(CROSS / "cross.rou.xml"), "-W"]
@@ -42,7 +43,8 @@ class Environment(Case):
             observations, *_ = env.step({})
             self.assertEqual(observations["J"][:3], [1.0, 0.0, 1.0])
             shown, step = [], env.session.step
-            env.session.step = lambda: (shown.append(light.phases[0][1]), step())
+            seconds = lambda until: int(until - env.session.clock)  # noqa: E731
+            env.session.step = lambda until: (shown.extend(seconds(until) * [light.phases[0][1]]), step(until))
             observations, *_ = env.step({"J": 1})
             yellow = "".join("y" if now in "Gg" and then == "r" else now for now, then in zip(greens[0], greens[1]))
             self.assertEqual(shown, [yellow] * 3 + [greens[1]] * 2)
@@ -55,8 +57,8 @@ class Environment(Case):
             total = sum(env.step({})[1]["J"] for _ in range(30))
             session = env.session
             lanes = env.agents["J"].lanes
-            there = [car for lane in lanes for car in session.view.on_lane.get(session.lane_of[lane], ())]
-            waited = sum(session.tally.waited.get(car, 0) for car in there)
+            there = [number for lane in lanes for number in session.view.on_lane(session.lane_of[lane])]
+            waited = sum(session.tally.waited[there].tolist())
         self.assertGreater(waited, 0)
         self.assertAlmostEqual(total, -waited / 100)
 
@@ -85,6 +87,64 @@ class Environment(Case):
                     env.step({"J": 1} | other)
                 self.assertEqual((light.phases[0][1], env.figures()["time"]), (green, 5))
             self.assertEqual(env.step({"J": 1})[0]["J"][:2], [0.0, 1.0])
+
+    def test_lights_with_a_single_green_are_no_agents(self):
+        """A light that always shows one green has nothing to choose: it goes on by its program."""
+        single = """<additional><tlLogic id="J" type="static" programID="one" offset="0">
+            <phase duration="60" state="GGGGGGGGGGGG"/><phase duration="5" state="yyyyyyyyyyyy"/></tlLogic>
+            </additional>"""
+        words = [*WORDS, "-a", self.write("x.add.xml", single)]
+        with SignalEnv(words, seconds=20) as env:
+            self.assertEqual(env.reset()[0], {})
+            self.assertEqual(env.lights, [])
+            self.assertEqual(env.step({})[1], {})
+        with SignalEnv(words, controlled=["J"]) as env, self.assertRaisesRegex(ValueError, "'J' has a single green"):
+            env.reset()
+
+    def test_conventions_of_gymnasium(self):
+        """Spaces have what reset and step give; equal seeds give equal observations, others do not."""
+        env = OneSignal(WORDS, seconds=50)
+        self.addCleanup(env.close)
+        first, figures = env.reset(seed=3)
+        self.assertTrue(env.observation_space.contains(first))
+        self.assertEqual((first.shape, env.action_space.n, figures["time"]), (env.observation_space.shape, 2, 0))
+        seen = [env.step(env.action_space.sample() * 0 + step % 2) for step in range(10)]
+        observation, reward, ended, over, figures = seen[-1]
+        self.assertTrue(all(env.observation_space.contains(one[0]) for one in seen))
+        self.assertEqual((type(reward), ended, over, figures["time"]), (float, False, True, 50))
+        self.assertEqual([one[3] for one in seen], 9 * [False] + [True])
+        env.reset(seed=3)
+        again = [env.step(step % 2) for step in range(10)]
+        self.assertEqual([one[0].tolist() for one in again], [one[0].tolist() for one in seen])
+        self.assertIs(env.unwrapped, env)
+        with self.assertRaises(KeyError):
+            OneSignal(WORDS, light="nowhere")
+
+    def test_conventions_of_pettingzoo(self):
+        """What is told is told by agent, and there are no agents when the run is over."""
+        env = ParallelSignals(WORDS, seconds=10)
+        self.addCleanup(env.close)
+        observations, infos = env.reset(seed=1, options=None)
+        self.assertEqual((env.agents, env.possible_agents, list(infos)), (["J"], ["J"], ["J"]))
+        self.assertTrue(env.observation_space("J").contains(observations["J"]))
+        self.assertEqual(env.action_space("J").n, 2)
+        for over in (False, True):
+            told = env.step({"J": 1})
+            self.assertEqual([list(one) for one in told], 5 * [["J"]])
+            self.assertEqual((told[2], told[3]), ({"J": False}, {"J": over}))
+        self.assertEqual(env.agents, [])
+
+    def test_environments_side_by_side(self):
+        """Each gives what it gives alone, and an exception of one is raised."""
+        with SideBySide(partial(SignalEnv, WORDS), 2) as envs:
+            begun = envs.reset([7, 8])
+            seen = [envs.step([{"J": 1}, {"J": 0}]) for _ in range(5)]
+            with self.assertRaisesRegex(ValueError, "no green phase 9"):
+                envs.step([{"J": 9}, {}])
+        for at, (seed, action) in enumerate(((7, 1), (8, 0))):
+            with SignalEnv(WORDS) as env:
+                self.assertEqual(env.reset(seed), begun[at])
+                self.assertEqual([env.step({"J": action}) for _ in range(5)], [one[at] for one in seen])
 
     def test_policies(self):
         """Max-pressure leaves fewer standing than greens in turn."""

@@ -7,7 +7,7 @@ from support import MAP, PROGRAM, Case, needs_package, needs_simulator
 from streetsim.base.report import Report
 from streetsim.model.service import COLOURS
 from streetsim.model.tables import APPROACHES, EDGES, JUNCTIONS, MOVEMENTS, write_table
-from streetsim.results.values import traffic_of
+from streetsim.report.edge_values import traffic_of
 from streetsim.sumo.net import read_net
 
 OGR = shutil.which("ogr2ogr")
@@ -18,7 +18,7 @@ needs_pyproj = needs_package("python3-pyproj", HAS_PYPROJ)
 UTM = "+proj=utm +zone=32 +ellps=WGS84 +datum=WGS84 +units=m +no_defs"
 # The point (500000, 0) of each UTM zone is the equator at its central meridian, 9 degrees east in zone 32.
 LOCATION = {"offset": [-500000.0, 0.0], "projection": UTM}
-QUEUED = {"queue_50_m": 7.5, "queue_95_m": 15.0, "queue_max_m": 22.5, "storage_m": 75.0}
+QUEUED = {"nearly_full": "", "queue_50_m": 7.5, "queue_95_m": 15.0, "queue_max_m": 22.5, "storage_m": 75.0}
 LOST = {"vehicles": 10, "stopped_delay_s": 5.0, "stops_per_vehicle": 0.5, "error_s": ""}
 
 
@@ -155,7 +155,7 @@ class Whole(Case):
             "--map", mapped,
         )
         words = (run, "--map", mapped, "--until", 600, "--period", 600, "--program", PROGRAM, "--out", out)
-        self.tool("run", *words, "--seeds", "1-2", "--junctions", "600")
+        self.tool("run", *words, "--seeds", "1-2", "--departures", "listed", "--junctions", "600")
         told = self.tool("export", out, "-o", self.folder / "x.geojson", "--projection", "EPSG:32632")[0]
         self.assertIn("37 rows of edges and junctions in 1 interval", told)
         rows = [row["properties"] for row in json.loads((self.folder / "x.geojson").read_text())["features"]]

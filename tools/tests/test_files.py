@@ -1,6 +1,7 @@
 """Outputs: written whole or not at all, over regular files alone;
 inputs and words that do not fit are told in a line."""
 import json
+import shutil
 import os
 import signal
 import stat
@@ -12,7 +13,7 @@ import unittest
 from pathlib import Path
 
 from support import FORK, MAP, NUMBERED, PROGRAM, TOOLS, Case, lane, needs_simulator, net
-from streetsim.base.files import Fault, refuse_equal, whole_file, whole_folder, whole_path
+from streetsim.base.files import Fault, refuse_equal, refuse_foreign, whole_file, whole_folder, whole_path
 from streetsim.base.jobs import side_by_side
 
 STREET = net([("a", "A", "B", [lane("a", 0)])], [])
@@ -143,25 +144,67 @@ class Folders(Case):
         self.fill(folder, "new")
         self.assertEqual(self.content(folder), {"one": "new", "last": "new", "mine": "kept"})
 
-    def test_what_an_earlier_one_had_at_wish(self):
-        """It goes where a new whole folder comes, also in folders of it, and nowhere else."""
+    def put(self, *names):
+        for name in names:
+            path = self.folder / "out" / name
+            path.parent.mkdir(parents=True, exist_ok=True)
+            path.write_text("x")
 
-        def fill(*names):
-            with whole_folder(self.folder / "out", "last", ("wished", "sub/wished")) as half:
-                for name in names:
-                    path = Path(half, name)
-                    path.parent.mkdir(parents=True, exist_ok=True)
-                    path.write_text("x")
+    def names(self):
+        return sorted(str(path.relative_to(self.folder)) for path in self.folder.rglob("*") if not path.is_dir())
 
-        fill("a.b", "last")
-        for name in ("wished", "sub/wished", "seed-1/wished", "seed-2/wished", "sub/mine.x"):
-            fill(name)
-        fill("seed-1/last", "last", "wished")
-        found = sorted(str(path.relative_to(self.folder / "out")) for path in (self.folder / "out").rglob("*"))
-        kept = ["a.b", "last", "seed-1", "seed-1/last", "seed-2", "seed-2/wished", "sub", "sub/mine.x", "wished"]
-        self.assertEqual(found, kept)
-        fill("last")
-        self.assertFalse((self.folder / "out/wished").exists())
+    def test_what_an_earlier_run_wrote_goes(self):
+        """Its files and those of its seeds and of SUMO's outputs; and nothing else."""
+        self.put("setting.json", "works.csv", "seed-7/trips.csv", "seed-1/sumo/tripinfo.xml", "sumo/fcd.xml")
+        self.put("mine.csv", "sub/trips.csv", "sumo/mine.csv")
+        with whole_folder(self.folder / "out", "setting.json") as half:
+            for name in ("setting.json", "trips.csv"):
+                Path(half, name).write_text("new")
+        kept = ["mine.csv", "setting.json", "sub/trips.csv", "sumo/mine.csv", "trips.csv"]
+        self.assertEqual(self.names(), [f"out/{name}" for name in kept])
+
+    def test_a_folder_of_somebody_else(self):
+        """It is written to where nothing is in it, or a run of the tools alone, or by --force."""
+        for names, told in (
+            ((), ""),
+            (("setting.json", "trips.csv", "seed-3/setting.json", "sumo/tripinfo.xml"), ""),
+            (("seed-1/setting.json", "seeds.csv"), ""),
+            (("fit.csv", "hours.csv", "groups.csv"), ""),
+            (("trips.csv",), "has no setting.json of a run of the tools"),
+            (("setting.json", "notes.txt"), "has notes.txt, which no run of the tools wrote"),
+            (("setting.json", "mine/trips.csv"), "has mine/trips.csv, which"),
+            (("setting.json", "sumo/sub/x.xml"), "has sumo/sub/x.xml, which"),
+            (("setting.json", "seed-1/run.py"), "has seed-1/run.py, which"),
+        ):
+            with self.subTest(names):
+                shutil.rmtree(self.folder / "out", ignore_errors=True)
+                self.put(*names)
+                if not told:
+                    refuse_foreign(self.folder / "out")
+                    continue
+                with self.assertRaisesRegex(Fault, f"out: {told}.*: give --out another folder, or --force"):
+                    refuse_foreign(self.folder / "out")
+                refuse_foreign(self.folder / "out", True)
+
+    def test_links_are_not_followed(self):
+        """Nothing outside the folder is written or removed, not even by --force."""
+        elsewhere = self.folder / "elsewhere"
+        elsewhere.mkdir()
+        (elsewhere / "tripinfo.xml").write_text("mine")
+        self.put("setting.json")
+        (self.folder / "out/sumo").symlink_to(elsewhere)
+        with self.assertRaisesRegex(Fault, "has sumo, which no run of the tools wrote"):
+            refuse_foreign(self.folder / "out")
+        with self.assertRaisesRegex(Fault, "out/sumo: is a link to elsewhere"):
+            with whole_folder(self.folder / "out", "setting.json") as half:
+                Path(half, "sumo").mkdir()
+                Path(half, "sumo/tripinfo.xml").write_text("new")
+        self.assertEqual((elsewhere / "tripinfo.xml").read_text(), "mine")
+        (self.folder / "out/trips.csv").symlink_to(elsewhere / "tripinfo.xml")
+        with whole_folder(self.folder / "out", "setting.json") as half:
+            Path(half, "trips.csv").write_text("new")
+        self.assertEqual((elsewhere / "tripinfo.xml").read_text(), "mine")
+        self.assertEqual((self.folder / "out/trips.csv").read_text(), "new")
 
     def test_a_place_that_is_taken(self):
         folder = self.folder / "out"
@@ -183,7 +226,11 @@ class Ended(Case):
         os.chmod(program, 0o755)
         run = self.write("run.jsonl", json.dumps({"cmd": "load", **NUMBERED}) + "\n")
         words = [run, "--map", self.write("map.json", json.dumps(MAP)), "--until", "60", "--program", program]
-        running = subprocess.Popen([TOOLS / "streetsim-run", *words, *more, "--out", self.out], stderr=subprocess.PIPE)
+        running = subprocess.Popen(
+            [TOOLS / "streetsim-run", *words, *more, "--out", self.out], stderr=subprocess.PIPE,
+            # Tests that run in the background may have been told to ignore it.
+            preexec_fn=lambda: signal.signal(signal.SIGINT, signal.SIG_DFL),
+        )  # fmt: skip
         self.addCleanup(running.kill)
         while not (self.out.exists() and list(self.out.rglob("*half*"))):
             time.sleep(0.02)
@@ -194,14 +241,23 @@ class Ended(Case):
         super().setUp()
         self.out = self.folder / "out"
 
-    def test_sigterm_leaves_nothing(self):
-        for more in ([], ["--seeds", "1-3"]):
-            with self.subTest(more):
-                running = self.begin(*more)
-                running.send_signal(signal.SIGTERM)
-                self.assertEqual(running.communicate(timeout=20), (None, b""))
-                self.assertEqual(running.returncode, 128 + signal.SIGTERM)
-                self.assertFalse(self.out.exists())
+    def test_a_signal_leaves_nothing_and_is_told_in_one_line(self):
+        for number, name in ((signal.SIGTERM, b"SIGTERM"), (signal.SIGINT, b"Ctrl-C")):
+            for more in ([], ["--seeds", "1-3"]):
+                with self.subTest(name=name, more=more):
+                    running = self.begin(*more)
+                    running.send_signal(number)
+                    told = b"streetsim-run: ended by " + name + b": nothing was written\n"
+                    self.assertEqual(running.communicate(timeout=20), (None, told))
+                    self.assertEqual(running.returncode, 128 + number)
+                    self.assertFalse(self.out.exists())
+
+    def test_a_kept_session_is_told(self):
+        running = self.begin("--keep", self.folder / "day")
+        running.send_signal(signal.SIGTERM)
+        _, said = running.communicate(timeout=20)
+        told = f"streetsim-run: ended by SIGTERM: kept: {self.folder}/day, the session: the same words go on there\n"
+        self.assertEqual(said.decode(), told)
 
     def test_what_sigkill_left_goes_with_the_next_output(self):
         """What a tool still writes stays."""

@@ -1,22 +1,22 @@
 """Giving way without a light: who waits for whom, when vehicles pass, where the gaps are."""
 import json
 import unittest
+from dataclasses import asdict
 from types import SimpleNamespace
 
 from support import Case, lane
 from streetsim.base.report import Report
-from streetsim.importing.convert import convert
 from streetsim.model.mapping import MapLink, MapTurn
-from streetsim.model.runs import Line
 from streetsim.model.waiting import Foe, Gap, GivingWay, Pace, giving_way_of
-from streetsim.run.crowded import crowded_edges, used_shares
-from streetsim.run.gaps import (
-    MOST_SEEN, PATIENCE, Counts, be_patient, followings, gap_lines, mark, phases_of_reds, red_seconds, slow_down,
-    standing_seconds, stands_of,
+from streetsim.observe.giving_way_crowded import crowded_edges, used_shares
+from streetsim.observe.giving_way_gaps import (
+    CLOSE, MOST_SEEN, PATIENCE, UNSEEN, GapCounts, be_patient, followings, gap_lines, mark, phases_of_reds, red_seconds,
+    slow_down, standing_seconds, stands_of,
 )
-from streetsim.run.passings import Passings
 from streetsim.sumo.conflicts import CROSSING, JOINING, foes
-from streetsim.sumo.net import MAJOR, MINOR, STOPS, Connection
+from streetsim.sumo.driving import Driving
+from streetsim.sumo.import_files import convert
+from streetsim.sumo.net import MAJOR, MINOR, STOPS, NetConnection
 from streetsim.sumo.network import Options
 
 
@@ -32,63 +32,6 @@ class Links:
     nodes = [["n", 0, 0, 2]] * 4
 
 
-def passed(*sights):
-    """The passings of a vehicle on all three links from second 0 on, of what polls see: (clock, link, cell, left)."""
-    passings = Passings(Links, [Line(0, "", {"plan": [0, 1, 2], "lane": 0, "depart": 0})], 0)
-    for clock, at, cell, left in sights:
-        passings.note(0, clock, at, 0, cell, left)
-    return dict(passings.found)
-
-
-class When(unittest.TestCase):
-    def test_between_two_polls(self):
-        # On the next link at cell 4 it has been 4 / 2 s there and 2 s at the node.
-        self.assertEqual(passed((10, 0, 15, False), (20, 1, 4, False)), {(0, 0): [(16.0, 1, 10.0)]})
-
-    def test_who_is_in_a_buffer_has_passed(self):
-        # It was 5 cells before the stop line, so it came there 2.5 s later at the earliest.
-        self.assertEqual(passed((10, 0, 15, False), (13, 0, 20, True), (16, 1, 2, False)), {(0, 0): [(12.5, 1, 10.0)]})
-
-    def test_the_lane_of_a_buffer(self):
-        """Seen on lane 0 of the first link, and then in the buffer of lane 1, of this link or of the next."""
-        for at, clock, found in ((0, 13, {(0, 1): [(12.5, 1, 10.0)]}), (1, 30, {(0, 0), (1, 1)})):
-            passings = Passings(Links, [Line(0, "", {"plan": [0, 1, 2], "lane": 0, "depart": 0})], 0)
-            passings.note(0, 10, 0, 0, 15)
-            passings.note(0, clock, at, 1, 20, True)
-            self.assertEqual(dict(passings.found) if at == 0 else passings.found.keys(), found)
-
-    def test_a_link_that_no_poll_sees(self):
-        lines = {(1, 0): [(26.0, 2, 26.0)], (0, 0): [(14.0, 1, 10.0)]}
-        self.assertEqual(passed((10, 0, 19, False), (30, 2, 4, False)), lines)
-
-    def test_who_was_not_seen_before(self):
-        self.assertEqual(passed((20, 1, 4, False)), {(0, 0): [(16.0, 1, 10.0)]})
-
-    def test_who_was_seen_last_on_its_way_and_has_arrived(self):
-        # It came to its last link 20 / 2 s before, and was 2 s at the node.
-        passings = Passings(Links, [Line(0, "", {"plan": [0, 1, 2], "lane": 0, "depart": 0})], 0)
-        passings.note(0, 20, 1, 0, 4)
-        passings.arrived(0, 42)
-        self.assertEqual(dict(passings.found), {(0, 0): [(16.0, 1, 10.0)], (1, 0): [(30.0, 2, 28.0)]})
-
-    def test_a_road_on_which_nobody_moves(self):
-        """At a limit of one cell a step nobody drives who slows down in each step. One that is seen to have passed all
-        the same was slow on its way, so it came to the line when it is seen behind it; it was due 20,000 s on."""
-
-        class Slow(Links):
-            links = [MapLink("x", (0,), at, at + 1, 20, 1, 150.0, ()) for at in range(3)]
-
-        passings = Passings(Slow, [Line(0, "", {"plan": [0, 1, 2], "lane": 0, "depart": 0})], 1000)
-        passings.note(0, 10, 0, 0, 0)
-        passings.note(0, 30, 1, 0, 0)
-        self.assertEqual(dict(passings.found), {(0, 0): [(30, 1, 20_000.0)]})
-
-    def test_a_link_that_is_not_on_the_way(self):
-        passings = Passings(Links, [Line(0, "", {"plan": [0, 1], "depart": 0})], 0)
-        passings.note(0, 30, 2, 0, 4)
-        self.assertEqual(dict(passings.found), {})
-
-
 class Marks(unittest.TestCase):
     def test_seconds_that_are_not_there_are_passed_over(self):
         for first, last, left in ((-2, 2, "1100"), (3, 9, "0001"), (-9, -1, "0000"), (9, 12, "0000"), (2, 1, "0000")):
@@ -99,6 +42,27 @@ class Marks(unittest.TestCase):
 
 def foe(gap, slow=False):
     return Foe(0, 0, 1, gap, slow)
+
+
+class Both(Links):
+    """Links 0 and 1 lead to node 1, as 3 does, whose turn gives way to that of 1, as that does to that of 0."""
+
+    links = [link(0, 1), link(0, 1), link(1, 2), link(0, 1)]
+    turns = [MapTurn(at, 0, 2, 0, None, 0, False) for at in (0, 1, 3)]
+    yields = [
+        GivingWay(1, ((1, 0, 2),), (Foe(0, 0, 2, Gap(5.5, 0.0, 3.5), False),)),
+        GivingWay(1, ((3, 0, 2),), (Foe(1, 0, 2, Gap(5.5, 0.0, 3.5), False),)),
+    ]
+
+
+def seconds_red(turn, passing):
+    """The seconds in which the signal lines of Both hide a turn."""
+    at, found = 0, []
+    for _, line in gap_lines(Both, passing, 0):
+        for length, shown in line.command["phases"]:
+            found += range(at, at + length) if turn not in shown else ()
+            at += length
+    return found
 
 
 class Reds(unittest.TestCase):
@@ -113,29 +77,33 @@ class Reds(unittest.TestCase):
         comes when nobody is there."""
         passing = [(18.0, 1, 10.0), (25.0, 2, 12.0), (60.0, 1, 60.0)]
         self.assertEqual(list(standing_seconds(passing[::-1])), [(18.0, 1, 8.0), (25.0, 2, 5.0), (60.0, 1, 0.0)])
-        found = stands_of({(0, 0): [*passing, (200.0, 1, 90.0)]}, {(0, 0, 1)})
+        found = stands_of({(0, 0): [*passing, (200.0, 1, 90.0)]}, {(0, 0, 1)}, UNSEEN)
         self.assertEqual(found, {((0, 0, 1), 18.0): 5.0, ((0, 0, 1), 200.0): MOST_SEEN})
 
     def test_who_stands_at_its_line_is_in_the_way_of_those_who_give_way_to_it(self):
         """Turn 3 gives way to turn 1, which gives way to turn 0: of one that comes to its line at 40 s and passes at 60
-        it waits from 5.5 s before the 43rd on. One that need not give way is in nobody's way before it passes."""
-
-        class Both(Links):
-            links = [link(0, 1), link(0, 1), link(1, 2), link(0, 1)]
-            turns = [MapTurn(at, 0, 2, 0, None, 0, False) for at in (0, 1, 3)]
-            yields = [
-                GivingWay(1, ((1, 0, 2),), (Foe(0, 0, 2, Gap(5.5, 0.0, 3.5), False),)),
-                GivingWay(1, ((3, 0, 2),), (Foe(1, 0, 2, Gap(5.5, 0.0, 3.5), False),)),
-            ]
-
-        def seconds_red(turn, passing):
-            phases = [phase for _, line in gap_lines(Both, passing, 0) for phase in line.command["phases"]]
-            return sum(length for length, shown in phases if turn not in shown)
-
+        it waits from 3.5 s before the 40th on, who stands there from 5.5 s before the 43rd. One that need not give way
+        is in nobody's way before it passes."""
         first = {(0, 0): [(50.0, 2, 20.0)]}
-        self.assertEqual(seconds_red((3, 0, 2), {**first, (1, 0): [(60.0, 2, 60.0)]}), 7)
-        self.assertEqual(seconds_red((3, 0, 2), {**first, (1, 0): [(60.0, 2, 40.0)]}), 7 + 17)
-        self.assertEqual(seconds_red((1, 0, 2), first), 7)
+        self.assertEqual(len(seconds_red((3, 0, 2), {**first, (1, 0): [(60.0, 2, 60.0)]})), 5)
+        self.assertEqual(len(seconds_red((3, 0, 2), {**first, (1, 0): [(60.0, 2, 40.0)]})), 5 + 20)
+        times, stands = {(1, 0, 2): [60.0]}, {((1, 0, 2), 60.0): 17.0}
+        self.assertEqual(sum(red_seconds(Both.yields[1], times, 0, 90, stands)), 7 + 17)
+        self.assertEqual(len(seconds_red((1, 0, 2), first)), 5)
+
+    def test_who_comes_while_nobody_stands_there_needs_a_shorter_gap(self):
+        """Before those who pass at 50 and 58 s, and 1 s behind them, who comes by itself needs 3.5 s, and who stands
+        5.5, halves of a second by turns up and down: at 44 s one goes on; who comes at 47 stands, until 51 s, and may
+        still for 15 s."""
+        rolling, standing = [*range(46, 51), *range(55, 59)], [*range(44, 51), *range(53, 59)]
+        first = {(0, 0): [(50.0, 2, 20.0), (58.0, 2, 20.0)]}
+        self.assertEqual(seconds_red((1, 0, 2), first), rolling)
+        self.assertEqual(seconds_red((1, 0, 2), {**first, (1, 0): [(44.0, 2, 44.0)]}), rolling)
+        self.assertEqual(seconds_red((1, 0, 2), {**first, (1, 0): [(51.0, 2, 47.0)]}), [*range(46, 51), *range(53, 59)])
+        behind = {**first, (1, 0): [(43.0, 2, 43.0), (44.0, 2, 43.5)]}  # who starts behind another
+        self.assertEqual(seconds_red((1, 0, 2), behind), standing)
+        later = {(0, 0): [(50.0, 2, 20.0), (51.0 + CLOSE + 7, 2, 20.0)], (1, 0): [(51.0, 2, 47.0)]}
+        self.assertEqual(len(seconds_red((1, 0, 2), later)), 5 + 4)
 
     def test_who_starts_from_a_stand_is_out_of_the_way_later(self):
         gap = Gap(5.5, 0.0, 3.5).later(1.0)
@@ -173,7 +141,7 @@ class Reds(unittest.TestCase):
         red = red_seconds(waiting, {(2, 0, 1): [60.0], (2, 0, 3): [100.0]}, 0, 200)
         near = [*range(45, 75), *range(85, 115)]
         self.assertEqual([at for at in range(200) if red[at]], [at for at in near if at % 8 > 1])
-        self.assertEqual(giving_way_of([waiting.written()]), [waiting])
+        self.assertEqual(giving_way_of([json.loads(json.dumps(asdict(waiting)))]), [waiting])
 
     def test_where_all_stop_more_traffic_makes_it_slower(self):
         foes = (Foe(0, 0, 1, Gap(0.0, 0.0, 0.0), False),)
@@ -187,7 +155,7 @@ class Reds(unittest.TestCase):
         gap = Gap(7.0, 10.0, 0.0, 0.0, 0.5)
         foes = tuple(Foe(link, lane, 9, gap, False, street) for link, lane, street in ((0, 0, 0), (0, 1, 0), (1, 0, 1)))
         times = [(100.0 + at, foe) for at in range(50) for foe in foes]
-        counts = Counts(times)
+        counts = GapCounts(times)
         lane, street, every = counts.flows_around(100.0, foes[0])
         self.assertEqual((lane, street, every), (300.0, 600.0, 900.0))
         self.assertAlmostEqual(gap.before(lane, street, every), 7.0 - 10.0 * (0.3 + 0.5 * 0.3))
@@ -210,7 +178,7 @@ class Conflicts(unittest.TestCase):
         network = SimpleNamespace(
             place_of={("w", 0): (0, 0)}, links_of={"w": [0], "n": [1], "e": [1]}, links=links, rings=[]
         )
-        crossing = Connection("s", "n", 0, 0, None, 0, state), Connection("w", target, 0, 0, None, 0, other)
+        crossing = NetConnection("s", "n", 0, 0, None, 0, state), NetConnection("w", target, 0, 0, None, 0, other)
         [found] = foes(*crossing, network).values()
         return found.gap
 
@@ -245,20 +213,21 @@ class Lines(unittest.TestCase):
 
 # From, to, and metres a second.
 STREETS = {"s": ("S", "X", 13.89), "t": ("X", "T", 13.89), "before": ("R", "X", 8.33), "after": ("X", "Q", 8.33)}
+FAR = 300.0  # metres of s and t
 # From, to, the speed inside, and the response.
 WAYS = (("s", "after", 6.55, "10"), ("before", "t", 6.55, "00"), ("before", "after", 8.33, "00"))
 
 
 def ring_junction(more, metres):
-    """A junction X of a ring, which goes on from edge before to after, each of so many metres;
-    a street s enters there and t leaves."""
+    """A junction X of a ring, which goes on from edge before to after, each of so many metres; a street s enters there
+    and t leaves."""
     inner = "".join(
         f'<edge id=":X_{at}" function="internal"><lane id=":X_{at}_0" index="0" speed="{speed}" length="9" '
         'shape="0,0 9,0"/></edge>'
         for at, (_, _, speed, _) in enumerate(WAYS)
     )
     edges = "".join(
-        f'<edge id="{name}" from="{begin}" to="{end}">{lane(name, 0, metres, speed)}</edge>'
+        f'<edge id="{name}" from="{begin}" to="{end}">{lane(name, 0, FAR if name in "st" else metres, speed)}</edge>'
         for name, (begin, end, speed) in STREETS.items()
     )
     ends = "".join(f'<junction id="{name}" type="dead_end" x="0" y="0"/>' for name in "STRQ")
@@ -286,19 +255,28 @@ class Stays(Case):
         network, *_ = convert(net, [], [routes], Options(), Report())
         return network.residences[network.nodes.index("X")]
 
-    def test_who_enters_and_leaves_a_roundabout_turns(self):
-        # 2.3 s are lost in a turn, in whole seconds and beside the one that each junction takes. The ring's edge takes
-        # 2.2 s in SUMO and 2 cells at 1.83 a second here, 1.1 s less, which are lost behind it.
-        self.assertEqual([self.stay([way]) for way in ("s after", "before t", "before after")], [3, 4, 2])
+    def test_a_ring_and_the_junctions_on_it_take_as_long_as_in_sumo(self):
+        # 18 and 9 m at 8.33 - 0.65 m/s take 3.5 s in SUMO; who leaves 9 m at 6.55 - 0.65, and 1.2 s to brake and to
+        # gain speed: 5.1 s. Here 2 cells at 1.83 a second take 1.3 s with what is lost at their end.
+        self.assertEqual([self.stay([way]) for way in ("before after", "before t")], [2, 4])
+        # 36 m take 2.3 s more in SUMO, and 3 cells more 1.6 s.
+        self.assertEqual([self.stay([way], metres=36.0) for way in ("before after", "before t")], [3, 4])
 
-    def test_a_junction_of_a_roundabout_takes_the_mean_of_its_vehicles(self):
-        # One loses 2.3 s, and the others 1.1 s each: with one of these 1.7 on average, with eight of them 1.2.
-        self.assertEqual(self.stay(["s after", "before after"]), 3)
-        self.assertEqual(self.stay(["s after", *["before after"] * 8]), 2)
-
-    def test_what_an_edge_of_a_ring_takes_less_here_is_made_up_for(self):
-        # 36 m at 8.33 m/s take 4.3 s in SUMO; here 5 cells at 1.83 a second take 2.7 s.
-        self.assertEqual([self.stay([way], metres=36.0) for way in ("s after", "before t", "before after")], [3, 5, 3])
+    def test_what_whole_steps_of_a_ring_leave_is_in_the_streets_that_lead_in(self):
+        """Who enters and leaves takes as long as in SUMO, whatever is rounded."""
+        ways = "".join(
+            f'<vehicle id="{at}" depart="{at}" departSpeed="max"><route edges="{way}"/></vehicle>'
+            for at, way in enumerate(("s after", "before t"))
+        )
+        routes, found = self.write("x.rou.xml", f"<routes>{ways}</routes>"), []
+        for metres in (18.0, 22.0, 27.0, 36.0):
+            net = self.write("x.net.xml", ring_junction('<roundabout nodes="X" edges="before after"/>', metres))
+            network, *_ = convert(net, [], [routes], Options(), Report())
+            links = [network.links[network.links_of[name][0]] for name in ("s", "before")]
+            here = sum(link.cells for link in links) / 1.83 + 2 * network.residences[network.nodes.index("X")]
+            found.append(here - metres * Driving().slowness(8.33))
+        for seconds in found:
+            self.assertAlmostEqual(seconds, found[0], delta=0.28)  # half a cell, as cells are whole
 
     def test_a_ring_has_two_cells_a_step_at_least(self):
         net = self.write("x.net.xml", ring_junction('<roundabout nodes="X" edges="before after"/>', 18.0))
@@ -308,8 +286,10 @@ class Stays(Case):
         network, *_ = convert(alone, [], [], Options(), Report())
         self.assertEqual([network.links[network.links_of[name][0]].limit for name in ("before", "s")], [1, 2])
 
-    def test_without_a_roundabout_two_streets_meet(self):
-        self.assertEqual(self.stay(["s after"], ""), 1)
+    def test_without_a_roundabout_a_junction_takes_as_long_as_in_sumo(self):
+        # 9 m at 6.55 - 0.65 m/s take 1.5 s, and braking before and gaining speed behind 0.5 s; half a second is lost
+        # here at the end of the street.
+        self.assertEqual(self.stay(["s after"], ""), 2)
 
 
 if __name__ == "__main__":

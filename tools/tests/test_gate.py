@@ -28,6 +28,16 @@ class Served(Case):
         with Client(PROGRAM) as sim:
             self.assertEqual(sim.load([[1, 1, 1]], [], [])[:2], (1, 0))
 """
+# A test that passes from a run on that is given, counted from 0.
+SETTLES = """import unittest
+from pathlib import Path
+class Settles(unittest.TestCase):
+    def test_settles(self):
+        notes = Path({notes!r})
+        before = len(notes.read_text()) if notes.exists() else 0
+        notes.write_text("." * (before + 1))
+        self.assertIn(before, {passes})
+"""
 # It answers no help, so it gets no options, and refuses each line.
 REFUSING = """#!/bin/bash
 [[ $* == *--help* ]] && exit
@@ -43,9 +53,8 @@ class GateCase(RepositoryCase):
         for name in ("test", "tools/quick.py", "tools/tests/packages.txt", "tools/tests/support.py"):
             (self.top / name).parent.mkdir(exist_ok=True)
             shutil.copy(TOP / name, self.top / name)
-        shutil.copytree(
-            TOP / "tools/streetsim", self.top / "tools/streetsim", ignore=shutil.ignore_patterns("__pycache__")
-        )
+        hidden = shutil.ignore_patterns("__pycache__")
+        shutil.copytree(TOP / "tools/streetsim", self.top / "tools/streetsim", dirs_exist_ok=True, ignore=hidden)
         (self.top / "check/tests").mkdir(parents=True)
         self.program = self.top / "crates/street_sim/out/street_sim"
         self.program.parent.mkdir()
@@ -82,10 +91,11 @@ class Tests(GateCase):
         output, _ = self.runs("test", LAST=PASSED)
         self.assertEqual(output.splitlines()[-1], "13 passed, 0 failed, 1 skipped")
 
-    def test_a_kit_whose_insides_changed_is_a_reason_to_skip(self):
-        self.write_test(GOOD + SKIPPED.format(why="kit without a page").removeprefix("import unittest\n"))
+    def test_a_program_that_the_kits_own_compiler_does_not_make_is_a_reason_to_skip(self):
+        why = "no program of the kit's own compiler"
+        self.assertIn(f'NO_OTHER = "{why}"', (TOP / "check/compilers.py").read_text(encoding="utf-8"))
+        self.write_test(GOOD + SKIPPED.format(why=why).removeprefix("import unittest\n"))
         output, _ = self.runs("test", LAST=PASSED)
-        self.assertIn("\nkit without a page: crates.txt does not name street_page\n", output)
         self.assertEqual(output.splitlines()[-1], "13 passed, 0 failed, 1 skipped")
 
     def test_a_gate_without_a_count(self):
@@ -123,6 +133,33 @@ class Tests(GateCase):
         output, count = self.fails(PASSED)
         self.assertIn("NOT TO BE SKIPPED: test_made_up.Skipped.test_skipped: the simulator refuses load", output)
         self.assertEqual(count, "13 passed, 1 failed, 1 skipped")
+
+    def settles(self, *passes):
+        """The text of a test that passes in these of its runs alone."""
+        notes = self.folder / "settles"
+        notes.unlink(missing_ok=True)
+        return SETTLES.format(notes=str(notes), passes=passes)
+
+    def test_a_test_that_fails_once_and_passes_twice_alone_is_told(self):
+        self.write_test(self.settles(1, 2))
+        output, _ = self.runs("test", LAST=PASSED)
+        self.assertIn("AssertionError: 0 not found in (1, 2)", output)
+        self.assertIn("UNSTEADY: test_made_up.Settles.test_settles failed once", output)
+        self.assertEqual(output.splitlines()[-1], "13 passed, 0 failed")
+
+    def test_a_test_that_fails_again_alone_has_failed(self):
+        for passes in ((), (1,), (2,)):
+            with self.subTest(passes):
+                self.write_test(self.settles(*passes) + GOOD)
+                output, count = self.fails(PASSED)
+                self.assertNotIn("UNSTEADY", output)
+                self.assertEqual(count, "13 passed, 1 failed")
+
+    def test_many_tests_that_fail_have_failed(self):
+        names = ("One", "Two", "Three", "Four")
+        self.write_test("".join(self.settles(4, 5, 6, 7).replace("Settles", name) for name in names) + GOOD)
+        _, count = self.fails(PASSED)
+        self.assertEqual(count, "13 passed, 4 failed")
 
     def test_a_program_that_refuses_an_ordinary_command(self):
         self.write_program(REFUSING)

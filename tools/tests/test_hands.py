@@ -3,12 +3,12 @@ import re
 import unittest
 
 from pages import PageCase, needs_driver, needs_selenium
-from support import needs_page_program
+from support import needs_simulator
 
 SEEN = "return [scene.x, scene.y, scene.scale, session.clock]"
 
 
-@needs_page_program
+@needs_simulator
 @needs_driver
 @needs_selenium
 class Hands(PageCase):
@@ -85,7 +85,7 @@ class Hands(PageCase):
                 self.press(browser, "+")
             self.steps(browser, 14)
             where = browser.execute_async_script(
-                "const done = arguments[0]; session.ask({ cmd: 'vehicle', car: 0 }).then(done)"
+                "const done = arguments[0]; session.ask({ cmd: 'vehicle', car: 0 }).then(([one]) => done(one))"
             )
             self.assertEqual((where["state"], where["link"]), ("cell", 1))
             x, y, scale, _ = self.seen(browser)

@@ -7,10 +7,13 @@ from support import FORK, PROGRAM, SCENARIOS, SHARED, Case, lane, needs_simulato
 from streetsim.base.client import Client
 from streetsim.base.files import Fault
 from streetsim.base.report import Report
-from streetsim.importing.convert import convert
 from streetsim.sumo.converting import refuse_over_limits
+from streetsim.sumo.import_files import convert
 from streetsim.sumo.net import read_net
 from streetsim.sumo.network import Options
+
+# Seconds for a metre by km/h, of SUMO 1.15's usual cars.
+SUMO_SECONDS = {20: 0.20667, 30: 0.13197, 50: 0.07648, 70: 0.05388, 100: 0.03730, 130: 0.02854}
 
 
 class Networks(Case):
@@ -38,23 +41,27 @@ class Networks(Case):
         # With dawdle 170 a limit of L cells gives (L - 0.17) * 27 km/h when free: 22, 49, 76, 103, 130.
         for kmh, limit in ((30, 1), (50, 2), (70, 3), (100, 4), (120, 5), (200, 5), (5, 1)):
             self.assertEqual(self.one_street(speed=kmh / 3.6).limit, limit, kmh)
-        for metres, cells in ((0.1, 1), (7.5, 1), (75, 10), (78.7, 10), (78.8, 11)):
+        # SUMO's usual cars take 0.0765 s for a metre at 50 km/h, in which vehicles go 1.83 cells a second here.
+        for metres, cells in ((0.1, 1), (7.5, 1), (75, 10), (78.5, 11), (500, 70)):
             self.assertEqual(self.one_street(metres=metres).cells, cells, metres)
 
     def test_speeds_between_the_limits(self):
-        # One alone takes as long as in SUMO, within half a cell: so many cells at the limit that is nearest.
-        for kmh in (20, 30, 35, 40, 60):
+        # One alone takes as long as in SUMO, but for half a cell: SUMO 1.15's seconds for a metre, of 4,800 cars, each
+        # alone on its street, with eight seeds.
+        for kmh, seconds in SUMO_SECONDS.items():
             street = self.one_street(speed=kmh / 3.6, metres=600)
-            self.assertAlmostEqual(street.cells / (street.limit - 0.17), 600 / (kmh / 3.6), delta=0.6)
+            half, found = 0.5 / (street.limit - 0.17), street.cells / (street.limit - 0.17)
+            self.assertAlmostEqual(found, 600 * seconds, delta=half + 0.002 * found)
         self.one_street(speed=30 / 3.6, metres=600)
-        why = "22 km/h when free, on 25 % fewer cells, so that it takes as long as in SUMO"
+        why = "22 km/h when free, on 18 % fewer cells, so that one alone takes as long as in SUMO"
         self.assertEqual(self.said.warnings, [f"30 km/h becomes 1 cells a step, {why}: 1 links"])
 
     def test_streets_have_limits_where_all_slow_down_in_each_step(self):
-        """At one cell a step the free speed is 0 then, so a street of 9 km/h has two, on 60 cells."""
+        """At one cell a step the free speed is 0 then, so a street of 9 km/h has two. SUMO's cars lose a quarter of
+        2.5 m/s by chance, and need 80 s for 150 m."""
         text = net([("a", "A", "B", [lane("a", 0, 150.0, 2.5)])], [])
         network, *_ = self.network(text, dawdle=1000)
-        self.assertEqual([(link.limit, link.cells) for link in network.links], [(2, 60)])
+        self.assertEqual([(link.limit, link.cells) for link in network.links], [(2, 80)])
 
     def test_a_street_with_fewer_cells_has_room_in_the_buffers_before_it(self):
         edges = [("a", "A", "B", [lane("a", 0)]), ("b", "B", "C", [lane("b", 0, 300.0, 30 / 3.6)])]
@@ -66,13 +73,13 @@ class Networks(Case):
     def test_what_is_not_modelled_is_named(self):
         ends = [("a", "A", "C", [lane("a", 0)]), ("b", "B", "C", [lane("b", 0)]), ("c", "C", "D", [lane("c", 0)])]
         made = net(ends, [("a", 0, "c", 0, ""), ("b", 0, "c", 0, "")])
-        made = made.replace('<junction id="C" type="priority"', '<junction id="C" type="zipper"')
-        self.network(made.replace('state="M"', 'state="Z"'))
-        self.assertIn("1 junctions are of type zipper, which does nothing here: C", self.said.warnings)
-        told = "2 connections have the state 'Z', which does nothing here: edges a, b"
+        made = made.replace('<junction id="C" type="priority"', '<junction id="C" type="rail_signal"')
+        self.network(made.replace('state="M"', 'state="o"'))
+        self.assertIn("1 junctions are of type rail_signal, which does nothing here: C", self.said.warnings)
+        told = "2 connections have the state 'o', which does nothing here: edges a, b"
         self.assertIn(told, self.said.warnings)
         self.assertEqual(sorted(self.said.alike[told][0].names), ["a", "b"])
-        self.network(made.replace("zipper", "priority_stop"))
+        self.network(made.replace("rail_signal", "priority_stop"))
         self.assertFalse([text for text in self.said.warnings if "does nothing here" in text])
 
     def test_at_stop_signs_nobody_stops_who_turns_off_a_main_street(self):
@@ -222,9 +229,9 @@ class Networks(Case):
         edges = [("a", "A", "B", [lane("a", 0)]), ("z", "Z", "B", [lane("z", 0)])] + [
             (name, "B", name, [lane(name, 0)]) for name in "bcd"
         ]
-        network, *_ = self.network(net(edges, []))
+        network, *_ = self.network(net(edges, []), residence=3)
         self.assertEqual(
-            dict(zip(network.nodes, network.residences, strict=True)), {"A": 1, "B": 2, "Z": 1, "b": 1, "c": 1, "d": 1}
+            dict(zip(network.nodes, network.residences, strict=True)), {"A": 1, "B": 3, "Z": 1, "b": 1, "c": 1, "d": 1}
         )
 
     def test_classes(self):
@@ -331,13 +338,13 @@ class Tool(Case):
         self.run_tool(FORK, '<routes><vehicle id="v" depart="0"><route edges="a c"/></vehicle></routes>', status=0)
         mapped = json.loads(self.mapped.read_text())
         self.assertEqual(
-            (mapped["cars"], [link[0] for link in mapped["links"]], [node[0] for node in mapped["nodes"]]),
+            (mapped["cars"], mapped["links"]["edge"], mapped["nodes"]["junction"]),
             (["v"], ["a", "a", "b", "c"], ["A", "B", "C", "D"]),
         )
-        load = json.loads(self.output.read_text().splitlines()[0])
-        self.assertEqual(
-            load["links"], [[0, 0, 1, 1, 10, 2], [1, 0, 1, 1, 10, 2], [2, 1, 2, 1, 10, 2], [3, 1, 3, 1, 10, 2]]
-        )
+        load, cells = json.loads(self.output.read_text().splitlines()[0]), mapped["links"]["cells"]
+        ends = [0, 1], [0, 1], [1, 2], [1, 3]
+        rows = [[at, *both, 1, own, 2] for at, (both, own) in enumerate(zip(ends, cells, strict=True))]
+        self.assertEqual(load["links"], rows)
 
 
 @needs_sumo_tools

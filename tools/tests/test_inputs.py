@@ -11,11 +11,58 @@ from streetsim.model.mapping import map_from
 from streetsim.model.names import read_own
 from streetsim.model.runs import read_run
 from streetsim.model.tables import SEEDS, read_table
-from streetsim.study.variants import read_study
+from streetsim.search.study_variants import read_study
 
 MARK = b"\xef\xbb\xbf"  # a byte order mark
 ENTER = {"cmd": "enter", "plan": [0, 1], "lane": 0, "depart": 0}
 RUN = f"{json.dumps({'cmd': 'load', **NUMBERED})}\n{json.dumps(ENTER)}\n".encode()
+
+
+# A map of version 1, which tells no version: rows are lists, and what an import found stands in them too.
+OLD = {
+    **MAP,
+    "cars": ["v"],
+    "yields": [[1, [[0, 0, 1]], [[1, 0, 0, [5.0, 1.0, 4.0], False]], [2, 6.0]]],
+    "detectors": [["e", "e1", 0, 0, 3, 3, 60]],
+    "visits": [[0, 1, "stop", 1, 0, 2, 4, 20, None, 1.5, 2.0]],
+    "switches": [[0, "L", "day"]],
+    "full": {"lanes": [["B", "a_0", "left", "a", "b", 0.9, 1]], "vehicles": 1, "of": 1},
+    "starts": ["B", "a", "b", 0.5, 1, 1],
+}
+
+
+class Maps(unittest.TestCase):
+    def written(self):
+        """The old map as the file of one is written now."""
+        return json.loads(json.dumps(map_from("old", OLD).written()))
+
+    def test_rows_of_version_1_are_those_of_now(self):
+        old, value = map_from("old", OLD), self.written()
+        self.assertEqual(map_from("new", value), old)
+        self.assertEqual((old.yields[0].foes[0].gap.least, old.yields[0].pace.hidden), (4.0, 6.0))
+        self.assertEqual((old.visits[0].starting, old.starts.seconds, old.full.lanes[0].demand), (2.0, 0.5, 0.9))
+        self.assertEqual(value["version"], 2)
+        self.assertEqual(value["links"]["edge"], ["a", "b"])
+        nodes = {"junction": ["A", "B", "C"], "x": [0, 75, 150], "y": [0] * 3, "residence": [1] * 3}
+        self.assertEqual(value["nodes"], nodes)
+
+    def test_fields_have_names(self):
+        """In any order, and without those that have usual values."""
+        value = self.written()
+        turns = {name: value["turns"][name] for name in sorted(value["turns"]) if name not in ("speed", "accel")}
+        self.assertEqual(map_from("x", {**value, "turns": turns}).turns, map_from("x", value).turns)
+
+    def test_other_maps_are_refused(self):
+        value = self.written()
+        for more, told in (
+            ({"version": 3}, "x: a map of version 3, and these tools read 1 and 2: import the run anew"),
+            ({"turns": {**value["turns"], "lane": []}}, "x: not a map that streetsim-import wrote"),
+            ({"turns": {**value["turns"], "colour": [1]}}, "x: not a map that streetsim-import wrote"),
+            ({"yields": ["soon"]}, "x: not a map that streetsim-import wrote"),
+            ({"signals": 7}, "x: not a map that streetsim-import wrote"),
+        ):
+            with self.subTest(more), self.assertRaisesRegex(Fault, told):
+                map_from("x", {**value, **more})
 
 
 class Bytes(Case):
@@ -52,7 +99,8 @@ class Bytes(Case):
             (read_run, f'{{"cmd":"load","seed":{"[" * 100_000}}}'),
         ):
             path = self.put("x", text.encode())
-            with self.subTest(text[:40]), self.assertRaisesRegex(Fault, f"{path}: (cannot be read|line 2)"):
+            told = f"{path}: (cannot be read|line 2|line 1 is no command)"
+            with self.subTest(text[:40]), self.assertRaisesRegex(Fault, told):
                 read(path)
         for text in ("7" * 5000, f"1-{'7' * 5000}"):
             with self.assertRaisesRegex(Fault, "--seeds '.*': expected FIRST-LAST"):
@@ -111,7 +159,7 @@ class Configurations(Case):
         self.assertIn("trips have the ways that are shortest", said)
         run, value = read_run(self.folder / "r.jsonl"), read_json(self.folder / "m.json", ["links"])
         self.assertEqual(
-            [[value["links"][link][0] for link in line.command["plan"]] for line in run.enters], [["a", "c"]]
+            [[value["links"]["edge"][link] for link in line.command["plan"]] for line in run.enters], [["a", "c"]]
         )
 
     def test_a_table_of_all_that_is_said(self):

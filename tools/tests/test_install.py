@@ -8,23 +8,28 @@ import sys
 import tempfile
 import tomllib
 import unittest
+from contextlib import redirect_stderr
 from importlib.util import find_spec
+from io import StringIO
 from pathlib import Path
+from unittest.mock import patch
 
-from support import MAP, NUMBERED, PROGRAM, TOOLS, Case, lane, needs_package, needs_simulator, net
+from support import DATA, MAP, NUMBERED, PROGRAM, TOOLS, Case, lane, needs_package, needs_simulator, net, shown_run
 from streetsim.base.files import Fault
-from streetsim.base.program import BUILT, find_program
+from streetsim.base import program
+from streetsim.base.program import BUILT, MARK, UNPROVED, find_program, is_unproved
 
 COMMANDS = (
-    "check", "compare", "demand", "example", "export", "import", "live", "play", "plot", "report", "route",
-    "run", "signals", "study",
+    "calibrate", "check", "compare", "demand", "example", "export", "import", "live", "open", "play", "plot",
+    "report", "route", "run", "signals", "study", "sumo",
 )
 PIP = [sys.executable, "-m", "pip"] if find_spec("pip") else [shutil.which("pip")] if shutil.which("pip") else None
 
 
 def environment(**values):
-    """This one's, without a program."""
-    return {**{name: value for name, value in os.environ.items() if name != "STREETSIM_PROGRAM"}, **values}
+    """This one's, without a program, be it one that is built here."""
+    kept = {name: value for name, value in os.environ.items() if name != "STREETSIM_PROGRAM"}
+    return {**kept, "STREETSIM_UNBUILT": "1", **values}
 
 
 class Commands(Case):
@@ -36,10 +41,10 @@ class Commands(Case):
 @needs_package("python3-pip", PIP)
 class Install(Case):
     def test_commands_and_package(self):
-        """Without an index, so that nothing can be downloaded; nothing is left beside the sources."""
+        """Without an index, so that nothing can be downloaded, NumPy neither; nothing is left beside the sources."""
         before = {path for path in TOOLS.iterdir() if path.name != "__pycache__"}
         place = self.folder / "place"
-        words = [*PIP, "install", "--quiet", "--target", place, "./tools"]
+        words = [*PIP, "install", "--quiet", "--no-deps", "--target", place, "./tools"]
         variables = environment(PIP_NO_INDEX="1", PIP_FIND_LINKS="", PYTHONPATH=str(place))
         subprocess.run(words, cwd=TOOLS.parent, env=variables, check=True, capture_output=True)
         self.assertEqual({path for path in TOOLS.iterdir() if path.name != "__pycache__"}, before)
@@ -117,12 +122,13 @@ class Installed(Case):
         told = self.installed(
             "run", "zero.jsonl", "--map", "zero.map.json", "--until", 4500, "--sumo-output", "tripinfo", "--out", "zero"
         )
-        self.assertEqual(told, "2,400 vehicles, 2,400 arrived, mean trip 134.3 s, 0 rescues\n")
+        self.assertEqual(told, shown_run())
+        mean = told.split("mean trip ")[1].split(",")[0]
         told = self.installed("compare", "zero", "--sumo", "zero/sumo/tripinfo.xml")
-        self.assertIn("mean trip of these: 134.3 s here, 134.3 s in SUMO (+0.0 %)\ntrip by trip: r = 1.00\n", told)
+        self.assertIn(f"mean trip of these: {mean} here, {mean} in SUMO (+0.0 %)\ntrip by trip: r = 1.00\n", told)
         self.assertIn(" steps, ", self.installed("play", "zero", "--first", 1800, "--last", 1810, "-o", "zero.html"))
         page = (self.folder / "zero.html").read_text()
-        self.assertIn((TOOLS / "streetsim/pictures/player.js").read_text(), page)
+        self.assertIn((TOOLS / "streetsim/report/player.js").read_text(), page)
         made = (self.folder / "zero.jsonl").read_bytes()
         self.tool("import", *words[:3], "-o", self.folder / "own.jsonl", "--map", self.folder / "own.map.json")
         self.assertEqual((self.folder / "own.jsonl").read_bytes(), made)
@@ -138,22 +144,33 @@ class Installed(Case):
 class Examples(Case):
     def test_all_but_pictures_go_into_a_folder(self):
         told, _ = self.tool("example", "corridor", "--out", self.folder / "walk")
-        self.assertEqual(told, f"5 files in {self.folder / 'walk'}\n")
-        for name in ("corridor.net.xml.gz", "corridor.rou.xml", "wave.add.xml", "counts.csv", "study.toml"):
+        self.assertEqual(told, f"6 files in {self.folder / 'walk'}\n")
+        for name in ("corridor.net.xml.gz", "corridor.rou.xml", "wave.add.xml", "counts.csv", "study.toml", "field.py"):
             given = (TOOLS / "examples/corridor" / name).read_bytes()
             self.assertEqual((self.folder / "walk" / name).read_bytes(), given)
         self.tool("example", "sessions", "--out", self.folder / "walk")
         self.assertTrue((self.folder / "walk/clients/planner.jsonl").exists())
 
+    def test_networks_with_their_demand(self):
+        """They are those of the tests: copies, as the gate refuses links."""
+        for name in ("town", "grid"):
+            self.tool("example", name, "--out", self.folder / name)
+            for end in ("net.xml.gz", "rou.xml.gz"):
+                copy = self.folder / name / f"{name}.{end}"
+                self.assertFalse(copy.is_symlink())
+                self.assertEqual(copy.read_bytes(), (DATA / copy.name).read_bytes())
+            self.tool("import", self.folder / name / f"{name}.sumocfg", "-o", self.folder / f"{name}.jsonl")
+
     def test_nothing_is_written_over(self):
         given = self.write("wave.add.xml", "mine")
         told, said = self.tool("example", "corridor", "--out", self.folder, status=2)
-        self.assertEqual((told, said), ("", f"streetsim-example: {given} is there; give another folder by --out\n"))
+        why = f"streetsim-example: {given} is there, and is another file; give another folder by --out\n"
+        self.assertEqual((told, said), ("", why))
         self.assertEqual([path.name for path in self.folder.iterdir()], ["wave.add.xml"])
 
     def test_which_there_are(self):
         told, _ = self.tool("example")
-        self.assertIn("corridor: 5 files\n", told)
+        self.assertIn("corridor: 6 files\n", told)
         self.assertIn("signal_policies: 1 file\n", told)
         _, said = self.tool("example", "corridors", status=2)
         self.assertIn("there is no example 'corridors', but actuated, corridor, ", said)
@@ -166,12 +183,12 @@ class WhichProgram(Case):
         path.chmod(0o755)
         return str(path.resolve())
 
-    def set(self, value):
-        before = os.environ.pop("STREETSIM_PROGRAM", None)
-        self.addCleanup(lambda: os.environ.update({"STREETSIM_PROGRAM": before} if before else {}))
-        self.addCleanup(os.environ.pop, "STREETSIM_PROGRAM", None)
-        if value:
-            os.environ["STREETSIM_PROGRAM"] = value
+    def set(self, value, **more):
+        """Names a program in the environment, or none."""
+        values = {**environment(**more), **({"STREETSIM_PROGRAM": value} if value else {})}
+        changed = patch.dict(os.environ, {name: text for name, text in values.items() if text}, clear=True)
+        changed.start()
+        self.addCleanup(changed.stop)
 
     def words(self):
         run = self.write("run.jsonl", json.dumps({"cmd": "load", **NUMBERED}) + "\n")
@@ -196,6 +213,25 @@ class WhichProgram(Case):
             find_program(script)
         built = self.program(self.folder / BUILT)
         self.assertEqual(find_program(script), built)
+
+    def test_what_is_built_beside_the_tools_is_found_the_proved_one_first(self):
+        self.set(None, STREETSIM_UNBUILT="")
+        with patch.object(program, "TOP", self.folder.resolve()), patch.object(program, "PREFIX", None):
+            with self.assertRaisesRegex(Fault, "no simulator"):
+                find_program()
+            without = self.program(self.folder / UNPROVED)
+            self.assertEqual(find_program(), without)
+            proved = self.program(self.folder / BUILT)
+            self.assertEqual(find_program(), proved)
+
+    def test_a_program_without_proofs_is_told_once_wherever_it_was_copied_to(self):
+        copy, proved = self.program(self.folder / "copy"), self.program(self.folder / "proved")
+        with open(copy, "ab") as file:
+            file.write(MARK)
+        self.assertEqual((is_unproved(copy), is_unproved(proved), is_unproved("none")), (True, False, False))
+        with redirect_stderr(StringIO()) as said:
+            self.assertEqual((find_program(copy), find_program(copy), find_program(proved)), (copy, copy, proved))
+        self.assertEqual((said.getvalue().count("NOT PROVED"), said.getvalue().count("\n")), (1, 1))
 
     def test_a_run_without_a_program_ends_at_once(self):
         done = subprocess.run(

@@ -5,21 +5,25 @@ import unittest
 from collections import Counter
 from types import SimpleNamespace
 
+import numpy
+
+from seen import kernel_of, show
 from support import MAP, NUMBERED, PROGRAM, TOOLS, Case, needs_simulator
-from streetsim.buses.fleet import Dwell
-from streetsim.junctions import reporting
-from streetsim.junctions.capacity import usual_flow
-from streetsim.junctions.facing import junctions_with_facing_streets
-from streetsim.junctions.layout import Approach, Greens, approaches_of, turn_name, movements_that_stop
-from streetsim.junctions.measures import Measures, Losses, stop_loss, weighted_mean_losses
-from streetsim.junctions.passages import Passages, discharges, queue_metres, who_stand
-from streetsim.junctions.rows import Tables
-from streetsim.junctions.sampling import LOOKS, Ends, Sampled, clocks_of_looks
+from streetsim.control.bus_fleet import Dwell
 from streetsim.model.mapping import map_from
-from streetsim.model.runs import run_of_texts
 from streetsim.model.service import PRIORITY, ROUNDABOUT, SIGNALS, STOP_LOSS, level, percentile
 from streetsim.model.tables import APPROACHES, JUNCTIONS, MOVEMENTS, read_table
 from streetsim.model.waiting import Foe, Gap, GivingWay
+from streetsim.observe.crossings import Crossed, Crossings, Movements, PlanPlaces
+from streetsim.observe.intervals import showed
+from streetsim.observe.judging import Judge
+from streetsim.observe.junction_capacity import usual_flow
+from streetsim.observe.junction_facing import junctions_with_facing_streets
+from streetsim.observe.junction_layout import Approach, Greens, approaches_of, movements_that_stop, turn_name
+from streetsim.observe.junction_measures import Losses, stop_loss, weighted_mean_losses
+from streetsim.observe.junction_rows import JunctionTables
+from streetsim.observe.passages import Passages
+from streetsim.observe.shown import ShownPlans
 
 CORRIDOR = TOOLS / "examples/corridor"
 # The light is red in steps 0 to 4 of each 10, then green.
@@ -109,10 +113,11 @@ class Standing(unittest.TestCase):
     def test_who_dawdles_at_a_limit_of_one_does_not_stand(self):
         """Only who has somebody, or the end, right before it."""
         slow = ["a", [0], 0, 1, 10, 1, 75.0, [[0, 0], [75, 0]]]
-        link = map_from("", {**MAP, "links": [slow, MAP["links"][1]]}).links[0]
-        cells = [[0, 9, 0], [1, 8, 0], [2, 5, 0], [3, 2, 1]]
-        self.assertEqual(who_stand(cells, link), [True, True, False, False])
-        self.assertEqual(who_stand(cells, map_from("", MAP).links[0]), [True, True, True, False])
+        frames = [(1, [[0, 0, [[0, 9, 0], [1, 8, 0], [2, 5, 0], [3, 2, 1]], []]])]
+        for mapped, found in (({**MAP, "links": [slow, MAP["links"][1]]}, [1, 1, 0, 0]), (MAP, [1, 1, 1, 0])):
+            seen = Seen()
+            seconds = show(kernel_of(map_from("", mapped), [[0]] * 4), frames, seen)
+            self.assertEqual(seen.standing(seconds, numpy.arange(4)).tolist(), found)
 
 
 class Definitions(unittest.TestCase):
@@ -142,14 +147,14 @@ class Definitions(unittest.TestCase):
 
     def test_queues(self):
         """From the stop line of a link of 75 m to the rear of the last of those who stand, 2.5 m before its cell ends;
-        a gap of 15 m joins, one of 30 m does not."""
-        link = map_from("", MAP).links[0]
-        self.assertEqual(queue_metres(at_rest(3), link), 20.0)
-        self.assertEqual(queue_metres([[0, 9, 0], [1, 6, 0]], link), 27.5)
-        self.assertEqual(queue_metres([[0, 9, 0], [1, 4, 0]], link), 5.0)
-        self.assertEqual(queue_metres([[1, 8, 0]], link), 12.5)
-        self.assertEqual(queue_metres([[0, 4, 0]], link), 0.0)
-        self.assertEqual(queue_metres([[0, 9, 0, 2]], link), 12.5)
+        a gap of 15 m joins, one of 30 m does not. A full link has the gap behind its last vehicle."""
+        queues = ([], 0.0), (at_rest(3), 20.0), ([[0, 9, 0], [1, 6, 0]], 27.5), ([[0, 9, 0], [1, 4, 0]], 5.0)
+        more = ([[1, 8, 0]], 12.5), ([[0, 4, 0]], 0.0), ([[0, 9, 0, 2]], 12.5), (at_rest(10), 72.5)
+        for cells, metres in (*queues, *more):
+            seen = Seen()
+            kernel = kernel_of(map_from("", MAP), [[0, 1]] * 10)
+            show(kernel, [(clock, [[0, 0, cells, []]]) for clock in range(1, 4)], seen)  # who comes has not stood yet
+            self.assertEqual(seen.back[:, 0].tolist(), [0.0, 0.0, metres], cells)
 
     def test_loss_of_a_stop(self):
         """At a light only of those who go straight on: of others seconds of green are left out instead. It is less
@@ -163,11 +168,10 @@ class Definitions(unittest.TestCase):
             self.assertEqual(lost, {SIGNALS: [loss, 0.0, 0.0], PRIORITY: [loss] * 3})
 
     def test_several_movements_together(self):
-        """10 vehicles that lose 20 s and 30 that lose 40 s; errors of independent means."""
-        parts = Losses(10, 20.0, 10.0, 1.0, 4.0), Losses(30, 40.0, 30.0, 2.0, 1.0), Losses(0, 0.0, 0.0, 0.0)
+        """10 vehicles that lose 20 s and 30 that lose 40 s."""
+        parts = Losses(10, 20.0, 10.0, 1.0), Losses(30, 40.0, 30.0, 2.0), Losses(0, 0.0, 0.0, 0.0)
         made = weighted_mean_losses(parts)
         self.assertEqual((made.vehicles, made.delay, made.stood, made.stops), (40, 35.0, 25.0, 1.75))
-        self.assertAlmostEqual(made.error, (40**2 + 30**2) ** 0.5 / 40)
 
     def test_usual_flows(self):
         self.assertEqual([usual_flow(dawdle) for dawdle in (0, 50, 170, 1000)], [2400, 2167.5, 1760, 1490])
@@ -189,9 +193,7 @@ class Definitions(unittest.TestCase):
                          [None, {1}, {1}, set(), set(), {1}, {1}])
         self.assertEqual((greens.begin_of(0, 0, 8), greens.begin_of(0, 0, 20)), (None, 12))
         # Of the queues those at the begins of greens count, 4 and 12 s, not one of each plan.
-        mapping = map_from("", MAP)
-        measures = Measures(mapping, approaches_of(mapping), plans, 0, [[1, *plan] for plan in PLANS], passages(FRAMES))
-        self.assertEqual(measures.longest_queues((0, 0), 0, 10), [0.0, 12.5])
+        self.assertEqual(judged(FRAMES, [[1, *plan] for plan in PLANS], plans).queues[0, 0], [0.0, 12.5])
 
     def test_saturation_headways(self):
         """Ten vehicles pass from step 5 on: the first four in every third step, the others in every second."""
@@ -203,49 +205,86 @@ class Definitions(unittest.TestCase):
                 frames.append((clock, [[0, 0, [[car, 9 - car, 0] for car in range(gone, 10)], []]]))
             clock, gone = clock + 1, gone + 1
             frames.append((clock, [[0, 0, [[car, 9 - car, 0] for car in range(gone, 10)], [gone - 1]]]))
-        seen = passages(frames)
-        greens = Greens(map_from("", MAP), [[0, {**SIGNAL, "phases": [[5, []], [50, [[0, 0, 1]]]]}]])
-        [one] = discharges(seen.done, seen.logs[0, 0], 0, lambda step: greens.begin_of(0, 0, step))
+        signals = [[0, {**SIGNAL, "phases": [[5, []], [50, [[0, 0, 1]]]]}]]
+        [one] = judge_of(frames, [[0, 1]] * 10, signals).discharged[0, 0]
         # Six headways of 2 s. The fourth passes 12 s after green, 4 s later than at such headways.
         self.assertEqual((one.headway, one.lost), (2.0, 4.0))
 
 
-def passages(frames, dwells=None):
-    """What the passages of the street see; the last look is empty. dwells: by vehicle its stops."""
-    mapping = map_from("", MAP)
-    seen = Passages(mapping, approaches_of(mapping), 0, dwells or {})
-    for clock, lanes in [*frames, (frames[-1][0] + 1, [])]:
-        seen.see({"clock": clock, "lanes": lanes})
+class Seen(Passages):
+    """Passages that keep what lanes showed, by second."""
+
+    def log_lanes(self, _, back, stood):
+        kept = (numpy.concatenate(pair) for pair in ((self.back, back), (self.stood, stood)))
+        self.back, self.stood = kept if hasattr(self, "edges") and self.seen else (back, stood)
+        self.seen = True
+
+    back = stood = ()
+    seen = False
+
+
+def passages_of(frames, plans, mapping=None, parts=1):
+    """The passages of what is seen of the street, in so many parts, and then nobody."""
+    seen, kernel = Seen(), kernel_of(mapping or map_from("", MAP), plans)
+    show(kernel, [*frames, (frames[-1][0] + 1, [])], seen, parts=parts)
     return seen
 
 
+def judge_of(frames, plans, signals=((0, SIGNAL),), dwells=None, parts=1, interval=900):
+    """The judge of what is seen of the street, in so many parts, and then nobody, by intervals of so many seconds;
+    dwells: by vehicle its stops."""
+    seen = passages_of(frames, plans, parts=parts)
+    crossed = Crossed(seen, seen.kernel.plans, interval, dwells or {})
+    return Judge(seen, ShownPlans(seen.kernel.map, signals), crossed, 0)
+
+
+def judged(frames, plans, signals=((0, SIGNAL),), dwells=None, end=10, parts=1):
+    """What is known of the street up to a clock."""
+    judge = judge_of(frames, plans, signals, dwells, parts, end)
+    seen = judge.passages
+    return judge.judged(0, showed(judge.shown, seen.lanes, seen.places, 0, seen.back[:end], seen.stood[:end]))
+
+
 class ByHand(unittest.TestCase):
-    def setUp(self):
-        self.mapping = map_from("", MAP)
-        self.approaches = approaches_of(self.mapping)
-        self.seen = passages(FRAMES)
-        plans = [[1, *plan] for plan in PLANS]
-        self.measures = Measures(self.mapping, self.approaches, [[0, SIGNAL]], 0, plans, self.seen)
+    plans = [[1, *plan] for plan in PLANS]
+
+    def crossings(self, frames, plans, mapping=None, interval=900):
+        """The movement and the end of each passage that goes on, taken by intervals of so many seconds."""
+        seen = passages_of(frames, plans, mapping)
+        movements = Movements(seen)
+        places, found = PlanPlaces(movements, seen.kernel.plans), []
+        for _, part in seen.done(interval, {}):
+            one = Crossings(places, part)
+            found += zip(map(movements.name, one.movement.tolist()), one.end.tolist(), strict=True)
+        return found
 
     def test_layout(self):
-        [approach] = self.approaches.values()
+        [approach] = approaches_of(map_from("", MAP)).values()
         self.assertEqual((approach.edge, approach.junction, approach.control), ("a", "B", SIGNALS))
         self.assertEqual((approach.movements, approach.lanes, approach.metres), ({"b": "T"}, [(0, 0)], 75.0))
 
     def test_delays(self):
         """10 cells at 5 a step and 1 s in the junction are 3 s; the vehicles take 7 of them, and both stop once."""
-        lost = self.measures.interval(0, 10).lost["a", "b"]
+        lost = judged(FRAMES, self.plans).lost["a", "b"]
         self.assertEqual((lost.vehicles, lost.delay, lost.stood, lost.stops), (2, 4 + STOP_LOSS[0], 2.5, 1.0))
-        self.assertEqual([one.clock for one in self.measures.crossings], [8, 10])
-        self.assertEqual(self.measures.interval(0, 9).lost["a", "b"].vehicles, 1)
+        self.assertEqual(self.crossings(FRAMES, self.plans), [(("a", "b"), 8), (("a", "b"), 10)])
+        self.assertEqual(judged(FRAMES, self.plans, end=9).lost["a", "b"].vehicles, 1)
+
+    def test_parts_of_the_seconds_show_what_all_do(self):
+        """However the seconds are handed over: all at once, a few, or one at a time."""
+        for dwells in ({}, {0: [Dwell(0, 4, 6, 3)]}):
+            whole = judged(FRAMES, self.plans, dwells=dwells)
+            for parts in (2, 3, 11):
+                self.assertEqual(judged(FRAMES, self.plans, dwells=dwells, parts=parts), whole, parts)
 
     def test_an_edge_that_stands_twice_in_a_plan(self):
         """Each passage is judged by what follows there: the first goes on to b, the second ends on the edge."""
         on = [[[0, 0, [[0, 5, 2]], []]], [[0, 0, [], [0]]], [[1, 0, [[0, 2, 2]], []]]]
-        seen = passages([*enumerate(on, 1), (4, [[0, 0, [[0, 3, 2]], []]]), (5, [[0, 0, [], [0]]])])
-        self.assertEqual(len(seen.done), 2)
-        found = Measures(self.mapping, self.approaches, [[0, SIGNAL]], 0, [[0, 1, 0]], seen)
-        self.assertEqual([(one.movement, one.clock) for one in found.crossings], [(("a", "b"), 3)])
+        frames = [*enumerate(on, 1), (4, [[0, 0, [[0, 3, 2]], []]]), (5, [[0, 0, [], [0]]])]
+        [(_, done)] = passages_of(frames, [[0, 1, 0]]).done(900, {})
+        self.assertEqual(len(done["end"]), 2)
+        for interval in (900, 4, 1):
+            self.assertEqual(self.crossings(frames, [[0, 1, 0]], interval=interval), [(("a", "b"), 3)])
 
     def test_who_leaves_an_approach_from_an_edge_before(self):
         """Edge e, which f alone continues, leads to the light. Vehicle 0 has passed it and ends on f; vehicle 1 turns
@@ -254,83 +293,54 @@ class ByHand(unittest.TestCase):
         frames = [[[1, 0, [[0, 9, 2]], []]], [[1, 0, [], [0]]], [[2, 0, [[0, 1, 2]], []], [0, 0, [[1, 5, 2]], []]]]
         frames += [[[0, 0, [[0, 3, 2]], []], [2, 0, [[1, 1, 2]], []]], [[0, 0, [[1, 5, 2]], []]]]
         frames += [[[1, 0, [[1, 5, 2]], []]]]
-        seen = Passages(mapping, approaches_of(mapping), 0)
-        for clock, lanes in enumerate([*frames, []], 1):
-            seen.see({"clock": clock, "lanes": lanes})
-        found = Measures(mapping, approaches_of(mapping), [], 0, [[1, 2, 0], [0, 2, 0, 1, 2]], seen)
-        self.assertEqual([(one.movement, one.clock) for one in found.crossings], [(("e", "g"), 3), (("e", "g"), 7)])
+        for interval in (900, 4, 1):
+            found = self.crossings([*enumerate(frames, 1)], [[1, 2, 0], [0, 2, 0, 1, 2]], mapping, interval)
+            self.assertEqual(found, [(("e", "g"), 3), (("e", "g"), 7)])
 
     def test_a_stop_of_its_own_is_no_delay(self):
         """The first vehicle stands for 3 s at a bus stop, 2 of them with open doors: it loses 2 s of its 4, has not
         stopped for the junction, and stood nowhere else."""
-        plans = [[1, *plan] for plan in PLANS]
-        stopped = passages(FRAMES, {0: [Dwell(0, 4, 6, 3)]})
-        lost = Measures(self.mapping, self.approaches, [[0, SIGNAL]], 0, plans, stopped).interval(0, 10).lost["a", "b"]
+        lost = judged(FRAMES, self.plans, dwells={0: [Dwell(0, 4, 6, 3)]}).lost["a", "b"]
         self.assertEqual((lost.delay, lost.stood, lost.stops), ((2 + 4 + STOP_LOSS[0]) / 2, 1.0, 0.5))
         # One on another link, or of another passage, changes nothing.
-        elsewhere = passages(FRAMES, {0: [Dwell(1, 4, 6, 3), Dwell(0, 90, 96, 6)]})
-        self.assertEqual([one.dwell for one in elsewhere.done], [0, 0, 0])
+        stops = {0: [Dwell(1, 4, 6, 3), Dwell(0, 90, 96, 6)]}
+        [(_, elsewhere)] = passages_of(FRAMES, self.plans).done(900, stops)
+        self.assertEqual(elsewhere["dwell"].tolist(), [0, 0, 0])
+
+    def passage(self, frames):
+        """(stops, seconds of standing) of the only passage."""
+        [(_, done)] = passages_of(frames, [[0, 1]]).done(900, {})
+        [stops], [stood] = done["stops"].tolist(), done["stood"].tolist()
+        return stops, stood
 
     def test_who_departs_stands_without_a_stop(self):
         frames = [(1, [[0, 0, [[0, 0, 0]], []]]), (2, [[0, 0, [[0, 1, 1]], []]]), (3, [[0, 0, [], [0]]])]
-        [passage] = passages(frames).done
-        self.assertEqual((passage.stops, passage.stood), (0, 0))
+        self.assertEqual(self.passage(frames), (0, 0))
 
     def test_queues(self):
         """Of one cycle of 10 steps: at clock 7 the second vehicle has stood for two."""
-        self.assertEqual(self.measures.longest_queues((0, 0), 0, 10), [12.5])
+        self.assertEqual(judged(FRAMES, self.plans).queues[0, 0], [12.5])
 
     def test_a_second_of_standing_is_no_stop(self):
         frames = [
             (clock, [[0, 0, [[0, 5, speed]], []]]) for clock, speed in ((1, 2), (2, 0), (3, 1), (4, 0), (5, 0), (6, 0))
         ]
-        [passage] = passages([*frames, (7, [[0, 0, [], [0]]])]).done
-        self.assertEqual((passage.stops, passage.stood), (1, 4))
+        self.assertEqual(self.passage([*frames, (7, [[0, 0, [], [0]]])]), (1, 4))
 
     def test_capacity(self):
         """Green has 5 steps, and 1.5 s are won at its begin; 2 pass in 10 s of 2,400 vehicles an hour."""
-        use = self.measures.interval(0, 10).uses[0, 0]
-        self.assertAlmostEqual(use.ratio, 2 / (2400 * 6.5 / 3600))
+        self.assertAlmostEqual(judged(FRAMES, self.plans).uses[0, 0], 2 / (2400 * 6.5 / 3600))
 
     def test_rows(self):
-        made = Tables(self.approaches)
-        made.add(self.measures.interval(0, 10))
+        made = JunctionTables(approaches_of(map_from("", MAP)), {"B": 1.104})
+        made.add(judged(FRAMES, self.plans))
         [row] = [dict(zip(MOVEMENTS, row, strict=True)) for row in made.movements]
         names = ("junction", "approach", "to", "movement", "vehicles", "vehicles_per_hour", "queue_95_m", "v_c", "los")
         self.assertEqual([row[name] for name in names], ["B", "a", "b", "T", 2, "720", "12.5", "0.46", "A"])
-        self.assertEqual(row["capacity_per_hour"], "1560")
+        self.assertEqual((row["capacity_per_hour"], row["error_s"]), ("1560", ""))
         [approach], [junction] = made.approaches, made.junctions
         self.assertEqual((approach[APPROACHES.index("los")], junction[JUNCTIONS.index("los")]), ("A", "A"))
-
-
-class Sampling(unittest.TestCase):
-    def test_moments(self):
-        found = clocks_of_looks(0, 1800)
-        self.assertEqual(len(found), 2 * LOOKS)
-        part = 900 / LOOKS
-        self.assertEqual([int((clock - 1) // part) for clock in found], list(range(2 * LOOKS)))
-
-    def test_littles_law(self):
-        """With a look at every clock it is the time on the approach: both vehicles are there for 7 s, where 3 s and 2 s
-        for gaining speed would do, and stand 5 s together. Half of the time is green, and 360 vehicles an hour come to
-        a lane that passes 2,400."""
-        mapping = map_from("", MAP)
-        pairs = zip(PLANS, (0, 2, 5), strict=True)
-        enters = [{"cmd": "enter", "plan": plan, "depart": depart} for plan, depart in pairs]
-        run = run_of_texts("", map(json.dumps, [{"cmd": "load", "dawdle": 0}, SIGNAL, *enters]))
-        made = Sampled(mapping, approaches_of(mapping), run, Ends([10, 12, 12]), 20)
-        for clock, lanes in [*FRAMES, *((clock, []) for clock in range(11, 21))]:
-            made.see({"clock": clock, "lanes": lanes})
-        made.add_ends_and_stops()
-        lost = made.interval(0, 20).lost["a", "b"]
-        self.assertEqual((lost.vehicles, lost.stood, lost.stops), (2, 2.5, None))
-        self.assertAlmostEqual(lost.delay, 2 + STOP_LOSS[0] * 0.5 / (1 - 360 / 2400))
-        # With a stop of 2 s of one of both, at which it stood for 3.
-        made.ends = Ends([], {0: [Dwell(0, 4, 6, 3)]})
-        made.add_ends_and_stops()
-        less = made.interval(0, 20).lost["a", "b"]
-        self.assertEqual(less.stood, 1.0)
-        self.assertAlmostEqual(less.delay, lost.delay - 1)
+        self.assertEqual(junction[JUNCTIONS.index("nearly_full")], "1.10")
 
 
 @needs_simulator
@@ -397,30 +407,6 @@ class OfARun(Case):
             whole = float(row["storage_m"]) == 7.5 * (cells + 10)
             self.assertEqual((row["approach"], whole), ("a", not joins))
             self.assertEqual(float(row["queue_max_m"]) > 7.5 * cells, not joins)
-
-    def test_random_moments_are_near(self):
-        """The mean delay of approaches within the error that is stated, for most of them."""
-        self.run_corridor("out", "--junctions", "1800")
-        before, reporting.MOST_LOOKS = reporting.MOST_LOOKS, 0
-        self.addCleanup(setattr, reporting, "MOST_LOOKS", before)
-        from streetsim.cli.run import main
-
-        run, mapped = self.folder / "run.jsonl", self.folder / "map.json"
-        words = [
-            run, "--map", mapped, "--until", 1800, "--every", 0, "--junctions", 1800, "--out", self.folder / "looked",
-        ]
-        main([str(word) for word in (*words, "--program", PROGRAM)])
-        exact = {row["approach"]: float(row["control_delay_s"]) for row in self.table("out", "approaches", APPROACHES)}
-        looked = self.table("looked", "approaches", APPROACHES)
-        near = sum(
-            abs(float(row["control_delay_s"]) - exact[row["approach"]]) <= float(row["error_s"]) for row in looked
-        )
-        self.assertEqual(len(looked), 20)
-        self.assertGreaterEqual(near, 17)
-
-    def test_faults(self):
-        words = ("run", "x.jsonl", "--map", "x.json", "--until", 10, "--out", self.folder / "x", "--junctions", "5")
-        self.assertIn("'5' is not 60 to", self.tool(*words, status=2)[1])
 
 
 if __name__ == "__main__":

@@ -219,7 +219,7 @@ class Kept(ProgramCase):
         first.stdin.write(b'{"cmd":"count"}\n')
         first.stdin.flush()
         self.assertEqual(first.stdout.readline().decode(), NOT_LOADED)
-        self.ends(["--keep", "a.jsonl"], '{"cmd":"count"}\n', 1, "streetsim: cannot write a.jsonl\n")
+        self.ends(["--keep", "a.jsonl"], '{"cmd":"count"}\n', 1, "streetsim: a.jsonl is in use\n")
         first.stdin.close()
         self.assertEqual(first.wait(), 0)
 
@@ -232,6 +232,126 @@ class Kept(ProgramCase):
             )
         self.assertEqual((done.returncode, done.stderr), (1, b"streetsim: cannot write standard output\n"))
         self.assertEqual((self.folder / "a.jsonl").read_text(), load)
+
+
+class Placed(ProgramCase):
+    """What stands where, and what was cut off."""
+
+    def setUp(self):
+        super().setUp()
+        self.text = "".join((EXAMPLES / "one-vehicle.jsonl").read_text().splitlines(keepends=True)[:3])
+        self.count = '{"admitted":1,"arrived":1,"buffers":0,"cells":0,"clock":5,"taken":0,"waiting":0}\n'
+        self.file = self.folder / "a.jsonl"
+
+    def goes_on(self, name="a.jsonl", cut=b"", words=()):
+        """A session goes on from the three lines of a file, and saves what is behind them."""
+        lost = f"{self.file.resolve()}.lost"
+        said = f"streetsim: {len(cut)} bytes behind the lines of {name} are now in {lost}\n" if cut else ""
+        error = f"{said}streetsim: 3 lines of {name} were done again\n"
+        self.assertEqual(self.ends(["--keep", name, *words], '{"cmd":"count"}\n', error=error), self.count)
+        self.assertEqual(self.file.read_text(), self.text)
+        self.assertFalse((self.folder / "a.jsonl.new").exists())
+
+    def test_what_is_cut_off_is_saved(self):
+        saved = b""
+        for torn in (b'{"cmd":"adv', b"\0" * 100, b"\0" * 100 + b"\n", b'{"cm\0\0d"}\nno command\n', b"\xff"):
+            for words in ((), ("--unsynced",)):
+                self.file.write_bytes(self.text.encode() + torn)
+                self.goes_on(cut=torn, words=words)
+                saved += torn
+                self.assertEqual((self.folder / "a.jsonl.lost").read_bytes(), saved)
+
+    def test_a_file_of_another_stays(self):
+        for text in (b"a", b"\xef\xbb\xbf{", b" \t[1, 2", b'"' * 9000, b"{" * 1_048_577):
+            self.file.write_bytes(text)
+            self.ends(["--keep", "a.jsonl"], '{"cmd":"count"}\n', 1, "streetsim: bad tape at line 1\n")
+            self.assertEqual(self.file.read_bytes(), text)
+        self.assertFalse((self.folder / "a.jsonl.lost").exists())
+
+    def test_a_file_of_nul_bytes_is_a_new_session(self):
+        text = b"\0" * 100 + b"\n"
+        self.file.write_bytes(text)
+        error = f"streetsim: 101 bytes behind the lines of a.jsonl are now in {self.file.resolve()}.lost\n"
+        self.assertEqual(self.ends(["--keep", "a.jsonl"], '{"cmd":"count"}\n', error=error), NOT_LOADED)
+        self.assertEqual((self.file.read_bytes(), (self.folder / "a.jsonl.lost").read_bytes()), (b"", text))
+
+    def test_a_map_that_is_given_by_mistake_is_saved(self):
+        text = '{"nodes":' + "[" * 60_000
+        self.file.write_text(text)
+        error = f"streetsim: 60009 bytes behind the lines of a.jsonl are now in {self.file.resolve()}.lost\n"
+        self.assertEqual(self.ends(["--keep", "a.jsonl"], '{"cmd":"count"}\n', error=error), NOT_LOADED)
+        self.assertEqual((self.file.read_text(), (self.folder / "a.jsonl.lost").read_text()), ("", text))
+
+    def test_streams_that_are_the_file_are_told(self):
+        self.file.write_text(self.text)
+        for stream, told in (("<", "cannot read standard input"), (">>", "cannot write standard output")):
+            done = subprocess.run(
+                ["bash", "-c", f'"$0" --keep a.jsonl {stream} a.jsonl', PROGRAM], capture_output=True, text=True,
+                timeout=20, cwd=self.folder, check=False, stdin=subprocess.DEVNULL,
+            )
+            self.assertEqual((done.returncode, done.stderr), (1, f"streetsim: {told}\n"))
+            self.assertEqual(self.file.read_text(), self.text)
+
+    def test_what_is_told_never_goes_into_the_file(self):
+        """Standard error is closed, or is the file: then nothing is told, and the status alone says so."""
+        for error, status, told in (("2>&-", 0, self.count), ("2>> a.jsonl", 1, "")):
+            for more in ((), ("--unsynced",)):
+                self.file.write_text(self.text)
+                found = self.ends_closed(error, ["--keep", "a.jsonl", *more], '{"cmd":"count"}\n')
+                self.assertEqual(found, (status, told))
+                self.assertEqual(self.file.read_text(), self.text)
+
+    def test_a_link_leads_to_the_file(self):
+        (self.folder / "other").mkdir()
+        (self.folder / "other/link").symlink_to("../a.jsonl")
+        self.file.write_text(self.text + "{")
+        self.goes_on("other/link", b"{")
+        self.assertTrue((self.folder / "other/link").is_symlink())
+        self.assertEqual([path.name for path in (self.folder / "other").iterdir()], ["link"])
+
+    def test_the_file_is_new_and_has_the_rights_of_the_old(self):
+        self.file.write_text(self.text)
+        (self.folder / "a.jsonl.new").write_text("of a program that ended")
+        self.file.chmod(0o640)
+        with open(self.file, "rb") as old:
+            self.goes_on()
+            found = self.file.stat()
+            self.assertNotEqual(found.st_ino, os.fstat(old.fileno()).st_ino)
+        self.assertEqual(found.st_mode & 0o777, 0o640)
+
+    def test_a_file_of_several_names_is_cut_off(self):
+        self.file.write_text(self.text + "{")
+        os.link(self.file, self.folder / "b.jsonl")
+        self.goes_on(cut=b"{")
+        self.assertTrue((self.folder / "b.jsonl").samefile(self.file))
+
+    @unittest.skipUnless(os.geteuid() == 0 and shutil.which("mount"), "no right to mount")
+    def test_a_file_that_is_mounted_is_cut_off(self):
+        (self.folder / "b.jsonl").write_text(self.text + "{")
+        self.file.write_text("")
+        if subprocess.run(["mount", "--bind", self.folder / "b.jsonl", self.file], check=False).returncode:
+            self.skipTest("no right to mount")
+        self.addCleanup(subprocess.run, ["umount", self.file], check=False)
+        self.goes_on(cut=b"{")
+        self.assertEqual((self.folder / "b.jsonl").read_text(), self.text)
+
+    @unittest.skipUnless(os.geteuid() == 0 and shutil.which("setpriv"), "no other user to run as")
+    def test_a_folder_that_can_not_be_written(self):
+        """A whole file goes on as it stands; what would have to be saved stops it."""
+        self.file.write_text(self.text)
+        self.file.chmod(0o666)
+        self.folder.chmod(0o755)
+        words = ["setpriv", "--reuid", "65534", "--regid", "65534", "--clear-groups", PROGRAM, "--keep", "a.jsonl"]
+        for text, status, told in ((self.text, 0, self.count), (self.text + "{", 1, "")):
+            self.file.write_text(text)
+            done = subprocess.run(
+                words, input='{"cmd":"count"}\n', capture_output=True, text=True, timeout=20, cwd=self.folder,
+                check=False,
+            )
+            if "setpriv" in done.stderr or "denied" in done.stderr:
+                self.skipTest("no other user to run as")
+            self.assertEqual((done.returncode, done.stdout, self.file.read_text()), (status, told, text))
+        self.assertEqual(done.stderr, "streetsim: cannot write a.jsonl\n")
 
 
 class Readme(ProgramCase):
@@ -253,8 +373,8 @@ class Readme(ProgramCase):
 
 
 class Full(ProgramCase):
-    def grown_to(self, limit, lines):
-        """A run in which no file may grow beyond so many bytes: its replies."""
+    def grown_to(self, limit, lines, error):
+        """A run in which no file may grow beyond so many bytes, which tells this first: its replies."""
         def limits():
             signal.signal(signal.SIGXFSZ, signal.SIG_IGN)
             resource.setrlimit(resource.RLIMIT_FSIZE, (limit, limit))
@@ -263,23 +383,20 @@ class Full(ProgramCase):
             [PROGRAM, "--keep", "a.jsonl"], input="".join(lines), capture_output=True, text=True, check=False,
             cwd=self.folder, preexec_fn=limits,
         )
-        self.assertEqual((done.returncode, done.stderr), (1, "streetsim: cannot write a.jsonl\n"))
+        self.assertEqual((done.returncode, done.stderr), (1, error + "streetsim: cannot write a.jsonl\n"))
         return done.stdout
 
     def test_a_file_that_may_not_grow(self):
-        """At each size: what was answered is in the file, and the session goes on when there is room again."""
+        """At each size: the file goes back to what was answered, and the session goes on when there is room again."""
         lines = (EXAMPLES / "one-vehicle.jsonl").read_text().splitlines(keepends=True)[:3]
         replies = (EXAMPLES / "one-vehicle.out").read_text().splitlines(keepends=True)[:3]
-        for limit in range(1, len("".join(lines)) - 1, 29):
-            (self.folder / "a.jsonl").unlink(missing_ok=True)
-            # All lines come in one read, so none of them is answered.
-            self.assertEqual(self.grown_to(limit, lines), "")
-            text = (self.folder / "a.jsonl").read_text()
-            self.assertEqual(text, "".join(lines)[:limit])
-            whole = text.count("\n")
-            error = f"streetsim: {whole} lines of a.jsonl were done again\n" if whole else ""
-            told = self.ends(["--keep", "a.jsonl"], "".join(lines[whole:]), error=error)
-            self.assertEqual(told, "".join(replies[whole:]))
+        for limit in range(len(lines[0]), len("".join(lines)) - 1, 9):
+            (self.folder / "a.jsonl").write_text(lines[0])
+            # Both lines come in one read, so none of them is answered.
+            error = "streetsim: 1 lines of a.jsonl were done again\n"
+            self.assertEqual(self.grown_to(limit, lines[1:], error), "")
+            self.assertEqual((self.folder / "a.jsonl").read_text(), lines[0])
+            self.assertEqual(self.ends(["--keep", "a.jsonl"], "".join(lines[1:]), error=error), "".join(replies[1:]))
             self.assertEqual((self.folder / "a.jsonl").read_text(), "".join(lines))
 
     @unittest.skipUnless(os.geteuid() == 0 and shutil.which("mount"), "no right to mount")

@@ -13,11 +13,11 @@ from support import TOOLS, Case
 # below the searches and studies that draw them. The commands have one file each; scenarios and TraCI's calls are for
 # users' own programs, and begin a run by the words of the command streetsim-import.
 LAYERS = (
-    *("base", "model", "results", "pictures", "gis", "reports"),
-    *("sumo", "ways", "importing", "works", "actuated", "buses", "run", "sessions", "junctions", "outputs"),
-    *("routes", "signals", "study", "counts", "live", "cli", "simulation", "scenario", "traci", "env"),
+    *("base", "model", "report", "sumo", "kernel", "control", "observe"),
+    *("search", "demand", "live", "cli", "simulation", "scenario", "traci", "env"),
     *("client", "files"),  # base's, by the names that users' programs have for them
 )
+MOST_PACKAGES = 13
 MOST_ARGUMENTS = 7
 FIRST_OF_RUNS = LAYERS.index("sumo")
 
@@ -63,6 +63,16 @@ def graph_of(folder):
     return {name: {*imports_of(name, path, modules)} - {name, folder.name} for name, path in modules.items()}
 
 
+def names_twice(modules):
+    """Names of classes that stand more than once, by name the modules where they do."""
+    found = defaultdict(list)
+    for module, path in modules.items():
+        for node in ast.walk(tree_of(path)):
+            if isinstance(node, ast.ClassDef):
+                found[node.name].append(module)
+    return {name: places for name, places in found.items() if len(places) > 1}
+
+
 def layer(name):
     """The place of a module's layer, counted from the ground."""
     return LAYERS.index(name.split(".")[1])
@@ -99,6 +109,14 @@ class Layers(Case):
         parts = {name.split(".")[1] for name in modules_in(TOOLS / "streetsim") if "." in name}
         self.assertEqual(parts - {*LAYERS}, set())
 
+    def test_packages_are_few(self):
+        packages = [path.parent.name for path in (TOOLS / "streetsim").rglob("*/__init__.py")]
+        self.assertLessEqual(len(packages), MOST_PACKAGES, packages)
+
+    def test_no_class_has_the_name_of_another(self):
+        """Also of one in another module: who reads a name knows the class."""
+        self.assertEqual(names_twice(modules_in(TOOLS / "streetsim")), {})
+
     def test_no_import_goes_up(self):
         self.assertEqual(upward(graph_of(TOOLS / "streetsim")), [])
 
@@ -127,25 +145,29 @@ class Layers(Case):
                 attributes = {node.attr for node in ast.walk(tree_of(path)) if isinstance(node, ast.Attribute)}
                 self.assertNotIn("Namespace", attributes, name)
 
-    def test_what_goes_up_and_what_goes_in_circles_is_found(self):
+    def test_what_goes_up_in_circles_or_by_one_name_is_found(self):
         package = self.folder / "streetsim"
         for name, text in (
             ("__init__", ""),
-            ("base/low", "def late():\n    from ..run import high\n"),
+            ("base/low", "def late():\n    from ..kernel import high\n"),
             ("model/one", "from streetsim.base import low\nfrom . import two\n"),
             ("model/two", "import streetsim.model.three\n"),
             ("model/three", "if TYPE_CHECKING:\n    from .one import Name\n"),
-            ("run/high", "from streetsim.base.low import late\n"),
+            ("kernel/high", "from streetsim.base.low import late\n"),
         ):
             path = package / f"{name}.py"
             path.parent.mkdir(parents=True, exist_ok=True)
             path.write_text(text)
         graph = graph_of(package)
-        self.assertEqual(upward(graph), ["streetsim.base.low imports streetsim.run.high"])
+        self.assertEqual(upward(graph), ["streetsim.base.low imports streetsim.kernel.high"])
         self.assertEqual(circles(graph), [
-            *(f"streetsim.{name}" for name in ("base.low", "model.one", "model.three", "model.two", "run.high")),
+            *(f"streetsim.{name}" for name in ("base.low", "kernel.high", "model.one", "model.three", "model.two")),
         ])
-        self.assertEqual(circles(of_packages(graph)), ["streetsim.base", "streetsim.run"])
+        self.assertEqual(circles(of_packages(graph)), ["streetsim.base", "streetsim.kernel"])
+        for name in ("low", "lower"):
+            self.write(f"{name}.py", "class One:\n    class Two:\n        pass\n")
+        modules = {name: self.folder / f"{name}.py" for name in ("low", "lower")}
+        self.assertEqual(names_twice(modules), {"One": ["low", "lower"], "Two": ["low", "lower"]})
 
 
 if __name__ == "__main__":

@@ -1,13 +1,12 @@
-"""The live page: who is served, what a request may send, and that a clicked session replays to the same replies."""
+"""The live page: who is served, what a request may send, and that a clicked session is done again to the same state."""
 import http.client
 import json
-import subprocess
 import unittest
 
-from pages import LiveCase, PageCase, needs_driver, needs_selenium
-from support import BUILT_PAGE, MAP, PAGE_MODULE, PROGRAM, needs_page_module, needs_page_program, needs_simulator
-from streetsim.live.bridge import MOST_LINE
-from streetsim.live.page import live_page, page_data
+from pages import LiveCase, PageCase, needs_driver, needs_selenium, state_after
+from support import MAP, needs_simulator
+from streetsim.live.bridge import MOST_BODY
+from streetsim.live.page import lane_word, page_data
 from streetsim.model.mapping import read_map
 
 # Changes of a page by its buttons: each that was not refused counts.
@@ -16,7 +15,7 @@ globalThis.press = name => [...document.querySelectorAll('#chosen button')]\
 .find(one => one.textContent === name).click();
 globalThis.fill = (name, value) => { const box = at(name); box.value = value; \
 for (const kind of ['input', 'change']) box.dispatchEvent(new Event(kind)); };
-globalThis.changes = () => session.sent.filter(([line]) => JSON.parse(line).cmd !== 'advance').length;
+globalThis.changes = () => session.changes.length;
 globalThis.changeOnce = async i => {
   if (i % 5 === 4) { choose({ node: 1 }); fill('seconds', 5 + i % 60); press('Set the plan'); }
   else {
@@ -33,26 +32,34 @@ for (let i = 0; changes() < count && i < 3 * count; i++) await changeOnce(i); };
 
 class Data(LiveCase):
     def test_what_a_page_knows(self):
-        data = page_data(self.run_file, self.mapping)
+        data = page_data(self.page_run())
         self.assertEqual(
             [(link["name"], link["begin"], link["end"], link["cells"]) for link in data["links"]],
             [("a", 0, 1, 10), ("b", 1, 2, 10)],
         )
-        self.assertEqual([clock for clock, _ in data["timed"]], [20])
-        self.assertEqual([plan["node"] for plan in data["signals"]], [1])
+        self.assertEqual([plan["phases"] for plan in data["signals"]], [[[600, []]], [[600, [[0, 0, 1]]]]])
 
     def test_names_of_streets_and_junctions(self):
         """Those of the map: a junction goes by its own name, by its streets, or by its id."""
         names = {"edges": {"a": "Hill Street", "b": "Market Street"}, "junctions": {"A": "Old Gate"}}
-        named = read_map(self.write("named.json", json.dumps({**MAP, "names": names})))
-        data = page_data(self.run_file, named, map_path=self.folder / "named.json")
+        plain, self.mapping = self.mapping, read_map(self.write("named.json", json.dumps({**MAP, "names": names})))
+        data = page_data(self.page_run(), map_path=self.folder / "named.json")
         self.assertEqual([link["street"] for link in data["links"]], ["Hill Street", "Market Street"])
         streets = ["Old Gate", "Hill Street / Market Street", "Market Street"]
         self.assertEqual([node["name"] for node in data["nodes"]], streets)
-        self.assertEqual([node["name"] for node in page_data(self.run_file, self.mapping)["nodes"]], ["A", "B", "C"])
+        self.mapping = plain
+        self.assertEqual([node["name"] for node in page_data(self.page_run())["nodes"]], ["A", "B", "C"])
+
+    def test_lanes_and_turns_in_words(self):
+        names = [[lane_word(index, most) for index in range(most + 1)] for most in (0, 1, 2, 4)]
+        self.assertEqual(names[:3], [[""], ["right lane", "left lane"], ["right lane", "middle lane", "left lane"]])
+        self.assertEqual(names[3][1:4], [f"{word} lane from the right" for word in ("second", "third", "fourth")])
+        data = page_data(self.page_run())
+        self.assertEqual([link["from"] for link in data["links"]], ["west", "west"])
+        self.assertEqual(data["turns"], [[0, 0, 1, 0, "L", 0, "straight"]])
 
     def test_a_map_of_another_run(self):
-        path = self.write("other.json", json.dumps({**MAP, "links": MAP["links"][:1]}))
+        path = self.write("other.json", json.dumps({**MAP, "links": MAP["links"][:1], "turns": []}))
         told = self.tool("live", self.run_path, "--map", path, "--program", "/bin/cat", "--no-open", status=2)[1]
         self.assertIn("run.jsonl, whose links are other ones", told)
 
@@ -63,7 +70,7 @@ class Data(LiveCase):
         self.assertIn("no program that can be run", told)
 
 
-@needs_page_program
+@needs_simulator
 class Requests(LiveCase):
     """What the bridge serves and what it refuses."""
 
@@ -75,57 +82,66 @@ class Requests(LiveCase):
         link.close()
         return answer.status, told
 
-    def test_the_page_and_its_lines(self):
+    def test_the_page_and_its_steps(self):
         with self.bridge() as bridge:
             token = f"/{bridge.token}"
             status, page = self.ask(bridge, "GET", f"{token}/")
             self.assertEqual((status, b"<!DOCTYPE html>" in page), (200, True))
-            status, told = self.ask(bridge, "POST", f"{token}/one/begin")
-            self.assertEqual((status, told.count(b"\n")), (200, 5))
-            status, told = self.ask(
-                bridge, "POST", f"{token}/one/lines", b'{"cmd":"advance","steps":3}\n{"cmd":"count"}\n'
-            )
-            self.assertEqual((status, told.splitlines()[0]), (200, b'{"clock":3}'))
+            self.assertEqual(self.ask(bridge, "POST", f"{token}/one/begin")[0], 200)
+            status, told = self.ask(bridge, "POST", f"{token}/one/step", b'{"steps":3}')
+            size = int.from_bytes(told[:4], "little")
+            [world] = json.loads(told[4 : 4 + size])["worlds"]
+            # By hand: the first stands in its first cell at 1 s, and drives one cell and then two; the second is there.
+            rows = memoryview(told)[4 + size :].cast("i").tolist()
+            self.assertEqual((status, world["clock"], rows), (200, 3, [0, 0, 3, 2, 1, 0, 0, 0]))
             # A page that leaves makes room for the next one, which begins anew.
             self.ask(bridge, "POST", f"{token}/one/leave")
             self.assertEqual(self.ask(bridge, "POST", f"{token}/two/begin")[0], 200)
-            self.assertEqual(
-                self.ask(bridge, "POST", f"{token}/two/lines", b'{"cmd":"advance","steps":1}\n')[1], b'{"clock":1}\n'
-            )
+            self.assertIn(b'"clock":1,', self.ask(bridge, "POST", f"{token}/two/step", b'{"steps":1}')[1])
 
     def test_refused(self):
-        line = b'{"cmd":"count"}\n'
+        step = b'{"steps":1}'
         with self.bridge() as bridge:
             token = f"/{bridge.token}"
             self.assertEqual(self.ask(bridge, "POST", f"{token}/one/begin")[0], 200)
-            long = b'{"cmd":"count","x":"' + b"x" * (2 * MOST_LINE) + b'"}\n'
             for name, status, path, body, headers in (
-                ("another token", 403, "/wrong/one/lines", line, {}),
-                ("no token", 403, "/", line, {}),
-                ("a foreign page", 403, f"{token}/one/lines", line, {"Origin": "http://example.org"}),
+                ("another token", 403, "/wrong/one/step", step, {}),
+                ("no token", 403, "/", step, {}),
+                ("a foreign page", 403, f"{token}/one/step", step, {"Origin": "http://example.org"}),
                 (
-                    "a foreign name of this machine", 403, f"{token}/one/lines", line,
+                    "a foreign name of this machine", 403, f"{token}/one/step", step,
                     {"Host": f"example.org:{bridge.server_port}"},
                 ),
                 ("a second page", 409, f"{token}/two/begin", b"", {}),
-                ("lines of a second page", 409, f"{token}/two/lines", line, {}),
-                ("a line of 2 MiB", 413, f"{token}/one/lines", long, {}),
-                ("no end of a line", 400, f"{token}/one/lines", b"{}", {}),
-                ("a blank line", 400, f"{token}/one/lines", line + b"\n", {}),
-                ("another verb", 404, f"{token}/one/stop", line, {}),
-            ):
+                ("steps of a second page", 409, f"{token}/two/step", step, {}),
+                ("too long", 413, f"{token}/one/step", b" " * (MOST_BODY + 1), {}),
+                ("another verb", 404, f"{token}/one/stop", step, {}),
+                ("another path", 404, f"{token}/one/step/0", step, {}),
+                *(
+                    (f"{verb} {body}", 400, f"{token}/one/{verb}", body.encode(), {})
+                    for verb, body in (
+                        ("step", "{}"), ("step", "[]"), ("step", "{"), ("step", '{"steps":true}'),
+                        ("step", '{"steps":-1}'), ("step", '{"steps":10001}'), ("undo", '{"number":0.5}'),
+                        ("watch", '{"node":3}'), ("ask", '{"commands":[{"cmd":"advance","steps":1}]}'),
+                        ("change", '{"text":"x","commands":[]}'),
+                        ("change", '{"text":"x","commands":[{"clock":0,"command":{"cmd":"load"}}]}'),
+                        ("change", '{"text":"x","commands":[{"clock":0,"command":{"cmd":"signal"}}]}'),
+                        ("works", '{"asked":{"link":2}}'),
+                    )
+                ),
+            ):  # fmt: skip
                 with self.subTest(name):
                     told = self.ask(bridge, "POST", path, body, **headers)
                     self.assertEqual(told[0], status, told)
                     self.assertTrue(json.loads(told[1])["fault"])
             self.assertEqual(self.ask(bridge, "GET", f"{token}/other")[0], 404)
             # None of them changed anything, or ended what is served.
-            self.assertIn(b'"clock":0', self.ask(bridge, "POST", f"{token}/one/lines", line)[1])
+            self.assertIn(b'"clock":1,', self.ask(bridge, "POST", f"{token}/one/step", step)[1])
 
     def test_more_than_a_request_may_have(self):
         with self.bridge() as bridge:
             link = http.client.HTTPConnection("127.0.0.1", bridge.server_port, timeout=20)
-            link.putrequest("POST", f"/{bridge.token}/one/lines")
+            link.putrequest("POST", f"/{bridge.token}/one/step")
             link.putheader("Content-Length", str(1 << 40))
             link.endheaders()
             self.assertEqual(link.getresponse().status, 413)
@@ -133,19 +149,14 @@ class Requests(LiveCase):
 
 
 @needs_simulator
-@needs_page_program
 @needs_driver
 @needs_selenium
 class Page(PageCase):
     """The page in Chromium, by clicks."""
 
-    def replayed(self, text):
-        done = subprocess.run([PROGRAM], input=text, capture_output=True, text=True, check=True)
-        return done.stdout.splitlines()
-
     def test_a_clicked_session(self):
-        """Steps, a plan, a closure, a detector, a vehicle taken out, and back: what is saved replays to what
-        the page was answered."""
+        """Steps, a plan, a closure, a detector, a vehicle taken out, and back: what is saved leads to what the page
+        shows."""
         with self.bridge() as bridge, self.browser() as browser:
             self.open(browser, bridge.address)
             self.click(browser, "step")
@@ -178,17 +189,15 @@ class Page(PageCase):
             self.assertEqual(self.shown(browser)["clock"], 9)
             for _ in range(20):
                 self.click(browser, "step")
-            record = browser.execute_script("return session.record()")
+            state = self.state(browser)
             self.click(browser, "save")
             saved = self.downloaded("session.jsonl")
-        replies = self.replayed(saved)
-        self.assertEqual(replies[5:], [reply for _, reply in record])
-        closed = '{"cmd":"close","link":1,"lane":0,"first":4,"last":6}'
-        self.assertIn(closed, [line for line, _ in record])
+        self.assertEqual(state_after(saved), state)
+        self.assertIn('"cmd":"close","link":1,"lane":0,"first":4,"last":6', saved)
         # The run's own green at second 20 is among the lines, and what was done at second 9 is not,
         # as the page went back there.
-        self.assertTrue(any('"at": 20' in line for line, _ in record))
-        self.assertFalse(any("takeout" in line for line, _ in record))
+        self.assertIn('"at": 20', saved)
+        self.assertNotIn("takeout", saved)
 
     def change_often(self, browser, count):
         """Makes so many changes by the page's own buttons, with steps between them: closures,
@@ -200,61 +209,17 @@ class Page(PageCase):
             count,
         )
         self.assertEqual(told, "")
-        return browser.execute_script("return [session.saved(), session.record()]")
-
-    def check_changes(self, saved, record, least):
-        """The session has so many changes of each kind, and streetsim answers it as the page was answered."""
-        commands = [json.loads(line)["cmd"] for line, _ in record]
-        self.assertGreaterEqual(sum(command != "advance" for command in commands), least)
-        self.assertLessEqual({"advance", "close", "reopen", "signal", "meter"}, set(commands))
-        self.assertEqual(self.replayed(saved)[5:], [reply for _, reply in record])
+        return browser.execute_async_script("session.text().then(arguments[0])")
 
     def test_a_session_of_500_changes(self):
+        """It has changes of each kind, and streetsim does it again to the same state."""
         with self.bridge() as bridge, self.browser() as browser:
             self.open(browser, bridge.address)
-            saved, record = self.change_often(browser, 500)
-        self.check_changes(saved, record, 500)
-
-    @needs_page_module
-    def test_one_file(self):
-        """The page with its engine inside, from a file, with no name resolved: it asks nobody for anything,
-        and its session replays."""
-        page = self.folder / "page.html"
-        told = self.tool("live", self.run_path, "--map", self.map_path, "--program", PAGE_MODULE, "-o", page)[0]
-        self.assertIn("its translation for browsers, the browser and the page's script are tested, not proved", told)
-        proved = PAGE_MODULE.resolve() == BUILT_PAGE.with_suffix(".wasm").resolve()
-        self.assertEqual("The program is proved" in told, proved)
-        with self.browser() as browser:
-            self.open(browser, page.as_uri())
-            self.assertEqual(browser.execute_script("return performance.getEntriesByType('resource').length"), 0)
-            self.click(browser, "step")
-            self.assertEqual((self.shown(browser)["driving"], self.shown(browser)["seen"]), (1, 1))
-            saved, record = self.change_often(browser, 100)
-        self.check_changes(saved, record, 100)
-
-    def test_a_browser_that_lacks_something_is_told_what(self):
-        page = self.folder / "page.html"
-        page.write_bytes(live_page(self.run_file, self.mapping, b"never compiled"))
-        for taken, named in (
-            (
-                "delete WebAssembly.Suspending",
-                "it cannot suspend a WebAssembly program (JavaScript Promise Integration)",
-            ),
-            (
-                "WebAssembly.Memory = class { constructor() { throw new TypeError(); } }",
-                "it has no WebAssembly memory of 64 bits",
-            ),
-        ):
-            with self.subTest(named), self.browser() as browser:
-                browser.execute_cdp_cmd("Page.addScriptToEvaluateOnNewDocument", {"source": taken})
-                browser.get(page.as_uri())
-                self.assertEqual(self.wait(browser, "return document.body.dataset.ready || ''"), "no")
-                told = browser.execute_script("return at('fault').textContent")
-                self.assertEqual(
-                    told,
-                    f"This browser cannot run the page: {named}. Chromium and its kin can; "
-                    "or let streetsim-live serve the page.",
-                )
+            saved, state = self.change_often(browser, 500), self.state(browser)
+        commands = [json.loads(line)["cmd"] for line in saved.splitlines()]
+        self.assertGreaterEqual(sum(commands.count(name) for name in ("close", "reopen", "signal", "meter")), 500)
+        self.assertLessEqual({"advance", "close", "reopen", "signal", "meter"}, {*commands})
+        self.assertEqual(state_after(saved), state)
 
     def test_no_request_leaves_the_machine(self):
         with self.bridge() as bridge, self.browser() as browser:

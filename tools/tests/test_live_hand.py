@@ -1,5 +1,5 @@
-"""The live page by hand in Chromium, by mouse, touch and keys, served by the bridge and as one file: plans as bars, as
-it was beside as it is, works drawn on the map, a green wave, and who is served."""
+"""The live page by hand in Chromium, by mouse, touch and keys: plans as bars, as it was beside as it is, works drawn on
+the map, a green wave, and who is served."""
 import contextlib
 import json
 import os
@@ -7,26 +7,27 @@ import signal
 import time
 import unittest
 from contextlib import contextmanager
+from dataclasses import replace
 from functools import partial
 from pathlib import Path
 from xml.etree import ElementTree
 
-from pages import DRIVER, PageCase, crossing_files, needs_driver, needs_selenium
-from support import PAGE_MODULE, PAGE_PROGRAM, PROGRAM, Case, needs_page_module, needs_page_program, needs_simulator
+from pages import DRIVER, PageCase, crossing_files, needs_driver, needs_selenium, state_after, told_by
+from support import PROGRAM, Case, needs_simulator
 from test_compared import lost_and_ended
 from test_rounds import junction, routes
 from test_works import fan, flows
 from streetsim.base import limits
 from streetsim.base.files import Fault
-from streetsim.base.serving import serving_client
+from streetsim.control.settings import Settings
+from streetsim.kernel.serving import serving_program
 from streetsim.live.bridge import Bridge
-from streetsim.live.engine import Engine
 from streetsim.live.joining import Joining
-from streetsim.live.page import live_page, page_data
+from streetsim.live.page import page_data
+from streetsim.live.session import PageSession
 from streetsim.model.mapping import read_map
 from streetsim.model.runs import read_run, read_with_map
-from streetsim.run.rounds import giving_way
-from streetsim.run.settings import Settings
+from streetsim.observe.giving_way_rounds import giving_way
 
 # The place on the screen of a second of a row of the plan, or of its ruler (row -2) or phases (row -1).
 OF_PLAN = """
@@ -100,6 +101,10 @@ class HandCase(PageCase):
         self.pull(browser, stop_line, stop_line)
         self.assertEqual(self.text(browser, "title"), "Light at X")
 
+    def saved(self, browser, which=0):
+        """The session as lines, or (1) that of the traffic as it was."""
+        return browser.execute_async_script("session.text(arguments[0]).then(arguments[1])", which)
+
     def text(self, browser, name):
         return browser.execute_script("return at(arguments[0]).textContent", name)
 
@@ -156,21 +161,21 @@ class HandCase(PageCase):
             browser.execute_script("guarded(async () => { await advance(60); draw(1); showTables(); })")
             self.idle(browser)
         gain = self.shown(browser)["gain"]
-        now, was = browser.execute_script("return [session.saved(), worlds.was.session.saved()]")
-        if PROGRAM:
-            counted = [lost_and_ended(text, self.run_file, self.mapping) for text in (was, now)]
-            self.assertEqual(gain["seconds"], (counted[0][0] - counted[1][0]) / counted[1][2])
-            self.assertEqual(gain["ended"], counted[1][1] - counted[0][1])
+        now, was = (self.saved(browser, which) for which in (0, 1))
+        counted = [lost_and_ended(text, self.run_file, self.mapping) for text in (was, now)]
+        self.assertEqual(gain["seconds"], (counted[0][0] - counted[1][0]) / counted[1][2])
+        self.assertEqual(gain["ended"], counted[1][1] - counted[0][1])
         self.assertIn("a trip" if abs(gain["seconds"]) >= 0.05 else "no difference", self.text(browser, "gain"))
         from selenium.webdriver.support.ui import Select
 
         Select(browser.find_element("id", "maps")).select_by_value("both")
         self.idle(browser)
-        self.assertGreater(browser.execute_script("return worlds.was.cars.size"), 0)
+        self.assertGreater(browser.execute_script("return session.was.cars.size"), 0)
         self.assertTrue(browser.execute_script("return at('second-map').getBoundingClientRect().width > 200"))
         self.click(browser, "Undo")
         self.assertEqual(browser.execute_script("return [session.changes.length, session.clock]"), [0, 120])
-        self.assertEqual(browser.execute_script("return session.saved()"), was)
+        lanes = [(link, lane) for link in range(8) for lane in (0, 1)]
+        self.assertEqual(state_after(self.saved(browser), lanes), state_after(was, lanes))
         self.assertIn("None so far", self.text(browser, "changes"))
 
     def check_works(self, browser):
@@ -189,7 +194,7 @@ class HandCase(PageCase):
         self.assertEqual(self.shown(browser)["closed"], 1)
         browser.execute_script("guarded(() => advance(40))")
         self.idle(browser)
-        sent = [json.loads(line) for line, _ in browser.execute_script("return session.record()")]
+        sent = map(json.loads, self.saved(browser).splitlines())
         works = [one for one in sent if one["cmd"] in ("close", "reopen") and one["lane"] == 0 and one["link"] == 5]
         self.assertEqual([one["cmd"] for one in (works[0], works[-1])], ["close", "reopen"])
         self.assertEqual(browser.execute_script("return session.clock"), 160)
@@ -227,7 +232,7 @@ class HandCase(PageCase):
         self.open(browser, address)
         close = [{"cmd": "close", "link": 5, "lane": lane, "first": 0, "last": 11} for lane in (0, 1)]
         browser.execute_script(
-            "guarded(async () => { for (const command of arguments[0]) await session.tell(command); })", close
+            "guarded(() => session.change('works', arguments[0].map(command => ({ clock: 0, command }))))", close
         )
         self.idle(browser)
         place = browser.execute_script(
@@ -240,7 +245,7 @@ class HandCase(PageCase):
         self.idle(browser)
         states = browser.execute_async_script(
             "const done = arguments[0], asked = [0, 1, 2, 3].flatMap(link => [0, 1].map(lane => "
-            "({ cmd: 'lane', link, lane }))); session.askAll(asked).then(done)"
+            "({ cmd: 'lane', link, lane }))); session.ask(...asked).then(done)"
         )
         still = [len([car for car in state["cells"] if car[2] == 0]) + len(state["buffer"]) for state in states]
         by_street = [still[at] + still[at + 1] for at in range(0, 8, 2)]
@@ -250,7 +255,7 @@ class HandCase(PageCase):
         )
         streets = ["W, from the west", "E, from the east", "S, from the south", "N, from the north"]
         self.assertEqual(rows, [[street, str(count)] for street, count in zip(streets, by_street, strict=True)])
-        self.assertEqual(browser.execute_script("return worlds.now.series.at(-1).queue"), sum(by_street))
+        self.assertEqual(browser.execute_script("return session.now.points.at(-1)[3]"), sum(by_street))
         grounds = []
         for _ in range(2):
             self.keys(browser, "d")
@@ -266,7 +271,6 @@ class HandCase(PageCase):
 
 
 @needs_simulator
-@needs_page_program
 @needs_driver
 @needs_selenium
 class ByBridge(HandCase):
@@ -335,29 +339,33 @@ class ByBridge(HandCase):
 
 
 @needs_simulator
-@needs_page_program
 class Joined(ImportCase):
     def test_lanes_are_joint_by_importing_anew(self):
         """A lane that is a link of its own cannot be closed; the bridge imports anew, and the page begins again."""
         run, mapped = self.imported()
-        joining = Joining(*read_with_map(run, mapped), mapped)
-        page, lines, told = joining.page()
-        self.assertEqual((told, len(json.loads(lines[0])["links"])), ([], 5))
-        engines = [Engine(PAGE_PROGRAM, lines) for _ in range(2)]
-        with Bridge(engines, page, join=joining.join) as bridge:
+        joining = Joining(*read_with_map(run, mapped), mapped, PROGRAM, lambda *_: Settings(limits.CLOCK))
+        of, told = joining.page_run()
+        self.assertEqual((told, len(of.mapping.links)), ([], 5))
+        page, session = joining.page(of), PageSession(of)
+        self.addCleanup(session.close)
+        with Bridge(session, page, join=joining.join) as bridge:
+            [link, _] = of.mapping.links_of["a"]
+            asked = {"cmd": "close", "link": link, "lanes": [0], "begin": 10, "end": 30, "from": 0, "until": None}
+            session.begin()
+            told = told_by(session.works({**asked, "text": "works"}))
+            self.assertEqual((told["joint"], told["changes"]), ("a_0", []))
+            self.assertIn("a link of its own", told["refused"])
             bridge.join_lanes(["a_0"])
-            replies = engines[0].begin_run()
-            self.assertEqual(json.loads(replies[0])["links"], 4)
-            self.assertNotEqual(bridge.page, page)
+            with self.assertRaisesRegex(Fault, "nothing is running"):
+                session.step(1)
+            session.begin()
+            self.assertEqual((len(session.of.mapping.links), bridge.page != page), (4, True))
             with self.assertRaisesRegex(Fault, "no edge or lane 'x'"):
                 bridge.join_lanes(["x"])
-            self.assertEqual(engines[0].begin_run(), replies)
-        for engine in engines:
-            engine.close()
+            self.assertEqual(told_by(session.step(1))["worlds"][0]["clock"], 1)
 
 
 @needs_simulator
-@needs_page_program
 class GivingWay(ImportCase):
     def test_as_in_the_run(self):
         """A minor street gives way on the page by the lines that streetsim-run sends, at the same clocks."""
@@ -368,32 +376,17 @@ class GivingWay(ImportCase):
         words = [self.folder / "x.net.xml", "--routes", self.folder / "x.rou.xml"]
         self.tool("import", *words, "-o", run, "--map", mapped)
         read = read_with_map(run, mapped)
-        settings = Settings(limits.CLOCK, rescue=0)
-        wanted, _ = giving_way(*read, settings, 2, partial(serving_client, PAGE_PROGRAM, run), lambda *_: None)
+        settings = Settings(limits.CLOCK, 0, rescue=0)
+        wanted, _ = giving_way(*read, settings, 2, partial(serving_program, PROGRAM, run), lambda *_: None)
         self.assertGreater(len(wanted.timed), 1)
-        joining = Joining(*read, mapped, rounds=2, program=PAGE_PROGRAM)
-        made, mapping, told = joining.giving_way(*joining.joint_run())
-        sent = [[(at, line.command) for at, line in one.timed] for one in (made, wanted)]
+        joining = Joining(*read, mapped, PROGRAM, lambda *_: settings, rounds=2)
+        made, told = joining.page_run()
+        sent = [[(at, line.command) for at, line in one.timed] for one in (made.run, wanted)]
         self.assertEqual(*sent)
         self.assertIn("1 junctions without a light give way", told[0])
-        [node] = {one.node for one in mapping.yields}
-        self.assertEqual(page_data(made, mapping)["giving"], [node])
-        self.assertEqual(page_data(*joining.joint_run()[:2])["giving"], [])
-
-
-@needs_simulator
-@needs_page_module
-@needs_driver
-@needs_selenium
-class OneFile(HandCase):
-    def test_by_hand(self):
-        page = self.folder / "page.html"
-        page.write_bytes(live_page(self.run_file, self.mapping, PAGE_MODULE.read_bytes()))
-        with self.browser() as browser:
-            self.check_all(browser, page.as_uri())
-            self.check_wave(browser)
-            page.write_bytes(live_page(*self.without_light(), PAGE_MODULE.read_bytes()))
-            self.check_junction(browser, page.as_uri())
+        [node] = {one.node for one in made.mapping.yields}
+        self.assertEqual(page_data(made)["giving"], [node])
+        self.assertEqual(page_data(replace(joining, rounds=0).page_run()[0])["giving"], [])
 
 
 if __name__ == "__main__":

@@ -4,7 +4,8 @@ The program judges its answers itself. What it writes is the same whichever one 
 """
 import unittest
 
-from refusing import NEVER, RefusingCase, why_not
+from preloaded import why_not
+from refusing import NEVER, RefusingCase
 from support import TOOLS
 
 TOP = TOOLS.parent

@@ -9,8 +9,8 @@ from streetsim.model.folder import read_folder
 from streetsim.model.mapping import read_map
 from streetsim.model.names import Names, read_own, wind
 from streetsim.model.tables import QUEUES, write_table
-from streetsim.pictures.playing import player_data
-from streetsim.results.series import junction_name_on_path, longest_queues
+from streetsim.report.player import player_data
+from streetsim.report.run_series import junction_name_on_path, longest_queues
 
 # A cross, y to the north: Hill Street from the north to the south, Market Street to the east, no name to the west.
 EDGES = (
@@ -156,7 +156,7 @@ class Written(Crossing):
 class Exported(Crossing):
     def test_properties(self):
         """By the functions of the export, without pyproj."""
-        from streetsim.gis.exporting import edge_properties, name_property
+        from streetsim.report.gis_export import edge_properties, name_property
 
         mapping = read_map(self.imported()[1])
         names = Names(mapping)

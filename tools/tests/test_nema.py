@@ -7,19 +7,19 @@ from itertools import chain, repeat
 from pathlib import Path
 
 from support import Case, lane, needs_simulator, net
-from streetsim.actuated.driver import present_by
-from streetsim.actuated.kept import Area
-from streetsim.actuated.lights import driven_lights
-from streetsim.actuated.nema import Nema
-from streetsim.actuated.ring_phases import GREEN, YELLOW, RingPhase, Rings, letters_together
-from streetsim.actuated.rings import barriers_of, digits, phases_with_areas
-from streetsim.actuated.showing_rings import cycle_of, green_in_remaining_seconds
 from streetsim.base.client import Lane
 from streetsim.base.report import Report
-from streetsim.importing.convert import convert
+from streetsim.control.actuated_driver import present_by
+from streetsim.control.actuated_kept import DetectorArea
+from streetsim.control.actuated_lights import driven_lights
+from streetsim.control.nema_lights import barriers_of, digits, phases_with_areas
+from streetsim.control.nema_logic import Nema
+from streetsim.control.nema_phases import GREEN, YELLOW, RingPhase, Rings, letters_together
+from streetsim.control.nema_showing import cycle_of, green_in_remaining_seconds
 from streetsim.model.mapping import map_from
 from streetsim.model.runs import run_of_texts
 from streetsim.sumo.converting import run_and_map
+from streetsim.sumo.import_files import convert
 from streetsim.sumo.network import Options
 
 DATA = Path(__file__).parent / "data"
@@ -182,12 +182,12 @@ class Runs(Case):
         return driven_lights(run_of_texts("run", lines), read)
 
     def test_areas_before_the_stop_line(self):
-        # 20 m before the end of 200 m, which are 27 cells: who stands there is 1, 8.4 and 15.8 m before it.
-        self.assertEqual(self.lights().driven[0].areas, (Area(0, 0, 24, 26),))
+        # 20 m before the end of 200 m, which are 30 cells: who stands there is 1, 7.7 and 14.3 m before it.
+        self.assertEqual(self.lights().driven[0].areas, (DetectorArea(0, 0, 27, 29),))
         shorter = '<param key="detector-length" value="10"/>'
-        self.assertEqual(self.lights(shorter).driven[0].areas, (Area(0, 0, 25, 26),))
+        self.assertEqual(self.lights(shorter).driven[0].areas, (DetectorArea(0, 0, 28, 29),))
         longer = '<param key="detector-length" value="1e308"/>'
-        self.assertEqual(self.lights(longer).driven[0].areas, (Area(0, 0, 0, 26),), "the whole lane")
+        self.assertEqual(self.lights(longer).driven[0].areas, (DetectorArea(0, 0, 0, 29),), "the whole lane")
 
     def test_parameters_that_change_its_phases_are_told(self):
         for parameter, why in (
@@ -206,7 +206,7 @@ class Runs(Case):
 
     def test_who_has_passed_the_stop_line_is_on_the_area_for_a_second(self):
         lanes = {(0, 0): Lane(((7, 22, 2),), (), (), ()), (1, 0): Lane((), ((8, 2, 61),), (), ())}
-        areas = Area(0, 0, 24, 26), Area(1, 0, 24, 26), Area(2, 0, 24, 26)
+        areas = DetectorArea(0, 0, 24, 26), DetectorArea(1, 0, 24, 26), DetectorArea(2, 0, 24, 26)
         self.assertEqual([present_by(60, lanes.get, areas)(at) for at in range(3)], [False, True, False])
         self.assertFalse(present_by(61, lanes.get, areas)(1))
 

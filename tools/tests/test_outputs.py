@@ -5,21 +5,16 @@ import os
 import shutil
 import subprocess
 import unittest
-from contextlib import redirect_stdout
-from io import StringIO
 from pathlib import Path
-from unittest.mock import patch
 from xml.etree import ElementTree
 
 from support import MAP, NUMBERED, PROGRAM, TOOLS, Case, needs_package, needs_simulator, needs_sumo_tools
-from streetsim.buses.fleet import Dwell
-from streetsim.cli import run as running
+from streetsim.control.bus_fleet import Dwell
 from streetsim.model.folder import read_folder
 from streetsim.model.mapping import map_from
 from streetsim.model.tables import AREAS, EDGES, LOOPS, SUMMARY, read_table
-from streetsim.outputs.kinds import KINDS
-from streetsim.outputs.writing import Outputs
-from streetsim.run import watching
+from streetsim.observe.sumo_kinds import KINDS
+from streetsim.observe.sumo_writing import Outputs
 
 SUMO = Path("/usr/share/sumo")
 SCHEMAS = {
@@ -206,7 +201,7 @@ class Faults(Case):
 
 @needs_simulator
 class OfARun(Case):
-    """The corridor in its first ten minutes, looked at in every second by a run that repeats it."""
+    """The corridor in its first ten minutes."""
 
     @classmethod
     def setUpClass(cls):
@@ -219,10 +214,7 @@ class OfARun(Case):
         run, mapped = cls.base / "run.jsonl", cls.base / "map.json"
         cls.made.tool("import", network, extra, "--routes", routes, "-o", run, "--map", mapped)
         words = ("--map", mapped, "--until", 600, "--period", 300, "--program", PROGRAM)
-        # Few looks for each, so that the seconds are shared out to several further runs.
-        sumo = (run, *words, "--out", cls.base / "out", "--sumo-output", ",".join(KINDS))
-        with patch.object(watching, "LOOKS", 10_000), redirect_stdout(StringIO()):
-            running.main([str(word) for word in sumo])
+        cls.made.tool("run", run, *words, "--out", cls.base / "out", "--sumo-output", ",".join(KINDS))
         cls.made.tool("run", run, *words, "--out", cls.base / "polled", "--every", 1)
         cls.sumo, cls.out = cls.base / "out/sumo", read_folder(cls.base / "out")
 

@@ -20,7 +20,7 @@ from importlib.util import find_spec
 from pathlib import Path
 from unittest.mock import patch
 
-from support import QUICK, TOOLS, Case, needs_package, needs_page_module
+from support import QUICK, TOOLS, Case, needs_package, shown_run
 from test_gate import PASSED, WELL, GateCase
 from test_install import PIP
 
@@ -28,6 +28,7 @@ import built
 import proved
 from package import debian, wheel
 from package.asking import options
+from streetsim.base.program import MARK
 
 TOP = TOOLS.parent
 VERSION = tomllib.loads((TOOLS / "pyproject.toml").read_text())["project"]["version"]
@@ -43,7 +44,7 @@ NEEDED = {
 def needs_packed(case):
     """Skips a test where nothing can be packed; the reasons that ./test knows go before."""
     why = "no programs are started" if QUICK else proved.why_not(TOP)
-    case = needs_page_module(unittest.skipIf(why, f"nothing to be packed: {why}")(case))
+    case = unittest.skipIf(why, f"nothing to be packed: {why}")(case)
     for name, found in NEEDED.items():
         case = needs_package(name, found)(case)
     return case
@@ -65,16 +66,8 @@ class Refused(GateCase):
         return error
 
     def proves_all(self):
-        """As ./test does where it makes a page's module too."""
-        with (self.top / "crates.txt").open("a") as file:
-            file.write("street_page: street_line\n")
-        (self.top / "crates/street_page/src").mkdir(parents=True)
-        (self.top / "crates/street_page/src/main.rt").write_text("//! street_page\n")
+        """As ./test does."""
         self.runs("test", LAST=WELL)
-        for name in ("street_page", "street_page.wasm"):
-            path = self.top / "crates/street_page/out" / name
-            path.parent.mkdir(exist_ok=True)
-            path.write_text(name)
         with patch.dict(os.environ, XDG_CACHE_HOME=self.environment["XDG_CACHE_HOME"]):
             proved.note(self.top, ["logic=proved functions=7", "rt: street_base proved", *WELL.splitlines()])
         self.assertIsNone(proved.why_not(self.top))
@@ -86,20 +79,25 @@ class Refused(GateCase):
         self.runs("build")
         self.assertIn("nothing here was proved by the whole gate", self.refusal())
 
+    def test_a_program_without_proofs(self):
+        """Neither where it is made, nor in the place of the one that was proved."""
+        program, copy = self.top / "unproved/street_sim", built.program(self.top)
+        program.parent.mkdir()
+        program.write_bytes(b"program" + MARK)
+        self.assertIn("nothing here was proved by the whole gate", self.refusal())
+        self.proves_all()
+        copy.write_bytes(program.read_bytes())
+        self.assertIn("crates/street_sim/out/street_sim is not the file that was proved", self.refusal())
+
     def test_a_gate_that_fails_leaves_no_record(self):
         self.proves_all()
         self.runs("test", status=1, LAST="12 passed, 1 failed")
         self.assertIn("nothing here was proved by the whole gate", self.refusal())
 
-    def test_a_page_without_a_module(self):
-        self.runs("test", LAST=WELL)
-        self.assertIn("no module of a page was made here: ./build --page", self.refusal())
-
     def test_other_files_and_other_sources(self):
         self.proves_all()
         for name, told in (
             ("crates/street_sim/out/street_sim", "crates/street_sim/out/street_sim is not the file that was proved"),
-            ("crates/street_page/out/street_page.wasm", "street_page.wasm is not the file that was proved"),
             ("crates/street_line/src/lib.rt", "the sources of street_sim are not those that were proved"),
         ):
             with self.subTest(name):
@@ -111,7 +109,7 @@ class Refused(GateCase):
 
     def test_the_record_is_of_the_gates_own_words(self):
         self.runs("test", LAST=WELL)
-        found = json.loads((self.top / "out/proved.json").read_text())["program"]
+        found = json.loads((self.top / "out/proved.json").read_text())
         self.assertEqual((found["gate"], found["summary"]), (PASSED, WELL.splitlines()[0].removeprefix("rt: ")))
         self.assertEqual(found["uncounted"], ["street_sim", "street_base", "street_line", "street_line_tests"])
         self.proves_all()
@@ -121,7 +119,7 @@ class Refused(GateCase):
             f"{built.sum_of_file(built.program(self.top))}  libexec/streetsim/streetsim",
         ):
             self.assertIn(f"\n{line}\n", text)
-        self.assertRegex(text, r"\nFunctions proved: 7, in 1 crates; of 4 others, proved by earlier runs, ")
+        self.assertRegex(text, r"\nFunctions proved: 7, in 1 crates; of 3 others, proved by earlier runs, ")
 
 
 class Parts(Case):
@@ -180,7 +178,7 @@ class Packed(Case):
         cls.do(["dpkg-deb", "-x", cls.deb, cls.place / "root"])
         cls.usr = cls.place / "root/usr"
         cls.venv = cls.place / "venv"
-        cls.do([sys.executable, "-m", "venv", "--without-pip", cls.venv])
+        cls.do([sys.executable, "-m", "venv", "--system-site-packages", "--without-pip", cls.venv])
         [made_wheel] = cls.one.glob("*.whl")
         cls.do([*PIP, "--python", cls.venv / "bin/python", "install", "--quiet", "--no-index", made_wheel])
 
@@ -190,7 +188,7 @@ class Packed(Case):
         top = cls.place / name
         words = ["git", "-c", "safe.directory=*", "ls-files", "-z", "--cached", "--others", "--exclude-standard"]
         files = [*map(TOP.joinpath, cls.do(words, TOP).split("\0")), proved.record_of(TOP)]
-        files += [path for part in (proved.PROGRAM, proved.PAGE) for path in proved.files_of(TOP, part).values()]
+        files += proved.files_of(TOP).values()
         for path in filter(Path.is_file, files):
             to = top / path.relative_to(TOP)
             to.parent.mkdir(parents=True, exist_ok=True)
@@ -222,13 +220,13 @@ class Packed(Case):
         record = (self.usr / "share/doc/streetsim/PROVED").read_text()
         self.assertEqual((self.venv / "share/doc/streetsim/PROVED").read_text(), record)
         sums = re.findall(r"^[0-9a-f]{64}  \S+$", record, re.MULTILINE)
-        self.assertEqual(len(sums), 3)
+        self.assertEqual(len(sums), 1)
         for prefix in (self.usr, self.venv):
             told = self.do(["sha256sum", "-c"], prefix, "\n".join(sums) + "\n")
-            self.assertEqual(told.count(": OK\n"), 3)
+            self.assertEqual(told.count(": OK\n"), 1)
         self.assertIn(f"{built.sum_of_file(built.program(TOP))}  libexec/streetsim/streetsim\n", record)
         commit = self.do(["git", "rev-parse", "HEAD"], self.place / "one")
-        for line in (f"Commit: {commit}", f"Gate: {proved.read(TOP)['program']['gate']}\n", f"Version: {VERSION}\n"):
+        for line in (f"Commit: {commit}", f"Gate: {proved.read(TOP)['gate']}\n", f"Version: {VERSION}\n"):
             self.assertIn(f"\n{line}", record)
 
     def test_each_tool_has_its_command_its_manual_page_and_completion(self):
@@ -255,10 +253,7 @@ class Packed(Case):
                 self.do([prefix / "bin/streetsim-import", *words], folder, **more)
                 words = ["zero.jsonl", "--map", "map.json", "--until", 4500, "--out", "zero"]
                 told = self.do([prefix / "bin/streetsim-run", *words], folder, **more)
-                self.assertEqual(told, "2,400 vehicles, 2,400 arrived, mean trip 134.3 s, 0 rescues\n")
-                words = ["zero.jsonl", "--map", "map.json", "-o", "live.html"]
-                told = self.do([prefix / "bin/streetsim-live", *words], folder, **more)
-                self.assertIn("The program is proved; ", told)
+                self.assertEqual(told, shown_run())
 
     def test_a_file_that_may_not_grow_is_a_failed_write(self):
         with (self.folder / "out").open("w") as output:

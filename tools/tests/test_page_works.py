@@ -1,73 +1,16 @@
 """Works that are closed by hand in the live page: the same lines at the same clocks as streetsim-run sends."""
 import json
-import shutil
-import subprocess
 import unittest
 
-from support import PROGRAM, TOOLS, Case, needs_package, needs_simulator
-from streetsim.base.client import Client
-from streetsim.live.page import own_lines, page_data
+from pages import told_by
+from seen import made
+from support import PROGRAM, Case, needs_simulator
+from streetsim.base import limits
+from streetsim.control.settings import Settings
+from streetsim.live.session import PageSession
+from streetsim.live.world import PageRun
 from streetsim.model.mapping import Map, MapLink
 from streetsim.model.runs import Line, Run
-from streetsim.run.record import Recorder, Settings
-
-NODE = shutil.which("node")
-LIVE = TOOLS / "streetsim/live"
-# The page's session with an engine that asks the program; what is done by hand comes on standard input.
-DRIVE = """
-const { spawn } = require("child_process");
-class ProgramEngine {
-  constructor(program, lines) { this.program = program; this.lines = lines; }
-  async begin() {
-    if (this.child) this.child.kill();
-    this.child = spawn(this.program, [], { stdio: ["pipe", "pipe", "inherit"] });
-    this.rest = ""; this.replies = []; this.wanted = 0;
-    this.child.stdout.on("data", part => {
-      const texts = (this.rest + part).split("\\n");
-      this.rest = texts.pop(); this.replies.push(...texts);
-      if (this.replies.length >= this.wanted && this.wake) this.wake();
-    });
-    return this.ask(this.lines);
-  }
-  async ask(lines) {
-    if (!lines.length) return [];
-    this.wanted = lines.length;
-    const done = new Promise(wake => { this.wake = wake; });
-    this.child.stdin.write(lines.join("\\n") + "\\n");
-    await done; this.wake = null;
-    return this.replies.splice(0, lines.length);
-  }
-}
-(async () => {
-  const { program, lines, data, deeds, until, stride, back } = JSON.parse(require("fs").readFileSync(0));
-  const engine = new ProgramEngine(program, lines), session = new Session(engine, data, "");
-  await session.begin();
-  const play = async target => {
-    while (session.clock < target) await session.advance(Math.min(stride, target - session.clock));
-  };
-  for (const [clock, command] of deeds) { await play(clock); await session.change("", [{ clock, command }]); }
-  await play(until);
-  if (back) { await session.backTo(back); await play(until); }
-  let clock = data.start;
-  const sent = [];
-  for (const [line] of session.sent) {
-    const command = JSON.parse(line);
-    if (command.cmd === "advance") clock += command.steps; else sent.push([clock, command]);
-  }
-  console.log(JSON.stringify({ sent, why: data.links.map(link => session.whyParallel(link)) }));
-  engine.child.kill();
-})();
-"""
-
-
-def in_node(act, given, *before):
-    """What a script beside the page's session says of what it is given."""
-    parts = [(LIVE / name).read_text(encoding="utf-8") for name in ("merging.js", "ledger.js", "session.js")]
-    words = {"input": json.dumps(given), "capture_output": True, "text": True, "check": False}
-    done = subprocess.run([NODE, "-e", "\n".join([*parts, *before, act])], **words)
-    if done.returncode or done.stderr:
-        raise AssertionError(done.stderr)
-    return json.loads(done.stdout)
 
 
 def street(lanes=2):
@@ -94,6 +37,7 @@ def closing(clock, name, lane, first, last):
     return clock, {"cmd": name, "link": 0, "lane": lane, "first": first, "last": last}
 
 
+SPAN = ("cmd", "lane", "first", "last")
 DEEDS = [
     closing(60, "close", 0, 50, 70), closing(333, "close", 1, 80, 85), closing(400, "reopen", 1, 80, 85),
     closing(700, "reopen", 0, 50, 70),
@@ -101,49 +45,96 @@ DEEDS = [
 
 
 @needs_simulator
-@needs_package("nodejs", NODE)
 class ByHand(Case):
-    def in_page(self, run, mapping, deeds, until=900, stride=100, back=0, single=False):
-        """What the page's session sent beside steps, by clock; and why its links cannot be closed. single: of a page
-        that is one file."""
-        given = {
-            "program": PROGRAM, "lines": [line.decode().rstrip("\n") for line in own_lines(run)],
-            "data": page_data(run, mapping, single), "deeds": deeds, "until": until, "stride": stride, "back": back,
-        }  # fmt: skip
-        told = in_node(DRIVE, given)
-        return [(clock, command) for clock, command in told["sent"]], told["why"]
+    def session(self, run, mapping, **more):
+        """The session of a page of a run, begun; more: as Settings has it."""
+        session = PageSession(PageRun(run, mapping, Settings(limits.CLOCK, 0, **{"rescue": 0, **more}), PROGRAM))
+        self.addCleanup(session.close)
+        session.begin()
+        return session
+
+    def play(self, session, until, stride=100):
+        while session.now.clock < until:
+            session.step(min(stride, until - session.now.clock))
+
+    def in_page(self, run, mapping, deeds, stride=100, back=0):
+        """What the page's session sent beside steps and vehicles, by clock."""
+        session = self.session(run, mapping)
+        for clock, command in deeds:
+            self.play(session, clock, stride)
+            session.change("by hand", [{"clock": clock, "command": command}])
+        self.play(session, 900, stride)
+        if back:
+            session.go_back(back)
+            self.play(session, 900, stride)
+        return [(one.clock, one.line.command) for one in session.now.kernel.sent]
 
     def in_run(self, run, mapping, deeds, until=900):
         """The same of streetsim-run."""
         run.timed = [(clock, Line(0, json.dumps(command), command)) for clock, command in deeds]
-        with Client(PROGRAM) as sim:
-            records = Recorder(sim, run, mapping, Settings(until, 0, rescue=0), None, lambda *_: None).record()
-        return [(clock, line.command) for clock, line in records.sent]
+        kernel, _ = made(PROGRAM, run, mapping, Settings(until, 0, rescue=0))
+        return [(one.clock, one.line.command) for one in kernel.sent]
 
     def test_the_same_lines_at_the_same_clocks(self):
         expected = self.in_run(*street(), DEEDS)
         self.assertGreater(len(expected), 40)
         for stride in (100, 7):
-            self.assertEqual(self.in_page(*street(), DEEDS, stride=stride)[0], expected)
+            self.assertEqual(self.in_page(*street(), DEEDS, stride), expected)
 
     def test_timed_lines_of_the_run_and_going_back(self):
         expected = self.in_run(*street(), DEEDS)
         run, mapping = street()
         run.timed = [(clock, Line(0, json.dumps(command), command)) for clock, command in DEEDS]
-        self.assertEqual(self.in_page(run, mapping, [])[0], expected)
-        self.assertEqual(self.in_page(*street(), DEEDS, back=650)[0], self.in_run(*street(), DEEDS[:3]))
+        self.assertEqual(self.in_page(run, mapping, []), expected)
+        self.assertEqual(self.in_page(*street(), DEEDS, back=650), self.in_run(*street(), DEEDS[:3]))
+
+    def test_without_merging(self):
+        session = self.session(*street(), merging=False)
+        self.play(session, 60)
+        session.change("works", [{"clock": 60, "command": DEEDS[0][1]}])
+        self.play(session, 900)
+        self.assertEqual([one.line.command for one in session.now.kernel.sent], [DEEDS[0][1]])
+
+    def works(self, session, **more):
+        asked = {"cmd": "close", "link": 0, "lanes": [0], "begin": 370, "end": 530, "from": 0, "until": None}
+        return told_by(session.works({**asked, "text": "works", **more}))
+
+    def test_works_in_metres(self):
+        """Cells of 7.5 m; the first four of a lane with one beside stay open, and works are reopened at their end."""
+        session = self.session(*street())
+        self.works(session, until=100)
+        self.works(session, lanes=[0, 1], begin=0, end=60)
+        self.works(session, cmd="reopen", begin=375, end=450)
+        sent = [tuple(one.line.command[name] for name in SPAN) for one in session.now.kernel.sent]
+        self.assertEqual(sent, [("close", 0, 49, 70), ("close", 0, 4, 7), ("close", 1, 4, 7), ("reopen", 0, 50, 59)])
+        self.play(session, 101)
+        self.assertIn(("reopen", 0, 49, 70), [
+            tuple(one.line.command[name] for name in SPAN) for one in session.now.kernel.sent if one.clock == 100
+        ])
 
     def test_parallel_links_are_refused(self):
-        why = self.in_page(*street(lanes=1), [], until=1)[1]
+        session = self.session(*street(lanes=1))
+        told = self.works(session, link=1)
         self.assertEqual(
-            why[0],
-            "a_0 is a link of its own, and nobody changes lane between the parallel links of an edge: its vehicles "
-            "would stand. To close it, start streetsim-live with --joint a_0, which imports it anew"
-        )  # fmt: skip
-        self.assertEqual(self.in_page(*street(), [], until=1)[1], [""])
-        why = self.in_page(*street(lanes=1), [], until=1, single=True)[1]
-        told = "this page is one file and cannot import: make it anew by streetsim-live with --joint a_1"
-        self.assertTrue(why[1].endswith(f"To close it, {told}"), why[1])
+            told["refused"],
+            "lane 'a_1' cannot be closed: it is a link of its own, and nobody changes lane between the parallel links "
+            "of edge 'a', so its vehicles would stand; the edge must be joint from the start",
+        )
+        self.assertEqual((told["joint"], told["changes"]), ("a_1", []))
+
+    def test_what_is_not_there_is_refused(self):
+        session = self.session(*street())
+        for name, command in (
+            ("NoVehicle", {"cmd": "takeout", "car": 99_999}),
+            ("BadSignal", {"cmd": "signal", "node": 1, "offset": 0, "phases": [[0, []]]}),
+            ("NoNode", {"cmd": "signal", "node": 9, "offset": 0, "phases": [[10, []]]}),
+            ("no such lane", closing(0, "close", 2, 50, 70)[1]),
+            ("no such cells", closing(0, "close", 0, 50, 100)[1]),
+            ("no such cells", closing(0, "close", 0, 50, 49)[1]),
+        ):
+            told = told_by(session.change("", [{"clock": 0, "command": command}]))
+            self.assertIn(name, told["refused"])
+            self.assertEqual((told["changes"], session.now.kernel.sent), ([], []))
 
 
 if __name__ == "__main__":

@@ -11,10 +11,10 @@ from unittest import mock
 from support import DATA, MAP, PROGRAM, Case, needs_package, needs_simulator
 from streetsim.base.files import Fault
 from streetsim.model.folder import read_folder
-from streetsim.model.tables import COUNTS, PHASES, QUEUES, TRIPS
-from streetsim.pictures import ring
-from streetsim.pictures.greens import draw_greens, ended_greens
-from streetsim.results import series
+from streetsim.model.tables import COUNTS, PHASES, QUEUES, SUMMARY, TRIPS
+from streetsim.report import ring_diagram, run_series
+from streetsim.report.picture_greens import draw_greens, ended_greens
+from streetsim.report.player import player_data
 
 CHROMIUM = shutil.which("chromium") or shutil.which("chromium-browser")
 DRAWS = (
@@ -65,13 +65,13 @@ class Numbers(Given):
         # Between clocks 1 and 2 the first drives from the front of cell 0 (7.5 m) to that of cell 1 (15 m), and so the
         # second a step later.
         self.assertEqual(
-            series.trajectories(self.given, ["a", "b"], 0, 10),
+            run_series.trajectories(self.given, ["a", "b"], 0, 10),
             [((1, 7.5), (2, 15.0), 1, 7.5), ((2, 7.5), (3, 15.0), 1, 7.5)],
         )
         self.assertEqual(
-            series.links_and_length(self.given, ["a", "b"]), ({0: (0.0, 75.0, 10), 1: (75.0, 75.0, 10)}, 150.0)
+            run_series.links_and_length(self.given, ["a", "b"]), ({0: (0.0, 75.0, 10), 1: (75.0, 75.0, 10)}, 150.0)
         )
-        self.assertEqual(series.red_times(self.given, ["a", "b"], 0, 40), [(75.0, 5, 15), (75.0, 25, 35)])
+        self.assertEqual(run_series.red_times(self.given, ["a", "b"], 0, 40), [(75.0, 5, 15), (75.0, 25, 35)])
 
     def test_greens_that_have_ended(self):
         """Of lights with several greens; yellow, and what the end of the run cut off, is left out."""
@@ -93,32 +93,32 @@ class Numbers(Given):
         """Green 10 of 20 seconds, from 15 of one cycle to 4 of the next: alone the signal's band is its green. A
         second one with the same plan, 10 s away, is red in these seconds; 20 s away it is green again; 23 s away
         3 s fewer are common."""
-        self.assertEqual(series.green_band(self.given, ["a", "b"], 0), (10, 20))
-        self.assertIsNone(series.green_band(self.given, ["a"], 0))
+        self.assertEqual(run_series.green_band(self.given, ["a", "b"], 0), (10, 20))
+        self.assertIsNone(run_series.green_band(self.given, ["a"], 0))
         command = self.given.signals[0][1]
         stops = {gap: [(0.0, 1, [0], [1]), (gap, 1, [0], [1])] for gap in (10.0, 20.0, 23.0)}
         for gap, width in ((10.0, 0), (20.0, 10), (23.0, 7)):
-            with mock.patch.object(series, "edge_ends_along", return_value=stops[gap]):
+            with mock.patch.object(run_series, "edge_ends_along", return_value=stops[gap]):
                 self.assertEqual(
-                    series.green_band(self.given, ["a", "b"], 0),
+                    run_series.green_band(self.given, ["a", "b"], 0),
                     (width, sum(seconds for seconds, _ in command["phases"])),
                 )
 
     def test_along_the_path(self):
-        self.assertEqual(series.junctions_along(self.given, ["a", "b"]), [(75.0, "B")])
+        self.assertEqual(run_series.junctions_along(self.given, ["a", "b"]), [(75.0, "B")])
         with self.assertRaisesRegex(Fault, "no edge leads back along 'b'"):
-            series.way_back(self.given, ["a", "b"])
+            run_series.way_back(self.given, ["a", "b"])
 
     def test_map(self):
         # Four polls find 1, 2, 1 and 0 vehicles on 75 m of the first link, and 0, 0, 0, 1 on the second.
-        self.assertEqual([round(value, 3) for value in series.densities(self.given)], [13.333, 3.333])
+        self.assertEqual([round(value, 3) for value in run_series.densities(self.given)], [13.333, 3.333])
 
     def test_queues(self):
-        self.assertEqual(series.longest_queues(self.given, 1), ([("a_0", {10: 22.5, 20: 7.5})], 2))
+        self.assertEqual(run_series.longest_queues(self.given, 1), ([("a_0", {10: 22.5, 20: 7.5})], 2))
 
     def test_fundamental(self):
         # 15 % of the time a vehicle of 7.5 m: 20 a kilometre. The short last period and the empty lane are left out.
-        self.assertEqual(series.counted_densities_and_flows(self.given, []), [(20.0, 360.0)])
+        self.assertEqual(run_series.counted_densities_and_flows(self.given, []), [(20.0, 360.0)])
 
     def test_fundamental_at_mid_link(self):
         """Cells 3 to 6 of ten are the middle. In a period of two looks vehicle 0 is there once, at 2 cells a
@@ -128,29 +128,29 @@ class Numbers(Given):
         looks = [[[0, 5, 2], [1, 3, 1]], [[0, 7, 2], [1, 6, 0], [2, 2, 1]], [[1, 5, 1]]]
         self.write_polls([{"clock": clock, "lanes": [[0, 0, cells, [], []]]} for clock, cells in enumerate(looks, 1)])
         self.given.period, self.given.made = 2, {"start": 0, "until": 3}
-        self.assertEqual(series.middle_densities_and_flows(self.given, []), [(50.0, 1350.0)])
-        self.assertEqual(series.middle_densities_and_flows(self.given, ["b"]), [])
-        self.assertEqual([series.middle_third(cells) for cells in (1, 2, 3, 10)], [(0, 1), (0, 2), (1, 2), (3, 7)])
+        self.assertEqual(run_series.middle_densities_and_flows(self.given, []), [(50.0, 1350.0)])
+        self.assertEqual(run_series.middle_densities_and_flows(self.given, ["b"]), [])
+        self.assertEqual([run_series.middle_third(cells) for cells in (1, 2, 3, 10)], [(0, 1), (0, 2), (1, 2), (3, 7)])
 
     def test_difference(self):
         # Two of the first curve at 1, one of the second at 2, one of each at 3.
-        self.assertEqual(series.curve_difference([1, 1, 3], [2, 3]), ([1, 2, 3], [2, 1, 1]))
+        self.assertEqual(run_series.curve_difference([1, 1, 3], [2, 3]), ([1, 2, 3], [2, 1, 1]))
 
     def test_scale(self):
         self.assertEqual(
-            [series.round_length(metres) for metres in (1, 4.9, 50, 199, 1999, 2000)], [1, 2, 50, 100, 1000, 2000]
+            [run_series.round_length(metres) for metres in (1, 4.9, 50, 199, 1999, 2000)], [1, 2, 50, 100, 1000, 2000]
         )
 
     def test_ring_in_units_of_planners(self):
         # 0.08 vehicles a cell of 7.5 m and 0.32 vehicles a second.
-        point = ring.Point(0.08, 0.32, 4.0)
+        point = ring_diagram.Point(0.08, 0.32, 4.0)
         self.assertAlmostEqual(point.per_km, 10.667, places=3)
         self.assertAlmostEqual(point.per_hour, 1152)
 
     def test_arrivals(self):
-        self.assertEqual(series.arrival_curves(self.given), ([0, 1], [30]))
+        self.assertEqual(run_series.arrival_curves(self.given), ([0, 1], [30]))
         self.given.made["until"] = 0  # the second vehicle wished to depart after the run's end
-        self.assertEqual(series.arrival_curves(self.given)[0], [0])
+        self.assertEqual(run_series.arrival_curves(self.given)[0], [0])
 
 
 @needs_matplotlib
@@ -238,6 +238,34 @@ class Player(Given):
                 "red": 0, "closed": 0,
             },
         )
+
+    def test_what_charts_show(self):
+        """By hand, of the four polls; who has arrived is known where the summary has the clock."""
+        points = [[1, 1, 1, None], [2, 2, 1, None], [3, 2, 0, None], [4, 1, 0, None]]
+        self.assertEqual(player_data(self.given, 0, 9)["chart"], points)
+        self.write("summary.csv", ",".join(SUMMARY) + "\n3,2,0,1,1,0,0\n4,2,0,1,0,1,0\n")
+        self.assertEqual([point[3] for point in player_data(self.given, 2, 4)["chart"]], [None, 0, 1])
+
+    @needs_chromium
+    def test_charts(self):
+        """The values of the step stand beside the lines, and a click at a chart's end leads to the last one; without
+        charts the picture has their place."""
+        self.write("summary.csv", ",".join(SUMMARY) + "\n3,2,0,1,1,0,0\n4,2,0,1,0,1,0\n")
+        page = self.page()
+        note = "const told = []; const text = CanvasRenderingContext2D.prototype.fillText; "
+        note += "CanvasRenderingContext2D.prototype.fillText = function (...words) { told.push(words[0]); "
+        note += "text.apply(this, words); }; draw(); document.body.dataset.told = told.join('|'); "
+        click = "new MouseEvent('click', { clientX: innerWidth - 8, clientY: innerHeight - 20 })"
+        act = f"at('chart').dispatchEvent({click}); at('charts').click(); "
+        act += "document.body.dataset.left = innerHeight - canvas.getBoundingClientRect().bottom"
+        page.write_text(
+            page.read_text().replace("</html>", f"<script>setTimeout(() => {{ {note}{act} }}, 1000)</script></html>")
+        )
+        text = self.dom(page, 3)
+        told = html.unescape(re.search(r'data-told="([^"]*)"', text)[1]).split("|")
+        self.assertLessEqual({"vehicles", "standing", "arrived", " 2", " 0"}, {*told})
+        self.assertEqual(self.shown_in(text)["clock"], 4)
+        self.assertIn('data-left="0"', text)
 
     @needs_chromium
     def test_streets_and_times(self):

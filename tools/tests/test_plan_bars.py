@@ -8,9 +8,11 @@ from xml.etree import ElementTree
 
 from pages import CROSSING_PLAN, crossing_links, crossing_turns
 from support import TOOLS, Case, needs_package
+from streetsim.live.page import KINDS
+from streetsim.observe.junction_layout import turn_name
 
 NODE = shutil.which("node")
-SCRIPTS = ("pictures/drawing.js", "live/movements.js", "live/bars.js")
+SCRIPTS = ("report/drawing.js", "live/movements.js", "live/bars.js")
 DRIVE = """
 const { links: given, turns, plan, act } = JSON.parse(require("fs").readFileSync(0));
 new Scene({ getContext() {} }, given);
@@ -34,7 +36,8 @@ def crossing():
         {"number": number, "name": name, "street": "", "lanes": 1, "begin": begin, "end": end, "points": points}
         for number, (name, begin, end, points) in enumerate(crossing_links())
     ]
-    return links, crossing_turns()
+    shapes = [link["points"] for link in links]
+    return links, [[*turn, KINDS[turn_name(shapes[turn[0]], shapes[turn[2]])]] for turn in crossing_turns()]
 
 
 @needs_package("nodejs", NODE)

@@ -67,6 +67,14 @@ class ProgramCase(Case):
         self.assertEqual((done.returncode, done.stderr), (status, error))
         return done.stdout
 
+    def ends_closed(self, closed, words, text=""):
+        """The status of a run whose streams the shell has closed so, and what it writes to standard output."""
+        done = subprocess.run(
+            ["bash", "-c", f'"$0" "$@" {closed}', PROGRAM, *map(str, words)], input=text, capture_output=True,
+            text=True, timeout=60, cwd=self.folder, check=False,
+        )
+        return done.returncode, done.stdout
+
     def is_refused(self, words, why):
         """The words are bad: nothing is written to standard output,
         and standard error says which word is bad and why."""
@@ -250,6 +258,17 @@ class Tapes(ProgramCase):
             '{"car":0,"cell":1,"lane":0,"link":10,"plan":[10],"speed":1,"state":"cell"}\n'
             '{"admitted":1,"arrived":0,"buffers":0,"cells":1,"clock":2,"taken":0,"waiting":0}\n',
         )
+
+    def test_streams_that_are_closed(self):
+        """Neither what is told nor a reply goes into the tape."""
+        ends = {"2>&-": (0, ONE_VEHICLE), "2>&- >/dev/full": (1, ""), ">&-": (1, ""), ">&- 2>&-": (1, "")}
+        for closed, end in ends.items():
+            with self.subTest(closed=closed):
+                self.assertEqual(self.ends_closed(closed, ["--tape", "run.tape"], PLANNER.read_text()), end)
+                self.assertEqual((self.folder / "run.tape").read_text(), tape_in_lines())
+        for closed in ("<&-", "<&- 2>&-"):
+            self.assertEqual(self.ends_closed(closed, ["--tape", "run.tape"]), (1, ""))
+            self.assertEqual((self.folder / "run.tape").read_text(), '{"calls":0,"tape":2}\n')
 
     def test_no_tape_does_nothing(self):
         entries = "".join(tape_in_lines().splitlines(keepends=True)[1:])
@@ -538,9 +557,10 @@ class Limits(ProgramCase):
 
     def test_the_script_at_the_top_starts_the_program_with_the_signal_ignored(self):
         top = self.folder / "clone"
-        for name in ("streetsim", "tools/built.py"):
+        for name in ("streetsim", "tools/built.py", "tools/unproved.py", "tools/streetsim/__init__.py"):
             (top / name).parent.mkdir(parents=True, exist_ok=True)
             shutil.copy(TOP / name, top / name)
+        shutil.copytree(TOP / "tools/streetsim/base", top / "tools/streetsim/base")
         (top / "crates.txt").write_text("street_sim:\n")
         (top / "crates/street_sim/out").mkdir(parents=True)
         shutil.copy(PROGRAM, top / "crates/street_sim/out/street_sim")

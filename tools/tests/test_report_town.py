@@ -12,7 +12,10 @@ CHROMIUM = shutil.which("chromium") or shutil.which("chromium-browser")
 SIDE = 10  # junctions in a row; a ring of ends is around them
 WAYS = ((0, 1), (1, 0), (0, -1), (-1, 0))
 LOST = {"vehicles": 50, "vehicles_per_hour": 200, "stopped_delay_s": 9.0, "stops_per_vehicle": 0.8}
-QUEUED = {"queue_50_m": 15, "queue_95_m": 30, "queue_max_m": 45, "storage_m": 192.5, "saturation_flow": 1760}
+QUEUED = {
+    "nearly_full": "", "queue_50_m": 15, "queue_95_m": 30, "queue_max_m": 45, "storage_m": 192.5,
+    "saturation_flow": 1760,
+}
 MOST_SHEETS = 12
 
 

@@ -6,14 +6,14 @@ import shutil
 import unittest
 
 from test_reports import Given
-from streetsim.counts.judging import judged
-from streetsim.counts.reporting import counts_section
-from streetsim.counts.values import Count
-from streetsim.model.tables import EDGES, QUEUES, WORKS, write_table
 from streetsim.base.shapes import point_along
-from streetsim.reports.works import closed_shape, closed_shapes, seen_in
-from streetsim.results.reading import read_runs
-from streetsim.results.works import works_places_of
+from streetsim.demand.judging import judged
+from streetsim.demand.reporting import counts_section
+from streetsim.demand.values import Count
+from streetsim.model.tables import EDGES, QUEUES, WORKS, write_table
+from streetsim.report.page_works import closed_shape, closed_shapes, seen_in
+from streetsim.report.run_tables import read_runs
+from streetsim.report.works_queues import works_places_of
 
 PLACE = {"edge": "a", "lane": 0, "from_m": "30.0", "to_m": "60.0"}
 

@@ -14,21 +14,20 @@ from support import MAP, PROGRAM, TOOLS, Case, needs_package, needs_simulator
 from streetsim.base.files import Fault
 from streetsim.cli import report
 from streetsim.cli.report import path_and_way_back
-from streetsim.junctions.passages import queue_metres
-from streetsim.model.mapping import MapLink
 from streetsim.model.names import Names
 from streetsim.model.service import COLOURS, WHITE_LETTERS
 from streetsim.model.tables import APPROACHES, JUNCTIONS, MOVEMENTS, SEEDS, TRIPS, write_table
-from streetsim.reports.comparing import difference_of, mean_delays
-from streetsim.reports.costs import Costs
-from streetsim.reports.council import trips_told
-from streetsim.reports.drawing import anchor, queue_picture
-from streetsim.results.reading import read_runs
+from streetsim.report.page_drawings import anchor, queue_picture
+from streetsim.report.page_junctions import full_mark
+from streetsim.report.page_summary import trips_told
+from streetsim.report.plan_costs import PlanCosts
+from streetsim.report.plan_differences import difference_of, mean_delays
+from streetsim.report.run_tables import ResultRow, read_runs
 
 CHROMIUM = shutil.which("chromium") or shutil.which("chromium-browser")
 CORRIDOR = TOOLS / "examples/corridor"
 LOST = {"vehicles": 10, "vehicles_per_hour": 40, "stopped_delay_s": 5.0, "stops_per_vehicle": 0.5}
-QUEUED = {"queue_50_m": 7.5, "queue_95_m": 15.0, "queue_max_m": 22.5, "storage_m": 75.0}
+QUEUED = {"nearly_full": "", "queue_50_m": 7.5, "queue_95_m": 15.0, "queue_max_m": 22.5, "storage_m": 75.0}
 WARNINGS = ["ignored: 3 x stops", "warning: 2 <turns> & more", "skipped: 4 vehicles: no route", "1 light"]
 # How many pixels of a picture have each colour.
 COUNT = """import json, sys
@@ -48,6 +47,9 @@ def luminance(colour):
     red, green, blue = (part / 12.92 if part <= 0.03928 else ((part + 0.055) / 1.055) ** 2.4 for part in parts)
     return 0.2126 * red + 0.7152 * green + 0.0722 * blue
 
+# Of a junction, and of another one.
+FULL = {"nearly_full": 1.1}, {}
+
 
 class Numbers(unittest.TestCase):
     def test_paired_differences(self):
@@ -62,9 +64,9 @@ class Numbers(unittest.TestCase):
     def test_who_arrives_with_one_plan_alone_is_told(self):
         # Where no trip arrived with both plans, too.
         alone = "2 trips arrived before and do not now, 3 the other way round."
-        self.assertEqual(trips_told(Costs(lost=2, won=3)), ["No trip arrived with both plans.", alone])
-        self.assertEqual(trips_told(Costs([20], lost=2, won=3))[1:], [alone])
-        self.assertEqual(trips_told(Costs()), ["No trip arrived with both plans."])
+        self.assertEqual(trips_told(PlanCosts(lost=2, won=3)), ["No trip arrived with both plans.", alone])
+        self.assertEqual(trips_told(PlanCosts([20], lost=2, won=3))[1:], [alone])
+        self.assertEqual(trips_told(PlanCosts()), ["No trip arrived with both plans."])
 
     def test_queues(self):
         """Bars of 480 pixels for the longest: 75 of 150 m are 240. A full edge has the gap behind its last vehicle."""
@@ -74,8 +76,6 @@ class Numbers(unittest.TestCase):
         self.assertIn("30, 75, 148 of 150 m, fills the edge", picture)
         self.assertEqual(picture.count("fills"), 1)
         self.assertEqual(queue_picture(rows).count("fills"), 2)
-        full = [(1, cell, 0) for cell in reversed(range(20))]
-        self.assertEqual(queue_metres(full, MapLink("a", (0,), 0, 1, 20, 5, 150.0, ())), 147.5)
 
     def test_letters_in_grey(self):
         """Each letter is darker than the better one, and its writing has the contrast 4.5 that WCAG 2 asks for."""
@@ -124,6 +124,13 @@ class Given(Case):
 
     def plans(self):
         return self.folder / "before", self.folder / "after"
+
+
+class Marks(unittest.TestCase):
+    def test_junctions_that_are_nearly_full(self):
+        marked, usual = (ResultRow(("B",), "signals", "", {"control_delay_s": 9.0, **more}, {}) for more in FULL)
+        self.assertIn("nearly full (1.10)", full_mark(marked))
+        self.assertEqual(full_mark(usual), "")
 
 
 class Pages(Given):
@@ -212,13 +219,12 @@ class Pages(Given):
         first.mapping.links_of["c"] = [2]
         self.assertEqual(path_and_way_back(first, ["a"]), [["a"], ["c"]])
 
-    @needs_package("python3-matplotlib", find_spec("matplotlib"))
     def test_a_corridor_has_names_of_ones_own(self):
         own = self.write("own.csv", "id,name\na,Quay\n")
         pages = self.folder / "before", "--names", own, "--corridor", "a,b", "-o", self.folder / "x.html"
-        with mock.patch.object(report, "draw_corridor", side_effect=Fault) as drawn, self.assertRaises(Fault):
+        with mock.patch.object(report, "corridor_picture", side_effect=Fault) as drawn, self.assertRaises(Fault):
             report.main(list(map(str, pages)))
-        self.assertEqual(Names(drawn.call_args[0][1].mapping).street("a"), "Quay")
+        self.assertEqual(Names(drawn.call_args[0][0].mapping).street("a"), "Quay")
 
     def test_two_folders_of_one_name(self):
         """Both are called by their paths."""
@@ -326,17 +332,23 @@ class Whole(Case):
         self.assertEqual(len(re.findall(r'<h3 id="junction-J[1-5]">', text)), 5)
         self.assertIn("SHA-256 ", text)
         self.assertNotIn('id="corridor"', text)
-        if has_pillow():  # and with it matplotlib
-            self.drawn(out)
+        self.drawn(out)
 
     def drawn(self, out):
-        """The picture of one direction is some 550 pixels high."""
+        """A panel for each direction, whose lines lie within it, as the axes have it: 100 to 500 s."""
         edges = "WJ1 J1J2 J2J3 J3J4 J4J5 J5E"
         self.tool("report", out, "--corridor", edges, "--first", 100, "--last", 500, "-o", self.folder / "page.html")
         text = (self.folder / "page.html").read_text()
         self.assertIn(f"<figcaption>Ways of the vehicles along {edges}, and back: out</figcaption>", text)
-        picture = base64.b64decode(re.search(r'id="corridor".*?base64,([^"]+)"', text, re.DOTALL).group(1))
-        self.assertGreater(int.from_bytes(picture[20:24], "big"), 700)
+        picture = re.search(r'<svg class="corridor".*?</svg>', text, re.DOTALL)[0]
+        self.assertEqual(picture.count(": each line is a vehicle"), 2)
+        frames = re.findall(r'y="(\d+)" width="686" height="(\d+)" fill="none"', picture)
+        frames = [(int(top), int(high)) for top, high in frames]
+        self.assertEqual(len(frames), 2)
+        spots = [(float(x), float(y)) for x, y in re.findall(r"[ML](\d+\.\d),(\d+\.\d)", picture)]
+        self.assertTrue(all(64 <= x <= 750 and any(top <= y <= top + high for top, high in frames) for x, y in spots))
+        self.assertGreater(len(spots), 500)
+        self.assertIn("standing", picture)
 
 
 if __name__ == "__main__":

@@ -2,7 +2,7 @@
 import unittest
 
 from support import PROGRAM, needs_simulator
-from streetsim.pictures.ring import measure_ring
+from streetsim.report.ring_diagram import measure_ring
 
 
 @needs_simulator

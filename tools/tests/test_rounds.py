@@ -5,24 +5,25 @@ import random
 import unittest
 import warnings
 from contextlib import redirect_stderr
+from functools import partial
 from io import StringIO
 from unittest import mock
 
 from clusters import ClusterCase, needs_distributed
 from support import MAP, NUMBERED, PROGRAM, Case, lane, needs_simulator
-from streetsim.base.client import Client
 from streetsim.base.files import Fault
+from streetsim.control.settings import Settings
+from streetsim.kernel.serving import serving_program
 from streetsim.model.mapping import read_map
 from streetsim.model.runs import run_of_texts
-from streetsim.outputs.folder import Making
-from streetsim.pictures.plots import Corridor
-from streetsim.run.rounds import Round
-from streetsim.run.settings import Settings
+from streetsim.observe.giving_way_rounds import made_round
+from streetsim.observe.making import Making
+from streetsim.report.picture_plots import Corridor
 from streetsim.scenario import Scenario
-from streetsim.signals import found
-from streetsim.signals.found import Target
-from streetsim.signals.town import Reading, read_town
-from streetsim.study.variants import read_study
+from streetsim.search import signal_found
+from streetsim.search.signal_found import PlanFiles
+from streetsim.search.signal_town import Reading, read_town
+from streetsim.search.study_variants import read_study
 import streetsim.traci as traci
 
 LAST = 4500  # seconds; counted from 600 on
@@ -89,11 +90,13 @@ class Until(Rounds):
         lines = [{"cmd": "load", **NUMBERED, "links": [[0, 0, 1, 1, 10, 1], [1, 1, 2, 1, 10, 1]]}]
         lines += [{"cmd": "enter", "plan": [0, 1], "lane": 0, "depart": depart} for depart in (0, 101)]
         run, mapping = run_of_texts("run", map(json.dumps, lines)), read_map(self.write("map.json", json.dumps(MAP)))
-        with Client(PROGRAM) as sim:
-            round_ = Round(sim, run, mapping, Settings(1200), mapping.lanes(), lambda *_: None)
-            passed = round_.make_round()
+        clocks = []
+        passed = made_round(
+            partial(serving_program, PROGRAM, "run"), run, mapping, Settings(1200),
+            lambda clock, _: clocks.append(clock),
+        )  # fmt: skip
         self.assertEqual([round(second) // 100 for second, *_ in passed[0, 0]], [0, 1])
-        self.assertEqual(round_.records.clock, 180)
+        self.assertEqual(clocks[-1], 180)
 
 
 class Minor(Rounds):
@@ -111,7 +114,7 @@ class Minor(Rounds):
         self.assertGreater(self.trips()["s.50"], 138 + 22 - 50)
         self.assertEqual(self.trips()["w.0"], self.trips("nobody")["w.0"])
         yielding = self.setting()["yielding"]
-        self.assertEqual((yielding["rounds"], yielding["junctions"], yielding["every"]), (2, 1, 10))
+        self.assertEqual((yielding["rounds"], yielding["junctions"]), (2, 1))
         self.assertIn(f", 1 junctions without a light give way by {yielding['lines']} signal lines", said)
         self.assertEqual(self.setting("nobody")["yielding"]["lines"], 0)
 
@@ -141,14 +144,15 @@ class Minor(Rounds):
         self.run_it("--until", 600)
         self.run_it("--until", 600, name="again")
         self.run_it("--until", 600, "--every", 60, name="seldom")
-        for name in ("trips.csv", "counts.csv", "lanes.jsonl.gz", "setting.json"):
+        for name in ("trips.csv", "counts.csv", "rows.bin", "setting.json"):
             self.assertEqual((self.folder / "out" / name).read_bytes(), (self.folder / "again" / name).read_bytes())
         self.assertEqual(self.trips(), self.trips("seldom"))
 
     def test_what_the_import_says_and_writes(self):
         self.assertIn("1 connections have to give way in SUMO", self.told)
-        [(node, turns, foes, pace)] = json.loads((self.folder / "map.json").read_text(encoding="utf-8"))["yields"]
-        self.assertEqual((turns, [foe[:3] for foe in foes], pace), ([[2, 0, 1]], [[0, 0, 1]], []))
+        [found] = json.loads((self.folder / "map.json").read_text(encoding="utf-8"))["yields"]
+        foes = [[foe[name] for name in ("link", "lane", "next")] for foe in found["foes"]]
+        self.assertEqual((found["turns"], foes, found["pace"]), ([[2, 0, 1]], [[0, 0, 1]], None))
 
     def test_a_map_with_something_else_is_refused(self):
         path = self.folder / "map.json"
@@ -161,8 +165,8 @@ class Minor(Rounds):
 
 
 def lit():
-    """The junction, and behind it a light L at B, where a street g joins on its own green."""
-    phases = '<phase duration="30" state="Gr"/><phase duration="20" state="rG"/>'
+    """The junction, and behind it a light L at B, where a street g joins on its own green, which is far too long."""
+    phases = '<phase duration="20" state="Gr"/><phase duration="40" state="rG"/>'
     more = f'<tlLogic id="L" type="static" programID="0" offset="0">{phases}</tlLogic>'
     for name, begin, end in (("f", "B", "E"), ("g", "G", "B")):
         more += f'<edge id="{name}" from="{begin}" to="{end}">{lane(name, 0, 300.0)}</edge>'
@@ -199,7 +203,8 @@ class Many(Rounds):
 
     def study(self, *words, out="out", more=""):
         text = (
-            f'run = "run.jsonl"\nmap = "map.json"\nuntil = 600\nseeds = "1-2"\n{more}\n[variant.given]\n'
+            'run = "run.jsonl"\nmap = "map.json"\nuntil = 600\nseeds = "1-2"\n'
+            f'departures = "listed"\n{more}\n[variant.given]\n'
             '[variant.calm]\ndawdle = 0\n'
         )
         path = self.write("study.toml", text)
@@ -216,7 +221,7 @@ class Many(Rounds):
 class ManyRuns(Many):
     def test_a_study_is_as_streetsim_run_says(self):
         told, _ = self.study("--jobs", 1)
-        self.run_it("--until", 600, "--rescue", 0, "--seeds", "1-2", name="runs")
+        self.run_it("--until", 600, "--rescue", 0, "--seeds", "1-2", "--departures", "listed", name="runs")
         mine = [row for row in self.table("runs.csv", "out") if row["variant"] == "given"]
         for one, other in zip(mine, self.table("seeds.csv", "runs"), strict=True):
             self.assertEqual((one["arrived"], f"{float(other['mean_trip_s']):.3f}"), ("54", one["mean_trip_s"]))
@@ -240,7 +245,8 @@ class ManyRuns(Many):
         for value in ("11", "-1", '"2"', "true"):
             with self.subTest(value), self.assertRaisesRegex(Fault, "rounds = .* is not 0 to 10"):
                 text = (
-                    f'run = "run.jsonl"\nmap = "map.json"\nuntil = 600\nseeds = "1"\nrounds = {value}\n'
+                    'run = "run.jsonl"\nmap = "map.json"\nuntil = 600\nseeds = "1"\n'
+                    f'departures = "listed"\nrounds = {value}\n'
                     '[variant.given]\n'
                 )
                 read_study(self.write("study.toml", text), PROGRAM)
@@ -262,22 +268,22 @@ class ManyRuns(Many):
         net, routes = self.folder / "net.net.xml", self.folder / "demand.rou.xml"
         words = [net, self.folder / "found.add.xml", "--routes", routes]
         self.tool("import", *words, "-o", self.folder / "run.jsonl", "--map", self.folder / "map.json")
-        self.run_it("--until", 600, "--rescue", 0, "--seeds", "101-103", name="after")
+        self.run_it("--until", 600, "--rescue", 0, "--seeds", "101-103", "--departures", "listed", name="after")
         means = [float(row["mean_trip_s"]) for row in self.table("seeds.csv", "after")]
         self.assertAlmostEqual(float(trip["found"]["after"]), sum(means) / 3, delta=0.001)
 
     def test_pictures_of_plans_have_their_gaps(self):
         files = [str(self.folder / name) for name in ("run.jsonl", "map.json", "net.net.xml")]
         town = read_town(Reading(*files[:2], files[2:], 600, PROGRAM, 5, (), 2))
-        target = Target("", "", Corridor(["w", "e"], 0, 300), Making(PROGRAM, 2), 600)
+        target = PlanFiles("", "", Corridor(["w", "e"], 0, 300), Making(PROGRAM, 2), 600)
         drawn = []
 
         def draw(_, folder, __):
             with open(f"{folder.path}/setting.json", encoding="utf-8") as file:
                 drawn.append(json.load(file)["yielding"])
 
-        with mock.patch.multiple(found, load_pyplot=mock.DEFAULT, save_picture=mock.DEFAULT, draw_corridor=draw):
-            found.draw_plan(target, target.corridor, town, town.plan, "x.png")
+        with mock.patch.multiple(signal_found, load_pyplot=mock.DEFAULT, save_picture=mock.DEFAULT, draw_corridor=draw):
+            signal_found.draw_plan(target, target.corridor, town, town.plan, "x.png")
         self.assertEqual((drawn[0]["rounds"], drawn[0]["junctions"]), (2, 1))
         self.assertGreater(drawn[0]["lines"], 0)
 

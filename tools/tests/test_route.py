@@ -24,23 +24,24 @@ from streetsim.base.report import Report
 from streetsim.model.mapping import Map, MapLink, read_map
 from streetsim.model.runs import Line, Run, read_run
 from streetsim.model.waiting import Gap
-from streetsim.routes.diverting import Diverted
-from streetsim.routes.job import tell_found
-from streetsim.routes.loading import read_town
-from streetsim.routes.link_clocks import LinkClocks, Sight
-from streetsim.routes.search import (
-    Asked, Search, Seen, give_ways, has_stalled, paths_after, relative_gap, those_who_change, trials_of,
+from streetsim.search.route_diverting import Diverted
+from streetsim.search.route_job import tell_found
+from streetsim.search.route_loading import read_town
+from streetsim.search.route_search import (
+    RouteSearch, RouteSettings, SeenCosts, give_ways, has_stalled, paths_after, relative_gap, those_who_change,
+    trials_of,
 )
+from streetsim.search.route_watching import observed_in
 from streetsim.sumo.net import SumoNet
 from streetsim.sumo.network import Options
+from streetsim.sumo.router import FAR, FoundPath, Router, Wish, wish_parts
+from streetsim.sumo.trips import Trip, Trips, read_trips, vehicles_from_trips, write_routes
 from streetsim.sumo.types import DEFAULT
-from streetsim.ways.costs import Costs, Table, costs_of, flat_costs, nothing_observed
-from streetsim.ways.empty import map_without_routes, times_and_capacities_without_routes
-from streetsim.ways.graph import END, Graph
-from streetsim.ways.minor import Minor
-from streetsim.ways.router import FAR, Found, Router, Wish, wish_parts
-from streetsim.ways.seconds import free_seconds, red_lengths
-from streetsim.ways.trips import Trip, Trips, read_trips, vehicles_from_trips, write_routes
+from streetsim.sumo.way_costs import Costs, Table, costs_of, flat_costs, nothing_observed
+from streetsim.sumo.way_graph import END, Graph
+from streetsim.sumo.way_minor import Minor
+from streetsim.sumo.way_seconds import free_seconds, red_lengths
+from streetsim.sumo.way_unloaded import map_without_routes, times_and_capacities_without_routes
 
 # From a to d by b or by c; from b to c as well. Nobody may go from c to d's twin e.
 GRAPH = Graph(
@@ -167,7 +168,7 @@ class Seconds(unittest.TestCase):
         self.assertEqual([round(first - second, 6) for first, second in zip(means, means[1:])], [270, 270])
 
     def test_who_changes(self):
-        found = [Found(at, (0,), 100.0, 100.0 + gain) for at, gain in enumerate((0, 40, 0.4, 10, 20))]
+        found = [FoundPath(at, (0,), 100.0, 100.0 + gain) for at, gain in enumerate((0, 40, 0.4, 10, 20))]
         self.assertEqual([one.trip for one in those_who_change(found, 0.4)], [1, 4])
         self.assertEqual([one.trip for one in those_who_change(found, 1.0)], [1, 3, 4])
         steps = [[one.trip for one in step.trips] for step in trials_of(found, 0.8, 4)]
@@ -186,7 +187,7 @@ class Written(Case):
     def test_routes_keep_what_their_vehicles_have(self):
         """Attributes that have no effect here, the line, and the stops that lie on the way that was found; a flow's
         stop is for a departure at its begin."""
-        text = """<routes><vType id="bus" vClass="bus" accel="1.2"/>
+        text = """<routes><vType id="bus" vClass="bus" decel="4"/>
         <vehicle id="v" type="bus" depart="7" departSpeed="max" departLane="0" arrivalPos="9" color="red" line="12">
         <route edges="a b c"/><stop lane="b_0" endPos="50" duration="20" until="99"/></vehicle>
         <trip id="t" depart="8" from="a" to="c" departPos="3"/>
@@ -207,7 +208,7 @@ class Written(Case):
         made = {name: list(one.iter("stop")) for name, one in read.items()}
         stops = {name: [(stop.get("lane"), stop.get("until")) for stop in those] for name, those in made.items()}
         self.assertEqual(stops, {"v": [("b_0", "99")], "t": [], "f.0": [("c_0", "30")], "f.1": [("c_0", "45")]})
-        self.assertEqual(report.ignored["accel of vTypes"], 1)
+        self.assertEqual(report.ignored["decel of vTypes"], 1)
         self.assertEqual([one.line for one in vehicles_from_trips(trips.all, town.graph)], ["12", "", "", ""])
 
 
@@ -222,7 +223,7 @@ class Written(Case):
         self.assertEqual(read, ["8.00", "8.01", "8.10", "9.00"])
 
 
-class Stepping(Search):
+class Stepping(RouteSearch):
     """A search of 100 trips whose iterations show given gaps, and trips that did not arrive. The best way of each trip
     is the number of the iteration, or less 1 where that was taken back; its own is half as long again."""
 
@@ -239,18 +240,18 @@ class Stepping(Search):
         give_ways(self.trips, ways)
         outcome = SimpleNamespace(mean=100.0, arrived=100 - lacking, rescues=0, calls=0)
         self.number = number - 1
-        return Seen(ways, [outcome], None, self.ways_of(number), [], gap, lacking), step.fraction
+        return SeenCosts(ways, [outcome], None, self.ways_of(number), [], gap, lacking), step.fraction
 
     def best_ways(self, _):
         return self.ways_of(self.number)
 
     def ways_of(self, number):
-        return [Found(at, (number,), 100.0, 150.0) for at in range(100)]
+        return [FoundPath(at, (number,), 100.0, 150.0) for at in range(100)]
 
     def improved(self, iterations, gap=0.0):
         """For each iteration how many change, and whether it was taken back;
         and how many trips have which way in the end."""
-        self.improve(Asked(iterations, gap, 0.4, range(1, 2)))
+        self.improve(RouteSettings(iterations, gap, 0.4, range(1, 2)))
         return [(one.changed, one.taken_back) for one in self.iterations], Counter(trip.path[0] for trip in self.trips)
 
 
@@ -269,9 +270,9 @@ class Steps(unittest.TestCase):
         by 0.9 / 2 there would be two."""
         search = Stepping((10, 0), (5, 0), (4, 0))
         search.place = 1
-        search.ways_of = lambda number: [Found(at, (number,), 100.0, 150.0 if at < 2 else 100.0) for at in range(8)]
+        search.ways_of = lambda number: [FoundPath(at, (number,), 100.0, 150.0 if at < 2 else 100.0) for at in range(8)]
         self.assertEqual([one.fraction for one in trials_of(search.ways_of(0), 1.0, 4)], [1.0, 0.125])
-        search.improve(Asked(2, 0.0, 1.0, range(1, 2), 4))
+        search.improve(RouteSettings(2, 0.0, 1.0, range(1, 2), 4))
         self.assertEqual([one.changed for one in search.iterations], [2, 1, 0])
 
     def test_the_least_gap_is_kept(self):
@@ -333,37 +334,25 @@ class Doubts(unittest.TestCase):
         search = SimpleNamespace(iterations=iterations, best=SimpleNamespace(number=2))
         one, said = Diverted(None, [], search, judged), io.StringIO()
         with contextlib.redirect_stdout(io.StringIO()), contextlib.redirect_stderr(said):
-            self.assertEqual(tell_found(SimpleNamespace(asked=Asked(8, 0.1, 0.5, [1])), one, one), 1)
+            self.assertEqual(tell_found(SimpleNamespace(asked=RouteSettings(8, 0.1, 0.5, [1])), one, one), 1)
         self.assertEqual(
             said.getvalue(), "warning: the ways get no better any more: the best were those of iteration 2\n"
         )
 
 
-class PassingTimes(unittest.TestCase):
-    """Two links of 10 cells at 1 cell a second, and a stay of 2 s between them."""
-
-    def setUp(self):
+class SecondsOfMovements(unittest.TestCase):
+    def test_of_each_movement_by_the_time_of_its_begin(self):
+        """The first one arrives, the second one is on its second link at the run's end, the third one never departs."""
         links = [MapLink(name, (0,), at, at + 1, 10, 1, 75.0, ()) for at, name in enumerate("abd")]
-        self.map = Map([["", 0, 0, 2]] * 4, links, [], [], [], {}, [])
-        delays = {way("a", "b"): [12 + 30] * 4, way("b", "d"): [12 + 10] * 4}
-        self.passes = LinkClocks(GRAPH, self.map, costs_with(delays), 0.0)
-
-    def test_driven_freely(self):
-        # Seen on the third link's fifth second: 12 + 12 + 5 s after the departure.
-        self.assertEqual(self.passes.link_clocks([0, 1, 2], 100, [Sight(129, 2, 5.0, 1)], None), [100, 112, 124])
-
-    def test_what_was_lost_is_dealt_out_by_what_is_expected(self):
-        # 20 s were lost; 30 s were expected on the first and 10 on the second link.
-        found = self.passes.link_clocks([0, 1, 2], 100, [Sight(149, 2, 5.0, 1)], None)
-        self.assertEqual(found, [100, 112 + 15, 124 + 20])
-
-    def test_arrivals(self):
-        self.assertEqual(self.passes.link_clocks([0, 1, 2], 100, [], 134), [100, 112, 124])
-        self.assertEqual(self.passes.link_clocks([0, 1, 2], 100, [], None), [])
-
-    def test_who_waited_to_depart(self):
-        # Not seen at 120 and 180, and 4 s from the begin of its first link at 240.
-        self.assertEqual(self.passes.link_clocks([0, 1, 2], 100, [Sight(240, 0, 4.0, 1)], None), [236])
+        enters = [Line(0, "", {"cmd": "enter", "plan": [0, 1, 2]})] * 3
+        ground = SimpleNamespace(graph=GRAPH, width=100, slices=4, until=399)
+        run, mapping = SimpleNamespace(enters=enters), SimpleNamespace(links=links)
+        seen = observed_in(ground, run, mapping, [[90, 105, 130], [190, 210], []], [199, None, None])
+        found = {at: (seen.seconds[at], seen.counts[at]) for at in range(len(seen.counts)) if seen.counts[at]}
+        first, second, last = (4 * movement for movement in (way("a", "b"), way("b", "d"), way("d")))
+        self.assertEqual(found, {
+            first: (15, 1), first + 1: (20, 1), second + 1: (25, 1), second + 2: (189, 1), last + 1: (69, 1),
+        })  # fmt: skip
 
 
 def two_ways(light="", cycle=""):
@@ -488,12 +477,12 @@ class Commands(Case):
 class Equilibria(Commands):
     def test_two_ways(self):
         """720 vehicles an hour on a short way whose green of 15 s lets 16.35 / 2.07 = 7.9 pass in 60 s, and less
-        its hidden begin: at most 474 an hour take it in equilibrium, and as many as it lets pass, since the
-        other way is 46 s longer."""
+        its hidden seconds: at most 474 an hour take it in equilibrium, and most of those that it lets pass, since
+        the other way is 44 s longer."""
         self.given(lit((15, "G"), (45, "r")), flow(720, 3600))
         told, said = self.route("--gap", 0.08)
         short = sum("short" in edges for edges in self.routes().values())
-        self.assertTrue(330 <= short <= 500, short)
+        self.assertTrue(300 <= short <= 500, short)
         gaps = [float(row["relative_gap"]) for row in self.table("iterations.csv")]
         self.assertLess(min(gaps), 0.08)
         self.assertRegex(
@@ -597,7 +586,8 @@ class GivingWay(Commands):
         run, mapped = self.folder / "run.jsonl", self.folder / "map.json"
         self.route("--iterations", 2, "--gap", 1, "--until", 4000, "--run", run, "--map", mapped)
         self.tool(
-            "run", run, "--map", mapped, "--seeds", "101-103", "--until", 4000, "--out", self.folder / "runs",
+            "run", run, "--map", mapped, "--seeds", "101-103", "--departures", "listed", "--until", 4000,
+            "--out", self.folder / "runs",
             "--program", PROGRAM,
         )
         here = [(row["seed"], float(row["mean_trip_s"])) for row in self.table("check.csv")]
@@ -767,7 +757,7 @@ class BadInput(Commands):
                 self.check_refused(told, *words)
         self.check_refused("--share: '2' is not 0 to 1", "--share", 2)
         _, said = self.tool("route", status=2)
-        self.assertIn("the following arguments are required: net, --trips, -o/--output, --out (", said)
+        self.assertIn("the following arguments are required: NET (", said)
 
 
 class Ends(Commands):
@@ -881,7 +871,7 @@ class OnACluster(ClusterCase, Commands):
         more = ("--iterations", 1, "--gap", 1, "--until", 4000, *works)
         self.route(*more, out="alone")
         words = self.words(*more, "--cluster", f"127.0.0.1:{port}", out="killed")
-        self.kill_worker_during(workers[0], [TOOLS / "streetsim-route", *words])
+        self.kill_worker_during(workers, [TOOLS / "streetsim-route", *words])
         self.assertEqual(self.files("killed"), self.files("alone"))
 
     def tool_trips(self):

@@ -9,14 +9,14 @@ from types import SimpleNamespace
 from support import PROGRAM, Case, lane, needs_package, needs_simulator, net
 from test_route import Commands, flow, lit, two_ways
 from streetsim.base.files import Fault
+from streetsim.control.works_movements import in_common
 from streetsim.model.mapping import MapLink, read_map
-from streetsim.routes.closing import Closing, knows_of_works, turn_off
-from streetsim.routes.diverting import why_within_gap
-from streetsim.routes.underway import PlannedVehicle, Turning, WaysRound, impassable_edges, turning_to
-from streetsim.ways.costs import flat_costs
-from streetsim.ways.graph import Graph
-from streetsim.ways.trips import Trip
-from streetsim.works.movements import in_common
+from streetsim.search.route_closing import Closing, knows_of_works, turn_off
+from streetsim.search.route_diverting import why_within_gap
+from streetsim.search.route_underway import Diversion, PlannedVehicle, WaysRound, impassable_edges, turning_to
+from streetsim.sumo.trips import Trip
+from streetsim.sumo.way_costs import flat_costs
+from streetsim.sumo.way_graph import Graph
 
 # From p to z over q, r and x; q also leads to w and z, and p to y and z.
 GRAPH = Graph(
@@ -164,11 +164,11 @@ class UnderWay(Case):
         second in 35 s at least."""
         links = [MapLink(str(at), (0,), at, at + 1, 40, 2, 300.0, ()) for at in range(3)]
         found = turning_to((0, 1, 2), (0, 1, 5, 6), 100)
-        self.assertEqual(found, Turning((0, 1), (5, 6), 100))
+        self.assertEqual(found, Diversion((0, 1), (5, 6), 100))
         self.assertEqual(
             [found.least_steps(links, *place) for place in ((0, 9), (0, None), (1, 39), (1, None))], [35, 20, 1, 1]
         )
-        self.assertEqual(turning_to((0, 1), (7, 6), 0), Turning((0,), (6,), 0))  # on the link beside
+        self.assertEqual(turning_to((0, 1), (7, 6), 0), Diversion((0,), (6,), 0))  # on the link beside
 
     def test_an_edge_is_shut_where_all_its_lanes_are(self):
         link = self.map.links_of["one"][0]
@@ -265,6 +265,7 @@ run = "run.jsonl"
 map = "map.json"
 until = 2400
 seeds = "1-2"
+departures = "listed"
 [variant.base]
 [variant.works]
 close = ["short_0:100-200:120-900"]

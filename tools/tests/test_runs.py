@@ -1,6 +1,5 @@
 """Runs and their tables, on streets small enough to be reckoned by hand."""
 import csv
-import gzip
 import json
 import os
 import pty
@@ -10,9 +9,8 @@ import unittest
 from support import FORK, MAP, NUMBERED, PROGRAM, RED, TOOLS, Case, lane, needs_simulator, net
 from streetsim.base.files import Fault
 from streetsim.base.seeds import mean_and_half_width
-from streetsim.model import tables
+from streetsim.model.folder import read_folder
 from streetsim.model.runs import read_run, read_with_map
-from streetsim.run.record import standing_at_line
 from streetsim.scenario import Scenario
 
 
@@ -57,8 +55,7 @@ class Tables(Runs):
         self.assertEqual(self.table("counts.csv")[0], ["0", "60", "a", "0", "0", "1", "60.0", "108.0", "0.0"])
         self.assertEqual(self.table("summary.csv"), [["60", "1", "0", "0", "0", "1", "0"]])
         self.assertEqual(self.table("queues.csv"), [])
-        with gzip.open(self.folder / "out/lanes.jsonl.gz", "rt") as file:
-            polls = [json.loads(line) for line in file]
+        polls = [*read_folder(self.folder / "out").polls()]
         self.assertEqual(len(polls), 60)
         self.assertEqual(polls[3], {"clock": 4, "lanes": [[0, 0, [[0, 6, 3]], [], []]]})
         self.assertEqual(polls[5], {"clock": 6, "lanes": []})
@@ -84,8 +81,8 @@ class Tables(Runs):
         close = {"cmd": "close", "link": 0, "lane": 0, "first": 5, "last": 9, "at": 0}
         self.given(close, {**close, "cmd": "reopen", "at": 100}, enter([0]), cars=["v"])
         self.run_tool("--until", 120, "--every", 50)
-        with gzip.open(self.folder / "out/lanes.jsonl.gz", "rt") as file:
-            self.assertEqual(json.loads(file.readline()), {"clock": 50, "lanes": [[0, 0, [[0, 4, 0]], [], [[5, 9]]]]})
+        first = next(read_folder(self.folder / "out").polls())
+        self.assertEqual(first, {"clock": 50, "lanes": [[0, 0, [[0, 4, 0]], [], [[5, 9]]]]})
         # Cells 5, 7 and leaving with speed 3 in steps 100 to 102.
         self.assertEqual(self.table("trips.csv")[0][2], "103")
 
@@ -118,14 +115,14 @@ class Tables(Runs):
         self.given(*[enter([0, 1], depart) for depart in range(0, 200, 3)], cars=[f"v{number}" for number in range(67)])
         for out, workers in (("one", 1), ("four", 4)):
             self.run_tool("--until", 400, "--workers", workers, out=out)
-        for name in ("counts.csv", "trips.csv", "queues.csv", "summary.csv", "lanes.jsonl.gz"):
+        for name in ("counts.csv", "trips.csv", "queues.csv", "summary.csv", "rows.bin"):
             self.assertEqual(
                 (self.folder / "one" / name).read_bytes(), (self.folder / "four" / name).read_bytes(), name
             )
 
     def test_seeds(self):
         self.given(*[enter([0, 1], depart) for depart in range(0, 200, 3)], cars=[f"v{number}" for number in range(67)])
-        told, _ = self.run_tool("--until", 400, "--seeds", "1-3")
+        told, _ = self.run_tool("--until", 400, "--seeds", "1-3", "--departures", "listed")
         self.assertEqual(
             [line.split(",")[0] for line in told.splitlines()],
             ["seed 1: 67 vehicles", "seed 2: 67 vehicles", "seed 3: 67 vehicles", told.splitlines()[3].split(",")[0]],
@@ -151,7 +148,7 @@ class Tables(Runs):
         os.close(other_side)
         told = os.read(terminal, 4096).decode()
         os.close(terminal)
-        self.assertRegex(told, r"\[#{30}\] 60 s, 0 on their way, 1 arrived, [\d,]+ steps/s")
+        self.assertRegex(told, r"\[#{30}\] 60 s, 0 on their way, 1 arrived, [\d,.]+ x real time")
 
     def test_refused_line_is_named(self):
         self.given(enter([7]))
@@ -173,7 +170,7 @@ class Reading(Runs):
         with self.assertRaisesRegex(Fault, "other.map.json: not the map of .*, whose links are other ones"):
             Scenario(self.run_file, self.map_file, PROGRAM)
         words[3] = self.write("other.map.json", json.dumps({**MAP, "cars": ["v", "w"]}))
-        told = self.tool("live", self.run_file, "--map", words[3], "-o", self.folder / "x.html", status=2)[1]
+        told = self.tool("live", self.run_file, "--map", words[3], "--no-open", status=2)[1]
         for text in (told, self.tool(*words, status=2)[1]):
             self.assertIn("run.jsonl, which has 0 vehicles and not 2", text)
 
@@ -235,11 +232,6 @@ class Reading(Runs):
             with self.assertRaisesRegex(Fault, f"run.jsonl: line 2 .{line['cmd']}.: no link 2"):
                 read_with_map(run, self.write("map.json", json.dumps(MAP)))
 
-    def test_standing(self):
-        self.assertEqual(standing_at_line(((1, 9, 0), (2, 8, 0), (3, 6, 0)), 10), (2, 2))
-        self.assertEqual(standing_at_line(((1, 9, 0), (2, 8, 1)), 10), (1, 1))
-        self.assertEqual(standing_at_line(((1, 8, 0),), 10), (0, 0))
-
     def test_interval(self):
         # Mean 2, standard deviation 1, three values: 4.303 / sqrt(3).
         mean, half = mean_and_half_width([1, 2, 3])
@@ -253,7 +245,10 @@ class Imported(Case):
         """A net of one edge, by the tools alone: 10 cells, limit 2, dawdle 0: cells 0, 1, 3, 5, 7, 9, then out in step
         6."""
         network = self.write("x.net.xml", net([("a", "A", "B", [lane("a", 0)])], []))
-        routes = self.write("x.rou.xml", '<routes><vehicle id="v" depart="2.5"><route edges="a"/></vehicle></routes>')
+        # In SUMO this one takes as long with its start.
+        even = '<vType id="even" accel="3.22" sigma="0" speedFactor="1.08" speedDev="0"/>'
+        vehicle = '<vehicle id="v" type="even" depart="2.5"><route edges="a"/></vehicle>'
+        routes = self.write("x.rou.xml", f"<routes>{even}{vehicle}</routes>")
         run, mapped = self.folder / "run.jsonl", self.folder / "map.json"
         self.tool("import", network, "--routes", routes, "-o", run, "--map", mapped, "--dawdle", 0)
         told, _ = self.tool(

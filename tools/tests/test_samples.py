@@ -8,7 +8,7 @@ from statistics import fmean
 
 from support import DATA, PROGRAM, SCENARIOS, Case, needs_simulator, needs_sumo_tools
 from streetsim.model.folder import read_folder
-from streetsim.results.compare import correlation, edge_counts_of, geh, trip_times_of
+from streetsim.report.beside_sumo import correlation, edge_counts_of, geh, trip_times_of
 
 QUARTERS = (900, 1800, 2700, 3600, 4500, 5400)
 
@@ -25,7 +25,8 @@ class Samples(Case):
         """Means over some seeds beside SUMO's; gives the last folder."""
         run, mapped, out = self.folder / "run.jsonl", self.folder / "map.json", self.folder / "out"
         self.tool("import", network, *additional, "--routes", routes, "-o", run, "--map", mapped, "--strict")
-        words = ["--until", 6000, "--every", 600, "--seeds", f"1-{seeds}", "--out", out, "--program", PROGRAM]
+        words = ["--until", 6000, "--every", 600, "--seeds", f"1-{seeds}", "--departures", "listed"]
+        words += ["--out", out, "--program", PROGRAM]
         self.tool("run", run, "--map", mapped, *words)
         folders = [read_folder(out / f"seed-{seed}") for seed in range(1, seeds + 1)]
         self.check_trips(name, [trip_times_of(folder) for folder in folders])
@@ -88,7 +89,7 @@ class Samples(Case):
         words = ["run", run, "--map", mapped, "--until", 600, "--every", 50, "--period", 100, "--program", PROGRAM]
         for workers in (1, 3, 4):
             self.tool(*words, "--workers", workers, "--out", self.folder / str(workers))
-        for name in ("counts.csv", "trips.csv", "queues.csv", "summary.csv", "lanes.jsonl.gz"):
+        for name in ("counts.csv", "trips.csv", "queues.csv", "summary.csv", "rows.bin"):
             contents = {(self.folder / workers / name).read_bytes() for workers in "134"}
             self.assertEqual(len(contents), 1, name)
         with open(self.folder / "4/summary.csv", encoding="utf-8") as file:

@@ -8,9 +8,11 @@ from streetsim import client
 from streetsim.model.mapping import read_map
 from streetsim.model.tables import TRIPS, read_table
 from streetsim.scenario import NOWHERE, NotHere, Scenario
-from streetsim.simulation.shown import Shown
+from streetsim.simulation.shown import SignalsInForce
 
-ROUTES = '<routes><vehicle id="v" depart="0"><route edges="a b"/></vehicle></routes>'
+# One that in SUMO takes as long on streets of 75 m, with its start, as one takes for 10 cells here.
+EVEN = '<vType id="even" accel="2.08" sigma="0" speedFactor="1.08" speedDev="0"/>'
+ROUTES = f'<routes>{EVEN}<vehicle id="v" type="even" depart="0"><route edges="a b"/></vehicle></routes>'
 
 
 @needs_simulator
@@ -97,7 +99,8 @@ class Scenarios(Case):
         self.assertEqual(self.sim.lane_state("b_0").closed, ((0, 9),))
         self.sim.lane.setAllowed("b_0", ["all"])
         self.sim.close("c_0", 15, 45)
-        self.assertEqual((self.sim.lane_state("b_0").closed, self.sim.lane_state("c_0").closed), ((), ((2, 5),)))
+        # Of 11 cells on 75 m.
+        self.assertEqual((self.sim.lane_state("b_0").closed, self.sim.lane_state("c_0").closed), ((), ((2, 6),)))
         with self.assertRaisesRegex(ValueError, "the map has no lane 'z_0'"):
             self.sim.close("z_0")
         for places, told in (
@@ -180,7 +183,7 @@ class Lights(Case):
             "--dawdle",
             0,
         )
-        self.assertEqual(json.loads(mapped.read_text())["signals"], [["L", 1]])
+        self.assertEqual(json.loads(mapped.read_text())["signals"], {"light": ["L"], "node": [1]})
         with Scenario(run, mapped, PROGRAM) as sim:
             self.assertEqual(sim.trafficlight.getIDList(), ("L",))
             warnings = sim.trafficlight.setProgramLogic("L", [(20, "r"), (5, "G")])
@@ -191,7 +194,8 @@ class Lights(Case):
             self.assertEqual(sim.vehicle.getRoadID("v"), ":B")
         # Lines of the file for the light, at 3 always red, at 30 green: they are sent,
         # but not once the script has set it.
-        turns = [turn[:3] for turn in json.loads(mapped.read_text())["turns"]]
+        turns = json.loads(mapped.read_text())["turns"]
+        turns = list(zip(turns["link"], turns["lane"], turns["next"], strict=True))
         later = [
             {"cmd": "signal", "node": 1, "offset": 0, "phases": [[600, green]], "at": at}
             for at, green in ((3, []), (30, turns))
@@ -220,9 +224,9 @@ class Lights(Case):
                 sim.vehicle.add("second", "way", depart=700 + green)
                 for clock, standing, roads in (
                     (699, 1, ("a", "")),
-                    (702, 0, (":B", "")),
+                    (701, 0, (":B", "")),
                     (1399, 1, ("", "a")),
-                    (1402, 0, ("", ":B")),
+                    (1401, 0, ("", ":B")),
                 ):
                     sim.simulationStep(clock + (green if clock > 1000 else 0))
                     self.assertEqual(sim.lane.getLastStepHaltingNumber("a_0"), standing, clock)
@@ -240,7 +244,7 @@ class LongPrograms(Case):
         self.tool("import", DATA / "grid.net.xml.gz", "-o", run, "--map", mapped)
         mapping = read_map(str(mapped))
         first, second = (name for name, _ in mapping.signals[:2])
-        shown = Shown(mapping, [])
+        shown = SignalsInForce(mapping, [])
         long, short = [(700.0, "r" * 64), (9100.0, "G" * 64)], [(60.0, "G" * 64)]
         shown.program_commands(first, long, 0.0, 0)
         coming = shown.next_clock(5000)

@@ -2,13 +2,12 @@
 import json
 import unittest
 
+from seen import made
 from support import PROGRAM, Case, needs_simulator
 from test_works import fan
 import streetsim.traci as traci
-from streetsim.base.client import Client
 from streetsim.model.runs import Line, read_with_map
-from streetsim.run.record import Recorder
-from streetsim.run.settings import Settings
+from streetsim.control.settings import Settings
 from streetsim.scenario import Scenario
 
 FIRST, LAST, UNTIL = 60, 500, 600
@@ -43,9 +42,8 @@ class Scripts(Case):
         ]
         for _, line in run.timed:
             line.text = json.dumps(line.command)
-        with Client(PROGRAM) as sim:
-            records = Recorder(sim, run, mapping, Settings(UNTIL, 0, rescue=0), None, lambda *_: None).record()
-        return [(clock, line.command) for clock, line in records.sent]
+        kernel, _ = made(PROGRAM, run, mapping, Settings(UNTIL, 0, rescue=0))
+        return [(one.clock, one.line.command) for one in kernel.sent]
 
     def test_scenario_sends_what_a_run_sends(self):
         expected, sent = self.in_run(), []

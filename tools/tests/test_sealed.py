@@ -16,12 +16,12 @@ from support import DATA as SAMPLES
 from support import MAP, PROGRAM, TOOLS, Case, needs_simulator
 from streetsim.base.files import Fault
 from streetsim.cli.check import page_again
-from streetsim.reports import seal as sealing
-from streetsim.reports.elements import page_mismatches, numbers_in
-from streetsim.reports.seal import DATA, PACK, packed, seal_of, sum_of, unpacked
-from streetsim.reports.sealing import sealed_plan
-from streetsim.results.reading import read_folders
-from streetsim.results.tallying import Compared, folder_differences
+from streetsim.report import page_seal as sealing
+from streetsim.report.folder_differences import ComparedNumbers, folder_differences
+from streetsim.report.page_elements import numbers_in, page_mismatches
+from streetsim.report.page_seal import BEGIN, END, PACK, packed, seal_of, sum_of, unpacked
+from streetsim.report.page_sealing import sealed_plan
+from streetsim.report.run_tables import read_folders
 
 CORRIDOR = TOOLS / "examples/corridor"
 # A program whose replies differ: it dawdles otherwise than it is told.
@@ -33,6 +33,12 @@ def tool(name, *words, tools=TOOLS):
     words = [tools / f"streetsim-{name}", *map(str, words)]
     done = subprocess.run(words, capture_output=True, text=True, check=False)
     return done.returncode, done.stdout + done.stderr
+
+
+def sealed_text(page):
+    """What a page has of its seal as JSON."""
+    begin = page.index(BEGIN) + len(BEGIN)
+    return page[begin : page.index(END, begin)]
 
 
 def other_digit(text, at):
@@ -54,10 +60,10 @@ class Broken(Case):
         for folder in ("said", "found"):
             (self.folder / folder).mkdir(exist_ok=True)
             (self.folder / folder / name).write_bytes(gzip.compress(b"1\n") if name.endswith(".gz") else b"1\n")
-        self.assertEqual(list(folder_differences(self.folder / "said", self.folder / "found", Compared())), [])
+        self.assertEqual(list(folder_differences(self.folder / "said", self.folder / "found", ComparedNumbers())), [])
         (self.folder / "said" / name).write_bytes(content)
         with self.assertRaises(Fault) as raised:
-            list(folder_differences(self.folder / "said", self.folder / "found", Compared()))
+            list(folder_differences(self.folder / "said", self.folder / "found", ComparedNumbers()))
         self.assertIn(f"said/{name}: ", str(raised.exception))
 
     def test_packed_files(self):
@@ -70,7 +76,7 @@ class Broken(Case):
         for folder, content in (("said", b"1\n\xff\n"), ("found", b"1\n\xfe\n")):
             (self.folder / folder).mkdir()
             (self.folder / folder / "x.xml").write_bytes(content)
-        found = list(folder_differences(self.folder / "said", self.folder / "found", Compared()))
+        found = list(folder_differences(self.folder / "said", self.folder / "found", ComparedNumbers()))
         self.assertEqual(found, [("x.xml, line 2", "\\xff", "\\xfe")])
 
     def test_tables(self):
@@ -81,14 +87,24 @@ class Broken(Case):
 
 class Missing(Case):
     def test_parts_of_a_seal(self):
-        plan = {"name": "", "run": "", "map": "", "words": [], "again": [], "seeds": [1], "several": False}
-        whole = {"plans": [{**plan, "program": ""}], "files": {}, "packs": {}, "words": [], "beside": [], "tools": ""}
-        sealed = '<script type="application/json" id="sealed">{}</script>'
-        found = seal_of("x.html", sealed.format(json.dumps({**whole, "drawn_by": ""})))
+        plan = {"name": "", "run": "plan-1/x", "map": "plan-1/map.json", "words": [], "again": [], "seeds": [1]}
+        plan = {**plan, "several": False, "program": ""}
+        whole = {"form": 2, "plans": [plan], "files": {"plan-1/x": "a" * 64, "plan-1/map.json": "b" * 64}}
+        whole = {**whole, "words": [], "beside": [], "tools": "0" * 64}
+        found = seal_of("x.html", BEGIN + json.dumps(whole) + END)
         self.assertEqual(found.content["plans"], whole["plans"])
-        for content in (whole, {**whole, "drawn_by": "", "plans": [plan]}):
-            with self.assertRaisesRegex(Fault, "what is sealed in it cannot be read: the page was changed"):
-                seal_of("x.html", sealed.format(json.dumps(content)))
+        for name in (*whole, *plan):
+            less = {**whole, "plans": [{key: value for key, value in plan.items() if key != name}]}
+            less.pop(name, None)
+            with self.subTest(name), self.assertRaisesRegex(Fault, r"cannot be read \(.*\): the page was changed"):
+                seal_of("x.html", BEGIN + json.dumps(less) + END)
+
+    def test_a_page_of_the_form_before(self):
+        content = {"plans": [], "files": {}, "packs": {}, "words": [], "beside": [], "tools": "", "drawn_by": "3.6.3"}
+        page = self.write("old.html", BEGIN + json.dumps(content) + END)
+        status, told = tool("check", page, "--program", "/bin/true")
+        self.assertEqual((status, told.count("\n")), (2, 1))
+        self.assertIn("sealed in the form of streetsim 1.0.0: that version checks it", told)
 
     def test_programs_of_lights_that_cannot_be_read(self):
         lines = b'{"cmd":"load"}\n'
@@ -117,6 +133,7 @@ class Sealed(Case):
             words = ("--routes", routes, "--end", 200, "-o", run, "--map", mapped)
             cls.good("import", network, *more, *words)
             words = ("--map", mapped, "--until", 600, "--seeds", "1-2", "--junctions", "--program", PROGRAM)
+            words = (*words, "--departures", "listed")
             cls.good("run", run, *words, "--every", 5, "--out", cls.home / plan)
         cls.page = cls.home / "page.html"
         words = ("--title", "A & <B>", "--question", 'Which "one"?', "-o", cls.page)
@@ -288,7 +305,7 @@ class Whole(Sealed):
 
     def fitted(self, text):
         """The page with the sum of all that fits to what is sealed."""
-        told = [DATA.search(one)[1].replace("\\u003c", "<") for one in (self.text, text)]
+        told = [sealed_text(one).replace("\\u003c", "<") for one in (self.text, text)]
         return text.replace(*(sum_of(one.encode()) for one in told))
 
     def test_another_run_file_whose_sums_fit(self):
@@ -320,7 +337,7 @@ class Whole(Sealed):
             ("--question=Which", "--question=What"),
             ('"seeds":[1,2]', '"seeds":[2,3]'),
         ):
-            data = DATA.search(self.text)[1]
+            data = sealed_text(self.text)
             self.assertIn(old, data)
             text = self.text.replace(data, data.replace(old, new, 1))
             try:
@@ -333,32 +350,33 @@ class Whole(Sealed):
         self.assertEqual(status, 2)
         self.assertIn("x.html: not sealed: streetsim-report --sealed makes a page that can be checked", told)
         text = self.text.replace('id="sealed">{', 'id="sealed">')
-        self.assertIn("what is sealed in it cannot be read: the page was changed", self.checked(text)[1])
+        self.assertRegex(self.checked(text)[1], r"what is sealed in it cannot be read \(.*\): the page was changed")
 
     def test_a_page_that_means_ill(self):
         """Its files stay where the check puts them, and its words choose no other program."""
         for old, new in (("plan-1/map.json", "../map.json"), ("plan-1/map.json", "/tmp/map.json")):
-            self.assertIn(f"a sealed file is called '{new}'", self.checked(self.text.replace(old, new))[1])
+            self.assertIn(f"its map '{new}'", self.checked(self.text.replace(old, new))[1])
         text = self.text.replace('"run":"plan-1/zero.jsonl"', '"run":"/etc/passwd"')
-        self.assertIn("'/etc/passwd' is not sealed in it", self.checked(text)[1])
+        self.assertIn("a run is called '/etc/passwd'", self.checked(text)[1])
         ill = self.write("ill", "#!/bin/sh\ntouch ran\n")
         Path(ill).chmod(0o755)
         text = self.text.replace('"again":[', f'"again":["--program={ill}",', 1)
-        self.assertEqual(self.checked(text)[0], 1)
+        self.assertEqual(self.checked(text)[0], 2)
         self.assertFalse((self.folder / "ran").exists() or Path("ran").exists())
 
     def test_a_file_beside_the_page(self):
         """Files that are too large for the page; the one beside it may lack, or be another."""
-        content = {"words": [], "plans": [], "tools": "", "drawn_by": ""}
+        content = {"words": [], "plans": [], "tools": "0" * 64}
+        a, b = "names.csv", "counts-1"
         with unittest.mock.patch.object(sealing, "LARGEST", 100):
             page = str(self.folder / "big.html")
-            made, large = sealing.sealed(content, {"a": b"x" * 50, "b": os.urandom(200)}, page)
+            made, large = sealing.sealed(content, {a: b"x" * 50, b: os.urandom(200)}, page)
         sealing.write_beside(page, large)
-        self.assertEqual((list(large), sorted(made.texts), made.beside), (["b"], ["a"], "big.sealed.zip"))
+        self.assertEqual((list(large), sorted(made.texts), made.beside), ([b], [a], "big.sealed.zip"))
         found = seal_of(page, made.html())
-        self.assertEqual(dict(sealing.sealed_files(found, page))["b"], large["b"])
-        sealing.write_beside(page, {"b": b"y"})
-        with self.assertRaisesRegex(Fault, "the sealed file b was changed"):
+        self.assertEqual(dict(sealing.sealed_files(found, page))[b], large[b])
+        sealing.write_beside(page, {b: b"y"})
+        with self.assertRaisesRegex(Fault, "the sealed file counts-1 was changed"):
             list(sealing.sealed_files(found, page))
         (self.folder / "big.sealed.zip").unlink()
         with self.assertRaisesRegex(Fault, "the file beside .* cannot be read"):
@@ -418,19 +436,26 @@ class Folders(Sealed):
         self.assertIn("--close=C2C3_0", (out / "setting.json").read_text())
 
     def test_a_study(self):
-        text = f'run = "{self.home}/zero.jsonl"\nmap = "{self.home}/zero.map.json"\nuntil = 300\nseeds = "1-2"\n'
+        text = (
+            f'run = "{self.home}/zero.jsonl"\nmap = "{self.home}/zero.map.json"\nuntil = 300\nseeds = "1-2"\n'
+            'departures = "listed"\n'
+        )
         text += '[variant.base]\n[variant.slow]\ndawdle = 300\n'
         study, out = self.write("study.toml", text), self.folder / "out"
         self.good("study", study, "--program", PROGRAM, "--out", out)
         status, told = tool("check", out, "--program", PROGRAM)
+        self.assertEqual(status, 2, told)
+        self.assertIn("name the study that it was made of by --study FILE; the folder says ../study.toml", told)
+        words = ("--program", PROGRAM, "--study", study)
+        status, told = tool("check", out, *words)
         self.assertEqual(status, 0, told)
         table = (out / "runs.csv").read_text()
         (out / "runs.csv").write_text(other_digit(table, table.rindex(".") + 1))
-        status, told = tool("check", out, "--program", PROGRAM)
+        status, told = tool("check", out, *words)
         self.assertEqual(status, 1)
         self.assertIn("out: 1 place is not what the runs give: runs.csv, line 5, ", told)
         self.write("study.toml", text + "\n")
-        self.assertIn("study.toml: has changed since the study was made", tool("check", out, "--program", PROGRAM)[1])
+        self.assertIn("study.toml: has changed since the study was made", tool("check", out, *words)[1])
 
 
 if __name__ == "__main__":

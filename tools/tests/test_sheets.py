@@ -8,15 +8,14 @@ from streetsim.base.files import Fault
 from streetsim.base.report import Report
 from streetsim.model.mapping import Map
 from streetsim.model.names import Names
-from streetsim.model.timing import Movement, Timing, intergreen, spans_of, timing_of
-from streetsim.reports.sheets import clashes, greens_table, phases_table, sheets
-from streetsim.results.reading import read_folders
-from streetsim.results.timings import timings_of
+from streetsim.model.timing import SignalMovement, Timing, intergreen, spans_of, timing_of
+from streetsim.report.light_timings import timings_of
+from streetsim.report.run_tables import read_folders
+from streetsim.report.timing_sheets import clashes, greens_table, phases_table, sheets
 from streetsim.sumo.additional import read_additional
+from streetsim.sumo.bundles import next_edges
 from streetsim.sumo.net import read_net
-from streetsim.sumo.network import next_edges
-from streetsim.sumo.timings import timings_of as timings_of_net
-from streetsim.sumo.timings import warn_of_clashes
+from streetsim.sumo.timings import timings_of as timings_of_net, warn_of_clashes
 from streetsim.sumo.types import Types
 from streetsim.sumo.wauts import days_of
 
@@ -70,13 +69,14 @@ class Programs(Case):
 
     def test_several_lanes_of_a_movement(self):
         """It goes while one of its lanes does."""
-        timing = Timing("L", "M", 0, [(1, "rg"), (1, "Gy"), (1, "yr")], "static", [Movement("a", "b", (0, 1))], set())
+        movements = [SignalMovement("a", "b", (0, 1))]
+        timing = Timing("L", "M", 0, [(1, "rg"), (1, "Gy"), (1, "yr")], "static", movements, set())
         self.assertEqual(timing.signs(timing.movements[0]), "gGy")
         self.assertEqual(timing_of(json.loads(json.dumps(timing.written()))).written(), timing.written())
 
     def test_off_is_not_red(self):
         """20 s off of a cycle of 30 s, and 10 s red."""
-        timing = Timing("L", "M", 0, [(20, "O"), (10, "r")], "static", [Movement("a", "b", (0,))], set())
+        timing = Timing("L", "M", 0, [(20, "O"), (10, "r")], "static", [SignalMovement("a", "b", (0,))], set())
         self.assertEqual(re.findall(r">(off|red|green|yellow)<", phases_table(timing)), ["off", "red"])
         row = re.findall(r"<td[^>]*>([^<]*)<", greens_table(timing, Names(Map([], [], [], [], [], {}, [])), None))
         self.assertEqual(row[-5:], ["off", "0", "0", "0", "10"])

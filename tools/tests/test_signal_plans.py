@@ -17,19 +17,21 @@ from support import MAP, NUMBERED, PROGRAM, TOOLS, Case, lane, needs_package, ne
 from test_works import fan, flows
 from streetsim.base.files import Fault
 from streetsim.base.seeds import runs_needed, seeds_for, seeds_of, student
+from streetsim.control.settings import Settings
 from streetsim.model.mapping import map_from, read_map
 from streetsim.model.runs import Line, Run, read_run
 from streetsim.model.trust import missing_doubts
-from streetsim.run.settings import Settings
-from streetsim.sessions.giving import for_search, giving_session, outcome_giving_way, seconds_at_works, with_gap_lines
-from streetsim.sessions.prepared import Outcome, outcome, session_of, vehicle_seconds
-from streetsim.signals.formulas import heaviest_tree, webster_cycle
-from streetsim.signals.found import doubts_of, verdict
-from streetsim.signals.in_sumo import mean_trip, sumo_for
-from streetsim.signals.light_lines import LightLines, read_plans
-from streetsim.signals.plans import Light, Timing, light_and_timing, rounded_durations, spread
-from streetsim.signals.search import Search, climb, search_plan, shift_of
-from streetsim.sumo.net import Program
+from streetsim.search.run_giving_way import (
+    for_search, giving_session, outcome_giving_way, seconds_of_run, with_gap_lines,
+)
+from streetsim.search.run_prepared import Outcome, outcome, session_of, vehicle_seconds
+from streetsim.search.signal_formulas import heaviest_tree, webster_cycle
+from streetsim.search.signal_found import doubts_of, verdict
+from streetsim.search.signal_in_sumo import mean_trip, sumo_for
+from streetsim.search.signal_lines import LightLines, read_plans
+from streetsim.search.signal_plans import PlannedLight, PlannedTiming, light_and_timing, rounded_durations, spread
+from streetsim.search.signal_search import PlanSearch, climb, search_plan, shift_of
+from streetsim.sumo.net import LightProgram
 
 CORRIDOR = TOOLS / "examples/corridor"
 STREET = ("W", "J1", "J2", "J3", "J4", "J5", "E")
@@ -43,12 +45,13 @@ def has_matplotlib():
 
 
 def street(two_way=False, green=37):
-    """Five signals on a street of two lanes, with a side street at each: 38 cells between signals, 39 at the ends."""
+    """Five signals on a street of two lanes, with a side street at each: 38 cells between signals, 39 at the ends. The
+    metres are such that an import makes these cells, where vehicles do not dawdle and are in a junction for 3 s."""
     edges, connections, lights = [], [], ""
     for index, names in enumerate((STREET, STREET[::-1]) if two_way else (STREET,)):
         along = [(f"{here}{there}", here, there) for here, there in zip(names, names[1:])]
         for edge, here, there in along:
-            metres = 292.5 if {"W", "E"} & {here, there} else 285.0
+            metres = 273.0 if here in "WE" else 255.0 if there in "WE" else 283.5
             edges.append((edge, here, there, [lane(edge, 0, metres), lane(edge, 1, metres)]))
         for (edge, _, there), (following, *_) in zip(along, along[1:]):
             connections += [(edge, at, following, at, f'tl="{there}" linkIndex="{index}"') for at in (0, 1)]
@@ -72,7 +75,7 @@ def flow(name, names, period):
 
 class Bounds(unittest.TestCase):
     def light(self, *phases, bounds=(), kind="static"):
-        return light_and_timing("L", Program(0.0, list(phases), kind, list(bounds)))
+        return light_and_timing("L", LightProgram(0.0, list(phases), kind, list(bounds)))
 
     def test_phases_that_may_be_stretched(self):
         # Green without yellow, of 5 s at least; minDur and maxDur bound it.
@@ -84,7 +87,7 @@ class Bounds(unittest.TestCase):
     def test_another_cycle(self):
         light, timing = self.light((30, "Gr"), (5, "yr"), (10, "rG"), (5, "ry"))
         # 40 s of green become 80: three quarters and one.
-        self.assertEqual(light.scaled(Timing(25, timing.durations), 90), Timing(45, (60, 5, 20, 5)))
+        self.assertEqual(light.scaled(PlannedTiming(25, timing.durations), 90), PlannedTiming(45, (60, 5, 20, 5)))
         # 10 s of green: 5 s each at least.
         self.assertEqual(light.scaled(timing, 20).durations, (5, 5, 5, 5))
         self.assertIsNone(light.scaled(timing, 19))
@@ -136,8 +139,8 @@ class Formulas(unittest.TestCase):
 class Climbing(unittest.TestCase):
     """The search over a value that is known: how far offsets are from 30 and 50."""
 
-    light = Light("L", ("G", "y"), ((5, 600), (3, 3)))
-    plan = {"L": Timing(0, (77, 3)), "M": Timing(0, (77, 3))}
+    light = PlannedLight("L", ("G", "y"), ((5, 600), (3, 3)))
+    plan = {"L": PlannedTiming(0, (77, 3)), "M": PlannedTiming(0, (77, 3))}
 
     def search(self, budget):
         asked = []
@@ -147,7 +150,7 @@ class Climbing(unittest.TestCase):
                 asked.append(plan)
                 yield abs(plan["L"].offset - 30) + abs(plan["M"].offset - 50)
 
-        return Search(values, budget, 1), asked
+        return PlanSearch(values, budget, 1), asked
 
     def test_climbs_to_the_best_and_asks_once(self):
         search, asked = self.search(1000)
@@ -255,8 +258,10 @@ class Values(Corridor):
         session = session_of(PROGRAM, run, 4500)
         exact = outcome(session, b"", 7)
         self.assertEqual(exact, outcome(session, b"", 7))
-        self.assertAlmostEqual(vehicle_seconds(session, b"", 7) / exact.seconds, 1, delta=0.005)
+        # Counts each ten seconds of arrivals that come with a cycle of 80 s: each is off by up to 5 s of some 136.
+        self.assertAlmostEqual(vehicle_seconds(session, b"", 7) / exact.seconds, 1, delta=0.01)
         words = [self.run_file, "--map", self.map_file, "--until", 4500, "--rescue", 0, "--seeds", 7]
+        words += ["--departures", "listed"]
         self.tool("run", *words, "--out", self.folder / "run", "--program", PROGRAM)
         [row] = self.table("seeds.csv", "run")
         self.assertEqual(int(row["arrived"]), exact.arrived)
@@ -286,7 +291,7 @@ class Values(Corridor):
         run.timed += [(clock, Line(0, json.dumps(command), command)) for clock, command in works]
         session = giving_session(PROGRAM, run, mapping, Settings(600), 0)
         exact = outcome_giving_way(session, b"", 7).seconds
-        self.assertEqual(seconds_at_works(for_search(session, []), b"", 7), exact)
+        self.assertEqual(seconds_of_run(for_search(session, []), b"", 7), exact)
         self.assertGreater(vehicle_seconds(with_gap_lines(session, []), b"", 7), 1.02 * exact)
 
     def test_refused_line_is_a_fault(self):
@@ -342,7 +347,7 @@ class Tool(Searching):
             searched[reserve] = float(self.table("search.csv", f"reserve{reserve}")[0]["mean_trip_s"])
         self.assertEqual(given[0], given[80])
         self.assertAlmostEqual(searched[0], float(given[0]["before"]), delta=0.02 * searched[0])
-        self.assertGreater(searched[80], searched[0] + 1)
+        self.assertGreater(searched[80], searched[0])
 
     def test_not_shown_to_be_better(self):
         """Where nothing may be changed that helps: one signal, offsets alone, few vehicles far apart."""
@@ -441,7 +446,7 @@ class Verdicts(Searching):
         ):
             found = {"here": rows[here], "in SUMO": rows[there]}
             worse = [where for where, (difference, half) in found.items() if difference + half >= 0]
-            self.assertEqual(verdict(found, worse, Search(None, 1, 1)), told)
+            self.assertEqual(verdict(found, worse, PlanSearch(None, 1, 1)), told)
 
     def test_trips_in_sumo_are_over_the_vehicles_of_the_run(self):
         """Trips of 100 and 50 s; one that has not arrived counts from 400 to 1,000;
@@ -455,6 +460,7 @@ class Verdicts(Searching):
         run = Run("run", Line(1, "", {"dawdle": 0}), enters=[Line(2, "", {"plan": [0], "depart": 0})])
         town = Mock(
             session=Mock(clocks=(0, 1000), departs=(0,)),
+            settings=Settings(1000),
             run=run,
             mapping=map_from("map", MAP),
             lines=Mock(permissive={"L"}),
@@ -470,8 +476,9 @@ class Verdicts(Searching):
             "run", Line(1, "", {"dawdle": 0}), enters=[Line(at, "", {"plan": [0], "depart": 0}) for at in range(20)]
         )
         town = Mock(
-            session=Mock(clocks=(0, 1000), departs=20 * (0,)), run=run, mapping=mapping, lines=Mock(permissive=set())
-        )
+            session=Mock(clocks=(0, 1000), departs=20 * (0,)), settings=Settings(1000), run=run, mapping=mapping,
+            lines=Mock(permissive=set()),
+        )  # fmt: skip
         given, found = ([Outcome("", 20, 9, 1000, waiting, 120)] for waiting in (2, 0))
         told = "as given 2 of 20 vehicles waited to enter at some 120 s, and are in no queue or count"
         self.assertEqual(list(doubts_of(town, given, found, None)), [told])

@@ -6,9 +6,9 @@ from support import PROGRAM, Case, lane, needs_simulator, net
 from streetsim.base.client import Client
 from streetsim.base.files import Fault
 from streetsim.base.report import Report
-from streetsim.importing.convert import convert
-from streetsim.results import series
+from streetsim.report import run_series
 from streetsim.sumo.gaps import gap_capacity
+from streetsim.sumo.import_files import convert
 from streetsim.sumo.network import Options, Turn
 from streetsim.sumo.signals import phases_that_fit, run_lengths, shown_green
 
@@ -36,7 +36,7 @@ class Signals(Case):
         return [command for command in commands if command["cmd"] == "signal"], report.warnings
 
     def greens(self, command, seconds):
-        return [second for second in range(seconds) if series.shows_green(command, second, [0], [1])]
+        return [second for second in range(seconds) if run_series.shows_green(command, second, [0], [1])]
 
     def test_offset_is_sumos(self):
         # SUMO 1.15 shows red in 0 to 6, green in 7 to 16, yellow in 17 to 21, red in 22 to 36; yellow is red here,
@@ -63,7 +63,7 @@ class Signals(Case):
             sim.advance(7)
             self.assertEqual(sim.vehicle(0).state, "cell")
             sim.advance(1)
-            self.assertEqual((sim.vehicle(0).state, sim.vehicle(0).ready), ("buffer", 7 + 2))
+            self.assertEqual((sim.vehicle(0).state, sim.vehicle(0).ready), ("buffer", 7 + 1))
 
     def test_last_program_of_a_light_counts(self):
         light = f'<tlLogic id="L" programID="1" type="static" offset="0">{phases((4, "G"), (6, "r"))}</tlLogic>'

@@ -1,7 +1,5 @@
 """Vehicles of 1 to 4 cells: the sizes that an import gives, and what the tools say and draw of long vehicles. Lengths
 and gaps of classes are SUMO 1.15's defaults."""
-import gzip
-import json
 import unittest
 from collections import Counter
 
@@ -12,10 +10,10 @@ from test_runs import Runs, enter
 from streetsim.base.client import BadRange, Client
 from streetsim.base.files import Fault
 from streetsim.base.report import Report
-from streetsim.importing.convert import convert
-from streetsim.results import series
-from streetsim.run.record import standing_at_line
+from streetsim.model.folder import read_folder
+from streetsim.report import run_series
 from streetsim.scenario import Scenario
+from streetsim.sumo.import_files import convert
 from streetsim.sumo.network import Options
 
 
@@ -160,16 +158,8 @@ class Tables(Runs):
         self.assertIn(["100", "a", "0", "2", "37.5", "stop line", ""], self.table("queues.csv"))
         trips = self.table("trips.csv")
         self.assertEqual([trip[-2:] for trip in trips], [["1", "arrived"]] * 2)
-        with gzip.open(self.folder / "out/lanes.jsonl.gz", "rt") as file:
-            polls = [json.loads(line) for line in file]
+        polls = [*read_folder(self.folder / "out").polls()]
         self.assertEqual(polls[0]["lanes"][0][2], [[0, 9, 0, 3], [1, 6, 0, 2]])
-
-
-class Standing(unittest.TestCase):
-    def test_cells_are_covered(self):
-        # Three cells from 9 to 7, one at 6, two at 5 and 4; the next stands after a gap.
-        self.assertEqual(standing_at_line(((1, 9, 0, 3), (2, 6, 0), (3, 5, 0, 2), (4, 2, 0)), 10), (3, 6))
-        self.assertEqual(standing_at_line(((1, 1, 0, 4),), 2), (1, 2))  # longer than the lane
 
 
 class Shown(Given):
@@ -182,9 +172,9 @@ class Shown(Given):
 
     def test_corridor(self):
         # The front goes from 37.5 to 52.5 m, the rear 22.5 m behind it; the car is a line alone.
-        pieces = series.trajectories(self.given, ["a", "b"], 0, 10)
+        pieces = run_series.trajectories(self.given, ["a", "b"], 0, 10)
         self.assertEqual(pieces[0], ((1, 37.5), (2, 52.5), 1, 22.5))
-        self.assertEqual(list(series.long_vehicle_strips(pieces)), [((1, 37.5), (2, 52.5), (2, 30.0), (1, 15.0))])
+        self.assertEqual(list(run_series.long_vehicle_strips(pieces)), [((1, 37.5), (2, 52.5), (2, 30.0), (1, 15.0))])
 
     @needs_matplotlib
     def test_picture(self):

@@ -6,18 +6,18 @@ from dataclasses import replace
 from support import PROGRAM, Case, lane, needs_simulator, net
 from streetsim.base.files import Fault
 from streetsim.base.report import Report
+from streetsim.control.works_asked import sites_of, works_of
+from streetsim.control.works_closures import begun_here
+from streetsim.control.works_lowering import limits_of, works_on_parts
+from streetsim.control.works_movements import closures_at
 from streetsim.model.detectors import E1, E2
 from streetsim.model.mapping import Map, MapLink, MapTurn, read_map
 from streetsim.sumo.bus_stops import BusStop
+from streetsim.sumo.demand import DemandVehicle
 from streetsim.sumo.detectors import SumoDetector
-from streetsim.sumo.net import Connection, Edge, Lane, SumoNet
-from streetsim.sumo.demand import Vehicle
-from streetsim.sumo.slowing import Part, Slow, parts_of, slow_of, with_lower_limits
+from streetsim.sumo.net import NetConnection, NetEdge, NetLane, SumoNet
+from streetsim.sumo.slowing import EdgePart, SlowStretch, parts_of, slow_of, with_lower_limits
 from streetsim.sumo.stops import Stop
-from streetsim.works.asked import sites_of, works_of
-from streetsim.works.closures import begun_here
-from streetsim.works.lowering import limits_of, works_on_parts
-from streetsim.works.movements import closures_at
 
 
 def street(metres=600):
@@ -30,9 +30,9 @@ def street(metres=600):
 def net_of(shape=((0, 0), (0, 300), (300, 300))):
     """An edge a of 600 m that turns at its middle, and one t behind it, with a light between."""
     made = SumoNet(junctions={"A": (0, 0), "B": (300, 300), "C": (900, 300)})
-    made.edges["a"] = Edge("a", "A", "B", 3, [Lane(at, 13.89, 600.0, list(shape)) for at in (0, 1)])
-    made.edges["t"] = Edge("t", "B", "C", 3, [Lane(0, 13.89, 600.0, [(300, 300), (900, 300)])])
-    made.connections = [Connection("a", "t", 1, 0, "B", 4, "O", 2)]
+    made.edges["a"] = NetEdge("a", "A", "B", 3, [NetLane(at, 13.89, 600.0, list(shape)) for at in (0, 1)])
+    made.edges["t"] = NetEdge("t", "B", "C", 3, [NetLane(0, 13.89, 600.0, [(300, 300), (900, 300)])])
+    made.connections = [NetConnection("a", "t", 1, 0, "B", 4, "O", 2)]
     made.closed_movements = {("a", "u")}
     return made
 
@@ -41,14 +41,15 @@ class Parts(unittest.TestCase):
     def test_none_before_or_behind_is_short(self):
         names = {(120, 300): "a a.120 a.300", (20, 300): "a a.300", (120, 580): "a a.120", (0, 600): "a"}
         for (begin, end), expected in names.items():
-            found = parts_of(Slow("a", begin, end, 30), 600)
+            found = parts_of(SlowStretch("a", begin, end, 30), 600)
             self.assertEqual(" ".join(part.name for part in found), expected)
             self.assertEqual((found[0].begin, found[-1].end, sum(part.slow for part in found)), (0, 600, 1))
-        self.assertEqual(parts_of(Slow("a", 20, 300, 30), 600)[0], Part("a", 0, 300, True))
+        self.assertEqual(parts_of(SlowStretch("a", 20, 300, 30), 600)[0], EdgePart("a", 0, 300, True))
 
     def test_a_network_in_parts(self):
         made, [one, other] = with_lower_limits(
-            net_of(), [Vehicle("v", 0, ("a", "t"), ""), Vehicle("w", 0, ("t",), "")], ["a:150-450:30"], Report()
+            net_of(), [DemandVehicle("v", 0, ("a", "t"), ""), DemandVehicle("w", 0, ("t",), "")], ["a:150-450:30"],
+            Report(),
         )
         self.assertEqual((one.edges, other.edges), (("a", "a.150", "a.450", "t"), ("t",)))
         self.assertEqual(list(made.edges), ["a", "a.150", "a.450", "t"])
@@ -93,7 +94,7 @@ class Parts(unittest.TestCase):
         net = net_of()
         net.bus_stops = {str(at): place for at, place in enumerate(stops)}
         own = tuple(Stop("here", "", place, 20, None) for place in stops)
-        driven = [Vehicle("v", 0, ("a", "t"), "", stops=own)]
+        driven = [DemandVehicle("v", 0, ("a", "t"), "", stops=own)]
         made, [vehicle] = with_lower_limits(net, driven, ["a:150-450:30"], Report())
         self.assertEqual([one.bus_stop for one in vehicle.stops], list(stops.values()))
         self.assertEqual(list(made.bus_stops.values()), list(stops.values()))
@@ -151,7 +152,7 @@ class Lowered(unittest.TestCase):
         turns = [MapTurn(link, at, link + 1, at, None, 0, False) for link in (0, 1) for at in (0, 1)]
         mapping = mapped(120, 180, 300, turns=turns)
         works = [works_of("a_0:105-300:60-900", self.WHOLE)]
-        found = sites_of(works_on_parts(works, [Slow("a", 120, 300, 30)], self.WHOLE), mapping)
+        found = sites_of(works_on_parts(works, [SlowStretch("a", 120, 300, 30)], self.WHOLE), mapping)
         self.assertEqual([(site.link, site.lane, site.cells) for site in found], [(0, 0, (14, 15)), (1, 0, (1, 23))])
         closures = closures_at(found)
         [begun] = begun_here(closures, mapping)

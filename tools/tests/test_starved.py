@@ -9,9 +9,12 @@ import functools
 import json
 import re
 import subprocess
+import tempfile
 import unittest
+from pathlib import Path
 
-from refusing import NEVER, RefusingCase, why_not
+from preloaded import why_not
+from refusing import NEVER, RefusingCase
 from support import PROGRAM, TOOLS, needs_simulator
 
 TOP = TOOLS.parent
@@ -45,7 +48,7 @@ REASON = why_not()
 
 def session_of_chapter(number):
     """The session that a chapter of LINES.md is: its lines, and its replies."""
-    chapter = LINES[LINES.index(f"\n## {number}. ") : LINES.index(f"\n## {number + 1}. ")]
+    chapter = LINES[LINES.index(f"\n## {number}. ") :].partition(f"\n## {number + 1}. ")[0]
     shown = "".join(re.findall(r"```session\n(.*?)```", chapter, re.S)).encode().splitlines(keepends=True)
     lines = [line[2:] for line in shown if line.startswith(b"> ")]
     return lines, [line for line in shown if not line.startswith(b"> ")]
@@ -56,6 +59,16 @@ def replies_to(lines):
     """What the program replies to some lines when memory is there."""
     done = subprocess.run([PROGRAM], input=b"".join(lines), capture_output=True, timeout=60, check=True)
     return tuple(done.stdout.splitlines(keepends=True))
+
+
+@functools.cache
+def record_of(lines):
+    """The record of some lines when memory is there."""
+    with tempfile.TemporaryDirectory() as folder:
+        file = Path(folder) / "record"
+        words = [PROGRAM, "--record", file]
+        subprocess.run(words, input=b"".join(lines), capture_output=True, timeout=60, check=True)
+        return file.read_bytes()
 
 
 def short_steps(reply):
@@ -245,6 +258,50 @@ class StarvedProgram(RefusingCase):
         # No advance that stopped short is answered, and the file is whole lines.
         self.assertNotIn(b"short", run.output)
         self.assertTrue(kept.endswith(b"\n"))
+
+    def test_a_session_with_a_record(self):
+        """Alone, and behind two lines that are done again."""
+        for again in (0, 2):
+            with self.subTest(again=again):
+                self.record_refused(again, lambda number: number)
+                self.record_refused(again, lambda number: NEVER)
+
+    def record_refused(self, again, last_of):
+        lines, replies = map(tuple, session_of_chapter(14))
+
+        def file_of(number):
+            return self.folder / f"{again}-{number}-{last_of(number)}.bin"
+
+        def run_of(number):
+            words = [PROGRAM, "--workers", "3", "--record", file_of(number)]
+            if again:
+                log = file_of(number).with_suffix(".jsonl")
+                log.write_bytes(b"".join(lines[:again]))
+                words += ["--keep", log]
+            return self.run_refusing(words, number, last_of(number), b"".join(lines[again:]))
+
+        def check(run):
+            told = (*replies[:again], *run.output.splitlines(keepends=True))
+            self.check_record(run, lines, told, file_of(run.number), again)
+
+        self.assertGreater(self.refuse_each(run_of, check), 50)
+
+    def check_record(self, run, lines, told, file, again):
+        """The record is that of what was answered; behind it stand at most the blocks of an advance that could not."""
+        self.assertTrue(are_replies(lines, told), run)
+        message = f"streetsim: 2 lines of {file.with_suffix('.jsonl')} were done again\n".encode() if again else b""
+        self.assertIn((run.status, run.error), ((0, message), (1, message + ENDED), (1, ENDED)), run)
+        self.assertEqual(run.unfreed, 0, run)
+        done = tuple(one for line, reply in zip(lines, told) for one, _ in done_of(line, reply))
+        record = file.read_bytes() if file.exists() else b""
+        if run.status == 0:
+            self.assertEqual((len(told), record), (len(lines), record_of(done)), run)
+        else:
+            self.assertEqual(record[: len(record_of(done))], record_of(done), run)
+        if run.status and not again:
+            # Of lines that were not answered the first alone was perhaps done.
+            more = record_of((*done, *lines[len(told) : len(told) + 1]))
+            self.assertEqual(record, more[: len(record)], run)
 
     def test_a_replay_and_an_upgrade(self):
         tape = (TOP / "docs/LINES.md").read_text()

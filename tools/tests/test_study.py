@@ -6,7 +6,6 @@ import shutil
 import socket
 import subprocess
 import sys
-import threading
 import time
 import unittest
 import unittest.mock
@@ -17,8 +16,8 @@ from statistics import fmean, stdev
 from clusters import DEBIAN, ClusterCase, free_port, needs_distributed
 from support import MAP, NUMBERED, PROGRAM, RED, TOOLS, Case, needs_simulator
 from streetsim.base.files import Fault
-from streetsim.sessions.machines import result_of
-from streetsim.study.variants import read_study
+from streetsim.search.run_machines import result_of
+from streetsim.search.study_variants import read_study
 
 CORRIDOR = TOOLS / "examples/corridor"
 
@@ -41,7 +40,10 @@ class Studies(Case):
             variants
             or f'[variant.given]\n[variant.wave]\nplans = {wave}\n[variant.closed]\nclose = ["J1J2_0:100-200:60-600"]\n'
         )
-        return f'run = "run.jsonl"\nmap = "map.json"\nuntil = {until}\nseeds = "{seeds}"\n{more}\n{variants}'
+        return (
+            f'run = "run.jsonl"\nmap = "map.json"\nuntil = {until}\nseeds = "{seeds}"\n'
+            f'departures = "listed"\n{more}\n{variants}'
+        )
 
     def words(self, study, *words, out="out"):
         return [study, "--program", PROGRAM, "--out", self.folder / out, *words]
@@ -77,8 +79,8 @@ class Tables(Studies):
             )
         self.assertRegex(
             told,
-            r"given: mean trip [\d.]+ s\nwave: mean trip [\d.]+ s, [-+][\d.]+ s ± [\d.]+ \(95 % interval, "
-            r"4 paired runs\); the wanted",
+            r"given: mean trip [\d.]+ s\nwave: mean trip [\d.]+ s, [-+][\d.]+ s ± [\d.]+ \(95 % interval of "
+            r"dawdling alone, 4 paired runs\); the wanted",
         )
         if find_spec("matplotlib"):
             self.assertTrue((self.folder / "out/differences.png").exists())
@@ -97,7 +99,8 @@ class Tables(Studies):
             ("closed", "run.jsonl", "map.json", closed),
         ):
             words = [
-                self.folder / run, "--map", self.folder / mapped, "--until", 900, "--rescue", 0, "--seeds", 3, *more,
+                self.folder / run, "--map", self.folder / mapped, "--until", 900, "--rescue", 0, "--seeds", 3,
+                "--departures", "listed", *more,
             ]
             self.tool("run", *words, "--out", self.folder / f"run-{name}", "--program", PROGRAM)
             self.assertEqual(self.table("seeds.csv", f"run-{name}")[0]["arrived"], arrived[name])
@@ -107,8 +110,8 @@ class Tables(Studies):
         for study, told in (
             (
                 self.text(more='color = "red"'),
-                "unknown key 'color'; known are base, lights, lost, map, merge, priority, rounds, run, seeds, "
-                "seen, stops, until, variant",
+                "unknown key 'color'; known are base, departures, lights, lost, map, merge, priority, rounds, run, "
+                "seeds, seen, stops, until, variant",
             ),
             (
                 self.text(more='base = "old"'),
@@ -162,6 +165,7 @@ class Ends(Studies):
         told, _ = self.tool("study", *self.words(study, "--jobs", 2))
         words = [
             self.folder / "run.jsonl", "--map", self.folder / "map.json", "--rescue", 0, "--every", 0, "--seeds", "1-2",
+            "--departures", "listed",
         ]
         said, _ = self.tool("run", *words, "--out", self.folder / "runs", "--program", PROGRAM)
         mine = [row for row in self.table("runs.csv") if row["variant"] == "given"]
@@ -169,7 +173,7 @@ class Ends(Studies):
             self.assertEqual((one["arrived"], one["mean_trip_s"]), ("2400", f"{float(other['mean_trip_s']):.3f}"))
             self.assertIn(f"ended at {int(one['end_s']):,} s: all have arrived", said)
             self.assertEqual(one["ended"], "all have arrived")
-        self.assertRegex(told.splitlines()[-1], r"runs ended at [34],[0-9]{3}( to [34],[0-9]{3})? s: all have arrived")
+        self.assertRegex(told.splitlines()[-2], r"runs ended at [34],[0-9]{3}( to [34],[0-9]{3})? s: all have arrived")
         self.assertEqual(self.not_trusted(), [])
         self.tool("study", *self.words(study, "--jobs", 1, out="again"))
         self.assertEqual((self.folder / "out/runs.csv").read_bytes(), (self.folder / "again/runs.csv").read_bytes())
@@ -182,9 +186,10 @@ class Ends(Studies):
         enter = {"cmd": "enter", "plan": [0, 1], "lane": 0, "depart": 30}
         self.write("one.jsonl", f"{json.dumps({'cmd': 'load', **NUMBERED})}\n{json.dumps(enter)}\n")
         self.write("one.json", json.dumps({**MAP, "cars": ["v"]}))
-        text = 'run = "one.jsonl"\nmap = "one.json"\nseeds = "1"\n[variant.given]\n[variant.slow]\ndawdle = 1000\n'
+        head = 'run = "one.jsonl"\nmap = "one.json"\nseeds = "1"\ndepartures = "listed"\n'
+        text = head + "[variant.given]\n[variant.slow]\ndawdle = 1000\n"
         variants = read_study(self.write("study.toml", text), PROGRAM).variants
-        self.assertEqual([one.due for one in variants.values()], [[30 + 10 / 5 * 2 + 1], [30 + 10 / 4 * 2 + 1]])
+        self.assertEqual([one.due for one in variants.values()], [[[30 + 10 / 5 * 2 + 1]], [[30 + 10 / 4 * 2 + 1]]])
 
     def queued(self, more=""):
         """What a study says of 20 vehicles before a light that is red for ever: ten fill their
@@ -193,7 +198,7 @@ class Ends(Studies):
         lines = [{"cmd": "load", **NUMBERED}, RED, *enters]
         self.write("queue.jsonl", "".join(json.dumps(line) + "\n" for line in lines))
         self.write("queue.json", json.dumps({**MAP, "cars": [f"v{at}" for at in range(20)]}))
-        text = f'run = "queue.jsonl"\nmap = "queue.json"\nseeds = "1-2"\n{more}[variant.red]\n'
+        text = f'run = "queue.jsonl"\nmap = "queue.json"\nseeds = "1-2"\ndepartures = "listed"\n{more}[variant.red]\n'
         return self.tool("study", *self.words(self.write("study.toml", text)))[0].splitlines()
 
     def test_nobody_moves(self):
@@ -233,7 +238,7 @@ class Cluster(ClusterCase, Studies):
         self.assertEqual(self.files("both"), self.files("one"))
         self.assertEqual(self.found("--cluster", f"127.0.0.1:{port}"), self.found("--jobs", 1))
         words = [TOOLS / "streetsim-study", *self.words(study, "--cluster", f"127.0.0.1:{port}", out="killed")]
-        self.kill_worker_during(workers[0], words)
+        self.kill_worker_during(workers, words)
         self.assertEqual(self.files("killed"), self.files("one"))
 
     def found(self, *words):
@@ -254,13 +259,14 @@ class Cluster(ClusterCase, Studies):
             shutil.copy(PROGRAM, program)
             study = self.study("1-2")
             # The program changes after the tool has looked at it: what the workers have is then another one.
-            words = ["import sys; sys.path.insert(0, sys.argv[1])", "from streetsim.sessions import machines"]
-            words += ["from streetsim.study.variants import read_study"]
+            words = ["import sys; sys.path.insert(0, sys.argv[1])", "from streetsim.search import run_machines"]
+            words += ["from streetsim.search.study_variants import read_study"]
             words += ["study = read_study(sys.argv[2], sys.argv[3])"]
             words += [
                 "import os; os.unlink(sys.argv[3])" if change == "unlink" else "open(sys.argv[3], 'ab').write(b'x')"
             ]
-            words += ["with machines.machines(1, sys.argv[4], [one.session for one in study.variants.values()]): pass"]
+            words += ["sessions = [one.sessions[0] for one in study.variants.values()]"]
+            words += ["with run_machines.machines(1, sys.argv[4], sessions): pass"]
             done = subprocess.run(
                 [DEBIAN, "-c", "\n".join(words), TOOLS, study, program, f"127.0.0.1:{port}"],
                 capture_output=True,
@@ -288,7 +294,7 @@ class Given(unittest.TestCase):
 
     LOST = """
 import os, time
-from streetsim.sessions.machines import machines
+from streetsim.search.run_machines import machines
 def lost(_):
     time.sleep(0.5)
     os.kill(os.getpid(), 9)
@@ -328,11 +334,10 @@ class NoCluster(Studies):
 
     @needs_distributed
     def test_nobody_answers(self):
-        """A port where nobody listens, and one where somebody does and says nothing."""
+        """A port where nobody listens, and one where the system takes calls that nobody answers."""
         said, _ = self.refused(free_port())
         self.assertRegex(said, r"--cluster 127.0.0.1:\d+: no scheduler answered in 10 s")
         with socket.create_server(("127.0.0.1", 0)) as mute:
-            threading.Thread(target=lambda: [mute.accept() for _ in range(3)], daemon=True).start()
             said, _ = self.refused(mute.getsockname()[1])
         self.assertRegex(said, r"--cluster 127.0.0.1:\d+: no scheduler answered in 10 s")
 

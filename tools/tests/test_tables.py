@@ -59,10 +59,10 @@ MADE = {
     "tools/streetsim/cli/play.py": "PLAY = 1\n",
     "tools/streetsim/base/__init__.py": "",
     "tools/streetsim/base/low.py": '"""Docs."""\nLOW = 1  # why\n',
-    "crates.txt": "street_sim: street_base clap\nstreet_base: rand_core\nstreet_page: street_base\n",
+    "crates.txt": "street_sim: street_base clap\nstreet_base: rand_core\nstreet_more: street_base\n",
     "crates/street_base/src/lib.rt": "// why\npub fn one() -> u64 { 1 }\n",
     "crates/street_base/specs/One.antt": "-- why\none = 1\n",
-    "crates/street_page/src/lib.rt": "pub fn page() {}\n",
+    "crates/street_more/src/lib.rt": "pub fn more() {}\n",
 }
 
 
@@ -141,7 +141,7 @@ class Sources(Case):
             ("tools/streetsim/base/low.py", '"""Other docs."""\n\nLOW = 1\n'),
             ("crates/street_base/src/lib.rt", "pub fn one() -> u64 { 2 }\n"),
             ("crates/street_base/specs/One.antt", "-- other words\none = 1\n"),
-            ("crates/street_page/src/lib.rt", "pub fn page() { page() }\n"),
+            ("crates/street_more/src/lib.rt", "pub fn more() { more() }\n"),
         ):
             self.assertEqual(self.changed_by(name, text), [], name)
 
@@ -177,6 +177,7 @@ class Pages(Case):
     def test_what_tools_found_is_kept_apart_for_each_state_of_them(self):
         places = {table.name: table.place(Path("/folder")).name for table in of_the_script()}
         self.assertEqual(places["cross"], "cross")
+        self.assertEqual(places["versions"], places["sweep"])
         self.assertRegex(places["signals"], "^signals-[0-9a-f]{16}$")
         self.assertRegex(places["day"], "^day-[0-9a-f]{16}$")
 

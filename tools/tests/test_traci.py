@@ -4,6 +4,7 @@ import importlib.util
 import json
 import os
 import re
+import resource
 import subprocess
 import sys
 import time
@@ -21,18 +22,17 @@ from support import (
 )
 from streetsim.base.files import Fault
 from streetsim.model.detectors import Detector
-from streetsim.results.compare import geh
+from streetsim.report.beside_sumo import geh
 from streetsim.scenario import TrafficLight
 from streetsim.simulation.fleet import OnRoad
-from streetsim.simulation.remembering import Remembering
-from streetsim.simulation.lights import Light
+from streetsim.simulation.lights import LightShow
 from streetsim.simulation.options import OUTPUT, SHORT, check_option
-from streetsim.simulation.session import Session
+from streetsim.simulation.session import TraciSession
 from streetsim.simulation.street_facts import read_facts
 from streetsim.traci import constants as tc
 import streetsim.traci as traci
 from streetsim.traci.advice import NOTHING
-from streetsim.traci.roads import InductionLoop
+from streetsim.traci.roads import InductionLoopDomain
 
 SCRIPTS, ACTUATED = TOOLS / "examples/traci", TOOLS / "examples/actuated"
 USERS = DATA / "traci"  # scripts of users, for SUMO's traci
@@ -84,19 +84,19 @@ class Loops(unittest.TestCase):
         detector = Detector("loop", "e1", 0, 0, 3, 3, 60)
         driving = 100 * 5 / 15
         for where, percent in ((OnRoad(1, 0, 3, 2), driving), (OnRoad(0, 1, 3, 2), driving), (OnRoad(0, 0, 3, 0), 100)):
-            view = SimpleNamespace(on_road={7: where}, before={})
-            fleet = SimpleNamespace(names={7: "v"}, sizes={"v": 1})
-            session = SimpleNamespace(
-                view=view, fleet=fleet, detectors={"loop": detector}, loops={"loop": SimpleNamespace(passed=[7])}
-            )
-            session.follow = lambda session=session: session
-            self.assertAlmostEqual(InductionLoop(lambda session=session: session).getLastStepOccupancy("loop"), percent)
+            view, fleet = SimpleNamespace(there={7: where}, there_before={}), SimpleNamespace(size={7: 1}.get)
+            loops = SimpleNamespace(passed={"loop": [7]})
+            mapping = SimpleNamespace(links=[SimpleNamespace(cell_metres=7.5)])
+            session = SimpleNamespace(view=view, fleet=fleet, detectors={"loop": detector}, loops=loops, map=mapping)
+            loop = InductionLoopDomain(lambda session=session: session)
+            self.assertAlmostEqual(loop.getLastStepOccupancy("loop"), percent)
 
 
 class Vehicles(Started):
     def test_one_vehicle(self):
         """It departs in the first step, whatever the draws, and stands in cell 0."""
         self.start()
+        cell = 75 / traci.vehicle.now().map.links[0].cells
         self.assertEqual((traci.vehicle.getIDList(), traci.simulation.getMinExpectedNumber()), ((), 2))
         traci.simulationStep()
         self.assertEqual(
@@ -110,9 +110,9 @@ class Vehicles(Started):
                 traci.vehicle.getLanePosition("v"),
                 traci.vehicle.getSpeed("v"),
             ),
-            ("a", "a_0", 7.5, 0.0),
+            ("a", "a_0", cell, 0.0),
         )
-        self.assertEqual((traci.vehicle.getPosition("v"), traci.vehicle.getRoute("v")), ((7.5, 0.0), ("a", "b")))
+        self.assertEqual((traci.vehicle.getPosition("v"), traci.vehicle.getRoute("v")), ((cell, 0.0), ("a", "b")))
         self.assertEqual(traci.vehicle.getAllowedSpeed("later"), traci.constants.INVALID_DOUBLE_VALUE)  # as in SUMO
         traci.simulationStep()
         self.assertEqual((traci.simulation.getTime(), traci.simulation.getDepartedIDList()), (2.0, ()))
@@ -324,7 +324,9 @@ class Vehicles(Started):
                 lambda: traci.vehicle.getCO2Emission("v"),
                 "vehicle.getCO2Emission is not here: emissions are not reckoned",
             ),
-            (lambda: traci.person.getIDList(), "traci.person is not here"),
+            (lambda: traci.person.getRoadID("p"), "person.getRoadID is not here: there are no persons"),
+            (lambda: traci.trafficlight.setProgram("L", "off"), "no light is off here; hold states"),
+            (lambda: traci.lane.setMaxSpeed("a_0", 3), "limits are the network's; change them there"),
         ):
             with self.assertRaisesRegex(traci.TraCIException, told):
                 call()
@@ -435,7 +437,7 @@ class Vehicles(Started):
                 traci.start([*words, *more, "--log", str(self.folder / "log.txt"), "--classes", "passenger"])
             traci.close()
             text = (self.folder / "log.txt").read_text()
-            self.assertIn("warning: --lateral-resolution 0.8 has no effect here\n", text)
+            self.assertIn("warning: --lateral-resolution 0.8 has no effect here: vehicles fill their lane", text)
             self.assertIn("skipped: 1 vehicles: ", text)
             self.assertNotIn("teleport", text)
             self.assertEqual(said.getvalue(), text if told else "")
@@ -498,12 +500,16 @@ class Vehicles(Started):
             (traci.vehicle.getFollower("v"), traci.vehicle.getFollower("later")), (("later", 0.0), ("", -1.0))
         )
         self.assertEqual(traci.vehicle.getNextTLS("v"), (("L", 0, 0.0, "r"),))
-        self.assertEqual(traci.vehicle.getNextTLS("later"), (("L", 0, 7.5, "r"),))
+        [(*light, metres, state)] = traci.vehicle.getNextTLS("later")
+        self.assertEqual((light, state), (["L", 0], "r"))
+        cells = traci.vehicle.now().map.links[0].cells
+        self.assertAlmostEqual(metres, 75 / cells)
         self.assertEqual(
             (traci.vehicle.getDrivingDistance("v", "b", 30), traci.vehicle.getDrivingDistance("v", "a", 10)),
             (30.0, tc.INVALID_DOUBLE_VALUE),
         )
-        self.assertEqual((traci.vehicle.getDistance("v"), traci.vehicle.getAngle("v")), (67.5, 90.0))
+        driven = 75 * (cells - 1) / cells
+        self.assertEqual((traci.vehicle.getDistance("v"), traci.vehicle.getAngle("v")), (driven, 90.0))
         self.assertFalse(traci.vehicle.isStopped("v"))
         lost = traci.vehicle.getTimeLoss("v")
         self.steps(10)
@@ -705,8 +711,9 @@ class Vehicles(Started):
         path = self.folder / "state.json"
         traci.simulation.saveState(str(path))
         state = json.loads(path.read_text())
-        light = {**state["lights"], "K": state["lights"]["L"]}
-        changed = ({"of": None}, {"lines": None}, {"cars": None}, {"timers": [[1]]}, {"lights": light})
+        deeds = [["hold", ["K", "rr"]], ["hold", ["L", "x"]], ["close", []], ["hold", []]]
+        changed = [{"done": [[0, "control", *one]]} for one in deeds]
+        changed += [{"of": None}, {"done": [[1]]}, {"done": [[0, "lights", "hold", ["L", "rr"]]]}, {"clock": -1}]
         for other in (*changed, *({name: ...} for name in state if name != "format")):
             [(name, value)] = other.items()
             rest = {key: own for key, own in state.items() if key != name}
@@ -798,7 +805,8 @@ class Vehicles(Started):
     def test_a_run_whose_outputs_cannot_be_written_ends(self):
         words = ["sumo", "-n", self.write("x.net.xml", SIGNALLED), "-r", self.write("x.rou.xml", ROUTES), "-W"]
         for option in ("--tripinfo-output", "--log"):
-            with unittest.mock.patch.object(Session, "close", autospec=True, side_effect=Session.close) as close:
+            really = TraciSession.close
+            with unittest.mock.patch.object(TraciSession, "close", autospec=True, side_effect=really) as close:
                 with self.assertRaisesRegex(traci.FatalTraCIError, "No such file or directory"):
                     traci.start([*words, option, str(self.folder / "no/x.xml")])
             close.assert_called_once()
@@ -854,23 +862,6 @@ class Vehicles(Started):
         self.assertEqual({float(one.get("depart")) for one in trips.values()}, {0.0, 50.0})
         steps = ElementTree.parse(self.folder / "my-summary.xml").getroot()
         self.assertEqual((len(steps), steps[-1].get("arrived")), (end, "2"))
-
-    def test_a_run_that_is_brought_to_where_it_was(self):
-        """By the lines that changed something alone, and it goes on from there as it did."""
-        with Remembering(PROGRAM) as sim:
-
-            def places():
-                sim.advance(3)
-                return [sim.vehicle(car) for car in range(5)]
-
-            sim.load([[0, 1, 2]], [[0, 0, 0, 1, 90, 5]], [[0, 0, 0, 0]], dawdle=300, seed=3)
-            for _ in range(5):
-                sim.enter([0] * 9)
-            sim.advance(9)
-            kept = list(sim.changes)
-            later = [places() for _ in range(9)]
-            sim.repeat(kept)
-            self.assertEqual([places() for _ in range(9)], later)
 
 
 class Lights(Started):
@@ -1117,7 +1108,7 @@ class Lights(Started):
         self.assertEqual(traci.trafficlight.getProgram("L"), "day")
 
     def test_light(self):
-        light = Light([(10, "G"), (20, "r")], 95, "0")
+        light = LightShow([(10, "G"), (20, "r")], 95, "0")
         told = [light.phase_at(clock) for clock in (95, 96, 105, 106, 125, 126)]
         self.assertEqual(told, [(1, 0), (0, 9), (0, 0), (1, 19), (1, 0), (0, 9)])
         light.since = 105  # a script has set its second phase then
@@ -1168,26 +1159,34 @@ class Constants(unittest.TestCase):
         spec = importlib.util.spec_from_file_location("constants", SUMO / "tools/traci/constants.py")
         theirs = importlib.util.module_from_spec(spec)
         spec.loader.exec_module(theirs)
-        for name, value in vars(tc).items():
-            if name.isupper():
-                self.assertEqual(value, getattr(theirs, name), name)
-
+        ours, of_sumo = ({name: one for name, one in vars(it).items() if name[0] != "_"} for it in (tc, theirs))
+        self.assertEqual(ours, of_sumo)
+        self.assertEqual(len(ours), 535)
 
     @needs_traci
     def test_each_call_of_sumo_is_here_or_says_what_to_do_instead(self):
         with unittest.mock.patch.object(sys, "path", [str(SUMO / "tools"), *sys.path]):
             theirs = importlib.import_module("traci")
-        here = []
+        here, count = [], 0
         for name in DOMAINS:
             domain = getattr(theirs, name)
             for call in (call for call in dir(domain) if call[0].islower() and callable(getattr(domain, call))):
+                count += 1
                 if hasattr(type(vars(traci).get(name)), call):
                     here.append(f"{name}.{call}")
                     continue
                 with self.assertRaisesRegex(traci.NotHere, "(?s)is not here: .*(;|use|subscribe)") as raised:
                     getattr(getattr(traci, name), call)
                 self.assertNotIn(NOTHING, str(raised.exception))
-        self.assertGreaterEqual(len(here), 279)
+        page = (TOOLS / "PYTHON.md").read_text(encoding="utf-8")
+        told = f"\n{len(here)} of the {count} calls of SUMO 1.15's domains are here."
+        self.assertTrue(told in page, told)
+
+
+def processor_seconds():
+    """Those of all processes that ended so far and were waited for, by whoever started them."""
+    used = resource.getrusage(resource.RUSAGE_CHILDREN)
+    return used.ru_utime + used.ru_stime
 
 
 @needs_simulator
@@ -1211,13 +1210,13 @@ class Scripts(Case):
         run = f"exec(compile({text!r}, {str(path)!r}, 'exec'), {{'__name__': '__main__', '__file__': {str(path)!r}}})"
         paths = SUMO / "tools" if sumo else TOOLS
         variables = {**os.environ, "PYTHONPATH": str(paths), "SUMO_HOME": str(SUMO), "STREETSIM_PROGRAM": PROGRAM}
-        begin = time.perf_counter()
+        begin = processor_seconds()
         done = subprocess.run(
             [sys.executable, "-c", run, *map(str, words)], env=variables, capture_output=True, text=True, check=False
         )
         self.assertEqual(done.returncode, 0, done.stderr)
         told = [line for line in done.stdout.splitlines() if not line.strip().startswith(WAITING)]
-        return told, time.perf_counter() - begin
+        return told, processor_seconds() - begin
 
     def mean_trip(self, *words, sumo=False):
         [line], _ = self.run_script("actuated", *words, sumo=sumo)
@@ -1283,14 +1282,18 @@ class Scripts(Case):
     @needs_sumo
     @needs_traci
     def test_progress_as_in_sumo(self):
-        """Metres and gaps, through a junction too. A queue begins a metre nearer to the stop line, in cells;
-        and as vehicles brake and start at once, those who stop lose some seconds less."""
+        """Metres and gaps, through a junction too. A gap is of cells, which are 6.7 m here, as vehicles depart on these
+        streets; a queue begins a metre nearer to the stop line, and its third is 0.8 m nearer for each before it; and
+        as vehicles brake and start at once, those who stop lose some seconds less."""
         (here, _), (there, _) = (self.run_script("progress", *self.cross()[:4], sumo=sumo) for sumo in (False, True))
         (equal, queues, stood, whole), (wanted, *theirs) = (list(map(json.loads, told)) for told in (here, there))
-        self.assertEqual(equal, wanted)
-        for one, other in zip(queues, theirs[0], strict=True):
+        off, of_sumo = equal.pop(3), wanted.pop(3)
+        self.assertEqual((equal, of_sumo), (wanted, [0.0]))
+        self.assertTrue(all(0 <= metres <= 1 for metres in off), off)
+        for at, (one, other) in enumerate(zip(queues, theirs[0], strict=True)):
+            most = 2 + 0.85 * (at // 2)  # of one from the east and one from the west in turn
             self.assertTrue(
-                all(abs(metres - those) < 2 for metres, those in zip(one, other, strict=True)), (one, other)
+                all(abs(metres - those) < most for metres, those in zip(one, other, strict=True)), (one, other)
             )
         self.assertAlmostEqual(whole[0] / theirs[2][0], 1, delta=0.05)
         for less in ((sum(theirs[1]) - sum(stood)) / len(stood), theirs[2][1] - whole[1]):
@@ -1351,7 +1354,8 @@ class Scripts(Case):
     @needs_sumo
     @needs_traci
     def test_speeds_within_twice_sumos_time(self):
-        """5,400 vehicles an hour on the grid, 900 steps; the mean speed is SUMO's within 10 %."""
+        """5,400 vehicles an hour on the grid, 900 steps; the mean speed is SUMO's within 10 %, as vehicles brake and
+        start at once."""
         with gzip.open(DATA / "grid.rou.xml.gz", "rt", encoding="utf-8") as file:
             text = file.read()
         vehicles = re.findall("<vehicle .*?</vehicle>", text, re.DOTALL)
@@ -1367,7 +1371,7 @@ class Scripts(Case):
             self.run_script("speeds", network, routes, sumo=sumo) for sumo in (False, True)
         )
         speeds = [float(told[0].split()[2]) for told in (here, there)]
-        self.assertAlmostEqual(speeds[0] / speeds[1], 1, delta=0.1, msg=f"{here} {there}")
+        self.assertAlmostEqual(speeds[0] / speeds[1], 1, delta=0.10, msg=f"{here} {there}")
         self.assertLess(time_here, 2 * time_there)
 
 

@@ -138,7 +138,7 @@ class Runs(Case):
             ["1 vehicles, 0 arrived, no trip, 1200.0 s to date of 1 under way, 0 rescues", f"not to be trusted: {why}"],
         )
         self.assertEqual(json.loads((self.folder / "out" / NAME).read_text())["not_trusted"], [why])
-        told = self.run_tool(RED, enter, more=["--rescue", 0, "--seeds", "3-4"])
+        told = self.run_tool(RED, enter, more=["--rescue", 0, "--seeds", "3-4", "--departures", "listed"])
         self.assertEqual(told[1], f"seed 3: not to be trusted: {why}")
         self.assertEqual(told[-1], "not to be trusted: seeds 3, 4")
 

@@ -8,6 +8,8 @@ from pathlib import Path
 from support import TOOLS, Case, needs_sumo, needs_sumo_tools
 
 BENCH = TOOLS.parent / "bench"
+sys.path.insert(0, str(BENCH))
+from unseen_nets import make  # noqa: E402
 
 
 @needs_sumo
@@ -36,17 +38,34 @@ class Nets(Case):
         few, many = (self.folder_of(self.folder, "street", "--level", level) for level in (0.2, 0.6))
         counts = [len(list(ElementTree.parse(at / "demand.rou.xml").iter("vehicle"))) for at in (few, many)]
         self.assertAlmostEqual(counts[1] / counts[0], 3, places=1)
+        short = make("street", 7, self.folder, 0.6, seconds=1800)
+        self.assertAlmostEqual(short.vehicles / counts[1], 0.5, places=2)
         exact = self.folder_of(self.folder, "street", "--vehicles", 50)
         self.assertEqual(len(list(ElementTree.parse(exact / "demand.rou.xml").iter("vehicle"))), 50)
 
     def test_kinds_are_what_they_are_called(self):
-        states = {"stops": "s", "all-way": "w", "priority": "m", "equal": "="}
+        states = {"stops": "s", "all-way": "w", "priority": "m", "equal": "=", "zipper": "Z"}
         for kind, state in states.items():
             root = ElementTree.parse(self.folder_of(self.folder, kind, "--vehicles", 20) / "net.net.xml").getroot()
             found = {one.get("state") for one in root.iter("connection")}
             self.assertIn(state, found, kind)
         root = ElementTree.parse(self.folder_of(self.folder, "nema-cross", "--vehicles", 20) / "net.net.xml").getroot()
         self.assertEqual([one.get("type") for one in root.iter("tlLogic")], ["NEMA"])
+
+    def test_flows_are_as_many_as_their_level_says(self):
+        counts = []
+        for level in (0.4, 0.8):
+            made = make("zipper", 7, self.folder, level)
+            root = ElementTree.parse(made.routes[0]).getroot()
+            counts.append(len(root.findall("vehicle")))
+            self.assertEqual({route.get("edges").split()[-1] for route in root.iter("route")}, {"zip-out"})
+        self.assertAlmostEqual(counts[1] / counts[0], 2, places=2)
+
+    def test_buses_have_their_lane(self):
+        made = make("bus-lane", 7, self.folder, 0.2)
+        lanes = [lane for lane in ElementTree.parse(made.net).getroot().iter("lane") if lane.get("allow") == "bus"]
+        self.assertTrue(any(lane.get("id").startswith("m0-m1_") for lane in lanes))
+        self.assertEqual(made.words, ("--classes", "passenger,bus"))
 
     def test_buses_stop_on_their_ways(self):
         folder = self.folder_of(self.folder, "bus-arterial", "--vehicles", 200)

@@ -1,8 +1,12 @@
 """The walks of the pages of tools/ print what the pages show, but for those that search for minutes."""
 import subprocess
+import sys
 import unittest
 
 from support import PROGRAM, TOOLS, Case, needs_package, needs_simulator, needs_sumo
+
+sys.path.insert(0, str(TOOLS.parent / "bench"))
+import walks  # noqa: E402
 
 try:
     import matplotlib
@@ -12,6 +16,17 @@ except ImportError:
 
 # Those of SIGNALS and ROUTES take minutes: bench/walks.py alone runs them.
 PAGES = "README,WORKS,COUNTS"
+
+
+class Ends(unittest.TestCase):
+    def test_no_walk_ends_with_a_run_that_is_not_to_be_trusted(self):
+        shown = {
+            page: [line for heading in headings for _, lines in walks.blocks(page, heading) for line in lines]
+            for page, headings in walks.SECTIONS.items()
+        }
+        doubted = {page for page, lines in shown.items() if any(line.startswith("not to be trusted") for line in lines)}
+        self.assertTrue(all(shown.values()))
+        self.assertEqual(doubted, set())
 
 
 @needs_simulator

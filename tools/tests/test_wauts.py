@@ -11,8 +11,8 @@ from test_driven import FIXED, NOBODY
 from streetsim import traci
 from streetsim.base.files import Fault
 from streetsim.base.report import Report
-from streetsim.importing.convert import convert
 from streetsim.sumo.converting import run_and_map
+from streetsim.sumo.import_files import convert
 from streetsim.sumo.net import SumoNet, Waut
 from streetsim.sumo.network import Options
 from streetsim.sumo.wauts import day_of, read_waut

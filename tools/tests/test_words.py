@@ -1,21 +1,31 @@
 """The words of the commands: faults in one line, times and lists as SUMO reads them,
 and output that cannot be written."""
-import gzip
 import json
+import re
 import subprocess
 import unittest
 
 from support import FORK, MAP, NUMBERED, PROGRAM, TOOLS, Case, needs_simulator
 from streetsim.base.files import Fault, read_json
 from streetsim.base.words import Parser, integer_within, names_in, paths_in, time_within
+from streetsim.model.folder import read_folder
 
 ENTER = {"cmd": "enter", "plan": [0, 1], "lane": 0, "depart": 0}
+VERSION_1 = {  # the options that tools of 1.0.0 told in their --help
+    "run": "close counted edges every jobs joint junctions lights lost map merge out period priority program rescue "
+    "rounds seeds seen stops sumo-output until workers works-limit",
+    "study": "cluster jobs out precision program rounds",
+    "compare": "attribute counts out sumo",
+    "route": "anew before begin buffer change check classes close cluster dawdle end gap ignore-route-errors "
+    "iterations jobs joint knowing lights lost map out output permissive program residence rounds run seed seeds share "
+    "sign sizes slice tried trips turns until zone",
+}
 
 
 class Words(Case):
     def test_faults_are_one_line(self):
         for tool, words in (
-            ("import", ["x.net.xml"]),
+            ("import", ["x.net.xml", "--routs", "x.rou.xml"]),
             ("run", ["x.jsonl", "--map", "m", "--out", "o", "--until", "soon"]),
             ("run", ["x.jsonl", "--map", "m", "--out", "o", "--until", 9, "--colour", "red"]),
             ("plot", ["kites", "out"]),
@@ -28,6 +38,14 @@ class Words(Case):
                 told, said = self.tool(tool, *words, status=2)
                 self.assertEqual((told, said.count("\n"), said.split(": ")[0]), ("", 1, f"streetsim-{tool}"))
                 self.assertTrue(said.endswith(f"(what may be given: streetsim-{tool} --help)\n"), said)
+
+    def test_words_of_version_1(self):
+        """Each of them is still told, or the page of changes says what replaces it."""
+        changes = (TOOLS.parent / "CHANGELOG.md").read_text(encoding="utf-8").partition("## 1.0.0")[0]
+        for tool, names in VERSION_1.items():
+            told, _ = self.tool(tool, "--help")
+            gone = [name for name in names.split() if not re.search(rf"--{name}\b(?!-)", told)]
+            self.assertEqual([name for name in gone if f"`--{name}`" not in changes], [], tool)
 
     def test_words_without_a_name(self):
         """As a variable of the shell leaves one that is not set."""
@@ -64,8 +82,8 @@ class Words(Case):
 
     def test_outputs_that_are_read(self):
         run, mapped = self.write("x.jsonl", json.dumps({"cmd": "load", **NUMBERED})), self.write("x.json", "{}")
-        told = self.tool("live", run, "--map", mapped, "-o", run, status=2)[1]
-        self.assertIn("-o names a file that is read", told)
+        told = self.tool("live", run, "--map", mapped, "--keep", run, status=2)[1]
+        self.assertIn("--keep names a file that is read", told)
 
     def test_outputs_whose_folder_is_not_there(self):
         """Told before anything is written, or read."""
@@ -79,11 +97,11 @@ class Words(Case):
 
     def test_times(self):
         time = time_within(0, 100_000)
-        told = [time(text) for text in ("90", "90.0", "01:00:00", "00:01:30", "1:00:00:01")]
-        self.assertEqual(told, [90, 90, 3600, 90, 86_401])
+        told = [time(text) for text in ("90", "90.0", "01:00:00", "00:01:30", "1:00:00:01", "7:30")]
+        self.assertEqual(told, [90, 90, 3600, 90, 86_401, 27_000])
         made = Parser(prog="x")
         made.add_argument("--until", type=time_within(1, 86_400))
-        for text in ("0", "1.5", "24:00:01", "soon", "2:00", "1:2:3:4:5", "nan"):
+        for text in ("0", "1.5", "24:00:01", "24:01", "soon", "2:60", "2:0", "1:2:3:4:5", "nan"):
             with self.subTest(text), self.assertRaisesRegex(Fault, f"--until: '{text}' is not 1 to 86,400 s"):
                 made.parse_args(["--until", text])
 
@@ -127,15 +145,17 @@ class Runs(Case):
         """Both lanes are closed in the last step; an edge is told its lanes."""
         works = "a_0:0-75:20-30,b_0:0-75:00:00:10-00:00:50"
         self.tool("run", *self.words("--until", 25, "--every", 1, "--close", works))
-        with gzip.open(self.folder / "out/lanes.jsonl.gz", "rt", encoding="utf-8") as file:
-            last = json.loads(file.readlines()[-1])
+        *_, last = read_folder(self.folder / "out").polls()
         self.assertEqual([(lane[0], lane[4]) for lane in last["lanes"]], [(0, [[0, 9]]), (1, [[0, 9]])])
         _, said = self.tool("run", *self.words("--until", 60, "--close", "b:0-75:10-50"), status=2)
         self.assertEqual(said, "streetsim-run: --close 'b:0-75:10-50': the map has no lane 'b', but b_0\n")
 
     def test_times_of_a_study(self):
         self.words()
-        text = 'run = "run.jsonl"\nmap = "map.json"\nuntil = "00:01:00"\nseeds = "1"\n[variant.given]\n'
+        text = (
+            'run = "run.jsonl"\nmap = "map.json"\nuntil = "00:01:00"\nseeds = "1"\n'
+            'departures = "listed"\n[variant.given]\n'
+        )
         words = [self.write("study.toml", text), "--program", PROGRAM, "--jobs", 1, "--out", self.folder / "out"]
         self.assertRegex(self.tool("study", *words)[0], "given: mean trip [0-9.]+ s")
 

@@ -1,6 +1,5 @@
 """Road works: parallel links are joint for the run, and what cannot be had is said."""
 import csv
-import gzip
 import json
 import os
 import unittest
@@ -8,14 +7,15 @@ from collections import Counter
 
 from support import PROGRAM, Case, lane, needs_simulator, net
 from streetsim.base.files import Fault
+from streetsim.model.folder import read_folder
 from streetsim.model.mapping import read_map
 from streetsim.model.runs import read_run
 from streetsim.scenario import Scenario
-from streetsim.sumo.net import Edge, Lane as SumoLane
-from streetsim.sumo.network import bundles_of_edge
+from streetsim.sumo.bundles import bundles_of_edge
+from streetsim.sumo.net import NetEdge, NetLane as SumoLane
 import streetsim.traci as traci
-from streetsim.works.asked import sites_of, works_of
-from streetsim.works.sites import shut_links, with_works
+from streetsim.control.works_asked import sites_of, works_of
+from streetsim.control.works_sites import shut_links, with_works
 
 
 LIGHT = (
@@ -49,7 +49,7 @@ def flows(lanes, hourly):
 
 class Groups(unittest.TestCase):
     def groups(self, lanes, closing):
-        edge = Edge("a", "A", "B", 1, [SumoLane(at, 13.9, 300.0, []) for at in range(lanes)])
+        edge = NetEdge("a", "A", "B", 1, [SumoLane(at, 13.9, 300.0, []) for at in range(lanes)])
         following = {("a", at): {f"to{at}"} for at in range(lanes)}
         return [
             [one.index for one in group]
@@ -139,8 +139,7 @@ class Works(Case):
         ):
             self.run_with(run, mapped, *closed, more=("--every", 5))
             first, last = read_map(mapped).links[link].cells_between(110, 190)
-            with gzip.open(self.folder / "out/lanes.jsonl.gz", "rt", encoding="utf-8") as file:
-                polls = [json.loads(line) for line in file]
+            polls = [*read_folder(self.folder / "out").polls()]
             lanes = [one for poll in polls if 300 <= poll["clock"] < 900 for one in poll["lanes"] if one[0] == link]
             cells = {(lane, cell) for _, lane, on_it, *_ in lanes for _, cell, *_ in on_it if first <= cell <= last}
             self.assertEqual({lane for lane, _ in cells}, {1}, closed)
@@ -210,7 +209,10 @@ class Works(Case):
         told = self.tool("run", run, "--map", mapped, "--close", works, *words)[0].splitlines()
         doubt = "works on a_0 begin at 900 s, and the run had ended by then"
         self.assertEqual(told[1:], [f"not to be trusted: {doubt}"])
-        text = 'run = "run.jsonl"\nmap = "map.json"\nseeds = "1-2"\n[variant.given]\n[variant.late]\n'
+        text = (
+            'run = "run.jsonl"\nmap = "map.json"\nseeds = "1-2"\n'
+            'departures = "listed"\n[variant.given]\n[variant.late]\n'
+        )
         text += f'close = ["{works}"]'
         told = self.tool("study", self.write("study.toml", text), *words)[0].splitlines()
         doubt = "late: works on a_0 begin at 900 s, and 2 of 2 runs had ended by then"
@@ -226,7 +228,10 @@ class Works(Case):
         told = self.tool(*last, "a_0:100-200:900-1100")[0].splitlines()
         self.assertEqual(told[1:], [f"not to be trusted: {why.format('')}"])
         self.assertEqual(len(self.tool(*last, "a_0:100-200:300-1100")[0].splitlines()), 1)
-        text = 'run = "run.jsonl"\nmap = "map.json"\nseeds = "1-2"\nuntil = 1200\n[variant.given]\n[variant.late]\n'
+        text = (
+            'run = "run.jsonl"\nmap = "map.json"\nseeds = "1-2"\n'
+            'departures = "listed"\nuntil = 1200\n[variant.given]\n[variant.late]\n'
+        )
         text += 'close = ["a_0:100-200:900-1100"]'
         told = self.tool("study", self.write("study.toml", text), *words)[0].splitlines()
         self.assertEqual(told[-1], f"not to be trusted: late: {why.format(' in 2 of 2 runs')}")
@@ -261,7 +266,8 @@ class Works(Case):
         """The base is joint too, so that the difference is that of the works."""
         self.imported()
         study = (
-            'run = "run.jsonl"\nmap = "map.json"\nuntil = 1200\nseeds = "1-2"\n[variant.given]\n[variant.works]\n'
+            'run = "run.jsonl"\nmap = "map.json"\nuntil = 1200\nseeds = "1-2"\n'
+            'departures = "listed"\n[variant.given]\n[variant.works]\n'
             'close = ["a_0:100-200:60-1200"]\n'
         )
         _, told = self.tool(

@@ -6,9 +6,9 @@ from test_pictures import needs_matplotlib
 from test_works import fan, flows
 import streetsim.traci as traci
 from streetsim.base.files import Fault
+from streetsim.control.works_asked import all_works
 from streetsim.model.mapping import read_map
 from streetsim.scenario import Scenario
-from streetsim.works.asked import all_works
 
 HOW = "expected LANE:METRES-METRES:S-S, whole numbers that rise"
 WRONG = {  # of --close: what the line says behind its text
@@ -91,7 +91,7 @@ class Asked(AskedCase):
             self.assertIn(why, self.run_refused("--program", "/bin/cat", *words))
 
     def test_studies(self):
-        head = 'run = "run.jsonl"\nmap = "map.json"\nseeds = "1-2"\nuntil = 1200\n'
+        head = 'run = "run.jsonl"\nmap = "map.json"\nseeds = "1-2"\ndepartures = "listed"\nuntil = 1200\n'
         for text, why in (
             ('merge = "zip"\n[variant.a]\n', "merge = 'zip' is neither 'turns' nor 'none'"),
             ('[variant.a]\nmerge = "zip"\n', "variant 'a': merge = 'zip' is neither 'turns' nor 'none'"),

@@ -24,7 +24,7 @@ pub use Rattle.street_base.specs.Limits.{most_limit, most_links, most_period, mo
 pub use Rattle.street_base.specs.Limits.{most_size, most_steps, most_turns, most_vehicles, most_workers}
 pub use Rattle.street_base.specs.Machine.{advance_refusal, answered, bad_network, closed_after, closure_refusal, done, empty_lane, empty_lanes}
 pub use Rattle.street_base.specs.Machine.{end_of, enter_refusal, entry_of, first_of, is_number, is_past, lane_refusal, lane_tests, place_refusal}
-pub use Rattle.street_base.specs.Machine.{plan_links, read_refusal, refusal, remaining_ids, signal_refusal, told, told_cell, told_rows}
+pub use Rattle.street_base.specs.Machine.{plan_links, read_refusal, refusal, remaining_ids, signal_refusal, vehicle_reply, told_cell, told_rows}
 pub use Rattle.street_base.specs.Machine.{vehicle_refusal, with_waiting}
 unfoldable pub use Rattle.street_base.specs.Machine.{entered, loaded, seen, seen_in}
 pub use Rattle.street_base.specs.Motion.{Drive, driven_on, speed_after}
@@ -32,6 +32,9 @@ unfoldable pub use Rattle.street_base.specs.Motion.{comer, comes_to, leaver, lea
 pub use Rattle.street_base.specs.Network.{end_node, is_place, link_at, link_of, names_link, no_link, node_of, places, serves, turn}
 pub use Rattle.street_base.specs.Outcomes.{Allows, Answers, MayBeShort, MayStarve, MayStarveUnder, reply_of_whole, reply_to, short_state, state_after}
 pub use Rattle.street_base.specs.Outcomes.{state_of_whole}
+pub use Rattle.street_base.specs.Record.{arrival_rows, arrived_row, arrived_spot, arriving, block_after, blocks, buffer_row, buffer_spot, cell_row}
+pub use Rattle.street_base.specs.Record.{head_after, head_bytes, lane_rows, row_bytes, rows_between, rows_bytes, rows_of_step, slot_of}
+unfoldable pub use Rattle.street_base.specs.Record.{block}
 pub use Rattle.street_base.specs.Refusals.{name_of, number_of, part_name}
 pub use Rattle.street_base.specs.Release.{entering, exit_lane, front, gives, is_this, may_give, on_next_link, target, with_entry}
 unfoldable pub use Rattle.street_base.specs.Release.{giver, released}

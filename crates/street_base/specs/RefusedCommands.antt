@@ -1,5 +1,4 @@
 -- What a refused command answers and leaves.
--- Source: this profile.
 use Rattle.std.specs.Prelude.{◌≡◌, ◌⊎◌, Some}
 use Rattle.street_base.specs.declared.command.Command.{Command}
 use Rattle.street_base.specs.declared.refusal.Refusal.{Refusal}

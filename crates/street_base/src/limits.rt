@@ -1,8 +1,6 @@
-//! The most that a command or a load may name, and the most that there may be.
-//!
-//! The definitions state them in `specs/Limits.antt`; code takes them from here, and `limits_are_defined` says that they agree.
-//!
-//! Source: this profile.
+//! The most that a command or a load may name, and the most that there may be. The definitions state them in
+//! `specs/Limits.antt`; code takes them from here, and `limits_are_defined` says that they agree. Every crate that tests a
+//! number takes its limit from here.
 ghost use Rattle.std.specs.Prelude.{◌≡◌};
 ghost use Rattle.street_base.specs.Limits.{last_clock, greatest_id, most_nodes, most_links, most_turns, most_lanes, most_size, most_cells};
 ghost use Rattle.street_base.specs.Limits.{most_residence, most_capacity, most_limit, most_zone, most_dawdle, most_change, most_vehicles};

@@ -1,5 +1,4 @@
 -- What two clients of a desk are told, and the tape of their calls.
--- Source: this profile.
 use Rattle.std.specs.Prelude.{◌≡◌, ℕ, ◌≤◌, List, [], ◌++◌, length, Some, IfSome}
 use Rattle.street_clients.specs.declared.desks.Client.{Client}
 use Rattle.street_clients.specs.declared.tapes.Told.{Told}

@@ -1,5 +1,4 @@
 //! A desk of two clients, from its passes to its tape.
-//! Source: this profile.
 ghost use Rattle.std.specs.Prelude.{◌≡◌, ◌≤◌, List, IfSome, true};
 ghost use Rattle.street_base.specs.Prelude.{most_calls};
 ghost use Rattle.street_clients.specs.Told.{EndsDesk, IsNew, IsWhole};

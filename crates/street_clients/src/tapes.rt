@@ -1,5 +1,4 @@
 //! What two clients were told, beside what a replay of their desk's tape answers.
-//! Source: this profile.
 ghost use Rattle.std.specs.Prelude.{◌≡◌, ◌<◌, [], ◌∷◌, length, IfOk, IfErr, MatchOption, Decides, IsUtf8, drop, true};
 ghost use Rattle.street_clients.specs.Replies.{Agrees, HasNoEnd, EndsFirst, IsRetold, IsStopped, is_of, own_lines, replies_to};
 ghost use Rattle.street_stream.specs.Lines.{cut};

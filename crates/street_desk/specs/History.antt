@@ -1,5 +1,4 @@
 -- Histories: lists of calls, which of them are legal, and whose calls they have.
--- Source: this profile.
 use Rattle.std.specs.Prelude.{◌≡◌, ◌==◌, ◌<◌, ℕ, List, [], ◌∷◌, ◌++◌, None, if◌then◌else◌}
 use Rattle.street_base.specs.declared.command.Command.{Command}
 use Rattle.street_base.specs.declared.reply.Outcome.{Outcome}

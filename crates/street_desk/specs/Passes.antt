@@ -1,5 +1,4 @@
 -- What contracts see of a desk, of passes and of notes, and what each call tells.
--- Source: this profile.
 use Rattle.std.specs.Prelude.{◌<◌, ◌≡◌, ℕ, ◌-◌, ◌≤◌, List, [], ◌∷◌, ◌++◌, length, true, false, Result, MatchResult}
 use Rattle.atomic_table.specs.Seated.{TableId}
 use Rattle.street_base.specs.declared.command.Command.{Command}

@@ -1,6 +1,5 @@
 -- The rule of the desk's table, which holds between any two steps.
 -- The word is twice the number of finished calls, and one more during a turn. The slot holds the engine with its journal.
--- Source: this profile.
 use Rattle.std.specs.Prelude.{◌≡◌, ◌≢◌, ◌⊎◌, ℕ, ◌+◌, ◌-◌, ◌*◌, ◌<◌, ◌≤◌, List, [], ◌∷◌, length, true, false, Option, Some}
 use mathlib.Core.Option as maybe
 use lib.ListN.{get_elem?}

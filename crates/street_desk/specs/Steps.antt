@@ -1,5 +1,4 @@
 -- What each step at the desk's table does to a view, and what it tells.
--- Source: this profile.
 use Rattle.std.specs.Prelude.{◌≡◌, ◌≢◌, ℕ, ◌+◌, ◌-◌, ◌*◌, ◌%◌, ◌/◌, ◌<◌, ◌≤◌, List, [], ◌∷◌, ◌++◌, length, Bool, true, false, leb, if◌then◌else◌, Option, Some}
 use Rattle.atomic_table.specs.Table.{Me, Step}
 use Rattle.street_base.specs.declared.command.Command.{Command}

@@ -1,6 +1,5 @@
-//! The desk, and all that a caller asks of it with a pass. `specs/Passes` says what each of these tells the pass.
-//!
-//! Source: this profile.
+//! The desk, and all that a caller asks of it with a pass. `specs/Passes` says what each of these tells the pass. The sessions
+//! of `street_line` call it, and `street_runs` starts and finishes it.
 ghost use Rattle.std.specs.Prelude.{◌≡◌, ◌+◌, ◌*◌, ◌/◌, ◌%◌, ◌^◌, ◌<◌, ◌≤◌, [], ◌∷◌, length, true, Some, None, MatchBool, IfOk, IfErr, IsOk};
 ghost use Rattle.street_base.specs.Prelude.{most_calls, most_sessions};
 ghost use Rattle.street_engine.specs.Prelude.{StandsFor};
@@ -14,7 +13,7 @@ ghost use Rattle.street_desk.specs.Passes.{Answered, Filled, Told, ServedCount, 
 use crate::faults::{Full, SplitFault, Torn};
 use crate::journal::{Journal, Recorder};
 use crate::pass::{DeskSeat, Note, Pass};
-use crate::view::{DeskLimits, Grab, Hearsay, Last, Look, Release, SeatView, Turns};
+use crate::view::{DeskLimits, DeskTurns, Grab, Hearsay, Last, Look, Release, SeatView};
 use atomic_table::Table;
 use std::alloc::Global;
 use std::marker::Model;
@@ -33,7 +32,7 @@ const TRIES: u32 = 64;
 /// to.
 #[derive(Drop)]
 pub struct Desk<G: Gate + Sync + Drop + Send> {
-    table: Table<Option<Recorder<G>>, SeatView, DeskLimits, Turns, Global>,
+    table: Table<Option<Recorder<G>>, SeatView, DeskLimits, DeskTurns, Global>,
     calls: u64,
     sleepers: AtomicU64,
 }
@@ -117,8 +116,8 @@ impl<G: Gate + Sync + Drop + Send> Desk<G> {
 
     /// Lets others go on while one of them has the turn: the first `TRIES` times, which `tries` counts, it only lets other threads
     /// run; from then on it sleeps until the turn word is no more `found`. It may also return sooner.
-    fn give_way<R: Wait>(&self, rt: &R, tries: &mut u32, found: u64)
-        requires { found < 2 ^ 32 }
+    fn give_way<R: Wait>(&self, rt: &R, tries: &mut u32, word: u64)
+        requires { word < 2 ^ 32 }
     {
         if *tries < TRIES {
             *tries += 1;
@@ -126,7 +125,7 @@ impl<G: Gate + Sync + Drop + Send> Desk<G> {
             return;
         }
         self.sleepers.fetch_add(1, Ordering::SeqCst);
-        self.table.shared.park(rt, 0, found as u32);
+        self.table.shared.park(rt, 0, word as u32);
         self.sleepers.fetch_sub(1, Ordering::SeqCst);
     }
 
@@ -159,22 +158,22 @@ impl<G: Gate + Sync + Drop + Send> Desk<G> {
     {
         let mut tries = 0;
         for _ in rt.forever() {
-            let found = self.look(seat);
-            if found % 2 == 0 {
-                if found == 2 * self.calls {
+            let word = self.look(seat);
+            if word % 2 == 0 {
+                if word == 2 * self.calls {
                     self.wake();
                     return Err(Full {
                         command,
                         served: self.calls,
                     });
                 }
-                if self.grab(seat, found) {
-                    let reply = self.turn(rt, seat, found, session, command);
+                if self.grab(seat, word) {
+                    let reply = self.turn(rt, seat, word, session, command);
                     self.wake();
                     return Ok(reply);
                 }
             } else {
-                self.give_way(rt, &mut tries, found);
+                self.give_way(rt, &mut tries, word);
             }
         }
         unreachable!()

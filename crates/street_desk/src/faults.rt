@@ -1,6 +1,4 @@
-//! Why a call, a split or the finish of a desk was not done.
-//!
-//! Source: this profile.
+//! Why a call, a split or the finish of a desk was not done. `desk.rt` returns them.
 
 use std::fmt;
 use street_base::Command;

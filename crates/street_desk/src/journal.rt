@@ -1,6 +1,5 @@
-//! The journal of a desk's calls, and the recorder, an engine that writes it.
-//!
-//! Source: this profile.
+//! The journal of a desk's calls, and the recorder, an engine that writes it. `desk.rt` has the recorder serve each call;
+//! `street_tape` reads the journal.
 ghost use Rattle.std.specs.Prelude.{◌≡◌, ◌<◌, [], ◌∷◌, ◌++◌, length, IfOk, None, slice_get, option_copied};
 ghost use Rattle.street_base.specs.Prelude.{Allows, reply_to};
 ghost use Rattle.street_engine.specs.Prelude.{StandsFor};

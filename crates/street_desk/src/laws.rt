@@ -1,6 +1,4 @@
-//! Laws of histories.
-//!
-//! Source: this profile.
+//! A law of histories: a legal one is a run of the machine. The laws of tapes call it.
 ghost use Rattle.std.specs.Prelude.{List, None, map};
 ghost use Rattle.street_base.specs.Prelude.{Runs};
 ghost use Rattle.street_desk.specs.declared.journal.Entry.{Entry};

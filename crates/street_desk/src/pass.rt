@@ -1,6 +1,5 @@
-//! What a caller holds: a pass, and notes of what a pass has seen.
-//!
-//! Source: this profile.
+//! What a caller holds: a pass, and notes of what a pass has seen. `desk.rt` makes and changes them; a session of `street_line`
+//! holds a pass.
 
 use crate::journal::Recorder;
 use crate::view::SeatView;

@@ -1,9 +1,6 @@
-//! What a seat at the desk's table knows, and the steps on its word.
-//!
-//! The table has one word, twice the number of finished calls and one more during a turn, and one slot, in which the engine
-//! lies with its journal while nobody has the turn.
-//!
-//! Source: this profile.
+//! What a seat at the desk's table knows, and the steps on its word. The table has one word, twice the number of finished calls
+//! and one more during a turn, and one slot, in which the engine lies with its journal while nobody has the turn. The contracts
+//! of `desk.rt` speak of it.
 
 use crate::journal::{Entry, Recorder};
 use atomic_table::{Join, Play, Split, TableRule};
@@ -42,9 +39,9 @@ pub struct DeskLimits {
 }
 
 /// The rule of the table.
-pub struct Turns;
+pub struct DeskTurns;
 
-impl<G: Gate + Sync + Drop> TableRule<Option<Recorder<G>>, SeatView, DeskLimits> for Turns {
+impl<G: Gate + Sync + Drop> TableRule<Option<Recorder<G>>, SeatView, DeskLimits> for DeskTurns {
     ghost use Rattle.street_desk.specs.Rule.{KeepsRule, first_view};
 
     ghost holds = { λ k. KeepsRule k.calls k.sessions };

@@ -13,7 +13,7 @@ use Rattle.street_base.specs.Prelude.{with_arrivals}
 abbrev end_then : ℕ → Bool → Option End → Option End
 end_then clock arrives end = if arrives then Some (Arrived clock) else end
 
-length-arrivals : (clock : ℕ) (numbers : List ℕ) (ends : List (Option End)) → length (with_arrivals clock numbers ends) ≡ length ends
+pub length-arrivals : (clock : ℕ) (numbers : List ℕ) (ends : List (Option End)) → length (with_arrivals clock numbers ends) ≡ length ends
 length-arrivals clock numbers ends = length-map (enumerate_from 0 ends) (λ e. end_then clock (list_any (λ m. m == e.0) numbers) e.1) ∙ length-enumerate_from 0 ends
 
 get-arrivals : (clock : ℕ) (numbers : List ℕ) (ends : List (Option End)) (k : ℕ) → k < length ends → get_or (with_arrivals clock numbers ends) k None ≡ end_then clock (list_any (λ m. m == k) numbers) (get_or ends k None)

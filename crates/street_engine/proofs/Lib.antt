@@ -1,3 +1,6 @@
+pub mod NotedSteps
+pub mod ToldSteps
+pub mod Recorded
 pub mod Serves
 pub mod LoadCommand
 pub mod AdvanceCommand
@@ -13,4 +16,4 @@ mod AreComing
 mod StepArrivals
 mod AreCounted
 mod StreetsStandFor
-mod RanSteps
+mod ShiftSteps

@@ -15,7 +15,7 @@ use Rattle.street_tile.proofs.Rows.{in-row, roads-of}
 use Rattle.street_engine.specs.Prelude.{AreComing}
 use Rattle.street_tile.proofs.Sums.{tiles-sums}
 use Rattle.street_engine.proofs.AreComing.{often}
-use Rattle.street_engine.proofs.Arrivals.{with_arrivals-same}
+use Rattle.street_engine.proofs.Arrivals.{length-arrivals, with_arrivals-same}
 use Rattle.street_base.proofs.StepLemmas.{changed-whole}
 
 changed-ends : (m : Traffic) → (changed m).ends ≡ m.ends
@@ -25,6 +25,11 @@ changed-ends m = refl
 changed-network : (m : Traffic) → (changed m).network ≡ m.network
 unfolding changed
 changed-network m = refl
+
+-- as many were admitted before a step as after it
+pub ends-kept : (m : Traffic) → length (step m).ends ≡ length m.ends
+unfolding step departed released driven changed
+ends-kept m = length-arrivals m.clock (arrivals (changed m)) m.ends
 
 -- ---- how often a number arrives
 

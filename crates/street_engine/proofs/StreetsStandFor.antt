@@ -15,10 +15,11 @@ use Rattle.street_base.proofs.PlaceLemmas.{places-listed}
 use Rattle.street_base.proofs.ReleaseCountLemmas.{in_lanes-places}
 use Rattle.street_base.proofs.FormLemmas.{shape-of}
 use Rattle.street_lanes.specs.Prelude.{IsLane}
-use Rattle.street_tile.specs.Prelude.{TileView, AreTiles, AllStand, StandsFor as TileStands, Each, at_place, without, planned, MetersStand, AllMetersStand, detectors_on, Steps, TilesView, TilesStandFor, TilesGo, TilesKeep, NobodyArrived, all_arrived}
+use Rattle.street_tile.specs.Prelude.{TileView, AreTiles, AllStand, StandsFor as TileStands, Each, at_place, without, planned, MetersStand, AllMetersStand, detectors_on, Steps, TilesView, TilesStandFor, TilesGo, TilesKeep, HaveStepped, NobodyArrived, SameButArrived, all_arrived}
 use Rattle.street_tile.proofs.Ones.{sum-one}
+use Rattle.street_tile.proofs.Stepped.{stepped-kept}
 use Rattle.street_engine.specs.declared.sites.DetectorSite.{DetectorSite}
-use Rattle.street_engine.specs.Prelude.{AreDetectorSites, StreetsView, IsTrafficOf, IsKept, StreetsStandFor, StreetsGo, streets_of, AreComing}
+use Rattle.street_engine.specs.Prelude.{AreDetectorSites, StreetsView, IsTrafficOf, IsKept, HasStepped, StreetsStandFor, StreetsGo, streets_of, AreComing}
 use Rattle.street_engine.proofs.AreSites.{sites-map, sites-more}
 use Rattle.street_engine.proofs.StepArrivals.{arrivals-coming, arrivals-end}
 
@@ -44,6 +45,15 @@ goes-with {x} {y} {v} f is each = λ m stands. each m (subst (λ (u : StreetsVie
 pub traffic-of : {x v : StreetsView} {m : Traffic} → x ≡ v → StreetsStandFor v m → IsTrafficOf x m
 unfolding StreetsStandFor
 traffic-of {x} {v} {m} is stands = subst (λ (u : StreetsView). IsTrafficOf u m) (sym is) stands
+
+-- what the step was that it has made, as it is seen
+pub stepped-of : {x v : StreetsView} {m : Traffic} → x ≡ v → HasStepped v m → IsTrafficOf x (step m) × HaveStepped x.tiles m
+stepped-of {x} {v} {m} is s = (traffic-of is s.stands, subst (λ (u : StreetsView). HaveStepped u.tiles m) (sym is) s.tiles)
+
+-- what it stands for is what it is seen to stand for
+pub stands-seen : {x v : StreetsView} {m : Traffic} → x ≡ v → IsTrafficOf x m → StreetsStandFor v m
+unfolding StreetsStandFor
+stands-seen {x} {v} {m} is t = subst (λ (u : StreetsView). IsTrafficOf u m) is t
 
 -- the network stays, and with it where detectors are
 same-sites : {net after : NetSpec} {sites later : List DetectorSite} → after ≡ net → later ≡ sites → (ds : List Detector) → AreDetectorSites net sites ds → AreDetectorSites after later ds
@@ -221,6 +231,10 @@ noted-meters xs ys m long each kept k d l =
     let within : k < length xs = omega arith in
     subst (λ (p : TileView). MetersStand p m) (sym (each k d within)) (kept k d within)
 
+-- who takes all numbers changes nothing else
+but-arrived : (x y : TileView) → y ≡ record x { arrived = [] } → SameButArrived x y
+but-arrived x y is = is ∙ ap (λ (ns : List ℕ). record x { arrived = ns }) (sym (ap (λ (t : TileView). t.arrived) is))
+
 pub noted-nobody : (y z : TilesView) → length z.tiles ≡ length y.tiles → Each (λ x y. y ≡ record x { arrived = [] }) y.tiles z.tiles → NobodyArrived z
 noted-nobody y z long each k d l = ap (λ (t : TileView). t.arrived) (each k d (omega arith))
 
@@ -261,6 +275,12 @@ module _ {sites : List DetectorSite} {clock : ℕ} {s x : TilesView} {ends : Lis
             signals = ap length (step-signals m) ∙ t.signals ∙ ap (λ (n : NetSpec). length n.nodes) (sym network);
             sites = subst (λ (n : NetSpec). AreDetectorSites n sites (step m).detectors) (sym network) (step-sites x.network sites m t.sites);
           }
+
+      -- they hold the rows of those who arrived
+      pub step-rows : ((m : Traffic) → TilesStandFor x m → HaveStepped y m) → (m : Traffic) → IsTrafficOf (streets_of s sites clock ends) m → HaveStepped z m
+      step-rows stepped m before =
+          stepped-kept y z m (stepped m (keeps-stands refl refl taken m before).tiles) still longer
+          (λ k d l. but-arrived (get_or y.tiles k d) (get_or z.tiles k d) (noted k d l))
 
       pub step-kept : {v : StreetsView} → streets_of s sites clock ends ≡ v → v.clock < last_clock → IsKept (streets_of z sites (clock + 1) after)
       step-kept seen early =

@@ -9,7 +9,7 @@ use Rattle.street_base.specs.declared.reply.Whereabouts.{Whereabouts}
 use Rattle.street_base.specs.declared.reply.Whereabouts.TheVariants.{Ended}
 use Rattle.street_base.specs.declared.reply.Reply.TheVariants.{Taken, Vehicle as TellVehicle, Refused, Starved as StarvedReply}
 use Rattle.street_base.specs.declared.reply.Outcome.TheVariants.{Whole, Starved}
-use Rattle.street_base.specs.Prelude.{Traffic, taken_out, end_of, vehicle_refusal, seen, told, MayStarveUnder}
+use Rattle.street_base.specs.Prelude.{Traffic, taken_out, end_of, vehicle_refusal, seen, vehicle_reply, MayStarveUnder}
 use Rattle.street_engine.specs.Prelude.{StreetsView, StreetsStandFor, StreetsGo, Serves}
 use Rattle.street_engine.proofs.Serves.{same-ends, streets-refused, streets-starving, streets-done, streets-told}
 
@@ -47,7 +47,7 @@ module _ (s : StreetsView) (car : ℕ) where
         (known m stands, sym (ap (λ (o : Option End). option_map_or (λ found. TellVehicle car found) (option_or (option_map (λ e. Ended e) o) (seen m car)) (Refused NoVehicle)) (ended m stands ∙ gone))))
 
     module _ (going : slice_index_or s.ends car None ≡ None) where
-      told-seen : (m : Traffic) → StreetsStandFor s m → (found : Option Whereabouts) → found ≡ seen m car → told m car ≡ option_map_or (λ w. TellVehicle car w) found (Refused NoVehicle)
+      told-seen : (m : Traffic) → StreetsStandFor s m → (found : Option Whereabouts) → found ≡ seen m car → vehicle_reply m car ≡ option_map_or (λ w. TellVehicle car w) found (Refused NoVehicle)
       told-seen m stands found e =
           ap (λ (o : Option End). option_map_or (λ w. TellVehicle car w) (option_or (option_map (λ e. Ended e) o) (seen m car)) (Refused NoVehicle)) (ended m stands ∙ going)
           ∙ ap (λ (o : Option Whereabouts). option_map_or (λ w. TellVehicle car w) o (Refused NoVehicle)) (sym e)

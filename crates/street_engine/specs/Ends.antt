@@ -1,5 +1,4 @@
 -- How vehicles have ended, by their numbers, and who is about to arrive.
--- Source: this profile.
 use Rattle.std.specs.Prelude.{ℕ, ◌≡◌, ◌+◌, ◌≤◌, ◌==◌, nat_lt, List, length, Option, count_by}
 use Rattle.street_base.specs.declared.reply.End.{End}
 use Rattle.street_base.specs.Prelude.{most_vehicles, has_ended, one_if, has_arrived, was_taken}

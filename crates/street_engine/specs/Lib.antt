@@ -2,5 +2,6 @@ pub mod Refines
 pub mod Sites
 pub mod Streets
 pub mod Ends
-pub mod Ran
+pub mod Noted
+pub mod Shifts
 pub mod Prelude

@@ -1,5 +1,4 @@
 -- What an engine stands for, and what it owes at each command.
--- Source: this profile.
 use Rattle.std.specs.Prelude.{◌≡◌, ℕ, List, ◌++◌, length, Bool, true, false, Option, Some, None}
 use Rattle.street_base.specs.declared.command.Command.{Command}
 use Rattle.street_base.specs.declared.command.Command.TheVariants.{CloseLane, ReopenLane}

@@ -1,5 +1,4 @@
 -- Which detector of the machine is which of its lane's.
--- Source: this profile.
 use Rattle.std.specs.Prelude.{◌≡◌, ◌<◌, ◌≤◌, ℕ, List, length, slice_get, slice_index_or}
 use Rattle.street_base.specs.declared.net.NetSpec.{NetSpec}
 use Rattle.street_base.specs.Prelude.{most_detectors, Detector}

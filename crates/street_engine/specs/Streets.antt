@@ -1,5 +1,4 @@
 -- What contracts see of the traffic on a loaded network, and when it stands for traffic of the machine.
--- Source: this profile.
 use Rattle.std.specs.Prelude.{ℕ, ◌≡◌, ◌≤◌, List, [], length, Option, Some}
 use Rattle.street_base.specs.declared.reply.End.{End}
 use Rattle.street_base.specs.Prelude.{last_clock, node_of, SignalPlan, signalled, entered, plan_links, Traffic, IsSound}

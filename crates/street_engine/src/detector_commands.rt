@@ -1,6 +1,4 @@
-//! Commands of detectors: placing one, and reading its rows.
-//!
-//! Source: this profile.
+//! Commands of detectors: placing one, and reading its rows. `commands.rt` calls them.
 ghost use Rattle.street_base.specs.declared.command.Command.TheVariants.{PlaceMeter, ReadMeter};
 ghost use Rattle.street_engine.specs.Prelude.{Serves, KeepsRefused};
 

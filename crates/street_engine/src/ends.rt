@@ -1,6 +1,4 @@
-//! How vehicles ended, and how many: kept by number, in the order of admission.
-//!
-//! Source: this profile.
+//! How vehicles ended, and how many: kept by number, in the order of admission. `streets.rt` keeps them.
 ghost use Rattle.std.specs.Prelude.{◌≡◌, ◌+◌, ◌<◌, ◌≤◌, ◌++◌, ◌∷◌, [], length, Some, None, slice_get, slice_set, slice_index_or, OnOk, count_by};
 ghost use Rattle.street_base.specs.declared.reply.End.TheVariants.{Arrived, Taken};
 ghost use Rattle.street_base.specs.Prelude.{most_vehicles, has_arrived, was_taken, with_arrivals};
@@ -63,7 +61,8 @@ impl Ends {
 
     /// How many vehicles have arrived.
     pub(crate) fn arrived(&self) -> CarNo
-        ensures { result ≡ count_by has_arrived self.now.ends }
+        ensures count { result ≡ count_by has_arrived self.now.ends }
+        ensures few { length self.now.ends ≤ most_vehicles }
     {
         self.arrived
     }

@@ -1,16 +1,15 @@
-//! The engine, and the gate of an engine whose steps nobody watches.
-//!
-//! Source: this profile.
+//! The engine, which serves commands one after another, and the gate of an engine whose steps nobody watches. A desk, and the
+//! services of `street_line`, call an engine.
 ghost use Rattle.std.specs.Prelude.{◌≡◌, ◌*◌, ◌+◌, ◌≤◌, IfOk, OnErr, None};
 ghost use Rattle.street_base.specs.declared.command.Command.TheVariants.{Advance};
 ghost use Rattle.street_base.specs.declared.refusal.Refusal.{Refusal};
 ghost use Rattle.street_base.specs.declared.reply.Reply.TheVariants.{Refused};
 ghost use Rattle.street_base.specs.Prelude.{last_clock, most_workers, refusal, steps, State};
-ghost use Rattle.street_engine.specs.Prelude.{StandsFor, Serves, ServesAll, StreetsGo};
+ghost use Rattle.street_engine.specs.Prelude.{StandsFor, Serves, ServesAll, KeepsSink, StreetsGo, ToldOf, ToldSteps};
 
 use crate::clock_commands::advance_refusal;
 use crate::crews::{started_steps, staying_steps};
-use crate::{Streets, commands};
+use crate::{StepSink, Streets, Unrecorded, commands};
 use std::alloc::{AllocError, Global};
 use std::marker::Model;
 use std::sync::Wait;
@@ -141,16 +140,35 @@ impl<G: Gate + Sync + Drop> Engine<G> {
         ensures serves { Serves self.old command.now result.0 result.1 self.new }
         ensures refused { (refusal : Refusal) → result.0 ≡ Refused refusal → self.new ≡ self.old }
     {
+        let (reply, outcome, _sink) = self.apply_recording(rt, Unrecorded, command);
+        (reply, outcome)
+    }
+
+    /// As [`apply`](Self::apply), and a sink is told of each step that the command makes, in their order. The sink is given back: as it
+    /// was, where the command made no step.
+    pub fn apply_recording<R: Threads + Sync, S: StepSink + Drop>(
+        &mut self,
+        rt: &R,
+        sink: S,
+        command: &Command,
+    ) -> (Reply, Outcome, S)
+        ensures serves { Serves self.old command.now result.0 result.1 self.new }
+        ensures refused { (refusal : Refusal) → result.0 ≡ Refused refusal → self.new ≡ self.old }
+        ensures told { ToldSteps S.notes self.old command.now result.0 sink result.2 }
+        ensures untold { KeepsSink command.now result.0 sink result.2 }
+    {
         let gate = &self.gate;
-        let make = |streets: Streets, count: u64| -> (Streets, u64)
+        let make = |streets: Streets, sink: S, count: u64| -> (Streets, S, u64)
             requires { (count ≤ 16) × (streets.clock + count ≤ last_clock) }
-            ensures { (result.1 ≤ count) × (result.0.clock ≡ streets.clock + result.1) × StreetsGo (steps result.1) streets result.0 }
-        { started_steps(rt, gate, streets, count) };
+            ensures { (result.2 ≤ count) × (result.0.clock ≡ streets.clock + result.2) × StreetsGo (steps result.2) streets result.0
+                × ToldOf S.notes streets result.2 sink result.1 }
+        { started_steps(rt, gate, streets, sink, count) };
         commands::apply(
             &make,
             self.alloc,
             self.workers as usize,
             &mut self.streets,
+            sink,
             command,
         )
     }
@@ -165,17 +183,36 @@ impl<G: Gate + Sync + Drop> Engine<G> {
         ensures serves { Serves self.old command.now result.0 result.1 self.new }
         ensures refused { (refusal : Refusal) → result.0 ≡ Refused refusal → self.new ≡ self.old }
     {
+        let (reply, outcome, _sink) = self.apply_recording_by_team(rt, Unrecorded, command);
+        (reply, outcome)
+    }
+
+    /// As [`apply_recording`](Self::apply_recording), and an advance is made by workers that stay, which wait for each other: it keeps
+    /// the same promise if it returns.
+    pub fn apply_recording_by_team<R: Threads + Wait + Sync, S: StepSink + Drop>(
+        &mut self,
+        rt: &R,
+        sink: S,
+        command: &Command,
+    ) -> (Reply, Outcome, S)
+        ensures serves { Serves self.old command.now result.0 result.1 self.new }
+        ensures refused { (refusal : Refusal) → result.0 ≡ Refused refusal → self.new ≡ self.old }
+        ensures told { ToldSteps S.notes self.old command.now result.0 sink result.2 }
+        ensures untold { KeepsSink command.now result.0 sink result.2 }
+    {
         let gate = &self.gate;
         let alloc = self.alloc;
-        let make = |streets: Streets, count: u64| -> (Streets, u64)
+        let make = |streets: Streets, sink: S, count: u64| -> (Streets, S, u64)
             requires { (count ≤ 16) × (streets.clock + count ≤ last_clock) }
-            ensures { (result.1 ≤ count) × (result.0.clock ≡ streets.clock + result.1) × StreetsGo (steps result.1) streets result.0 }
-        { staying_steps(rt, gate, alloc, streets, count) };
+            ensures { (result.2 ≤ count) × (result.0.clock ≡ streets.clock + result.2) × StreetsGo (steps result.2) streets result.0
+                × ToldOf S.notes streets result.2 sink result.1 }
+        { staying_steps(rt, gate, alloc, streets, sink, count) };
         commands::apply(
             &make,
             self.alloc,
             self.workers as usize,
             &mut self.streets,
+            sink,
             command,
         )
     }

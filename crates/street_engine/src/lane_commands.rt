@@ -1,6 +1,5 @@
 //! Commands on the network: the signal plan of a node, closed cells of a lane, and the question what is on a lane.
-//!
-//! Source: this profile.
+//! `commands.rt` calls them.
 ghost use Rattle.street_base.specs.declared.command.Command.TheVariants.{Signal, Lane};
 ghost use Rattle.street_engine.specs.Prelude.{closing, Serves, KeepsRefused};
 

@@ -15,12 +15,15 @@ mod ends;
 mod engine;
 mod lane_commands;
 mod names;
+mod record;
+mod sinks;
 mod sites;
 mod streets;
 mod teams;
 mod vehicle_commands;
 
 pub use engine::{Engine, Unwatched};
+pub use sinks::{StepSink, Unrecorded};
 pub use sites::DetectorSite;
 pub use street_tile::Gate;
 pub use streets::Streets;

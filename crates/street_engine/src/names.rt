@@ -1,6 +1,5 @@
-//! Lanes and cells that a command names, by a link's identifier and untested numbers, as places and cells of the network.
-//!
-//! Source: this profile.
+//! Lanes and cells that a command names, by a link's identifier and untested numbers, as places and cells of the network. The
+//! commands that name a lane or a cell call it.
 ghost use Rattle.std.specs.Prelude.{◌≡◌, ℕ, ◌≤◌, ◌<◌, None, Some, length, IfOk, IfErr, OnOk};
 ghost use Rattle.street_base.specs.declared.refusal.Refusal.{Refusal};
 ghost use Rattle.street_base.specs.Prelude.{link_at, Traffic, named_lane as lane_named, closure_refusal};

@@ -1,4 +1,4 @@
-//! Where detectors are.
+//! Where detectors are. `streets.rt` keeps one for each detector.
 
 use street_base::Place;
 

@@ -1,19 +1,21 @@
-//! The traffic on a loaded network: what commands do to it and ask of it, and its steps by one or several threads.
+//! The traffic on a loaded network: what commands do to it and ask of it, and its steps by one or several threads. The
+//! functions of the commands call it, each once.
 ghost use Rattle.std.specs.Prelude.{◌≡◌, ℕ, ◌+◌, ◌<◌, ◌≤◌, List, length, slice_get, slice_index_or, min, Some, None, option_map, IfOk, IfErr, OnOk, OnErr};
 ghost use Rattle.street_base.specs.Prelude.{last_clock, most_workers, most_plan, most_vehicles, most_period, most_detectors, link_at};
 ghost use Rattle.street_base.specs.Prelude.{network_fault, Traffic, lane_at, step, steps, with_closure, taken_out, metered};
-ghost use Rattle.street_base.specs.Prelude.{loaded, plan_links, closed_after, seen, shown_lane, shown_rows, census};
+ghost use Rattle.street_base.specs.Prelude.{loaded, plan_links, closed_after, seen, shown_lane, shown_rows, census, head_after, rows_of_step};
 ghost use Rattle.street_net.specs.Prelude.{TellsFault};
 ghost use Rattle.street_lanes.specs.Prelude.{IsLane};
-ghost use Rattle.street_engine.specs.Prelude.{StreetsStandFor, StreetsGo, StreetsAdmit, StreetsSignal, MakesSteps};
+ghost use Rattle.street_engine.specs.Prelude.{HasStepped, StreetsStandFor, StreetsGo, StreetsAdmit, StreetsSignal, MakesSteps, ToldOf};
 
+use crate::StepSink;
 use crate::ends::{Ends, note_arrivals};
 use crate::sites::DetectorSite;
 use std::alloc::Global;
 use std::marker::Model;
 use street_base::{
-    Car, CarNo, CellNo, End, LaneNo, NetSpec, NodeIx, Place, Plan, Reply, Size, Starved, Step,
-    Whereabouts,
+    Car, CarNo, CellNo, End, LaneNo, NetSpec, NodeIx, Place, Plan, RecordHead, Reply, Size,
+    Starved, Step, Whereabouts,
 };
 use street_net::{NetFault, Network};
 use street_node::SignalPlan;
@@ -52,20 +54,23 @@ impl Model for Streets {
     ghost invariant = { λ s. IsKept (streets_of s.tiles s.sites.items s.clock s.ends.ends) };
 }
 
-/// So many steps, at most 16, or fewer where memory was refused, by one call of `make`: what they leave, and how many.
-fn make_some<M: Fn(Streets, u64) -> (Streets, u64)>(
+/// So many steps, at most 16, or fewer where memory was refused, by one call of `make`: what they leave, the sink that was told of
+/// each, and how many.
+fn make_some<K: StepSink, M: Fn(Streets, K, u64) -> (Streets, K, u64)>(
     make: &M,
     streets: Streets,
+    sink: K,
     count: u64,
-) -> (Streets, u64)
-    requires make { MakesSteps M.Fn make.now }
+) -> (Streets, K, u64)
+    requires make { MakesSteps K.notes M.Fn make.now }
     requires few { count ≤ 16 }
     requires in_time { streets.clock + count ≤ last_clock }
-    ensures most { result.1 ≤ count }
-    ensures clock { result.0.clock ≡ streets.clock + result.1 }
-    ensures steps { StreetsGo (steps result.1) streets result.0 }
+    ensures most { result.2 ≤ count }
+    ensures clock { result.0.clock ≡ streets.clock + result.2 }
+    ensures steps { StreetsGo (steps result.2) streets result.0 }
+    ensures noted { ToldOf K.notes streets result.2 sink result.1 }
 {
-    make(streets, count)
+    make(streets, sink, count)
 }
 
 impl Streets {
@@ -112,6 +117,7 @@ impl Streets {
     pub fn clock(&self) -> Step
         ensures clock { result ≡ self.now.clock }
         ensures in_time { self.now.clock ≤ last_clock }
+        ensures stands { (m : Traffic) × StreetsStandFor self.now m }
     {
         self.clock
     }
@@ -305,6 +311,20 @@ impl Streets {
         }
     }
 
+    /// The head of the block of the step that was made last. Looks at no vehicle in cells or buffers.
+    pub(crate) fn record_head(&self) -> RecordHead
+        requires { (m : Traffic) × HasStepped self.now m }
+        ensures { (m : Traffic) → HasStepped self.now m → result ≡ head_after (step m) (length (rows_of_step m)) }
+    {
+        let arrived = self.ends.arrived();
+        RecordHead {
+            clock: self.clock,
+            rows: self.tiles.rows(),
+            arrived,
+            taken: self.ends.taken(),
+        }
+    }
+
     /// How many threads the next steps take, the caller's among them: one for each tile where the gate says, of the vehicles in cells,
     /// that the workers share the next step; else, and where there is one tile, the caller's alone.
     pub(crate) fn threads_of_steps<G: Gate>(&self, gate: &G) -> usize
@@ -337,11 +357,12 @@ impl Streets {
         best
     }
 
-    /// One step, by whoever makes its parts. All the memory that it needs is taken before it begins.
+    /// One step, by whoever makes its parts. All the memory that it needs is taken before it begins. The sink is told of
+    /// the step once its arrivals are noted.
     ///
     /// # Errors
     /// Memory was refused; the streets stand for what they stood for.
-    fn step<L: Lender>(&mut self, lender: &mut L) -> Result<(), Starved>
+    fn step<L: Lender, K: StepSink>(&mut self, lender: &mut L, sink: &mut K) -> Result<(), Starved>
         requires lender { L.knows lender.old self.old.tiles.network }
         requires in_time { self.old.clock < last_clock }
         ensures lender { L.knows lender.new self.new.tiles.network }
@@ -349,55 +370,71 @@ impl Streets {
         ensures step { OnOk result (StreetsGo step self.old self.new) }
         ensures still { OnErr result (self.new.clock ≡ self.old.clock) }
         ensures starved { OnErr result (StreetsGo (λ m. m) self.old self.new) }
+        ensures noted { OnOk result ((m : Traffic) → StreetsStandFor self.old m → K.notes sink.old m sink.new) }
+        ensures unnoted { OnErr result (sink.new ≡ sink.old) }
     {
         self.tiles.prepare()?;
         self.tiles.step(lender);
         note_arrivals(&mut self.tiles, &mut self.ends, self.clock);
         self.clock += 1;
+        sink.note(self);
         Ok(())
     }
 
-    /// So many steps, or fewer where memory was refused for one, by whoever makes their parts: what they leave, and how many.
-    pub(crate) fn steps_with<L: Lender>(self, lender: &mut L, count: u64) -> (Streets, u64)
+    /// So many steps, or fewer where memory was refused for one, by whoever makes their parts: what they leave, the sink that was told
+    /// of each, and how many.
+    pub(crate) fn steps_with<L: Lender, K: StepSink>(
+        self,
+        lender: &mut L,
+        sink: K,
+        count: u64,
+    ) -> (Streets, K, u64)
         requires lender { L.knows lender.old self.tiles.network }
         requires in_time { self.clock + count ≤ last_clock }
-        ensures most { result.1 ≤ count }
-        ensures clock { result.0.clock ≡ self.clock + result.1 }
-        ensures steps { StreetsGo (steps result.1) self result.0 }
+        ensures most { result.2 ≤ count }
+        ensures clock { result.0.clock ≡ self.clock + result.2 }
+        ensures steps { StreetsGo (steps result.2) self result.0 }
+        ensures noted { ToldOf K.notes self result.2 sink result.1 }
     {
         let mut streets = self;
+        let mut noting = sink;
         for done in 0..count {
-            if streets.step(lender).is_err() {
-                return (streets, done);
+            if streets.step(lender, &mut noting).is_err() {
+                return (streets, noting, done);
             }
         }
-        (streets, count)
+        (streets, noting, count)
     }
 
-    /// So many steps, or fewer where memory was refused for one, up to 16 by each call of `make`: what they leave, and how many.
-    pub(crate) fn steps<M: Fn(Streets, u64) -> (Streets, u64)>(
+    /// So many steps, or fewer where memory was refused for one, up to 16 by each call of `make`: what they leave, the sink that was
+    /// told of each, and how many.
+    pub(crate) fn steps<K: StepSink, M: Fn(Streets, K, u64) -> (Streets, K, u64)>(
         self,
         make: &M,
+        sink: K,
         count: u64,
-    ) -> (Streets, u64)
-        requires make { MakesSteps M.Fn make.now }
+    ) -> (Streets, K, u64)
+        requires make { MakesSteps K.notes M.Fn make.now }
         requires in_time { self.clock + count ≤ last_clock }
-        ensures most { result.1 ≤ count }
-        ensures clock { result.0.clock ≡ self.clock + result.1 }
-        ensures steps { StreetsGo (steps result.1) self result.0 }
+        ensures most { result.2 ≤ count }
+        ensures clock { result.0.clock ≡ self.clock + result.2 }
+        ensures steps { StreetsGo (steps result.2) self result.0 }
+        ensures noted { ToldOf K.notes self result.2 sink result.1 }
     {
         let mut streets = self;
+        let mut noting = sink;
         let mut done = 0;
         for _ in 0..count {
             let some = (count - done).min(STEPS_BETWEEN_COUNTS);
-            let (left, made) = make_some(make, streets, some);
+            let (left, kept, made) = make_some(make, streets, noting, some);
             streets = left;
+            noting = kept;
             done += made;
             let over = made < some || done == count;
             if over {
-                return (streets, done);
+                return (streets, noting, done);
             }
         }
-        (streets, done)
+        (streets, noting, done)
     }
 }

@@ -1,6 +1,4 @@
-//! Commands of one vehicle: its entry, its taking out, and the question where it is.
-//!
-//! Source: this profile.
+//! Commands of one vehicle: its entry, its taking out, and the question where it is. `commands.rt` calls them.
 ghost use Rattle.std.specs.Prelude.{◌≡◌, ◌*◌, ◌<◌, ◌≤◌, None, Some, IfOk, IfErr, OnOk, length};
 ghost use Rattle.street_base.specs.declared.command.Command.TheVariants.{Enter, TakeOut, Vehicle};
 ghost use Rattle.street_base.specs.Prelude.{most_vehicles};

@@ -1,7 +1,7 @@
-//! What a driver sees on a lane's list: the obstacle ahead, who is next behind, who is next above a cell, and the cells between.
+//! What a driver sees on a lane's list: the obstacle ahead, who is next behind, who is next above a cell, and the cells
+//! between. The gaps here, the passes of `street_rule` and the departures of `street_lanes` call it.
 //!
-//! Source: Nagel and Schreckenberg 1992 ahead, Rickert, Nagel, Schreckenberg and Latour 1996 beside and behind; closed cells
-//! are this profile.
+//! Source: Nagel and Schreckenberg 1992 ahead, Rickert, Nagel, Schreckenberg and Latour 1996 beside and behind.
 ghost use Rattle.std.specs.Prelude.{option_map, ◌≡◌, ℕ, ◌-◌, ◌<◌, false, [], length};
 ghost use Rattle.street_yard.specs.Prelude.{IsOnList, IsWhole, cell_at, rear_at};
 ghost use Rattle.street_gap.specs.Prelude.{IsWithin, closed_marks, lesser, obstacle_by, HasCar, IsNextBehind, IsUpTo, IsPosition};

@@ -1,7 +1,5 @@
 //! The closed cells of a lane that has some, as a list of stretches that is searched by halving. `low` and `high` are positions
-//! in the list.
-//!
-//! Source: closed cells are this profile.
+//! in the list. `closures.rt` alone calls it.
 ghost use Rattle.std.specs.Prelude.{◌≡◌, ◌↔◌, ℕ, ◌+◌, ◌-◌, ◌<◌, ◌≤◌, not, ◌&&◌, ◌||◌, true, false};
 ghost use Rattle.std.specs.Prelude.{IsTrue, [], ◌∷◌, ◌++◌, length, take, drop, count_by, OnOk, OnErr};
 ghost use Rattle.street_gap.specs.Prelude.{is_between, is_in, IsRising, IsWithin, closed_marks, entrance_after, closed_count};

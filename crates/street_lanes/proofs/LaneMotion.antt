@@ -2,14 +2,15 @@
 use Rattle.std.proofs.Common.{◌≡◌, ℕ, ◌<◌, List, [], ◌∷◌, length, map, get_or, Option, None, refl, sym, ap, subst, ◌∙◌, All}
 use Rattle.street_base.specs.declared.net.NetSpec.{NetSpec}
 use Rattle.street_base.specs.declared.names.Place.{Place}
-use Rattle.street_base.specs.Prelude.{SignalPlan, Traffic, LaneState, lane_at, drive_on, leaver_of, driven_lane, arrival}
+use Rattle.street_base.specs.Prelude.{SignalPlan, Traffic, LaneState, lane_at, drive_on, leaver_of, driven_lane}
 use Rattle.street_rule.specs.Prelude.{Odds, watched, IsReady}
 use Rattle.street_gap.specs.declared.closures.Stretch.{Stretch}
 use Rattle.street_gap.specs.Prelude.{IsWithin}
 use Rattle.street_rule.specs.declared.watch.Watch.{Watch}
 use Rattle.street_yard.specs.Prelude.{Yard, list_at, first_or, IsWhole, IsLane as IsLaneOn}
 use Rattle.street_lanes.specs.declared.lanes.Extent.{Extent}
-use Rattle.street_lanes.specs.Prelude.{LaneView, LaneStands, IsLaneOf, Lanes, lane_of, place_at, cells_list, buffer_list, lane_seen, IsStepOf, cells_on, MovesLane, DrivesAt}
+use Rattle.street_lanes.specs.Prelude.{LaneView, LaneStands, IsLaneOf, Lanes, lane_of, place_at, cells_list, buffer_list, lane_seen, IsStepOf, cells_on, arrived_car, MovesLane, DrivesAt}
+use Rattle.street_lanes.specs.declared.motion.ArrivedCar.{ArrivedCar}
 use Rattle.street_lanes.specs.Lanes.{IsOf}
 use Rattle.street_lanes.specs.Inside.{view_of, IsLaidOut}
 use Rattle.street_lanes.proofs.ListMotion.{MovesLane-nobody}
@@ -44,7 +45,7 @@ module _ {x : Lanes} {y : Yard} {closures : List (List Stretch)} {extents : List
       subst (λ (k : ℕ). All (IsReady k) ws)
       (ap (λ (v : Lanes). length (lane_of v n).track.cells) (sym view_is) ∙ cells-seen closures extents odds n within extent closed extent_is closed_is net y of_seen sound) ready
 
-  module _ (new : Yard) (dice : Odds) (same_dice : dice ≡ odds) (signal : Option SignalPlan) (step : ℕ) (told : Option ℕ) (before after : List Watch) (moves : MovesLane net signal step p closed n y new told before after) where
+  module _ (new : Yard) (dice : Odds) (same_dice : dice ≡ odds) (signal : Option SignalPlan) (step : ℕ) (told : Option ArrivedCar) (before after : List Watch) (moves : MovesLane net signal step p closed n y new told before after) where
     pub moved-sound : IsLaidOut new closures extents
     moved-sound = frame-sound y new closures extents odds n (cells_list n ∷ buffer_list n ∷ []) sound within (with-cells n, (with-buffer n, tt)) moves.touches moves.none_loose (falls-again closures extents odds n within extent closed extent_is closed_is net y of_seen sound new moves.lane)
 
@@ -67,7 +68,7 @@ module _ {x : Lanes} {y : Yard} {closures : List (List Stretch)} {extents : List
       room = moves.room;
       goes = subst (λ (q : Place). (m : Traffic) → IsStepOf net signal step q m → LaneStands (lane_of seen n) (lane_at m q) → LaneStands (lane_of (view_of new closures extents odds) n) (driven_lane m q (lane_at m q))) (sym place-here)
           (λ m now stands. stands-as new (driven_lane m p (lane_at m p)) (moves.goes m now (listed-as y (lane_at m p) stands)));
-      arrived = subst (λ (q : Place). (m : Traffic) → IsStepOf net signal step q m → LaneStands (lane_of seen n) (lane_at m q) → told ≡ arrival (leaver_of m q)) (sym place-here)
+      arrived = subst (λ (q : Place). (m : Traffic) → IsStepOf net signal step q m → LaneStands (lane_of seen n) (lane_at m q) → told ≡ arrived_car (leaver_of m q)) (sym place-here)
           (λ m now stands. moves.arrived m now (listed-as y (lane_at m p) stands));
       watched = subst (λ (q : Place). (m : Traffic) → IsStepOf net signal step q m → LaneStands (lane_of seen n) (lane_at m q) → after ≡ map (watched (drive_on m q) (lane_at m q).track) before) (sym place-here)
           (λ m now stands. moves.watched m now (listed-as y (lane_at m p) stands));

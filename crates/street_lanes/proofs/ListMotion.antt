@@ -6,7 +6,7 @@ use Rattle.std.proofs.lemmas.Bool.{cases_Bool, cases_eq, cond-true, cond-false}
 use Rattle.street_base.specs.declared.car.Car.{Car}
 use Rattle.street_base.specs.declared.net.NodeSpec.{NodeSpec}
 use Rattle.street_base.specs.declared.net.NetSpec.{NetSpec}
-use Rattle.street_base.specs.Prelude.{Cells, Track, link_at, end_node, SignalPlan, Traffic, Queued, lane_at, is_exit_open, drive_on, leaver_of, joining, arrival, most_plan, last_clock, Drive, motion, Vehicle, vehicle_of, is_on_last}
+use Rattle.street_base.specs.Prelude.{Cells, Track, link_at, end_node, SignalPlan, Traffic, Queued, lane_at, is_exit_open, drive_on, leaver_of, joining, most_plan, last_clock, Drive, motion, Vehicle, vehicle_of, is_on_last}
 use Rattle.street_base.specs.declared.names.Place.{Place}
 use Rattle.street_base.proofs.OptionLemmas.{option_map-some}
 use Rattle.street_gap.specs.declared.closures.Stretch.{Stretch}
@@ -18,7 +18,8 @@ use Rattle.street_yard.proofs.FallingLists.{IsLane-agree, cells-agree, cells-len
 use Rattle.street_rule.specs.declared.watch.Watch.{Watch}
 use Rattle.street_rule.specs.declared.motion.Leaver.{Leaver}
 use Rattle.street_rule.proofs.Others.{other-same, other-cars}
-use Rattle.street_lanes.specs.Prelude.{queued_of, IsDeserted, IsLaneOf, cells_list, buffer_list, waiting_list, cars_on, lane_seen, AreShort, NoneLoose, NoneLooseBut, SameList, Touches, IsStepOf, is_open_to, cells_on, IsFarFrom, IsToldExit, behind_all, Settles, MovesLane}
+use Rattle.street_lanes.specs.Prelude.{queued_of, IsDeserted, IsLaneOf, cells_list, buffer_list, waiting_list, cars_on, lane_seen, AreShort, NoneLoose, NoneLooseBut, SameList, Touches, IsStepOf, is_open_to, cells_on, IsFarFrom, IsToldExit, arrived_car, behind_all, Settles, MovesLane}
+use Rattle.street_lanes.specs.declared.motion.ArrivedCar.{ArrivedCar}
 use Rattle.street_lanes.proofs.Cars.{cars-kept, cars-length, car_there}
 use Rattle.street_lanes.proofs.Touches.{SameList-trans, touch-trans, touch-wider}
 use Rattle.street_lanes.proofs.Parts.{lane-parts, touch-same}
@@ -70,10 +71,10 @@ MovedOn road old exit odds step new left before after =
     → HasMoved (drive_with (link_at road.network road.link).limit is_open_to odds step) (track_of old (length_of road) (lane_of road 0)) (lane_of road 0).list (length_of road) new left before after
 
 -- what motion has done to a lane of the machine: the cells, who joins the buffer, who arrives, and what detectors note
-pub record Turns (p : Place) (y : Yard) (count n : ℕ) (extra : List Car) (told : Option ℕ) (before after : List Watch) (m : Traffic) : Type 0 where
+pub record Turns (p : Place) (y : Yard) (count n : ℕ) (extra : List Car) (told : Option ArrivedCar) (before after : List Watch) (m : Traffic) : Type 0 where
   pub cells : cells_at y (cells_list n) count ≡ motion (drive_on m p) (lane_at m p).track.cells (lane_at m p).track.closed
   pub joins : map queued_of extra ≡ joining m p (leaver_of m p)
-  pub arrives : told ≡ arrival (leaver_of m p)
+  pub arrives : told ≡ arrived_car (leaver_of m p)
   pub notes : after ≡ map (watched (drive_on m p) (lane_at m p).track) before
 
 -- lists of one lane lie apart from those of its buffer and of who waits
@@ -91,7 +92,7 @@ module _ (net : NetSpec) (signal : Option SignalPlan) (step : ℕ) (p : Place) (
   list = cells_list n
 
   -- a motion, and then who has left is settled
-  module _ (y0 y1 y2 : Yard) (away : Option ℕ) (extra : List Car) (told : Option ℕ) (before after : List Watch)
+  module _ (y0 y1 y2 : Yard) (away : Option ℕ) (extra : List Car) (told : Option ArrivedCar) (before after : List Watch)
       (whole : IsWhole y0) (rest : MovesList y0 y1 list away) (lane : IsLane y1 list count) (settled : Touches (buffer_list n ∷ []) y1 y2)
       (queue : cars_on y2 (buffer_list n) ≡ cars_on y1 (buffer_list n) ++ extra) (room : y2.room ≡ y1.room + length (option_to_list told)) (listed : NoneLoose y0 → NoneLoose y2) where
     moved-same : (other : ℕ) → other ≢ list → SameList y0 y1 other
@@ -129,14 +130,14 @@ module _ (net : NetSpec) (signal : Option SignalPlan) (step : ℕ) (p : Place) (
   same-all [] f h = refl
   same-all (w ∷ ws) f h = ap (λ (v : Watch). v ∷ ws) (sym (h w)) ∙ ap (λ (vs : List Watch). f w ∷ vs) (same-all ws f h)
 
-  pub MovesLane-nobody : (y : Yard) (cells : ℕ) (told : Option ℕ) (ws : List Watch) → cells ≡ list → IsWhole y → IsLane y list count → ◌≡◌ {A = Option ℕ} None (first_or (list_at y cells) None) → told ≡ None → MovesLane net signal step p closed n y y told ws ws
+  pub MovesLane-nobody : (y : Yard) (cells : ℕ) (told : Option ArrivedCar) (ws : List Watch) → cells ≡ list → IsWhole y → IsLane y list count → ◌≡◌ {A = Option ℕ} None (first_or (list_at y cells) None) → told ≡ None → MovesLane net signal step p closed n y y told ws ws
   MovesLane-nobody y cells told ws cells_is whole lane at_front none =
       let empty = no_head (list_at y list) None refl (subst (λ (l : ℕ). ◌≡◌ {A = Option ℕ} None (first_or (list_at y l) None)) cells_is at_front) in
       MovesLane-settled y y y None [] told ws ws whole
       (record { lists = refl; count = refl; room = refl; others = λ k h. refl; cars = λ k. refl; marks = λ k. refl; loose = λ x e. absurd (cc); whole = whole })
       lane (touch-same (buffer_list n ∷ []) y)
       (sym (append-nil (cars_on y (buffer_list n))))
-      (sym (ap (λ (o : Option ℕ). y.room + length (option_to_list o)) none ∙ add-zero y.room))
+      (sym (ap (λ (o : Option ArrivedCar). y.room + length (option_to_list o)) none ∙ add-zero y.room))
       (λ on. on)
       (λ m now stood. (
       let same : cells_at y list count ≡ (lane_at m p).track.cells = ap (λ (t : Track). t.cells) stood.track in
@@ -145,7 +146,7 @@ module _ (net : NetSpec) (signal : Option SignalPlan) (step : ℕ) (p : Place) (
       record {
         cells = same ∙ sym (motion-deserted (drive_on m p) (lane_at m p).track.cells (lane_at m p).track.closed deserted);
         joins = sym (ap (joining m p) gone);
-        arrives = none ∙ sym (ap arrival gone);
+        arrives = none ∙ sym (ap arrived_car gone);
         notes = same-all ws (watched (drive_on m p) (lane_at m p).track) (watched-deserted (drive_on m p) (lane_at m p).track.cells (lane_at m p).track.closed deserted);
       }))
 
@@ -199,16 +200,16 @@ module _ (net : NetSpec) (signal : Option SignalPlan) (step : ℕ) (p : Place) (
         subst (λ (t : Track). HasMoved (drive_on m p) t list count y1 left before after) stood.track
         (subst (λ (d : Drive). HasMoved d (lane_seen y0 closed count n).track list count y1 left before after) (drive-is net signal step p m now) (has-driven m now stood in_hand))
 
-    pub MovesLane-stays : (told : Option ℕ) → left ≡ None → told ≡ None → MovesLane net signal step p closed n y0 y1 told before after
+    pub MovesLane-stays : (told : Option ArrivedCar) → left ≡ None → told ≡ None → MovesLane net signal step p closed n y0 y1 told before after
     MovesLane-stays told stays none =
         MovesLane-settled y0 y1 y1 (option_map (λ (l : Leaver). l.key) left) [] told before after whole rest lane_then (touch-same (buffer_list n ∷ []) y1)
         (sym (append-nil (cars_on y1 (buffer_list n))))
-        (sym (ap (λ (o : Option ℕ). y1.room + length (option_to_list o)) none ∙ add-zero y1.room))
+        (sym (ap (λ (o : Option ArrivedCar). y1.room + length (option_to_list o)) none ∙ add-zero y1.room))
         (λ on k loose. loose-moved y0 y1 list (option_map (λ (l : Leaver). l.key) left) whole rest on k loose (λ e. (let bad : ◌≡◌ {A = Option ℕ} None (Some k) = sym (ap (option_map (λ (l : Leaver). l.key)) stays) ∙ e in cc)))
         (λ m now stood. (
         let h = has-moved m now stood in
         let gone : leaver_of m p ≡ None = sym h.gone ∙ ap (option_and_then (λ (l : Leaver). vehicle_with y1 l.key)) stays in
-        record { cells = h.cells; joins = sym (ap (joining m p) gone); arrives = none ∙ sym (ap arrival gone); notes = h.watches }))
+        record { cells = h.cells; joins = sym (ap (joining m p) gone); arrives = none ∙ sym (ap arrived_car gone); notes = h.watches }))
 
     module _ (l : Leaver) (goes : left ≡ Some l) (end : NodeSpec) (end_is : end_node net p.link ≡ Some end) (ready : ℕ) (ready_is : step ≤ last_clock → ready ≡ step + end.residence) where
       -- who has left is loose, and so has a car
@@ -234,20 +235,20 @@ module _ (net : NetSpec) (signal : Option SignalPlan) (step : ℕ) (p : Place) (
             | inr f ↦ ap (map queued_of) (cond-false _ _ _ f) ∙ ap (λ (r : ℕ). record { vehicle = vehicle_of v; ready = r } ∷ []) then_on ∙ sym (cond-false _ _ _ f)
           ]
 
-      module _ (v : Car) (v_is : car_of y1 l.key ≡ Some v) (y2 : Yard) (told : Option ℕ) (settled : Settles (buffer_list n) ready v y1 y2 told) (listed : NoneLooseBut l.key y1 → NoneLoose y2) where
+      module _ (v : Car) (v_is : car_of y1 l.key ≡ Some v) (y2 : Yard) (told : Option ArrivedCar) (settled : Settles (buffer_list n) ready v y1 y2 told) (listed : NoneLooseBut l.key y1 → NoneLoose y2) where
         MovesLane-car : MovesLane net signal step p closed n y0 y2 told before after
         MovesLane-car =
             MovesLane-settled y0 y1 y2 (option_map (λ (l : Leaver). l.key) left) (behind_all ready v) told before after whole rest lane_then settled.touches settled.queue settled.room (λ on. listed (leaver-alone on))
             (λ m now stood. (
             let h = has-moved m now stood in
             let gone : leaver_of m p ≡ Some (vehicle_of v) = sym h.gone ∙ ap (option_and_then (λ (l : Leaver). vehicle_with y1 l.key)) goes ∙ ap (option_map vehicle_of) v_is in
-            record { cells = h.cells; joins = joins-is m now v ∙ sym (ap (joining m p) gone); arrives = settled.arrived ∙ sym (ap arrival gone); notes = h.watches }))
+            record { cells = h.cells; joins = joins-is m now v ∙ sym (ap (joining m p) gone); arrives = settled.arrived ∙ sym (ap arrived_car gone); notes = h.watches }))
 
       loose_car : (o : Option YardEntry) → IsSomeAnd o (λ (e : YardEntry). e.list ≡ None) → (c : Car) × (option_map (λ (e : YardEntry). e.car) o ≡ Some c)
       loose_car None h = absurd h
       loose_car (Some e) h = (e.car, refl)
 
-      pub MovesLane-leaves : (y2 : Yard) (told : Option ℕ) → ((v : Car) → car_of y1 l.key ≡ Some v → Settles buffer ready v y1 y2 told) → (NoneLooseBut l.key y1 → NoneLoose y2) → MovesLane net signal step p closed n y0 y2 told before after
+      pub MovesLane-leaves : (y2 : Yard) (told : Option ArrivedCar) → ((v : Car) → car_of y1 l.key ≡ Some v → Settles buffer ready v y1 y2 told) → (NoneLooseBut l.key y1 → NoneLoose y2) → MovesLane net signal step p closed n y0 y2 told before after
       MovesLane-leaves y2 told settled listed =
           let v = loose_car (entry_at y1 l.key) leaver-loose in
           MovesLane-car v.0 v.1 y2 told (subst (λ (b : ℕ). Settles b ready v.0 y1 y2 told) buffer_is (settled v.0 v.1)) listed

@@ -8,6 +8,7 @@ use Rattle.street_base.specs.declared.car.Car.{Car}
 use Rattle.street_base.specs.Prelude.{vehicle_of, next_link, is_on_last}
 use Rattle.street_yard.specs.Prelude.{YardEntry, Yard, list_at, car_of, entry_at, car_set, list_set, IsLoose, IsWhole}
 use Rattle.street_yard.proofs.YardLemmas.{car_of-car_set, car_of-car_set_other, car_of-list_set, entry-kept_set_other, list-written, mapped-same}
+use Rattle.street_lanes.specs.declared.motion.ArrivedCar.{ArrivedCar}
 use Rattle.street_lanes.specs.Prelude.{cars_on, NoneLoose, NoneLooseBut, Settles}
 use Rattle.street_lanes.proofs.Touches.{touch-trans, touch-more, relisted, not-loose, loose-off, taken, written}
 use Rattle.street_lanes.proofs.Loose.{loose-placed, loose-gone}
@@ -26,6 +27,10 @@ is_on_last-by car y key next b there asked told = ap is_none (sym (next-of car y
     twice true = refl
     twice false = refl
 
+-- a car that has arrived
+abbrev pub as_arrived : Car → ArrivedCar
+as_arrived car = record { number = car.number; speed = car.speed }
+
 -- a loose key is changed or taken out, and then the cars on a list are as they were
 module _ (old : Yard) (key : ℕ) (whole : IsWhole old) (loose : IsLoose old key) (list ready : ℕ) (car : Car) (is : car_of old key ≡ Some car) where
   others-kept : (new : Yard) → ((k : ℕ) → k ≢ key → car_of new k ≡ car_of old k) → filter_map (car_of new) (list_at old list) ≡ cars_on old list
@@ -36,7 +41,7 @@ module _ (old : Yard) (key : ℕ) (whole : IsWhole old) (loose : IsLoose old key
   abbrev pub without_car : Yard
   without_car = record old { kept = slice_set old.kept key None; room = old.room + 1 }
 
-  taken-settles : is_on_last (vehicle_of car) ≡ true → Settles list ready car old without_car (Some car.number)
+  taken-settles : is_on_last (vehicle_of car) ≡ true → Settles list ready car old without_car (Some (as_arrived car))
   taken-settles last = record {
     arrived = sym (cond-true _ _ _ last);
     touches = touch-more (list ∷ []) old without_car (taken old key whole loose);
@@ -46,11 +51,11 @@ module _ (old : Yard) (key : ℕ) (whole : IsWhole old) (loose : IsLoose old key
         ∙ sym (ap (λ (cs : List Car). cars_on old list ++ cs) (cond-true _ _ _ last) ∙ append-nil (cars_on old list));
   }
 
-  pub Settles-taken : (new : Yard) (gone : Car) → new ≡ without_car → car_of old key ≡ Some gone → is_on_last (vehicle_of car) ≡ true → Settles list ready car old new (Some gone.number)
+  pub Settles-taken : (new : Yard) (gone : Car) → new ≡ without_car → car_of old key ≡ Some gone → is_on_last (vehicle_of car) ≡ true → Settles list ready car old new (Some (as_arrived gone))
   Settles-taken new gone after there last =
       let same : ◌≡◌ {A = Option Car} (Some car) (Some gone) = sym is ∙ there in
-      let number : car.number ≡ gone.number = cc in
-      subst (λ (y : Yard). Settles list ready car old y (Some gone.number)) (sym after) (subst (λ (n : ℕ). Settles list ready car old without_car (Some n)) number (taken-settles last))
+      let left : car ≡ gone = cc in
+      subst (λ (y : Yard). Settles list ready car old y (Some (as_arrived gone))) (sym after) (subst (λ (c : Car). Settles list ready car old without_car (Some (as_arrived c))) left (taken-settles last))
 
   -- ---- it comes last on a list
 

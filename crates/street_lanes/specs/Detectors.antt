@@ -1,5 +1,4 @@
 -- The detectors of a lane, and what they note of a step.
--- Source: meters that sum what detectors note are this profile; what a detector notes in a step is street_base's Detector.
 use Rattle.std.specs.Prelude.{◌≡◌, ℕ, ◌+◌, ◌<◌, List, [], ◌∷◌, ◌++◌, length, slice_index_or, if◌then◌else◌}
 use Rattle.street_base.specs.Prelude.{Cells, is_covered, Traffic, Triple, Detector, lane_at, drive_on}
 use Rattle.street_base.specs.declared.names.Place.{Place}

@@ -1,5 +1,4 @@
 -- Lane changes on a link of two lanes of a tile.
--- Source: this profile.
 use Rattle.std.specs.Prelude.{◌≡◌, ◌≢◌, ℕ, ◌+◌, List, [], ◌∷◌}
 use Rattle.street_base.specs.declared.net.NetSpec.{NetSpec}
 use Rattle.street_base.specs.Prelude.{Changing, changed_cells, link_at, Traffic, LaneState, changing_on, with_cells}

@@ -1,5 +1,4 @@
 -- Closed cells, before and after a change.
--- Source: this profile.
 use Rattle.std.specs.Prelude.{◌≡◌, ℕ, List, Bool, if◌then◌else◌}
 use Rattle.street_gap.specs.declared.closures.Stretch.{Stretch}
 use Rattle.street_gap.specs.Prelude.{is_between, is_in}

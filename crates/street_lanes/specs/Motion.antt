@@ -1,17 +1,17 @@
 -- Motion on one lane of a tile.
--- Source: this profile.
-use Rattle.std.specs.Prelude.{◌≡◌, ◌⊎◌, ℕ, ◌+◌, ◌<◌, ◌≤◌, nat_lt, List, [], ◌∷◌, ◌++◌, length, map, Bool, true, false, ◌&&◌, Option, Some}
+use Rattle.std.specs.Prelude.{◌≡◌, ◌⊎◌, ℕ, ◌+◌, ◌<◌, ◌≤◌, nat_lt, List, [], ◌∷◌, ◌++◌, length, map, Bool, true, false, ◌&&◌, Option, Some, None}
 use Rattle.std.specs.Prelude.{if◌then◌else◌, option_to_list}
 use Rattle.std.specs.Option.{option_map_or}
 use Rattle.street_base.specs.declared.car.Car.{Car}
 use Rattle.street_base.specs.declared.net.NetSpec.{NetSpec}
 use Rattle.street_base.specs.Prelude.{last_clock, link_at, end_node, serves, Vehicle, vehicle_of, next_link, is_on_last, SignalPlan, is_green}
-use Rattle.street_base.specs.Prelude.{Traffic, lane_at, plan_at, drive_on, leaver_of, driven_lane, arrival}
+use Rattle.street_base.specs.Prelude.{Traffic, lane_at, plan_at, drive_on, leaver_of, driven_lane}
 use Rattle.street_base.specs.declared.names.Place.{Place}
 use Rattle.street_gap.specs.declared.closures.Stretch.{Stretch}
 use Rattle.street_yard.specs.Prelude.{Yard, list_at, car_of, IsLane}
 use Rattle.street_rule.specs.declared.watch.Watch.{Watch}
 use Rattle.street_rule.specs.Prelude.{watched}
+use Rattle.street_lanes.specs.declared.motion.ArrivedCar.{ArrivedCar}
 use Rattle.street_lanes.specs.declared.motion.Leg.{Leg}
 use Rattle.street_lanes.specs.Views.{LaneView, LaneStands, IsLaneOf}
 use Rattle.street_lanes.specs.Lanes.{Lanes, lane_of, place_at, Same, Others}
@@ -69,9 +69,14 @@ TellsExit y leg buffer front exit =
 abbrev pub behind_all : ℕ → Car → List Car
 behind_all ready car = if is_on_last (vehicle_of car) then [] else record car { step = ready } ∷ []
 
--- a car that has left its lane and is on its last link is taken out, and its number told; else it comes last on a list
-pub record Settles (list ready : ℕ) (car : Car) (old new : Yard) (told : Option ℕ) : Type 0 where
-  pub arrived : told ≡ arrival (Some (vehicle_of car))
+-- a leaver that is on its last link, by its number and speed; nobody where another left, or none
+abbrev pub arrived_car : Option Vehicle → Option ArrivedCar
+arrived_car None = None
+arrived_car (Some v) = if is_on_last v then Some (record { number = v.number; speed = v.speed }) else None
+
+-- a car that has left its lane and is on its last link is taken out, and told; else it comes last on a list
+pub record Settles (list ready : ℕ) (car : Car) (old new : Yard) (told : Option ArrivedCar) : Type 0 where
+  pub arrived : told ≡ arrived_car (Some (vehicle_of car))
   pub touches : Touches (list ∷ []) old new
   pub room : new.room ≡ old.room + length (option_to_list told)
   pub queue : cars_on new list ≡ cars_on old list ++ behind_all ready car
@@ -85,18 +90,18 @@ WhereSeen net signal step p lane P = (m : Traffic) → IsStepOf net signal step 
 -- the lists of lane n, which is the lane at p, stand for whatever lane they stood for after motion; who arrives is told, and each
 -- watch has noted what its detector notes
 pub record MovesLane (net : NetSpec) (signal : Option SignalPlan) (step : ℕ) (p : Place) (closed : List Stretch) (n : ℕ)
-    (old new : Yard) (told : Option ℕ) (before after : List Watch) : Type 0 where
+    (old new : Yard) (told : Option ArrivedCar) (before after : List Watch) : Type 0 where
   pub touches : Touches (cells_list n ∷ buffer_list n ∷ []) old new
   pub room : new.room ≡ old.room + length (option_to_list told)
   pub none_loose : NoneLoose old → NoneLoose new
   pub lane : IsLane new (cells_list n) (cells_on net p)
   pub goes : WhereSeen net signal step p (lane_seen old closed (cells_on net p) n)
       (λ m. IsLaneOf (lane_seen new closed (cells_on net p) n) (driven_lane m p (lane_at m p)))
-  pub arrived : WhereSeen net signal step p (lane_seen old closed (cells_on net p) n) (λ m. told ≡ arrival (leaver_of m p))
+  pub arrived : WhereSeen net signal step p (lane_seen old closed (cells_on net p) n) (λ m. told ≡ arrived_car (leaver_of m p))
   pub watched : WhereSeen net signal step p (lane_seen old closed (cells_on net p) n) (λ m. after ≡ map (watched (drive_on m p) (lane_at m p).track) before)
 
 -- what motion does to the lists of a leg's lane
-abbrev pub MovesLeg : Leg → Yard → Yard → Option ℕ → List Watch → List Watch → Type 0
+abbrev pub MovesLeg : Leg → Yard → Yard → Option ArrivedCar → List Watch → List Watch → Type 0
 MovesLeg leg old new told before after =
     MovesLane leg.net.now leg.signal.now leg.clock leg.at leg.closures.now leg.lane old new told before after
 
@@ -106,10 +111,10 @@ WhereStands net signal step n x P = (m : Traffic) → IsStepOf net signal step (
 
 -- of whatever traffic lane n stood for its lane, it then stands for that lane after motion, who arrives is told, and each watch has
 -- noted what its detector notes; the other lanes are as they were
-pub record DrivesAt (net : NetSpec) (signal : Option SignalPlan) (step n : ℕ) (x y : Lanes) (told : Option ℕ) (before after : List Watch) : Type 0 where
+pub record DrivesAt (net : NetSpec) (signal : Option SignalPlan) (step n : ℕ) (x y : Lanes) (told : Option ArrivedCar) (before after : List Watch) : Type 0 where
   pub same : Same x y
   pub others : Others n x y
   pub room : y.room ≡ x.room + length (option_to_list told)
   pub goes : WhereStands net signal step n x (λ m. LaneStands (lane_of y n) (driven_lane m (place_at x n) (lane_at m (place_at x n))))
-  pub arrived : WhereStands net signal step n x (λ m. told ≡ arrival (leaver_of m (place_at x n)))
+  pub arrived : WhereStands net signal step n x (λ m. told ≡ arrived_car (leaver_of m (place_at x n)))
   pub watched : WhereStands net signal step n x (λ m. after ≡ map (watched (drive_on m (place_at x n)) (lane_at m (place_at x n)).track) before)

@@ -1,5 +1,4 @@
 -- Lanes on which somebody is, and lanes on which nobody is, which a phase of a step may leave out.
--- Source: this profile.
 use Rattle.std.specs.Prelude.{◌≡◌, ℕ, [], None}
 use Rattle.street_base.specs.Prelude.{Cells, vehicle_at}
 use Rattle.street_lanes.specs.Views.{LaneView}

@@ -7,7 +7,7 @@ pub use Rattle.street_lanes.specs.Lists.{AreShort, ComesIn, Departs, Enters, Has
 pub use Rattle.street_lanes.specs.Lists.{Joins, LetsGo, NoneLoose, NoneLooseBut, Packs, SameList, Touches, buffer_list, cars_on, cells_list, held_on}
 pub use Rattle.street_lanes.specs.Lists.{lane_seen, lane_with, waiting_list}
 pub use Rattle.street_lanes.specs.Marks.{Marks}
-pub use Rattle.street_lanes.specs.Motion.{DrivesAt, IsFarFrom, IsStepOf, IsToldExit, MovesLane, MovesLeg, PlanStands, Settles, TellsExit, behind_all}
+pub use Rattle.street_lanes.specs.Motion.{DrivesAt, IsFarFrom, IsStepOf, IsToldExit, MovesLane, MovesLeg, PlanStands, Settles, TellsExit, arrived_car, behind_all}
 pub use Rattle.street_lanes.specs.Motion.{cells_on, is_open_to, opens_to}
 pub use Rattle.street_lanes.specs.Search.{IsFound, IsSought, TakesOut}
 pub use Rattle.street_lanes.specs.ShownCars.{shown_in_buffer, shown_in_cell, shown_stretch, shown_waiting}

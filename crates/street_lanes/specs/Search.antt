@@ -1,5 +1,4 @@
 -- The vehicle of a number on a list, and taking it out.
--- Source: this profile.
 use Rattle.std.specs.Prelude.{ℕ, ◌≡◌, ◌≢◌, ◌⊎◌, ◌+◌, Option, Some, None, IsSomeAnd, ◌∷◌, []}
 use Rattle.street_base.specs.declared.car.Car.{Car}
 use Rattle.street_yard.specs.Prelude.{Yard, list_at, car_of, list_on, without, Has}

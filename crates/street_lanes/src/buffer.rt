@@ -1,4 +1,5 @@
-//! The front of a lane's buffer: to which link it goes on, and taking it out, as a release does.
+//! The front of a lane's buffer: to which link it goes on, and taking it out, as a release does. The releases of `street_tile`
+//! call it.
 ghost use Rattle.std.specs.Prelude.{◌≡◌, ◌+◌, ◌<◌, length, option_map, slice_get, IfSome, option_to_list};
 ghost use Rattle.street_base.specs.Prelude.{LaneState};
 ghost use Rattle.street_lanes.specs.Prelude.{LaneStands, queued_of, ready_next, without_front, lane_of, GoesAt, cars_on, HasShortPlan, LetsGo};

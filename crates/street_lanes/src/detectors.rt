@@ -1,4 +1,4 @@
-//! The detectors of a lane, which has some or none.
+//! The detectors of a lane, which has some or none. A tile keeps one for each of its lanes.
 ghost use Rattle.std.specs.Prelude.{◌≡◌, ◌<◌, ◌≤◌, length, List, [], option_map, slice_get, IfOk, OnOk, OnErr, All};
 ghost use Rattle.street_base.specs.Prelude.{last_clock, most_period, shown_rows, LaneState, Detector};
 ghost use Rattle.street_lanes.specs.Prelude.{LaneStands, lane_of, AllGoOn, AllNote, MetersStandFor, Placed};

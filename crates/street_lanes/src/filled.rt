@@ -1,6 +1,5 @@
-//! The next lane on which somebody is, so that a phase of a step goes over these lanes alone.
-//!
-//! Source: this profile.
+//! The next lane on which somebody is, so that a phase of a step goes over these lanes alone. The phases of `street_tile` call
+//! it.
 ghost use Rattle.std.specs.Prelude.{◌≤◌, length};
 ghost use Rattle.street_yard.specs.Prelude.{IsFirstBut};
 ghost use Rattle.street_lanes.specs.Prelude.{lane_of, HasNobodyInCells, HasEmptyBuffer, HasNobodyWaiting};

@@ -1,5 +1,5 @@
-//! Hints of a tile: under which key a vehicle may be, and from whom on to look for a car's place among those who wait. A hint may
-//! be wrong: whoever takes one tests it.
+//! Hints of a tile: under which key a vehicle may be, and from whom on to look for a car's place among those who wait. A hint
+//! may be wrong: whoever takes one tests it. `lanes.rt` keeps them; departures and searches ask.
 ghost use Rattle.std.specs.Prelude.{◌<◌, length};
 ghost use Rattle.street_yard.specs.Prelude.{IsOnList};
 

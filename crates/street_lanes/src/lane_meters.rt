@@ -1,6 +1,4 @@
-//! The detectors of a lane that has some, and whether a cell is covered, which they note.
-//!
-//! Source: detectors are this profile.
+//! The detectors of a lane that has some, and whether a cell is covered, which they note. `detectors.rt` alone calls it.
 ghost use Rattle.std.specs.Prelude.{◌≡◌, ℕ, ◌<◌, ◌≤◌, length, List, [], map, option_map, slice_get, IfOk, OnOk, OnErr, All};
 ghost use Rattle.street_base.specs.Prelude.{last_clock, most_period, shown_rows, is_covered, LaneState, Detector};
 ghost use Rattle.street_lanes.specs.Prelude.{LaneStands, lane_of, cleared, GoesOn, Notes, AllGoOn, AllNote, MetersStandFor, Placed};

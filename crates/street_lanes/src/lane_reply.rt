@@ -1,6 +1,4 @@
-//! All of one lane, as the reply to a `lane` command shows it.
-//!
-//! Source: this profile.
+//! All of one lane, as the reply to a `lane` command shows it. A tile calls it for a `lane` command.
 ghost use Rattle.std.specs.Prelude.{◌≡◌, ◌<◌, length, map, IfOk};
 ghost use Rattle.street_base.specs.declared.car.Car.{Car as Driven};
 ghost use Rattle.street_base.specs.Prelude.{LaneState, shown_lane};

@@ -1,6 +1,6 @@
-//! Motion on one lane of a tile.
+//! Motion on one lane of a tile. The second phase of a tile calls it for each lane with somebody.
 //!
-//! Source: Nagel and Schreckenberg 1992; exits, buffers and detectors are this profile.
+//! Source: Nagel and Schreckenberg 1992.
 ghost use Rattle.std.specs.Prelude.{◌≡◌, ◌^◌, ◌<◌, ◌≤◌, [], length, map, Some, IsSome, All};
 ghost use Rattle.street_base.specs.declared.car.Car.{Car as CarOf};
 ghost use Rattle.street_base.specs.Prelude.{most_residence, end_node, is_green};
@@ -13,12 +13,21 @@ ghost use Rattle.street_lanes.specs.Lanes.{IsOf};
 
 use crate::detectors::{Detectors, Kind};
 use crate::lanes::{Lanes, buffer_list, cells_list};
-use street_base::{CarNo, CellNo, LinkIx, NodeSpec, Place, Step, Turn};
+use street_base::{CarNo, CellNo, LinkIx, NodeSpec, Place, Speed, Step, Turn};
 use street_gap::Closures;
 use street_net::Network;
 use street_node::Signal;
 use street_rule::{Dice, Road, RoadLane, Watch, motion_pass};
 use street_yard::{Key, ListId, Yard};
+
+/// A vehicle that has arrived.
+#[derive(Clone, Copy)]
+pub struct ArrivedCar {
+    /// Its number.
+    pub number: CarNo,
+    /// The speed at which it left its last lane, in cells a step.
+    pub speed: Speed,
+}
 
 /// A lane of a tile in a step.
 #[derive(Clone, Copy)]
@@ -98,9 +107,9 @@ fn exit_for(yard: &Yard, road: &Road<'_>, leg: &Leg<'_>, buffer: ListId, front: 
     exit_is_open(yard, leg, buffer, yard.next_link(front))
 }
 
-/// A car that has left its lane arrives, if it is on its last link: it is taken out and its number answered. Else it comes last
-/// into the list `buffer`, may go on from the step `ready`, and none is answered.
-fn settle(yard: &mut Yard, buffer: ListId, key: Key, ready: Step) -> Option<CarNo>
+/// A car that has left its lane arrives, if it is on its last link: it is taken out, and its number and speed are answered. Else it
+/// comes last into the list `buffer`, may go on from the step `ready`, and none is answered.
+fn settle(yard: &mut Yard, buffer: ListId, key: Key, ready: Step) -> Option<ArrivedCar>
     requires list { buffer.0 < length yard.old.lists }
     requires loose { IsLoose yard.old key }
     ensures settles { (car : CarOf) → car_of yard.old key ≡ Some car → Settles buffer.0 ready car yard.old yard.new result }
@@ -108,14 +117,17 @@ fn settle(yard: &mut Yard, buffer: ListId, key: Key, ready: Step) -> Option<CarN
 {
     if yard.next_link(key).is_none() {
         let car = yard.take(key);
-        return Some(car.number);
+        return Some(ArrivedCar {
+            number: car.number,
+            speed: car.speed,
+        });
     }
     yard.set_step(key, ready);
     yard.push_back(buffer, key);
     None
 }
 
-/// The motion of a lane in a step; answers the number of who has arrived, if somebody has, and each watch notes who went past
+/// The motion of a lane in a step; answers who has arrived, if somebody has, and each watch notes who went past
 /// it. A leaver that has not arrived is in the buffer then. Nothing is done where nobody is in the lane's cells. The exit is
 /// asked for the front vehicle alone, since it matters to nobody else.
 fn drive_leg(
@@ -123,7 +135,7 @@ fn drive_leg(
     dice: &mut Dice,
     leg: &Leg<'_>,
     watches: &mut [Watch],
-) -> Option<CarNo>
+) -> Option<ArrivedCar>
     requires link { leg.now.at.link < length leg.now.net.now.links }
     requires few { leg.now.lane < 2 ^ 32 }
     requires listed { buffer_list leg.now.lane < length yard.old.lists }
@@ -151,8 +163,8 @@ fn drive_leg(
 
 impl Lanes {
     /// The motion of a lane, by its number on the tile, in the step `clock`, with no watches: all vehicles in its cells drive
-    /// on, and at most one leaves. A leaver on its last link has arrived: its number is answered, and there is room for one
-    /// more. Any other comes last into the lane's buffer, from where it may go on after the residence of the node. Takes no
+    /// on, and at most one leaves. A leaver on its last link has arrived: its number and speed are answered, and there is room
+    /// for one more. Any other comes last into the lane's buffer, from where it may go on after the residence of the node. Takes no
     /// memory.
     ///
     /// `signal` is that of the node that the lane runs to; its plan is looked up where the front vehicle asks.
@@ -162,7 +174,7 @@ impl Lanes {
         lane: usize,
         clock: Step,
         signal: &Signal<'_>,
-    ) -> Option<CarNo>
+    ) -> Option<ArrivedCar>
         requires lane { lane < length self.old.lanes }
         requires of { IsOf net.now self.old }
         ensures { DrivesAt net.now signal.now clock lane self.old self.new result [] [] }
@@ -182,7 +194,7 @@ impl Lanes {
         clock: Step,
         signal: &Signal<'_>,
         detectors: &mut Detectors,
-    ) -> Option<CarNo>
+    ) -> Option<ArrivedCar>
         requires lane { lane < length self.old.lanes }
         requires of { IsOf net.now self.old }
         requires size { detectors.old.size ≡ length (lane_of self.old lane).track.cells }
@@ -208,7 +220,7 @@ impl Lanes {
         clock: Step,
         signal: &Signal<'_>,
         watches: &mut [Watch],
-    ) -> Option<CarNo>
+    ) -> Option<ArrivedCar>
         requires lane { lane < length self.old.lanes }
         requires of { IsOf net.now self.old }
         requires watches { All (IsReady (length (lane_of self.old lane).track.cells)) watches.old }

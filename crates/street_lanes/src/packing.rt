@@ -1,4 +1,4 @@
-//! Vehicles in memory in the order in which they stand on the road.
+//! Vehicles in memory in the order in which they stand on the road. The last phase of a tile calls it in each eighth step.
 ghost use Rattle.std.specs.Prelude.{◌≡◌, ◌*◌, ◌^◌, ◌<◌, ◌≤◌, length};
 ghost use Rattle.street_lanes.specs.Prelude.{Packs};
 

@@ -1,4 +1,4 @@
-//! Finding the vehicle of a number on a lane's lists, and taking it out.
+//! Finding the vehicle of a number on a lane's lists, and taking it out. Commands and questions that name a vehicle call it.
 ghost use Rattle.std.specs.Prelude.{◌≡◌, ◌^◌, ◌<◌, length, true, IsSome, Some};
 ghost use Rattle.street_lanes.specs.Prelude.{waiting_list, IsSought, IsFound, TakesOut};
 ghost use Rattle.street_yard.specs.Prelude.{list_on, IsWhole};

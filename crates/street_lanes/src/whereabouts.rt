@@ -1,6 +1,5 @@
-//! Where the vehicle of a number is on one lane, as the reply to a `vehicle` command tells it.
-//!
-//! Source: this profile.
+//! Where the vehicle of a number is on one lane, as the reply to a `vehicle` command tells it. A tile calls it for the lanes on
+//! which the vehicle may be.
 ghost use Rattle.std.specs.Prelude.{◌≡◌, ◌<◌, length, None, IfOk};
 ghost use Rattle.street_base.specs.Prelude.{link_at, vehicle_of, remaining_plan, remaining_ids};
 ghost use Rattle.street_lanes.specs.Lanes.{IsOf};

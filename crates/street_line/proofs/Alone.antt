@@ -1,5 +1,5 @@
 -- A session that nobody stands beside: its pass has seen the whole history, and that has its calls alone.
-use Rattle.std.proofs.Common.{◌≡◌, ◌∙◌, ℕ, ◌+◌, ◌<◌, List, [], ◌∷◌, ◌++◌, length, Option, refl, sym, ap, subst, arith, append-nil, length-append, eq-eqb, None, Result, Ok, Err, IfOk, IfErr}
+use Rattle.std.proofs.Common.{◌≡◌, ◌∙◌, ◌⊎◌, ℕ, ◌<◌, List, [], ◌∷◌, ◌++◌, length, Option, refl, sym, ap, subst, arith, append-nil, length-append, eq-eqb, None, Result, Ok, Err, IfOk, IfErr, inl, inr}
 use Rattle.street_base.specs.declared.command.Command.{Command}
 use Rattle.street_base.specs.declared.reply.Reply.{Reply}
 use Rattle.street_base.specs.Prelude.{State, Allows, state_after, reply_to}
@@ -7,10 +7,11 @@ use Rattle.street_desk.specs.declared.journal.Entry.{Entry}
 use Rattle.street_desk.specs.History.{entry, state_from, state_of, IsLegalFrom, AllBelow, calls_of, IsHistory}
 use Rattle.street_desk.specs.Passes.{DeskView, PassView, Answered as IsAnswered, Filled, Finished}
 use Rattle.street_stream.specs.declared.tally.FaultKind.{FaultKind}
+use Rattle.street_stream.specs.declared.tally.FaultKind.TheVariants.{Starved}
 use Rattle.street_stream.specs.declared.tally.Tally.{Tally}
 use Rattle.street_line.specs.declared.service.Served.{Served}
-use Rattle.street_line.specs.declared.service.Served.TheVariants.{Answered, Full}
-use Rattle.street_line.specs.Faults.{Breaks}
+use Rattle.street_line.specs.declared.service.Served.TheVariants.{Answered, Full, Unrecorded}
+use Rattle.street_line.specs.Faults.{Breaks, IsUnanswered}
 use Rattle.street_line.specs.Runs.{Said, silent, faulty, calls, said, Done, Goes}
 use Rattle.street_line.specs.Sessions.{AloneServes, DeskServes, IsAlone}
 
@@ -19,6 +20,7 @@ use Rattle.street_line.specs.Sessions.{AloneServes, DeskServes, IsAlone}
 served_desk : (p : PassView) (c : Command) (served : Served) (q : PassView) → DeskServes p c served q → q.desk ≡ p.desk
 served_desk p c (Answered reply) q h = h.same.0
 served_desk p c Full q h = h.learns.same.0
+served_desk p c Unrecorded q h = absurd h
 
 done_desk : (p : PassView) (what : Said) (out : List ℕ) (q : PassView) → Done DeskServes p what out q → q.desk ≡ p.desk
 done_desk p silent out q h = ap (λ (v : PassView). v.desk) h.0
@@ -104,8 +106,18 @@ full_alone p c q h alone =
 served_alone : (p : PassView) (c : Command) (served : Served) (q : PassView) → DeskServes p c served q → IsAlone p → AloneServes p.desk.calls p.seen c served q.seen × IsAlone q
 served_alone p c (Answered reply) q h alone = answered_alone p c reply q h alone
 served_alone p c Full q h alone = full_alone p c q h alone
+served_alone p c Unrecorded q h alone = absurd h
 
 -- ---- lines
+
+-- each command gets a reply, so where a fault came no other was served behind those
+pub went : (p : PassView) (held : Option (List ℕ)) (text : List ℕ) (q : PassView) (holds : Option (List ℕ)) (kind : FaultKind) (tally : Tally)
+    (h : Breaks DeskServes p held text q holds kind tally) → Goes DeskServes p h.done h.out q
+went p held text q holds kind tally h = by h.ends
+  where
+    by : (q ≡ h.mid) ⊎ ((kind ≡ Starved) × IsUnanswered DeskServes h.mid h.rest q) → Goes DeskServes p h.done h.out q
+    by (inl same) = subst (λ (s : PassView). Goes DeskServes p h.done h.out s) (sym same) h.served
+    by (inr (starved, (line, more, c, behind, says, served))) = absurd served
 
 done_alone : (p : PassView) (what : Said) (out : List ℕ) (q : PassView) → Done DeskServes p what out q → IsAlone p → Done (AloneServes p.desk.calls) p.seen what out q.seen × IsAlone q
 done_alone p silent out q h alone = ((ap (λ (v : PassView). v.seen) h.0, h.1), subst IsAlone (sym h.0) alone)
@@ -137,8 +149,10 @@ breaks_alone p held text q holds kind tally h alone = record {
   done = h.done;
   rest = h.rest;
   out = h.out;
+  mid = q.seen;
   first_lines = h.first_lines;
-  served = goes_alone p h.done h.out q h.served alone;
+  served = goes_alone p h.done h.out q (went p held text q holds kind tally h) alone;
+  ends = inl refl;
   within = h.within;
   written = h.written;
   lines = h.lines;

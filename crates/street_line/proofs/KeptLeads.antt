@@ -8,18 +8,20 @@ use Rattle.street_base.specs.declared.reply.Reply.TheVariants as told
 use Rattle.street_base.specs.declared.reply.Outcome.{Outcome}
 use Rattle.street_base.specs.declared.reply.Outcome.TheVariants.{Whole, Starved, Short}
 use Rattle.street_base.specs.Machine.{answered, done, refusal}
-use Rattle.street_base.specs.Prelude.{Answers, State, reply_of_whole, reply_to, state_after, state_of_whole}
+use Rattle.street_base.specs.Prelude.{State, reply_of_whole, reply_to, state_after, state_of_whole}
 use Rattle.street_engine.specs.Prelude.{EngineView, StandsFor}
 use Rattle.street_stream.proofs.Cut.{cut_none}
 use Rattle.street_stream.proofs.CutParts.{AllInside, lines_inside, lines_onto}
 use Rattle.street_stream.specs.Lines.{IsInsideLine, lines_of}
 use Rattle.street_line.proofs.EngineRuns.{served-machine}
-use Rattle.street_line.specs.Again.{AgainSaid, GoesAgain, is_done}
+use Rattle.street_line.proofs.KeptAs.{kept-as}
+use Rattle.street_line.proofs.Said.{line_is}
+use Rattle.street_line.specs.Redo.{RedoSaid, Redoes, is_done}
 use Rattle.street_line.specs.Engines.{EngineServes, MachineServes}
-use Rattle.street_line.specs.Kept.{GoesKept, IsEntry, KeepsSaid, entry_of, is_change, is_short}
-use Rattle.street_line.specs.Runs.{Done, Goes, Said, calls, faulty, said, served_line, silent}
-use Rattle.street_line.specs.declared.service.Served.{Served}
-use Rattle.street_line.specs.declared.service.Served.TheVariants.{Answered, Full}
+use Rattle.street_line.specs.Kept.{GoesKept, KeepsSaid, entry_of, is_change, is_short}
+use Rattle.street_text.specs.ReplyLines.{reply_line}
+use Rattle.street_line.specs.Runs.{Done, Goes, Said, calls, faulty, said, silent}
+use Rattle.street_line.specs.declared.service.Served.TheVariants.{Answered, Full, Unrecorded}
 
 -- ---- the machine stays where no change is told
 
@@ -59,11 +61,11 @@ after_same m c Starved h short = refl
 after_same None c (Short k) h short = refl
 after_same (Some m) c (Short k) h short = absurd (true≢false short)
 
-unchanged : (old : State) (c : Command) (reply : Reply) (new : State) → MachineServes old c (Answered reply) new → is_change reply ≡ false → is_short reply ≡ false → new ≡ old
+pub unchanged : (old : State) (c : Command) (reply : Reply) (new : State) → MachineServes old c (Answered reply) new → is_change reply ≡ false → is_short reply ≡ false → new ≡ old
 unchanged old c reply new (o, answers) h short =
     answers.state_is ∙ after_same old c o (ap is_change (sym answers.reply_is) ∙ h) (ap is_short (sym answers.reply_is) ∙ short)
 
-change_is_done : (reply : Reply) → is_change reply ≡ true → is_done reply ≡ true
+pub change_is_done : (reply : Reply) → is_change reply ≡ true → is_done reply ≡ true
 change_is_done (told.Loaded links nodes turns) h = refl
 change_is_done (told.Signalled cycle) h = refl
 change_is_done (told.Entered car) h = refl
@@ -83,7 +85,7 @@ change_is_done told.Starved h = absurd (true≢false (sym h))
 
 -- a text serves as a session, and is done again, to this state
 abbrev pub LeadsTo : State → List ℕ → State → Type 0
-LeadsTo old text new = (out : List ℕ) × Goes MachineServes old (lines_of text) out new × GoesAgain MachineServes old (lines_of text) new
+LeadsTo old text new = (out : List ℕ) × Goes MachineServes old (lines_of text) out new × Redoes MachineServes old (lines_of text) new
 
 leads_same : (old mid new : State) (entry more : List ℕ) → mid ≡ old → entry ≡ [] → LeadsTo mid more new → LeadsTo old (entry ++ more) new
 leads_same old mid new entry more same none leads = rw none (subst (λ (s : State). LeadsTo s more new) same leads)
@@ -94,10 +96,10 @@ leads_call false old mid new c reply l entry more change short says inside serve
     leads_same old mid new entry more (unchanged old c reply mid served change short) is leads
 leads_call true old mid new c reply l entry more change short says inside served is leads =
     let text : entry ++ more ≡ l ++ 10 ∷ more = ap (λ (e : List ℕ). e ++ more) is ∙ append_assoc l (10 ∷ []) more in
-    let done : Done MachineServes old (said l) (served_line (Answered reply)) mid = rw says (Answered reply, served, refl) in
-    let again : AgainSaid MachineServes old (said l) mid = rw says (reply, served, change_is_done reply change) in
+    let done : Done MachineServes old (said l) (reply_line reply) mid = rw says (Answered reply, served, line_is reply) in
+    let redo : RedoSaid MachineServes old (said l) mid = rw says (reply, served, change_is_done reply change) in
     rw (text, lines_onto l more inside)
-    (served_line (Answered reply) ++ leads.0, (mid, served_line (Answered reply), leads.0, done, leads.1, refl), (mid, again, leads.2))
+    (reply_line reply ++ leads.0, (mid, reply_line reply, leads.0, done, leads.1, refl), (mid, redo, leads.2))
 
 leads_said : (old mid new : State) (what : Said) (l first entry more : List ℕ) → said l ≡ what → IsInsideLine l → KeepsSaid MachineServes old what l first entry mid
     → LeadsTo mid more new → LeadsTo old (entry ++ more) new
@@ -106,8 +108,9 @@ leads_said old mid new (faulty f) l first entry more says inside h leads = leads
 leads_said old mid new (calls c) l first entry more says inside (Answered reply, served, out, is) leads =
     leads_call (is_change reply) old mid new c reply l entry more refl is.0 says inside served is.1 leads
 leads_said old mid new (calls c) l first entry more says inside (Full, served, out, is) leads = absurd served
+leads_said old mid new (calls c) l first entry more says inside (Unrecorded, served, out, is) leads = absurd served
 
-kept_leads : (old : State) (ls : List (List ℕ)) (out kept : List ℕ) (new : State) → AllInside ls → GoesKept MachineServes old ls out kept new → LeadsTo old kept new
+pub kept_leads : (old : State) (ls : List (List ℕ)) (out kept : List ℕ) (new : State) → AllInside ls → GoesKept MachineServes old ls out kept new → LeadsTo old kept new
 kept_leads old [] out kept new inside h = rw (h.2, no_lines) ([], (h.0, refl), h.0)
   where
     no_lines : lines_of [] ≡ []
@@ -120,34 +123,22 @@ text_leads old text out kept new h = kept_leads old (lines_of text) out kept new
 
 -- ---- an engine serves as the machine
 
-keeps-machine : (before : EngineView) (what : Said) (l out entry : List ℕ) (after : EngineView) → KeepsSaid EngineServes before what l out entry after
-    → (old : State) → StandsFor before old → (new : State) × KeepsSaid MachineServes old what l out entry new × StandsFor after new
-keeps-machine before silent l out entry after h old stands = (old, (refl, h.1, h.2), subst (λ (v : EngineView). StandsFor v old) (sym h.0) stands)
-keeps-machine before (faulty f) l out entry after h old stands = (old, (refl, h.1, h.2), subst (λ (v : EngineView). StandsFor v old) (sym h.0) stands)
-keeps-machine before (calls c) l out entry after h old stands =
-    let step = served-machine before c h.0 after h.1 old stands in
-    (step.0, (h.0, step.1, h.2, h.3), step.2)
-
 pub kept-machine : (before : EngineView) (ls : List (List ℕ)) (out kept : List ℕ) (after : EngineView) → GoesKept EngineServes before ls out kept after
     → (old : State) → StandsFor before old → (new : State) × GoesKept MachineServes old ls out kept new × StandsFor after new
-kept-machine before [] out kept after h old stands = (old, (refl, h.1, h.2), subst (λ (v : EngineView). StandsFor v old) (sym h.0) stands)
-kept-machine before (l ∷ ls) out kept after h old stands =
-    let first = keeps-machine before (said l) l h.1 h.2 h.0 h.5 old stands in
-    let rest = kept-machine h.0 ls h.3 h.4 after h.6 first.0 first.2 in
-    (rest.0, (first.0, h.1, h.2, h.3, h.4, first.1, rest.1, h.7, h.8), rest.2)
+kept-machine = kept-as EngineServes MachineServes StandsFor served-machine
 
-again-said : (before : EngineView) (what : Said) (after : EngineView) → AgainSaid EngineServes before what after → (old : State) → StandsFor before old
-    → (new : State) × AgainSaid MachineServes old what new × StandsFor after new
-again-said before silent after h old stands = (old, refl, subst (λ (v : EngineView). StandsFor v old) (sym h) stands)
-again-said before (faulty f) after h old stands = absurd h
-again-said before (calls c) after h old stands =
+redo-said : (before : EngineView) (what : Said) (after : EngineView) → RedoSaid EngineServes before what after → (old : State) → StandsFor before old
+    → (new : State) × RedoSaid MachineServes old what new × StandsFor after new
+redo-said before silent after h old stands = (old, refl, subst (λ (v : EngineView). StandsFor v old) (sym h) stands)
+redo-said before (faulty f) after h old stands = absurd h
+redo-said before (calls c) after h old stands =
     let step = served-machine before c (Answered h.0) after h.1 old stands in
     (step.0, (h.0, step.1, h.2), step.2)
 
-pub again-machine : (before : EngineView) (ls : List (List ℕ)) (after : EngineView) → GoesAgain EngineServes before ls after → (old : State) → StandsFor before old
-    → (new : State) × GoesAgain MachineServes old ls new × StandsFor after new
-again-machine before [] after h old stands = (old, refl, subst (λ (v : EngineView). StandsFor v old) (sym h) stands)
-again-machine before (l ∷ ls) after h old stands =
-    let first = again-said before (said l) h.0 h.1 old stands in
-    let rest = again-machine h.0 ls after h.2 first.0 first.2 in
+pub redo-machine : (before : EngineView) (ls : List (List ℕ)) (after : EngineView) → Redoes EngineServes before ls after → (old : State) → StandsFor before old
+    → (new : State) × Redoes MachineServes old ls new × StandsFor after new
+redo-machine before [] after h old stands = (old, refl, subst (λ (v : EngineView). StandsFor v old) (sym h) stands)
+redo-machine before (l ∷ ls) after h old stands =
+    let first = redo-said before (said l) h.0 h.1 old stands in
+    let rest = redo-machine h.0 ls after h.2 first.0 first.2 in
     (rest.0, (first.0, first.1, rest.1), rest.2)

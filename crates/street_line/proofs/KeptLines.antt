@@ -1,25 +1,39 @@
 -- Lines of a session that is kept.
-use Rattle.std.proofs.Common.{◌≡◌, ◌∙◌, ℕ, ◌+◌, ◌<◌, ◌≤◌, List, [], ◌∷◌, ◌++◌, length, take, Bool, true, false, OnOk, Option, Some, Result, Ok, Err, refl, sym, ap, ap₂, subst, arith, inl, inr, append_assoc, append-nil, length-append, lt-ltb}
-use Rattle.std.proofs.KnownBytes.{Appends-nil, Appends-trans, Consumes-trans}
+use Rattle.std.proofs.Common.{◌≡◌, ◌⊎◌, ◌∙◌, ℕ, ◌+◌, ◌-◌, ◌^◌, ◌<◌, ◌≤◌, ◌==◌, min, if◌then◌else◌, List, [], ◌∷◌, ◌++◌, length, take, Bool, true, false, OnOk, Option, Some, Result, Ok, Err, refl, sym, ap, subst, arith, inl, inr, append_assoc, append-nil, length-append, lt-ltb}
+use Rattle.std.proofs.KnownBytes.{Appends-nil, Appends-trans}
 use Rattle.std.proofs.Math.Seq.{take-append-add, take-length}
 use Rattle.std.proofs.lemmas.Bool.{cases_lt}
 use Rattle.std.proofs.lemmas.List.{take_all, length-take-le}
-use Rattle.std.specs.Io.KnownBytes.{Appends, Consumes, IsAtEnd}
+use Rattle.std.specs.Io.KnownBytes.{Appends, Consumes}
 use Rattle.street_base.specs.declared.command.Command.{Command}
-use Rattle.street_stream.proofs.Cut.{cut_none}
+use Rattle.street_stream.proofs.Cut.{cut_none, lines_more}
 use Rattle.street_stream.proofs.CutParts.{cut_append}
 use Rattle.street_stream.specs.HandledLines.{Effect, Gives, text_in, Handles, output}
-use Rattle.street_stream.specs.declared.answer.Answer.{Answer}
-use Rattle.street_stream.specs.Lines.{cut, lines_of, if_any, is_blank, kept as kept_of}
+use Rattle.street_stream.specs.declared.answer.LineAnswer.{LineAnswer}
+use Rattle.street_stream.specs.Lines.{cut, onto_first, lines_of, if_any, is_blank, kept as kept_of}
 use Rattle.street_stream.specs.Logs.{Extends, KeepStops}
+use Rattle.street_stream.proofs.Logs.{extends_none}
 use Rattle.street_stream.specs.declared.counted.Counted.{Counted}
 use Rattle.street_stream.specs.declared.log.KeepFault.{KeepFault}
 use Rattle.street_stream.specs.declared.log.KeepFault.TheVariants.{Log, Output}
-use Rattle.street_stream.specs.OpenTexts.{IsOpen}
+use Rattle.street_stream.specs.declared.tally.FaultKind.{FaultKind}
+use Rattle.street_stream.specs.declared.tally.FaultKind.TheVariants.{Read, Endless}
+use Rattle.street_line.specs.declared.kept_runs.KeptFault.{KeptFault}
+use Rattle.street_line.specs.declared.kept_runs.KeptFault.TheVariants.{Run, Log as KeptLog}
+use Rattle.street_stream.specs.OpenTexts.{HaltsIn, IsOpen}
 use Rattle.street_stream.specs.declared.open_text.OpenText.{OpenText}
-use Rattle.street_line.specs.Again.{AgainLine, GoesAgain}
+use Rattle.street_stream.proofs.HandlerReferences.{TakesPart, StopsPart, handles_part}
+use Rattle.street_stream.specs.declared.answer.StopCause.{StopCause}
+use Rattle.street_stream.specs.declared.answer.StopCause.TheVariants as causes
+use Rattle.street_stream.specs.declared.tally.FaultKind.TheVariants as kinds
+use Rattle.street_stream.specs.declared.tally.Tally.{Tally}
+use Rattle.street_line.specs.declared.redo.RedoFault.{RedoFault}
+use Rattle.street_line.specs.declared.redo.RedoFault.TheVariants.{BadLine, Run as RedoRun}
+use Rattle.street_line.specs.declared.redo.RedoStop.{RedoStop}
+use Rattle.street_line.specs.declared.redo.RedoStop.TheVariants as stop
+use Rattle.street_line.specs.Redo.{RedoLine, Redoes, RedoHalts, IsFaultOf, RedoStopLine}
 use Rattle.street_line.proofs.Said.{said_kept}
-use Rattle.street_line.specs.Kept.{AnswersKept, IsEntry, KeepsSaid, KeepsLine, GoesKept, Passed, PassStops, KeptWhole, KeptFirst}
+use Rattle.street_line.specs.Kept.{AnswersKept, KeepsSaid, KeepsLine, GoesKept, Passed, PassStops, IsLast, KeptUpTo, KeptFirst, fault_of}
 use Rattle.street_line.specs.Runs.{Said, silent, faulty, calls, said, said_by}
 use Rattle.street_line.specs.ServedLine.{effect_of}
 use Rattle.street_line.specs.declared.service.Served.{Served}
@@ -37,6 +51,17 @@ read_whole line c is = elim (cases_lt longest_line (length line)) [
       absurd (cc)
   | inr under ↦ take_all (longest_line + 1) line (omega arith)
 ]
+
+-- a text has no more lines that have ended than bytes
+step_few : (t : Bool) (x : ℕ) (p : List (List ℕ) × List ℕ) → length (if t then ([] ∷ p.0, p.1) else onto_first x p).0 ≤ length p.0 + 1
+step_few true x p = omega arith
+step_few false x ([], last) = omega arith
+step_few false x (l ∷ ls, last) = omega arith
+
+pub lines_few : (text : List ℕ) → length (cut text).0 ≤ length text
+unfolding cut
+lines_few [] = omega arith
+lines_few (x ∷ xs) = omega (arith, step_few (x == 10) x (cut xs), lines_few xs)
 
 module _ {S : Type 0} (serves : S → Command → Served → S → Type 0) where
   -- what a line gives has its output as text
@@ -114,59 +139,88 @@ module _ {S : Type 0} (serves : S → Command → Served → S → Type 0) where
   }
 
   -- a fault ended the run between two reads
-  pub ends_between : (start now : S) (unread log before left l0 w0 held synced : Option (List ℕ)) (text : List ℕ) (done rest : List (List ℕ))
-      → Passed serves start log before done now l0 l0 w0 → lines_of text ≡ done ++ rest → Consumes unread left text → Extends l0 held → Extends l0 synced
-      → KeptFirst serves start unread log before left held synced w0
-  ends_between start now unread log before left l0 w0 held synced text done rest h lines read more stayed = record {
-    text = text;
-    done = done;
-    rest = rest;
-    out = h.out;
-    kept = h.kept;
+  pub ends_between : (start now : S) (unread log before left l0 w0 : Option (List ℕ)) (seen : List ℕ) (kind : FaultKind) → (kind ≡ Read) ⊎ (kind ≡ Endless)
+      → Passed serves start log before (cut seen).0 now l0 l0 w0 → Consumes unread left seen → KeptUpTo serves start unread log before (Run kind) left l0 l0 w0
+  ends_between start now unread log before left l0 w0 seen kind which h read = record {
+    seen = seen;
+    got = [];
+    last = (cut ((cut seen).1 ++ [])).0;
     mid = now;
-    sent = length h.out;
-    read = read;
-    first_lines = lines;
-    served = h.served;
-    within = omega arith;
-    written = rw (take-length h.out) h.written;
-    holds = (more.0, Appends-trans log l0 held h.kept more.0 h.holds more.1);
-    stays = (stayed.0, Appends-trans log l0 synced h.kept stayed.0 h.holds stayed.1);
+    owed = l0;
+    told = w0;
+    read = rw (append-nil seen) read;
+    is_last = inl refl;
+    passed = h;
+    stops = elim which [
+      | inl is ↦ rw is (refl, refl, refl)
+      | inr is ↦ rw is (refl, refl, refl)
+    ];
   }
 
-  -- and while replies to the last lines were written
-  pub ends_within : (start old new : S) (unread log before left l0 w0 held synced after : Option (List ℕ)) (text : List ℕ) (done ls rest : List (List ℕ)) (out kept : List ℕ) (sent : ℕ)
-      → Passed serves start log before done old l0 l0 w0 → GoesKept serves old ls out kept new → sent ≤ length out → Appends w0 after (take sent out)
-      → Appends l0 held kept → synced ≡ held → lines_of text ≡ (done ++ ls) ++ rest → Consumes unread left text → KeptFirst serves start unread log before left held synced after
-  ends_within start old new unread log before left l0 w0 held synced after text done ls rest out kept sent h g within wrote holds stays lines read = record {
-    text = text;
-    done = done ++ ls;
-    rest = rest;
-    out = h.out ++ out;
-    kept = h.kept ++ kept;
-    mid = new;
-    sent = length h.out + sent;
-    read = read;
-    first_lines = lines;
-    served = goes_both start old new done ls h.out h.kept out kept h.served g;
-    within = omega (arith, within, length-append h.out out);
-    written = rw (take-append-add h.out out sent) (Appends-trans before w0 after h.out (take sent out) h.written wrote);
-    holds = ([], rw (append-nil (h.kept ++ kept)) (Appends-trans log l0 held h.kept kept h.holds holds));
-    stays = rw stays ([], rw (append-nil (h.kept ++ kept)) (Appends-trans log l0 held h.kept kept h.holds holds));
-  }
+  -- the lines that were done are the first of the text
+  last_lines : (left : Option (List ℕ)) (seen got : List ℕ) (ls : List (List ℕ)) → IsLast left seen got ls → (rest : List (List ℕ)) × (lines_of (seen ++ got) ≡ ((cut seen).0 ++ ls) ++ rest)
+  last_lines left seen got ls (inl is) = (if_any (cut ((cut seen).1 ++ got)).1, rw is (ap (λ (p : List (List ℕ) × List ℕ). p.0 ++ if_any p.1) (cut_append seen got)))
+  last_lines left seen got ls (inr is) = ([], rw (is.0, is.2) (ap lines_of (append-nil seen) ∙ sym (append-nil (lines_of seen))))
 
-  -- a fault ended it, whichever
-  pub stops_at : (start old : S) (unread log before left l0 w0 held synced after : Option (List ℕ)) (text : List ℕ) (done ls rest : List (List ℕ))
-      → Passed serves start log before done old l0 l0 w0 → PassStops serves old l0 l0 w0 ls held synced after
-      → lines_of text ≡ (done ++ ls) ++ rest → Consumes unread left text → KeptFirst serves start unread log before left held synced after
-  stops_at start old unread log before left l0 w0 held synced after text done ls rest h (inl none) lines read =
-      subst (λ (w : Option (List ℕ)). KeptFirst serves start unread log before left held synced w) (sym none.0)
-      (ends_between start old unread log before left l0 w0 held synced text done (ls ++ rest) h (lines ∙ append_assoc done ls rest) read none.1 none.2)
-  stops_at start old unread log before left l0 w0 held synced after text done ls rest h (inr some) lines read =
-      ends_within start old some.2 unread log before left l0 w0 held synced after text done ls rest some.0 some.1 some.4.0 h some.3 some.4.1 some.4.2 some.5 some.6 lines read
+  -- nothing but what passed is out, and that and perhaps more is held and stays
+  first_passed : (start : S) (unread log before : Option (List ℕ)) (fault : KeptFault) (left held synced after : Option (List ℕ)) (h : KeptUpTo serves start unread log before fault left held synced after)
+      → after ≡ h.told → Extends h.owed held → Extends h.owed synced → KeptFirst serves start unread log before left held synced after
+  first_passed start unread log before fault left held synced after h is more stayed =
+      let passed = h.passed in
+      let lines = lines_more h.seen h.got in
+      record {
+        text = h.seen ++ h.got;
+        done = (cut h.seen).0;
+        rest = lines.0;
+        out = passed.out;
+        kept = passed.kept;
+        mid = h.mid;
+        sent = length passed.out;
+        read = h.read;
+        first_lines = lines.1;
+        served = passed.served;
+        within = omega arith;
+        written = rw (is, take-length passed.out) passed.written;
+        holds = (more.0, Appends-trans log h.owed held passed.kept more.0 passed.holds more.1);
+        stays = (stayed.0, Appends-trans log h.owed synced passed.kept stayed.0 passed.holds stayed.1);
+      }
+
+  -- what is exact says so
+  pub first_up_to : (start : S) (unread log before : Option (List ℕ)) (fault : KeptFault) (left held synced after : Option (List ℕ)) → KeptUpTo serves start unread log before fault left held synced after
+      → KeptFirst serves start unread log before left held synced after
+  first_up_to start unread log before KeptLog left held synced after h =
+      let stops = h.stops in
+      first_passed start unread log before KeptLog left held synced after h stops.4 (take stops.5.0 stops.1, stops.5.3) (take stops.5.1 stops.1, stops.5.4)
+  first_up_to start unread log before (Run Read) left held synced after h =
+      first_passed start unread log before (Run Read) left held synced after h h.stops.0 (rw h.stops.1 (extends_none h.owed)) (rw h.stops.2 (extends_none h.owed))
+  first_up_to start unread log before (Run Endless) left held synced after h =
+      first_passed start unread log before (Run Endless) left held synced after h h.stops.0 (rw h.stops.1 (extends_none h.owed)) (rw h.stops.2 (extends_none h.owed))
+  first_up_to start unread log before (Run kinds.Starved) left held synced after h =
+      first_passed start unread log before (Run kinds.Starved) left held synced after h h.stops.0 (rw h.stops.1 (extends_none h.owed)) (rw h.stops.2 (extends_none h.owed))
+  first_up_to start unread log before (Run kinds.Write) left held synced after h =
+      let passed = h.passed in
+      let stops = h.stops in
+      let lines = last_lines left h.seen h.got h.last h.is_last in
+      let holds : Appends log held (passed.kept ++ stops.1) = Appends-trans log h.owed held passed.kept stops.1 passed.holds stops.5 in
+      record {
+        text = h.seen ++ h.got;
+        done = (cut h.seen).0 ++ h.last;
+        rest = lines.0;
+        out = passed.out ++ stops.0;
+        kept = passed.kept ++ stops.1;
+        mid = stops.2;
+        sent = length passed.out + stops.4.0;
+        read = h.read;
+        first_lines = lines.1;
+        served = goes_both start h.mid stops.2 (cut h.seen).0 h.last passed.out passed.kept stops.0 stops.1 passed.served stops.3;
+        within = omega (arith, stops.4.1, length-append passed.out stops.0);
+        written = rw (take-append-add passed.out stops.0 stops.4.0) (Appends-trans before h.told after passed.out (take stops.4.0 stops.0) passed.written stops.4.2);
+        holds = ([], rw (append-nil (passed.kept ++ stops.1)) holds);
+        stays = rw stops.6 ([], rw (append-nil (passed.kept ++ stops.1)) holds);
+      }
 
   -- what is kept of a line is answered as the whole line
-  pub answers_whole : (old : S × List ℕ) (line bytes : List ℕ) (answer : Answer) (new : S × List ℕ) → is_blank line ≡ false → bytes ≡ kept_of longest_line line
+  pub answers_whole : (old : S × List ℕ) (line bytes : List ℕ) (answer : LineAnswer) (new : S × List ℕ) → is_blank line ≡ false → bytes ≡ kept_of longest_line line
       → AnswersKept serves old (said_by (reading bytes)) bytes answer new → (effect : Effect) × KeepsLine serves old line effect new × Gives answer effect
   answers_whole old line bytes answer new blank is got =
       let says = said_kept line bytes blank is in
@@ -182,9 +236,10 @@ module _ {S : Type 0} (serves : S → Command → Served → S → Type 0) where
   -- what the log or the writer left where it failed
   pub stops_kept : {L W : Type 0} (held synced : L → Option (List ℕ)) (has_failed : L → Type 0) (contents : W → Option (List ℕ)) (old new : S) (ls : List (List ℕ)) (l k : L) (w v : Counted W)
       (entries replies : List ℕ) (fault : KeepFault) → GoesKept serves old ls replies entries new → KeepStops held synced has_failed contents l w entries replies k v fault
-      → PassStops serves old (held l) (synced l) (contents w.stream) ls (held k) (synced k) (contents v.stream)
-  stops_kept {L} {W} held synced has_failed contents old new ls l k w v entries replies Log goes h = inl (ap (λ (x : Counted W). contents x.stream) h.0, (take (h.1).0 entries, (h.1).1), h.2)
-  stops_kept held synced has_failed contents old new ls l k w v entries replies Output goes h = inr (replies, entries, new, goes, h.2, h.0, h.1)
+      → PassStops serves old (held l) (synced l) (contents w.stream) ls (fault_of fault) (held k) (synced k) (contents v.stream)
+  stops_kept {L} {W} held synced has_failed contents old new ls l k w v entries replies Log goes h =
+      (replies, entries, new, goes, ap (λ (x : Counted W). contents x.stream) h.0, h.1)
+  stops_kept held synced has_failed contents old new ls l k w v entries replies Output goes h = (replies, entries, new, goes, h.2, h.0, h.1)
 
   -- what passed is held
   pub passed_held : (old new : S) (log before held synced after : Option (List ℕ)) (ls : List (List ℕ)) → Passed serves old log before ls new held synced after
@@ -199,20 +254,57 @@ module _ {S : Type 0} (serves : S → Command → Served → S → Type 0) where
 
   -- ---- lines that are done again
 
-  pub goes_again : (old : S) (ls : List (List ℕ)) (es : List Effect) (new : S) → Handles (AgainLine serves) old ls es new → GoesAgain serves old ls new
-  goes_again old [] es new h = h.0
-  goes_again old (l ∷ ls) es new h = (h.0, h.3.0, goes_again h.0 ls h.2 new h.4)
+  pub goes_redo : (old : S) (ls : List (List ℕ)) (es : List Effect) (new : S) → Handles (RedoLine serves) old ls es new → Redoes serves old ls new
+  goes_redo old [] es new h = h.0
+  goes_redo old (l ∷ ls) es new h = (h.0, h.3.0, goes_redo h.0 ls h.2 new h.4)
 
-  again_both : (old mid new : S) (ls ms : List (List ℕ)) → GoesAgain serves old ls mid → GoesAgain serves mid ms new → GoesAgain serves old (ls ++ ms) new
-  again_both old mid new [] ms h g = subst (λ (s : S). GoesAgain serves s ms new) h g
-  again_both old mid new (l ∷ ls) ms h g = (h.0, h.1, again_both h.0 mid new ls ms h.2 g)
+  pub redo_both : (old mid new : S) (ls ms : List (List ℕ)) → Redoes serves old ls mid → Redoes serves mid ms new → Redoes serves old (ls ++ ms) new
+  redo_both old mid new [] ms h g = subst (λ (s : S). Redoes serves s ms new) h g
+  redo_both old mid new (l ∷ ls) ms h g = (h.0, h.1, redo_both h.0 mid new ls ms h.2 g)
 
-  pub again_more : (old mid new : S) (seen bytes : List ℕ) → GoesAgain serves old (cut seen).0 mid → GoesAgain serves mid (cut ((cut seen).1 ++ bytes)).0 new
-      → GoesAgain serves old (cut (seen ++ bytes)).0 new
-  again_more old mid new seen bytes h g = rw (cut_append seen bytes) (again_both old mid new (cut seen).0 (cut ((cut seen).1 ++ bytes)).0 h g)
+  pub redo_more : (old mid new : S) (seen bytes : List ℕ) → Redoes serves old (cut seen).0 mid → Redoes serves mid (cut ((cut seen).1 ++ bytes)).0 new
+      → Redoes serves old (cut (seen ++ bytes)).0 new
+  redo_more old mid new seen bytes h g = rw (cut_append seen bytes) (redo_both old mid new (cut seen).0 (cut ((cut seen).1 ++ bytes)).0 h g)
 
-  pub again_none : (old : S) → GoesAgain serves old (cut []).0 old
-  again_none old = rw cut_none refl
+  pub redo_none : (old : S) → Redoes serves old (cut []).0 old
+  redo_none old = rw cut_none refl
+
+  -- ---- a line that is not done
+
+  -- lines that were handled by what holds the service, and a fault of theirs
+  pub halts_redo : {A : Type 0} (part : A → S) (name : A → ℕ) (old : A) (before : ℕ) (text : List ℕ) (new : A) (cause : StopCause RedoStop) (tally : Tally) (fault : RedoFault)
+      → HaltsIn (record { longest = longest_line; takes = TakesPart part name (RedoLine serves) (RedoStopLine serves); stops = StopsPart part name (RedoLine serves) (RedoStopLine serves) }) old text new cause tally
+      → IsFaultOf before cause tally fault → before + length text < 2 ^ 127 → (name new ≡ name old) × RedoHalts serves (part old) before text fault (part new)
+  halts_redo part name old before text new (causes.Line stop.Bad) tally fault h is few =
+      let went = handles_part part name (RedoLine serves) (RedoStopLine serves) old h.0 h.3 h.4 h.6 in
+      let lines : length (cut text).0 ≡ length h.0 + length (h.1 ∷ h.2) = ap (λ (ls : List (List ℕ)). length ls) h.5 ∙ length-append h.0 (h.1 ∷ h.2) in
+      let number : min (before + tally.lines) (2 ^ 128 - 1) ≡ before + length h.0 + 1 = omega (arith, h.8, lines, lines_few text, few) in
+      (h.7.0 ∙ went.0, rw is (h.0, h.1, h.2, part h.4, h.5, goes_redo (part old) h.0 h.3 (part h.4) went.1, h.7.1, number))
+  halts_redo part name old before text new (causes.Line stop.Starved) tally fault h is few =
+      let went = handles_part part name (RedoLine serves) (RedoStopLine serves) old h.0 h.3 h.4 h.6 in
+      let last : List (List ℕ) = if_any (cut text).1 in
+      let lines : lines_of text ≡ h.0 ++ h.1 ∷ (h.2 ++ last) = ap (λ (ls : List (List ℕ)). ls ++ last) h.5 ∙ append_assoc h.0 (h.1 ∷ h.2) last in
+      (h.7.0 ∙ went.0, rw is (h.0, h.1 ∷ (h.2 ++ last), part h.4, lines, goes_redo (part old) h.0 h.3 (part h.4) went.1, inr (h.1, h.2 ++ last, refl, h.7.1)))
+  halts_redo part name old before text new (causes.Run why) tally fault h is few =
+      let went = handles_part part name (RedoLine serves) (RedoStopLine serves) old h.0 h.2 new h.4 in
+      (went.0, rw is (h.0, h.1, part new, h.3, goes_redo (part old) h.0 h.2 (part new) went.1, inl refl))
+
+  -- the lines of a text that were done so far, and a fault in its next bytes
+  pub redo_halts : (start old new : S) (seen bytes : List ℕ) (fault : RedoFault) → Redoes serves start (cut seen).0 old
+      → RedoHalts serves old (length (cut seen).0) ((cut seen).1 ++ bytes) fault new → RedoHalts serves start 0 (seen ++ bytes) fault new
+  redo_halts start old new seen bytes (RedoRun kinds.Read) h g = redo_more start old new seen bytes h g
+  redo_halts start old new seen bytes (RedoRun kinds.Endless) h g = redo_more start old new seen bytes h g
+  redo_halts start old new seen bytes (RedoRun kinds.Write) h g = g
+  redo_halts start old new seen bytes (RedoRun kinds.Starved) h g =
+      let more : List ℕ = (cut seen).1 ++ bytes in
+      let lines : lines_of (seen ++ bytes) ≡ ((cut seen).0 ++ g.0) ++ g.1 = ap (λ (p : List (List ℕ) × List ℕ). p.0 ++ if_any p.1) (cut_append seen bytes)
+      ∙ append_assoc (cut seen).0 (cut more).0 (if_any (cut more).1) ∙ ap (λ (ls : List (List ℕ)). (cut seen).0 ++ ls) g.3 ∙ sym (append_assoc (cut seen).0 g.0 g.1) in
+      ((cut seen).0 ++ g.0, g.1, g.2, lines, redo_both start old g.2 (cut seen).0 g.0 h g.4, g.5)
+  redo_halts start old new seen bytes (BadLine number) h g =
+      let lines : (cut (seen ++ bytes)).0 ≡ ((cut seen).0 ++ g.0) ++ g.1 ∷ g.2 = ap (λ (p : List (List ℕ) × List ℕ). p.0) (cut_append seen bytes)
+      ∙ ap (λ (ls : List (List ℕ)). (cut seen).0 ++ ls) g.4 ∙ sym (append_assoc (cut seen).0 g.0 (g.1 ∷ g.2)) in
+      let at : number ≡ 0 + length ((cut seen).0 ++ g.0) + 1 = omega (arith, g.7, length-append (cut seen).0 g.0) in
+      ((cut seen).0 ++ g.0, g.1, g.2, g.3, lines, redo_both start old g.3 (cut seen).0 g.0 h g.5, g.6, at)
 
 -- the line that has not ended goes on
 pub open_more : (most : ℕ) (text : OpenText) (seen bytes : List ℕ) → IsOpen most text (cut ((cut seen).1 ++ bytes)).1 → IsOpen most text (cut (seen ++ bytes)).1

@@ -1,6 +1,14 @@
 pub mod Said
 pub mod ServiceHandler
 pub mod EngineRuns
+pub mod RecordedRuns
 pub mod Alone
 pub mod KeptLines
+pub mod KeptAs
 pub mod KeptLeads
+pub mod KeptFunction
+pub mod SoundText
+pub mod KeptFiles
+pub mod Leads
+pub mod FileMachine
+pub mod PartLeads

@@ -9,7 +9,8 @@ use Rattle.street_stream.specs.Lines.{is_blank, kept}
 use Rattle.street_line.specs.Runs.{silent, faulty, calls, said, said_by, has_reply, served_line, Said, Done}
 use Rattle.street_line.specs.declared.service.Served.{Served}
 use Rattle.street_line.specs.declared.service.Served.TheVariants.{Answered, Full}
-use Rattle.street_text.specs.ReplyLines.{line_of, reply_data, reply_line, error_data}
+use Rattle.street_base.specs.declared.reply.Reply.{Reply}
+use Rattle.street_text.specs.ReplyLines.{line_of, error_data, reply_data, reply_line}
 use Rattle.street_text.specs.LineCommands.{reading, longest_line, Fails}
 use Rattle.street_text.specs.declared.fault.LineFault.{LineFault}
 use Rattle.street_text.specs.declared.fault.LineFault.TheVariants.{LineTooLong, NotJson, BadCommand, Starved}
@@ -49,14 +50,22 @@ refused NotJson r out is line = is
 refused BadCommand r out is line = is
 refused Starved r out is line = absurd (cc)
 
-line_some : (d : Data) → 0 < length (line_of d)
+pub line_some : (d : Data) → 0 < length (line_of d)
 line_some d = omega (arith, length-append (compact_text d) (10 ∷ []))
 
--- the line that answers a command has some bytes
-pub served_some : (r : Served) → 0 < length (served_line r)
-unfolding served_line reply_line
-served_some (Answered reply) = line_some (reply_data reply)
-served_some Full = line_some (error_data 23 (codes "Full"))
+-- a reply is told by its line, and that no place is left by error 23
+pub line_is : (reply : Reply) → served_line (Answered reply) ≡ Some (reply_line reply)
+unfolding served_line
+line_is reply = refl
+
+pub full_is : served_line Full ≡ Some (line_of (error_data 23 (codes "Full")))
+unfolding served_line
+full_is = refl
+
+-- the line of a reply has some bytes
+pub reply_some : (reply : Reply) → 0 < length (reply_line reply)
+unfolding reply_line
+reply_some reply = line_some (reply_data reply)
 
 -- what has some bytes of output has a reply
 pub some_reply : {S : Type 0} (serves : S → Command → Served → S → Type 0) (old : S) (what : Said) (out : List ℕ) (new : S) → Done serves old what out new → 0 < length out → has_reply what ≡ true

@@ -1,28 +1,45 @@
 -- What a service is as a handler of lines.
-use Rattle.std.proofs.Common.{◌≡◌, ◌∙◌, ℕ, ◌+◌, List, [], ◌∷◌, ◌++◌, Option, if◌then◌else◌, inl, inr, refl, sym, ap, count_by}
+use Rattle.std.proofs.Common.{◌≡◌, ◌∙◌, ℕ, ◌+◌, ◌⊎◌, List, [], ◌∷◌, ◌++◌, Option, if◌then◌else◌, inl, inr, refl, sym, ap, count_by, append-nil, append_assoc}
+use Rattle.std.proofs.lemmas.List.{append_cancel_left}
 use Rattle.std.proofs.lemmas.List.Sums.{sum_by-cons}
 use Rattle.street_base.specs.declared.command.Command.{Command}
 use Rattle.street_base.specs.declared.reply.Starved.{Starved as NoMemory}
 use Rattle.street_stream.proofs.Handles.{all_replies}
 use Rattle.street_stream.specs.Faults.{IsCaused, IsCausedBy}
-use Rattle.street_stream.specs.HandledLines.{Effect, has_reply as effect_has_reply, text_in, Handles, output, calls_in, replies_in, IsTally as IsTallyOf, Breaks as LinesBreak, Whole, Broke}
-use Rattle.street_stream.specs.declared.answer.Cause.{Cause}
-use Rattle.street_stream.specs.declared.answer.Cause.TheVariants.{Run, Line}
+use Rattle.street_stream.proofs.Cut.{cut_newline, lines_more}
+use Rattle.street_stream.specs.Lines.{cut, lines_of}
+use Rattle.street_stream.specs.declared.tally.FaultKind.TheVariants.{Starved}
+use Rattle.street_stream.specs.HandledLines.{EndsLine, IsNext, Effect, has_reply as effect_has_reply, text_in, Handles, output, calls_in, replies_in, IsTally as IsTallyOf, Breaks as LinesBreak, Whole, Broke}
+use Rattle.street_stream.specs.declared.answer.StopCause.{StopCause}
+use Rattle.street_stream.specs.declared.answer.StopCause.TheVariants.{Run, Line}
 use Rattle.street_stream.specs.declared.counted.Counted.{Counted}
 use Rattle.street_stream.specs.declared.tally.Tally.{Tally}
-use Rattle.street_line.specs.Faults.{Breaks, ServedInPart, kind_of}
+use Rattle.street_line.specs.Faults.{Breaks, IsUnanswered, ServedInPart, kind_of}
 use Rattle.street_line.specs.Runs.{Said, silent, faulty, calls, is_call, has_reply, said, Done, Goes, IsTally, ServedWhole}
-use Rattle.street_line.specs.ServedLine.{effect_of, IsServed}
+use Rattle.street_line.specs.ServedLine.{effect_of, IsServed, StopsAt}
 use Rattle.street_line.specs.declared.service.Served.{Served}
 
 -- a line that ends a run is told as lack of memory, which needs no cause
-pub caused_as : {R W : Type 0} (cause : Cause NoMemory) (reader : Counted R) (writer : Counted W) (reads : ℕ) → IsCausedBy cause reader writer reads
+pub caused_as : {R W : Type 0} (cause : StopCause NoMemory) (reader : Counted R) (writer : Counted W) (reads : ℕ) → IsCausedBy cause reader writer reads
     → IsCaused (kind_of cause) reader writer reads
 caused_as (Run kind) reader writer reads h = h
 caused_as (Line stop) reader writer reads h = tt
 
-abbrev pub LeavesState : {S : Type 0} → S → List ℕ → NoMemory → S → Type 0
-LeavesState old line stop new = new ≡ old
+abbrev pub StopsLine : {S : Type 0} → (S → Command → Served → S → Type 0) → S → List ℕ → NoMemory → S → Type 0
+StopsLine serves old line stop new = StopsAt serves old (said line) new
+
+-- a line that was read to its end stands behind those that were done
+next_line : (at_end : Type 0) (text : List ℕ) (done : List (List ℕ)) (line : List ℕ) → IsNext at_end text done line → (more : List (List ℕ)) × (lines_of text ≡ done ++ line ∷ more)
+next_line at_end text done line next = by next.ended
+  where
+    by : EndsLine next.first next.rest at_end → (more : List (List ℕ)) × (lines_of text ≡ done ++ line ∷ more)
+    by (inl front) =
+        let whole : lines_of next.first ≡ (cut next.first).0 = rw (front.1, cut_newline front.0) (append-nil _) in
+        let more = lines_more next.first next.rest in
+        (more.0, ap lines_of next.split ∙ more.1 ∙ ap (λ (ls : List (List ℕ)). ls ++ more.0) (sym whole ∙ next.lines) ∙ append_assoc done (line ∷ []) more.0)
+    by (inr over) =
+        let text_is : text ≡ next.first = next.split ∙ ap (λ (l : List ℕ). next.first ++ l) over.0 ∙ append-nil next.first in
+        ([], ap lines_of text_is ∙ next.lines)
 
 module _ {S : Type 0} (serves : S → Command → Served → S → Type 0) where
   -- what a line gives has its output as text
@@ -81,8 +98,14 @@ module _ {S : Type 0} (serves : S → Command → Served → S → Type 0) where
     counted = tally_same old _ h.effects new tally h.handled h.counted;
   }
 
-  served_breaks : (at_end : Type 0) (old : S) (before : Option (List ℕ)) (text : List ℕ) (new : S) (after : Option (List ℕ)) (cause : Cause NoMemory) (tally : Tally)
-      → LinesBreak (IsServed serves) LeavesState at_end old before text new after cause tally → Breaks serves old before text new after (kind_of cause) tally
+  -- a line that ended the run left the state, or is not answered
+  ends_as : (old : S) (rest : List (List ℕ)) (new : S) (line : List ℕ) (more : List (List ℕ)) → rest ≡ line ∷ more → StopsAt serves old (said line) new
+      → (new ≡ old) ⊎ ((Starved ≡ Starved) × IsUnanswered serves old rest new)
+  ends_as old rest new line more behind (inl same) = inl same
+  ends_as old rest new line more behind (inr (c, says, served)) = inr (refl, (line, more, c, behind, says, served))
+
+  served_breaks : (at_end : Type 0) (old : S) (before : Option (List ℕ)) (text : List ℕ) (new : S) (after : Option (List ℕ)) (cause : StopCause NoMemory) (tally : Tally)
+      → LinesBreak (IsServed serves) (StopsLine serves) at_end old before text new after cause tally → Breaks serves old before text new after (kind_of cause) tally
   served_breaks at_end old before text new after (Run kind) tally h =
       let went = goes old h.done h.effects h.mid h.handled in
       let replied = replies_same old h.done h.effects h.mid h.handled in
@@ -91,8 +114,10 @@ module _ {S : Type 0} (serves : S → Command → Served → S → Type 0) where
         done = h.done;
         rest = h.rest;
         out = output h.effects;
+        mid = h.mid;
         first_lines = h.first_lines;
-        served = rw h.leaves.0 went;
+        served = went;
+        ends = inl h.leaves.0;
         within = h.within;
         written = h.written;
         lines = inl h.leaves.1;
@@ -104,13 +129,18 @@ module _ {S : Type 0} (serves : S → Command → Served → S → Type 0) where
             (whole.0, record { lines = h.leaves.1; calls = called; replies = all_replies tally (output h.effects) (replies_in h.effects) h.replies all ∙ replied; bytes = all });
       }
   served_breaks at_end old before text new after (Line stop) tally h =
+      let line = h.leaves.0 in
+      let next = next_line at_end text h.done line h.leaves.1 in
+      let behind : h.rest ≡ line ∷ next.0 = append_cancel_left h.done h.rest (line ∷ next.0) (sym h.first_lines ∙ next.1) in
       let went = goes old h.done h.effects h.mid h.handled in
       record {
         done = h.done;
         rest = h.rest;
         out = output h.effects;
+        mid = h.mid;
         first_lines = h.first_lines;
-        served = rw h.leaves.2 went;
+        served = went;
+        ends = ends_as h.mid h.rest new line next.0 behind h.leaves.2;
         within = h.within;
         written = h.written;
         lines = inr (refl, h.leaves.3);
@@ -119,8 +149,8 @@ module _ {S : Type 0} (serves : S → Command → Served → S → Type 0) where
         whole = λ read. absurd read;
       }
 
-  pub served_in_part : (old : S) (unread before : Option (List ℕ)) (new : S) (left after : Option (List ℕ)) (cause : Cause NoMemory) (tally : Tally)
-      → Broke (IsServed serves) LeavesState old unread before new left after cause tally
+  pub served_in_part : (old : S) (unread before : Option (List ℕ)) (new : S) (left after : Option (List ℕ)) (cause : StopCause NoMemory) (tally : Tally)
+      → Broke (IsServed serves) (StopsLine serves) old unread before new left after cause tally
       → ServedInPart serves old unread before new left after (record { kind = kind_of cause; tally = tally })
   served_in_part old unread before new left after cause tally h =
       record { text = h.text; read = h.read; breaks = served_breaks _ old before h.text new after cause tally h.breaks }

@@ -1,5 +1,4 @@
 -- An engine that serves lines, and the machine that it stands for.
--- Source: this profile.
 use Rattle.std.specs.Prelude.{ℕ, List, [], ◌∷◌, ◌++◌}
 use Rattle.street_base.specs.declared.command.Command.{Command}
 use Rattle.street_base.specs.declared.reply.Outcome.{Outcome}
@@ -7,18 +6,20 @@ use Rattle.street_base.specs.Prelude.{State, Answers, Runs}
 use Rattle.street_base.specs.declared.reply.Reply.{Reply}
 use Rattle.street_engine.specs.Prelude.{EngineView, Serves}
 use Rattle.street_line.specs.declared.service.Served.{Served}
-use Rattle.street_line.specs.declared.service.Served.TheVariants.{Answered, Full}
+use Rattle.street_line.specs.declared.service.Served.TheVariants.{Answered, Full, Unrecorded}
 use Rattle.street_line.specs.Runs.{Said, silent, faulty, calls, said}
 
 -- an engine answers every command, as the machine does under some outcome
 abbrev pub EngineServes : EngineView → Command → Served → EngineView → Type 0
 EngineServes before command (Answered reply) after = (outcome : Outcome) × Serves before command reply outcome after
 EngineServes before command Full after = ⊥
+EngineServes before command Unrecorded after = ⊥
 
 -- the machine answers every command under some outcome
 abbrev pub MachineServes : State → Command → Served → State → Type 0
 MachineServes old command (Answered reply) new = (outcome : Outcome) × Answers old command reply outcome new
 MachineServes old command Full new = ⊥
+MachineServes old command Unrecorded new = ⊥
 
 -- the command of a line, if it calls one
 abbrev pub called : Said → List Command

@@ -1,24 +1,28 @@
 -- What a fault leaves of a run.
--- Source: this profile.
-use Rattle.std.specs.Prelude.{◌≡◌, ℕ, ◌≤◌, List, ◌++◌, length, take, Option, count_by}
+use Rattle.std.specs.Prelude.{◌≡◌, ℕ, ◌≤◌, ◌⊎◌, List, ◌∷◌, ◌++◌, length, take, Option, count_by}
 use Rattle.std.specs.Io.KnownBytes.{Appends, Consumes}
 use Rattle.street_base.specs.declared.command.Command.{Command}
 use Rattle.street_base.specs.declared.reply.Starved.{Starved as NoMemory}
 use Rattle.street_stream.specs.Faults.{IsAtRead, CountsLines, CountsReplies}
 use Rattle.street_stream.specs.Lines.{cut, lines_of}
-use Rattle.street_stream.specs.declared.answer.Cause.{Cause}
-use Rattle.street_stream.specs.declared.answer.Cause.TheVariants.{Run, Line}
+use Rattle.street_stream.specs.declared.answer.StopCause.{StopCause}
+use Rattle.street_stream.specs.declared.answer.StopCause.TheVariants.{Run, Line}
 use Rattle.street_stream.specs.declared.tally.FaultKind.{FaultKind}
 use Rattle.street_stream.specs.declared.tally.FaultKind.TheVariants.{Starved}
 use Rattle.street_stream.specs.declared.tally.RunFault.{RunFault}
 use Rattle.street_stream.specs.declared.tally.Tally.{Tally}
 use Rattle.street_line.specs.declared.service.Served.{Served}
-use Rattle.street_line.specs.Runs.{is_call, has_reply, said, Goes, IsTally}
+use Rattle.street_line.specs.declared.service.Served.TheVariants.{Unrecorded}
+use Rattle.street_line.specs.Runs.{calls, is_call, has_reply, said, Goes, IsTally}
 
 -- a line ends a run only where memory ran out to read it
-abbrev pub kind_of : Cause NoMemory → FaultKind
+abbrev pub kind_of : StopCause NoMemory → FaultKind
 kind_of (Run kind) = kind
 kind_of (Line stop) = Starved
+
+-- the next of these lines calls a command that is served and not answered
+abbrev pub IsUnanswered : {S : Type 0} → (S → Command → Served → S → Type 0) → S → List (List ℕ) → S → Type 0
+IsUnanswered serves old ls new = (line : List ℕ) × (more : List (List ℕ)) × (c : Command) × (ls ≡ line ∷ more) × (said line ≡ calls c) × serves old c Unrecorded new
 
 -- the first lines of the text were served, and of their output the first bytes are written; at a read these are the whole output of the lines read to their end
 pub record Breaks {S : Type 0} (serves : S → Command → Served → S → Type 0) (start : S) (before : Option (List ℕ)) (text : List ℕ)
@@ -27,12 +31,15 @@ pub record Breaks {S : Type 0} (serves : S → Command → Served → S → Type
   pub done : List (List ℕ)
   pub rest : List (List ℕ)
   pub out : List ℕ
+  pub mid : S
   pub first_lines : lines_of text ≡ done ++ rest
-  pub served : Goes serves start done out now
+  pub served : Goes serves start done out mid
+  -- nothing was served behind them, or one command that is not answered
+  pub ends : (now ≡ mid) ⊎ ((kind ≡ Starved) × IsUnanswered serves mid rest now)
   -- what is written of it
   pub within : tally.bytes ≤ length out
   pub written : Appends before after (take tally.bytes out)
-  -- a line for which memory ran out was taken up, but not served
+  -- a line for which memory ran out, or that is not answered, was taken up
   pub lines : CountsLines kind tally done
   pub calls : tally.calls ≡ count_by (λ l. is_call (said l)) done
   pub replies : CountsReplies tally out (count_by (λ l. has_reply (said l)) done)

@@ -1,23 +1,21 @@
 -- Lines that are served by a session that is kept, and what is kept of them.
--- Source: this profile.
-use Rattle.std.specs.Prelude.{◌≡◌, ℕ, ◌<◌, ◌≤◌, ◌⊎◌, List, [], ◌∷◌, ◌++◌, length, take, Bool, true, false, if◌then◌else◌, Option, Some}
+use Rattle.std.specs.Prelude.{◌≡◌, ℕ, ◌≤◌, ◌⊎◌, List, [], ◌∷◌, ◌++◌, length, take, Bool, true, false, Option, Some}
 use Rattle.std.specs.Io.KnownBytes.{Appends, Consumes, IsAtEnd}
 use Rattle.street_base.specs.declared.command.Command.{Command}
 use Rattle.street_base.specs.declared.reply.Reply.{Reply}
 use Rattle.street_base.specs.declared.reply.Reply.TheVariants.{Loaded, Signalled, Entered, Clock, Short, Closed, Taken, Placed}
 use Rattle.street_stream.specs.Faults.{IsCaused, IsCausedByWriting}
 use Rattle.street_stream.specs.HandledLines.{Effect, Gives}
-use Rattle.street_stream.specs.declared.answer.Answer.{Answer}
-use Rattle.street_stream.specs.Lines.{lines_of}
-use Rattle.street_stream.specs.Logs.{Extends}
+use Rattle.street_stream.specs.declared.answer.LineAnswer.{LineAnswer}
+use Rattle.street_stream.specs.Lines.{cut, if_any, lines_of}
 use Rattle.street_stream.specs.declared.counted.Counted.{Counted}
 use Rattle.street_stream.specs.declared.log.KeepFault.{KeepFault}
 use Rattle.street_stream.specs.declared.log.KeepFault.TheVariants as keep
-use Rattle.street_stream.specs.declared.tally.FaultKind.TheVariants.{Write}
+use Rattle.street_stream.specs.declared.tally.FaultKind.TheVariants.{Read, Write, Starved, Endless}
 use Rattle.street_line.specs.declared.kept_runs.KeptFault.{KeptFault}
 use Rattle.street_line.specs.declared.kept_runs.KeptFault.TheVariants.{Run, Log}
 use Rattle.street_line.specs.declared.service.Served.{Served}
-use Rattle.street_line.specs.declared.service.Served.TheVariants.{Answered, Full}
+use Rattle.street_line.specs.declared.service.Served.TheVariants.{Answered, Full, Unrecorded}
 use Rattle.street_line.specs.Runs.{Said, silent, faulty, calls, said, served_line}
 use Rattle.street_line.specs.ServedLine.{effect_of}
 use Rattle.street_text.specs.FaultLines.{fault_line}
@@ -49,17 +47,22 @@ entry_of false line = []
 abbrev pub IsEntry : List ℕ → Served → List ℕ → Type 0
 IsEntry line (Answered reply) entry = (is_short reply ≡ false) × (entry ≡ entry_of (is_change reply) line)
 IsEntry line Full entry = entry ≡ []
+IsEntry line Unrecorded entry = ⊥
 
 -- it is noted behind what was
 abbrev pub IsNoted : List ℕ → Served → List ℕ → List ℕ → Type 0
 IsNoted line served old new = (entry : List ℕ) × IsEntry line served entry × (new ≡ old ++ entry)
+
+-- these lines end in the last bytes that were read, or are the last of the text, which has ended
+abbrev pub IsLast : Option (List ℕ) → List ℕ → List ℕ → List (List ℕ) → Type 0
+IsLast left seen got ls = (ls ≡ (cut ((cut seen).1 ++ got)).0) ⊎ ((got ≡ []) × IsAtEnd left × (ls ≡ if_any (cut seen).1))
 
 module _ {S : Type 0} (serves : S → Command → Served → S → Type 0) where
   -- what a line gives, and what is kept of it
   abbrev pub KeepsSaid : S → Said → List ℕ → List ℕ → List ℕ → S → Type 0
   KeepsSaid old silent line out entry new = (new ≡ old) × (out ≡ []) × (entry ≡ [])
   KeepsSaid old (faulty f) line out entry new = (new ≡ old) × (fault_line f ≡ Some out) × (entry ≡ [])
-  KeepsSaid old (calls c) line out entry new = (r : Served) × serves old c r new × (out ≡ served_line r) × IsEntry line r entry
+  KeepsSaid old (calls c) line out entry new = (r : Served) × serves old c r new × (served_line r ≡ Some out) × IsEntry line r entry
 
   -- so as a handler of lines sees it
   abbrev pub KeepsLine : S × List ℕ → List ℕ → Effect → S × List ℕ → Type 0
@@ -67,7 +70,7 @@ module _ {S : Type 0} (serves : S → Command → Served → S → Type 0) where
       × (effect ≡ effect_of (said line) out) × (new.1 ≡ old.1 ++ entry)
 
   -- so by an answer that gives this, of a line that says this
-  abbrev pub AnswersKept : S × List ℕ → Said → List ℕ → Answer → S × List ℕ → Type 0
+  abbrev pub AnswersKept : S × List ℕ → Said → List ℕ → LineAnswer → S × List ℕ → Type 0
   AnswersKept old what line answer new = (out : List ℕ) × (entry : List ℕ) × KeepsSaid old.0 what line out entry new.0
       × Gives answer (effect_of what out) × (new.1 ≡ old.1 ++ entry)
 
@@ -89,12 +92,18 @@ module _ {S : Type 0} (serves : S → Command → Served → S → Type 0) where
     pub holds : Appends log held kept
     pub stays : synced ≡ held
 
-  -- a fault ended that: nothing more is written; or of their output the first bytes, and what is kept of the lines is held and stays
-  abbrev pub PassStops : S → Option (List ℕ) → Option (List ℕ) → Option (List ℕ) → List (List ℕ) → Option (List ℕ) → Option (List ℕ) → Option (List ℕ) → Type 0
-  PassStops old log stayed before ls held synced after =
-      ((after ≡ before) × Extends log held × Extends stayed synced)
-      ⊎ ((out : List ℕ) × (kept : List ℕ) × (new : S) × GoesKept old ls out kept new × ((sent : ℕ) × (sent ≤ length out) × Appends before after (take sent out))
-      × Appends log held kept × (synced ≡ held))
+  -- what a fault left that came where these lines were served. The log failed: no reply is out, and it holds the first bytes of what is kept of them, of which the
+  -- first may stay. The writer failed: all that is kept of them is held and stays, and of their output the first bytes are written. Else nothing was called
+  abbrev pub PassStops : S → Option (List ℕ) → Option (List ℕ) → Option (List ℕ) → List (List ℕ) → KeptFault → Option (List ℕ) → Option (List ℕ) → Option (List ℕ) → Type 0
+  PassStops old log stayed before ls Log held synced after =
+      (out : List ℕ) × (kept : List ℕ) × (new : S) × GoesKept old ls out kept new × (after ≡ before)
+      × ((sent : ℕ) × (safe : ℕ) × (safe ≤ sent) × Appends log held (take sent kept) × Appends stayed synced (take safe kept))
+  PassStops old log stayed before ls (Run Write) held synced after =
+      (out : List ℕ) × (kept : List ℕ) × (new : S) × GoesKept old ls out kept new × ((sent : ℕ) × (sent ≤ length out) × Appends before after (take sent out))
+      × Appends log held kept × (synced ≡ held)
+  PassStops old log stayed before ls (Run Starved) held synced after = (after ≡ before) × (held ≡ log) × (synced ≡ stayed)
+  PassStops old log stayed before ls (Run Read) held synced after = (after ≡ before) × (held ≡ log) × (synced ≡ stayed)
+  PassStops old log stayed before ls (Run Endless) held synced after = (after ≡ before) × (held ≡ log) × (synced ≡ stayed)
 
   -- ---- whole runs
 
@@ -105,7 +114,21 @@ module _ {S : Type 0} (serves : S → Command → Served → S → Type 0) where
     pub at_end : IsAtEnd left
     pub passed : Passed start log before (lines_of text) now held synced after
 
-  -- a fault ended the run: only of the output of the first lines the first bytes are written, and all that is kept of these lines is held, and stays
+  -- a fault ended the run: all lines that ended before the last read were served, their output is written, and what is kept of them is held and stays;
+  -- of the lines that ended by the last read no more is written or held than the fault left
+  pub record KeptUpTo (start : S) (unread log before : Option (List ℕ)) (fault : KeptFault) (left held synced after : Option (List ℕ)) : Type 0 where
+    pub seen : List ℕ
+    pub got : List ℕ
+    pub last : List (List ℕ)
+    pub mid : S
+    pub owed : Option (List ℕ)
+    pub told : Option (List ℕ)
+    pub read : Consumes unread left (seen ++ got)
+    pub is_last : IsLast left seen got last
+    pub passed : Passed start log before (cut seen).0 mid owed owed told
+    pub stops : PassStops mid owed owed told last fault held synced after
+
+  -- so only of the output of the first lines the first bytes are written, and all that is kept of these lines is held, and stays
   pub record KeptFirst (start : S) (unread log before : Option (List ℕ)) (left held synced after : Option (List ℕ)) : Type 0 where
     pub text : List ℕ
     pub done : List (List ℕ)

@@ -1,12 +1,11 @@
 -- The output of a text of lines.
--- Source: this profile.
-use Rattle.std.specs.Prelude.{◌≡◌, ℕ, List, [], ◌∷◌, ◌++◌, length, Bool, true, false, if◌then◌else◌, Option, Some, Result, Ok, Err, codes, count_by}
+use Rattle.std.specs.Prelude.{◌≡◌, ℕ, List, [], ◌∷◌, ◌++◌, length, Bool, true, false, if◌then◌else◌, Option, Some, None, Result, Ok, Err, codes, count_by}
 use Rattle.std.specs.Io.KnownBytes.{Appends, Consumes, IsAtEnd}
 use Rattle.street_base.specs.declared.command.Command.{Command}
 use Rattle.street_stream.specs.Lines.{is_blank, lines_of}
 use Rattle.street_stream.specs.declared.tally.Tally.{Tally}
 use Rattle.street_line.specs.declared.service.Served.{Served}
-use Rattle.street_line.specs.declared.service.Served.TheVariants.{Answered, Full}
+use Rattle.street_line.specs.declared.service.Served.TheVariants.{Answered, Full, Unrecorded}
 use Rattle.street_text.specs.ReplyLines.{line_of, error_data, reply_line}
 use Rattle.street_text.specs.LineCommands.{reading}
 use Rattle.street_text.specs.declared.fault.LineFault.{LineFault}
@@ -14,10 +13,11 @@ use Rattle.street_text.specs.FaultLines.{fault_line}
 
 -- ---- one line
 
--- a command is answered by its reply, or told that no place is left
-unfoldable pub served_line : Served → List ℕ
-served_line (Answered reply) = reply_line reply
-served_line Full = line_of (error_data 23 (codes "Full"))
+-- a command is answered by its reply, or told that no place is left; or it is not answered
+unfoldable pub served_line : Served → Option (List ℕ)
+served_line (Answered reply) = Some (reply_line reply)
+served_line Full = Some (line_of (error_data 23 (codes "Full")))
+served_line Unrecorded = None
 
 -- what a line is to a run: blank, faulty, or the call of a command
 pub data Said : Type 0 where
@@ -53,7 +53,7 @@ module _ {S : Type 0} (serves : S → Command → Served → S → Type 0) where
   abbrev pub Done : S → Said → List ℕ → S → Type 0
   Done old silent out new = (new ≡ old) × (out ≡ [])
   Done old (faulty f) out new = (new ≡ old) × (fault_line f ≡ Some out)
-  Done old (calls c) out new = (r : Served) × serves old c r new × (out ≡ served_line r)
+  Done old (calls c) out new = (r : Served) × serves old c r new × (served_line r ≡ Some out)
 
   -- the lines, one after another
   abbrev pub Goes : S → List (List ℕ) → List ℕ → S → Type 0

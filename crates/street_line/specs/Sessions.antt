@@ -1,5 +1,4 @@
 -- What a desk serves to one of its callers.
--- Source: this profile.
 use Rattle.std.specs.Prelude.{◌≡◌, ◌<◌, ℕ, List, [], ◌∷◌, ◌++◌, length}
 use Rattle.street_base.specs.declared.command.Command.{Command}
 use Rattle.street_base.specs.declared.reply.Outcome.{Outcome}
@@ -8,12 +7,13 @@ use Rattle.street_desk.specs.declared.journal.Entry.{Entry}
 use Rattle.street_desk.specs.History.{entry, state_of, IsHistory}
 use Rattle.street_desk.specs.Passes.{PassView, Answered as IsAnswered, Filled}
 use Rattle.street_line.specs.declared.service.Served.{Served}
-use Rattle.street_line.specs.declared.service.Served.TheVariants.{Answered, Full}
+use Rattle.street_line.specs.declared.service.Served.TheVariants.{Answered, Full, Unrecorded}
 
 -- an answered command is one more call of the pass; else the journal is full, and nothing was called
 abbrev pub DeskServes : PassView → Command → Served → PassView → Type 0
 DeskServes before command (Answered reply) after = IsAnswered before command reply after
 DeskServes before command Full after = Filled before after
+DeskServes before command Unrecorded after = ⊥
 
 -- the pass owns the one session that its desk has
 pub record IsAlone (p : PassView) : Type 0 where
@@ -30,3 +30,4 @@ AloneServes most old command (Answered reply) new = (outcome : Outcome)
     × (new ≡ old ++ entry 0 command outcome ∷ [])
     × (length old < most)
 AloneServes most old command Full new = (new ≡ old) × (length old ≡ most)
+AloneServes most old command Unrecorded new = ⊥

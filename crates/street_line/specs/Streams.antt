@@ -1,5 +1,4 @@
 -- Lines that are served from one counted stream to another.
--- Source: this profile.
 use Rattle.std.specs.Prelude.{ℕ, ◌≤◌, List, Option, Result, IfOk, IfErr}
 use Rattle.street_base.specs.declared.command.Command.{Command}
 use Rattle.street_base.specs.Prelude.{State}

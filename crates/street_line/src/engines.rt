@@ -1,6 +1,4 @@
-//! Lines served by an engine.
-//!
-//! Source: this profile.
+//! Lines served by an engine. A run with no desk and one worker calls it.
 ghost use Rattle.std.specs.Prelude.{◌≡◌, ◌≤◌, IfOk, IfErr, OnOk};
 ghost use Rattle.street_base.specs.Prelude.{most_reads};
 ghost use Rattle.street_stream.specs.Streams.{IsFlushed, IsFresh, IsPrompt};
@@ -44,6 +42,14 @@ impl<'a, R: Threads + Sync> EngineSession<'a, R> {
         ensures { result ≡ engine }
     {
         EngineSession { rt, engine }
+    }
+
+    /// Gives back the engine. Takes no memory.
+    pub fn into_engine(self) -> Engine<Unwatched>
+        ensures { result ≡ self.entry }
+    {
+        let EngineSession { rt: _, engine } = self;
+        engine
     }
 }
 

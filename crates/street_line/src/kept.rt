@@ -1,24 +1,22 @@
-//! Lines that are served, and what is kept of them.
-//!
-//! Source: this profile. A line whose command changed something is kept as it came.
-ghost use Rattle.std.specs.Prelude.{◌≡◌, ◌<◌, ◌^◌, ◌++◌, [], List, ℕ, IfOk, OnOk, Some, length, true};
-ghost use Rattle.street_stream.specs.HandledLines.{GivesText};
+//! Lines that are served, with their replies and what is kept of them, before either goes out. A line whose command changed
+//! something is kept as it came. `kept_runs.rt` calls it for the bytes of each read.
+ghost use Rattle.std.specs.Prelude.{◌≡◌, ◌<◌, ◌^◌, ◌++◌, [], List, ℕ, IfOk, OnOk, length};
 ghost use Rattle.street_stream.specs.Lines.{cut, if_any};
 ghost use Rattle.street_stream.specs.OpenTexts.{IsOpen};
 ghost use Rattle.street_text.specs.LineCommands.{longest_line, reading};
 ghost use Rattle.street_line.specs.Kept.{AnswersKept, GoesKept, IsNoted, is_change, is_short};
-ghost use Rattle.street_line.specs.Runs.{said_by, served_line};
+ghost use Rattle.street_line.specs.Runs.{said_by};
 
-use crate::answers::served_text;
+use crate::answers::answer_to;
 use crate::service::{Served, Service};
 use std::alloc::Global;
 use street_base::{Reply, Starved};
-use street_stream::{Answer, Counted, LineHandler, OpenText, PartialLine};
+use street_stream::{Counted, LineAnswer, LineHandler, OpenText, PartialLine};
 use street_text::{LineReader, fault_text};
 
 /// What is to go out of lines that were served.
 #[derive(Drop)]
-pub(crate) struct Owed {
+pub(crate) struct PendingOutput {
     /// What is kept of them.
     pub(crate) entries: Vec<u8>,
     /// Their replies.
@@ -65,12 +63,14 @@ fn is_short(reply: &Reply) -> bool
 ///
 /// # Errors
 ///
-/// Memory ran out to note it, or for the last steps of an advance.
+/// Memory ran out to note it, or for the last steps of an advance; or nothing is answered.
 fn note(entries: &mut Vec<u8>, line: &[u8], served: &Served) -> Result<(), Starved>
     ensures { OnOk result (IsNoted line.now served.now entries.old.items entries.new.items) }
 {
-    let Served::Answered(reply) = served else {
-        return Ok(());
+    let reply = match served {
+        Served::Answered(reply) => reply,
+        Served::Full => return Ok(()),
+        Served::Unrecorded => return Err(Starved),
     };
     if is_short(reply) {
         return Err(Starved);
@@ -80,23 +80,6 @@ fn note(entries: &mut Vec<u8>, line: &[u8], served: &Served) -> Result<(), Starv
         entries.push(b'\n')?;
     }
     Ok(())
-}
-
-/// The answer to a command that was served so, with the text of its reply. Lack of memory for the text stands in the answer.
-fn replied(alloc: Global, served: Served) -> Answer
-    ensures call { result.is_call ≡ true }
-    ensures text { GivesText result.reply (Some (served_line served)) }
-{
-    match served_text(alloc, served) {
-        Ok(text) => Answer {
-            is_call: true,
-            reply: Ok(Some(text)),
-        },
-        Err(starved) => Answer {
-            is_call: true,
-            reply: Err(starved),
-        },
-    }
 }
 
 /// Has the service serve the command of a line that is not blank, puts the line behind the entries where it is kept, and gives the
@@ -111,7 +94,7 @@ fn answer<S: Service>(
     service: &mut S,
     entries: &mut Vec<u8>,
     line: &[u8],
-) -> Result<Answer, Starved>
+) -> Result<LineAnswer, Starved>
     requires ready { S.ready }
     ensures { IfOk result (λ answer. AnswersKept S.serves (service.old, entries.old.items) (said_by (reading line.now)) line.now answer
         (service.new, entries.new.items)) }
@@ -120,7 +103,7 @@ fn answer<S: Service>(
         Ok(command) => command,
         Err(fault) => {
             let text = fault_text(alloc, fault)?;
-            return Ok(Answer {
+            return Ok(LineAnswer {
                 is_call: false,
                 reply: Ok(Some(text)),
             });
@@ -128,7 +111,7 @@ fn answer<S: Service>(
     };
     let served = service.serve(command);
     note(entries, line, &served)?;
-    Ok(replied(alloc, served))
+    answer_to(alloc, served)
 }
 
 impl<'a, S: Service> LineHandler for KeptServer<'a, S> {
@@ -149,9 +132,9 @@ impl<'a, S: Service> LineHandler for KeptServer<'a, S> {
     ghost ready = { S.ready };
 
     /// Serves a line, and notes it where it is kept; a blank line gets no reply.
-    fn take(&mut self, alloc: Global, line: &PartialLine) -> Result<Answer, Starved> {
+    fn take(&mut self, alloc: Global, line: &PartialLine) -> Result<LineAnswer, Starved> {
         if line.is_blank() {
-            return Ok(Answer {
+            return Ok(LineAnswer {
                 is_call: false,
                 reply: Ok(None),
             });
@@ -178,12 +161,12 @@ pub(crate) fn serve_more<S: Service>(
     reader: &mut LineReader,
     text: &mut OpenText,
     bytes: &[u8],
-) -> Result<Owed, Starved>
+) -> Result<PendingOutput, Starved>
     requires ready { S.ready }
     requires few { length bytes.now < 2 ^ 62 }
-    ensures served { (line : List ℕ) → IsOpen longest_line text.old line → IfOk result (λ owed.
-        GoesKept S.serves service.old (cut (line ++ bytes.now)).0 owed.replies.items owed.entries.items service.new) }
-    ensures open { (line : List ℕ) → IsOpen longest_line text.old line → IfOk result (λ owed. IsOpen longest_line text.new (cut (line ++ bytes.now)).1) }
+    ensures served { (line : List ℕ) → IsOpen longest_line text.old line → IfOk result (λ pending.
+        GoesKept S.serves service.old (cut (line ++ bytes.now)).0 pending.replies.items pending.entries.items service.new) }
+    ensures open { (line : List ℕ) → IsOpen longest_line text.old line → IfOk result (λ pending. IsOpen longest_line text.new (cut (line ++ bytes.now)).1) }
 {
     let mut writer = Counted::new(Vec::new(alloc));
     let mut entries = Vec::new(alloc);
@@ -193,7 +176,7 @@ pub(crate) fn serve_more<S: Service>(
         entries: &mut entries,
     };
     match text.feed(alloc, &mut server, &mut writer, bytes) {
-        Ok(_tally) => Ok(Owed {
+        Ok(_tally) => Ok(PendingOutput {
             entries,
             replies: writer.into_inner(),
         }),
@@ -211,10 +194,10 @@ pub(crate) fn serve_last<S: Service>(
     service: &mut S,
     reader: &mut LineReader,
     text: OpenText,
-) -> Result<Owed, Starved>
+) -> Result<PendingOutput, Starved>
     requires { S.ready }
-    ensures { (line : List ℕ) → IsOpen longest_line text line → IfOk result (λ owed.
-        GoesKept S.serves service.old (if_any line) owed.replies.items owed.entries.items service.new) }
+    ensures { (line : List ℕ) → IsOpen longest_line text line → IfOk result (λ pending.
+        GoesKept S.serves service.old (if_any line) pending.replies.items pending.entries.items service.new) }
 {
     let mut writer = Counted::new(Vec::new(alloc));
     let mut entries = Vec::new(alloc);
@@ -224,7 +207,7 @@ pub(crate) fn serve_last<S: Service>(
         entries: &mut entries,
     };
     match text.finish(alloc, &mut server, &mut writer) {
-        Ok(_tally) => Ok(Owed {
+        Ok(_tally) => Ok(PendingOutput {
             entries,
             replies: writer.into_inner(),
         }),

@@ -1,20 +1,21 @@
-//! A text of lines, served by a session that is kept.
-//!
-//! Source: this profile. What is kept of the lines of a read is in the log, and stays there, before any reply to them goes out.
+//! A text of lines, served by a session that is kept. What is kept of the lines of a read is in the log, and stays there,
+//! before any reply to them goes out. `kept_file.rt` calls it.
 ghost use Rattle.std.specs.Prelude.{◌≡◌, ◌<◌, ◌≤◌, ◌^◌, ◌++◌, List, ℕ, OnOk, IfErr, length};
 ghost use Rattle.street_base.specs.Prelude.{most_reads};
 ghost use Rattle.street_stream.specs.Lines.{cut, if_any};
 ghost use Rattle.street_stream.specs.OpenTexts.{IsOpen};
 ghost use Rattle.street_stream.specs.Streams.{IsFlushed, IsFresh, IsPrompt};
 ghost use Rattle.street_text.specs.LineCommands.{longest_line};
-ghost use Rattle.street_line.specs.Kept.{IsKeptCaused, IsPassCaused, KeptFirst, KeptWhole, PassStops, Passed, fault_of};
+ghost use Rattle.street_line.specs.Kept.{IsKeptCaused, IsPassCaused, KeptFirst, KeptUpTo, KeptWhole, PassStops, Passed, fault_of};
 
 use crate::kept::{serve_last, serve_more};
 use crate::service::Service;
 use std::alloc::Global;
 use std::io::{Read, Write};
 use street_base::MOST_READS;
-use street_stream::{Counted, FaultKind, KeepFault, Log, OpenText, READ_SIZE, keep_first};
+use street_stream::{
+    Counted, FaultKind, KeepFault, OpenText, READ_SIZE, WriteAheadLog, keep_first,
+};
 use street_text::{LONGEST_LINE, LineReader};
 
 /// Why a session that is kept ended before its text did.
@@ -43,7 +44,7 @@ fn fault_of(fault: KeepFault) -> KeptFault
 ///
 /// `Run` with `Starved` where memory ran out: nothing went out. `Log` where the log failed: no reply went out. `Run` with `Write`
 /// where the writer failed: the log holds what is kept.
-fn pass_more<S: Service, L: Log, W: Write>(
+fn pass_more<S: Service, L: WriteAheadLog, W: Write>(
     alloc: Global,
     service: &mut S,
     lines: &mut LineReader,
@@ -55,23 +56,25 @@ fn pass_more<S: Service, L: Log, W: Write>(
     requires ready { S.ready }
     requires few { length bytes.now < 2 ^ 62 }
     requires synced { L.synced log.old ≡ L.held log.old }
+    requires sound { L.has_failed log.old → ⊥ }
     ensures passed { (line : List ℕ) → IsOpen longest_line text.old line → OnOk result (Passed S.serves service.old (L.held log.old)
         (W.contents writer.old.stream) (cut (line ++ bytes.now)).0 service.new (L.held log.new) (L.synced log.new) (W.contents writer.new.stream)) }
     ensures open { (line : List ℕ) → IsOpen longest_line text.old line → OnOk result (IsOpen longest_line text.new (cut (line ++ bytes.now)).1) }
     ensures stops { (line : List ℕ) → IsOpen longest_line text.old line → IfErr result (λ fault. PassStops S.serves service.old (L.held log.old)
-        (L.synced log.old) (W.contents writer.old.stream) (cut (line ++ bytes.now)).0 (L.held log.new) (L.synced log.new) (W.contents writer.new.stream)) }
+        (L.synced log.old) (W.contents writer.old.stream) (cut (line ++ bytes.now)).0 fault (L.held log.new) (L.synced log.new) (W.contents writer.new.stream)) }
     ensures flushed { OnOk result (IsFlushed writer.new) }
+    ensures sound { OnOk result (L.has_failed log.new → L.has_failed log.old) }
     ensures caused { IfErr result (λ fault. IsPassCaused L.has_failed fault log.new writer.new) }
 {
-    let owed = match serve_more(alloc, service, lines, text, bytes) {
-        Ok(owed) => owed,
+    let pending = match serve_more(alloc, service, lines, text, bytes) {
+        Ok(pending) => pending,
         Err(_starved) => return Err(KeptFault::Run(FaultKind::Starved)),
     };
     match keep_first(
         log,
         writer,
-        owed.entries.as_slice(),
-        owed.replies.as_slice(),
+        pending.entries.as_slice(),
+        pending.replies.as_slice(),
     ) {
         Ok(()) => Ok(()),
         Err(fault) => Err(fault_of(fault)),
@@ -83,7 +86,7 @@ fn pass_more<S: Service, L: Log, W: Write>(
 /// # Errors
 ///
 /// Those of [`pass_more`].
-fn pass_last<S: Service, L: Log, W: Write>(
+fn pass_last<S: Service, L: WriteAheadLog, W: Write>(
     alloc: Global,
     service: &mut S,
     lines: &mut LineReader,
@@ -93,22 +96,24 @@ fn pass_last<S: Service, L: Log, W: Write>(
 ) -> Result<(), KeptFault>
     requires ready { S.ready }
     requires synced { L.synced log.old ≡ L.held log.old }
+    requires sound { L.has_failed log.old → ⊥ }
     ensures passed { (line : List ℕ) → IsOpen longest_line text line → OnOk result (Passed S.serves service.old (L.held log.old)
         (W.contents writer.old.stream) (if_any line) service.new (L.held log.new) (L.synced log.new) (W.contents writer.new.stream)) }
     ensures stops { (line : List ℕ) → IsOpen longest_line text line → IfErr result (λ fault. PassStops S.serves service.old (L.held log.old)
-        (L.synced log.old) (W.contents writer.old.stream) (if_any line) (L.held log.new) (L.synced log.new) (W.contents writer.new.stream)) }
+        (L.synced log.old) (W.contents writer.old.stream) (if_any line) fault (L.held log.new) (L.synced log.new) (W.contents writer.new.stream)) }
     ensures flushed { OnOk result (IsFlushed writer.new) }
+    ensures sound { OnOk result (L.has_failed log.new → L.has_failed log.old) }
     ensures caused { IfErr result (λ fault. IsPassCaused L.has_failed fault log.new writer.new) }
 {
-    let owed = match serve_last(alloc, service, lines, text) {
-        Ok(owed) => owed,
+    let pending = match serve_last(alloc, service, lines, text) {
+        Ok(pending) => pending,
         Err(_starved) => return Err(KeptFault::Run(FaultKind::Starved)),
     };
     match keep_first(
         log,
         writer,
-        owed.entries.as_slice(),
-        owed.replies.as_slice(),
+        pending.entries.as_slice(),
+        pending.replies.as_slice(),
     ) {
         Ok(()) => Ok(()),
         Err(fault) => Err(fault_of(fault)),
@@ -123,7 +128,7 @@ fn pass_last<S: Service, L: Log, W: Write>(
 /// `Log` where the log failed; `Run` with the kinds of `run_lines_within`, `Starved` also where memory ran out for what is kept, for
 /// the replies to one read or for the last steps of an advance. Only replies to lines are out then of which all that is kept is in
 /// the log and stays.
-pub fn run_kept<S: Service, R: Read, L: Log, W: Write>(
+pub fn run_kept<S: Service, R: Read, L: WriteAheadLog, W: Write>(
     alloc: Global,
     service: &mut S,
     reader: &mut Counted<R>,
@@ -133,13 +138,18 @@ pub fn run_kept<S: Service, R: Read, L: Log, W: Write>(
     requires ready { S.ready }
     requires reader { IsFresh reader.old }
     requires synced { L.synced log.old ≡ L.held log.old }
+    requires sound { L.has_failed log.old → ⊥ }
     ensures whole { OnOk result (KeptWhole S.serves service.old (R.remaining reader.old.stream) (L.held log.old) (W.contents writer.old.stream)
         service.new (R.remaining reader.new.stream) (L.held log.new) (L.synced log.new) (W.contents writer.new.stream)) }
+    ensures exact { IfErr result (λ fault. KeptUpTo S.serves service.old (R.remaining reader.old.stream) (L.held log.old)
+        (W.contents writer.old.stream) fault (R.remaining reader.new.stream) (L.held log.new) (L.synced log.new) (W.contents writer.new.stream)) }
     ensures broken { IfErr result (λ fault. KeptFirst S.serves service.old (R.remaining reader.old.stream) (L.held log.old)
         (W.contents writer.old.stream) (R.remaining reader.new.stream) (L.held log.new) (L.synced log.new) (W.contents writer.new.stream)) }
     ensures caused { IfErr result (λ fault. IsKeptCaused L.has_failed fault reader.new log.new writer.new most_reads) }
     ensures prompt { IsPrompt reader.new }
+    ensures bounded { reader.new.calls ≤ most_reads }
     ensures flushed { OnOk result (IsFlushed writer.new) }
+    ensures sound { OnOk result (L.has_failed log.new → L.has_failed log.old) }
 {
     let mut lines = LineReader::new(alloc);
     let mut text = OpenText::new(alloc, LONGEST_LINE);

@@ -1,6 +1,4 @@
-//! Laws of lines.
-//!
-//! Source: this profile.
+//! Laws of lines. Nothing is run here: it ties the lines that are served to runs of the machine.
 ghost use Rattle.std.specs.Prelude.{ℕ, List, None};
 ghost use Rattle.street_base.specs.Prelude.{IsSoundState, State};
 ghost use Rattle.street_line.specs.Engines.{AreRunOf, MachineServes};

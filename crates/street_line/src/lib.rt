@@ -7,19 +7,25 @@
 //!
 //! Without a desk, and with no end of calls, an engine serves ([`run_engine`], or [`run_team`] for several workers). A session that
 //! is kept ([`run_kept`]) writes each line that changed something into a log before its reply goes out, and goes on from such
-//! lines ([`run_again`]): `specs/Kept`, `specs/Again`.
+//! lines ([`redo_log`]): `specs/Kept`, `specs/Redo`. Both, over a file ([`serve_on`], by an engine [`keep_engine`]):
+//! `specs/KeptFiles`.
 //!
 //! What a line says, and what a reply's line is, stands in `street_text`, and what a stream counts in `street_stream`; their
 //! functions are shown here too.
 #![tactic(auto)]
 
-mod again;
 mod answers;
 mod engines;
 mod kept;
+mod kept_engines;
+mod kept_file;
 mod kept_laws;
 mod kept_runs;
 mod laws;
+mod recorded;
+mod recorded_teams;
+mod redo;
+mod restarts;
 mod runs;
 mod script;
 mod server;
@@ -28,11 +34,18 @@ mod session;
 mod sessions;
 mod teams;
 
-pub use again::{Again, AgainFault, run_again};
 pub use engines::{EngineSession, run_engine};
-pub use kept_laws::{kept_lines_are_the_machines, kept_lines_lead_there};
+pub use kept_engines::{keep_engine, keep_team};
+pub use kept_file::{BeginFault, KeptFile, KeptNotices, ServeFault, begin_on, run_on, serve_on};
+pub use kept_laws::{
+    kept_lines_are_the_machines, kept_lines_lead_there, kept_sessions_are_a_function,
+};
 pub use kept_runs::{KeptFault, run_kept};
 pub use laws::lines_are_a_run;
+pub use recorded::{RecordedSession, run_recorded};
+pub use recorded_teams::{RecordedTeam, run_recorded_by_team};
+pub use redo::{RedoFault, RedoneLines, redo_log};
+pub use restarts::kept_files_go_on;
 pub use runs::{run_lines, run_lines_within};
 pub use script::{Script, answer_all, run_scripts};
 pub use service::{Served, Service};

@@ -1,6 +1,5 @@
-//! A text of lines, served one after another.
-//!
-//! Source: this profile. Each reply is written, and passed on, before the next read.
+//! A text of lines, served one after another. Each reply is written, and passed on, before the next read. Each kind of session
+//! calls it with its service.
 ghost use Rattle.std.specs.Prelude.{◌≡◌, OnOk};
 ghost use Rattle.street_base.specs.Prelude.{most_reads};
 ghost use Rattle.street_stream.specs.Streams.{IsFlushed, IsFresh, IsPrompt};
@@ -12,16 +11,16 @@ use crate::service::Service;
 use std::alloc::Global;
 use std::io::{Read, Write};
 use street_base::{MOST_READS, Starved};
-use street_stream::{Cause, Counted, FaultKind, Limits, RunFault, Tally, drive_lines};
+use street_stream::{Counted, FaultKind, RunFault, RunLimits, StopCause, Tally, drive_lines};
 use street_text::{LONGEST_LINE, LineReader};
 
 /// The fault of a run of lines that this ended: a line ends it only where memory ran out.
-fn kind_of(cause: Cause<Starved>) -> FaultKind
+fn kind_of(cause: StopCause<Starved>) -> FaultKind
     ensures { result ≡ kind_of cause }
 {
     match cause {
-        Cause::Run(kind) => kind,
-        Cause::Line(_) => FaultKind::Starved,
+        StopCause::Run(kind) => kind,
+        StopCause::Line(_) => FaultKind::Starved,
     }
 }
 
@@ -56,7 +55,7 @@ pub fn run_lines_within<S: Service, R: Read, W: Write>(
         service,
         reader: &mut lines,
     };
-    let limits = Limits {
+    let limits = RunLimits {
         line: LONGEST_LINE,
         reads,
     };

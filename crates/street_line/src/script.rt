@@ -1,6 +1,5 @@
-//! Scripts: files of commands, each served as a session on a thread of its own.
-//!
-//! Source: this profile.
+//! Scripts: files of commands, each served as a session on a thread of its own. `street_runs` opens the scripts of the command
+//! line and has them answered.
 ghost use Rattle.std.specs.Prelude.{◌≡◌, ◌↔◌, ◌⊎◌, ◌<◌, ◌≤◌, ℕ, [], All, IfSome, IsNone, IsSome, length, slice_index_or};
 ghost use Rattle.street_base.specs.Prelude.{most_reads};
 ghost use Rattle.street_desk.specs.Passes.{DeskView};

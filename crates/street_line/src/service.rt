@@ -1,4 +1,4 @@
-//! What serves commands.
+//! What serves commands. The handlers of lines call it; engines, and desks with a pass, are services.
 
 use street_base::{Command, Reply};
 
@@ -9,6 +9,8 @@ pub enum Served {
     Answered(Reply),
     /// The command was not called: no place is left for it.
     Full,
+    /// What is to be written of the command before its reply could not be written: nothing is answered, and the session ends.
+    Unrecorded,
 }
 
 /// What serves commands one after another. Its meaning, `serves`, is a relation between the old state, the command, what was
@@ -22,7 +24,7 @@ pub trait Service {
 
     ghost ready: { Type 0 };
 
-    /// Serves one command: what it answers, or that no place is left for the call.
+    /// Serves one command: what it answers, or why it does not.
     fn serve(&mut self, command: Command) -> Served
         requires { ready }
         ensures { serves self.old command result self.new };

@@ -1,6 +1,4 @@
-//! A desk and one caller's pass serve commands.
-//!
-//! Source: this profile.
+//! A desk and one caller's pass serve commands. `sessions.rt` and `script.rt` serve lines by it.
 ghost use Rattle.std.specs.Prelude.{◌≡◌};
 ghost use Rattle.street_line.specs.Sessions.{DeskServes};
 

@@ -1,6 +1,4 @@
-//! Lines served through a desk.
-//!
-//! Source: this profile.
+//! Lines served through a desk. `street_runs` calls it for standard input.
 ghost use Rattle.std.specs.Prelude.{◌≡◌, OnOk};
 ghost use Rattle.street_base.specs.Prelude.{most_reads};
 ghost use Rattle.street_stream.specs.Streams.{IsFlushed, IsFresh, IsPrompt};

@@ -1,6 +1,4 @@
-//! Lines served by an engine whose workers stay.
-//!
-//! Source: this profile.
+//! Lines served by an engine whose workers stay. `street_runs` calls it for `--endless` with several workers.
 ghost use Rattle.std.specs.Prelude.{◌≡◌, ◌≤◌, IfOk, IfErr, OnOk};
 ghost use Rattle.street_base.specs.Prelude.{most_reads};
 ghost use Rattle.street_stream.specs.Streams.{IsFlushed, IsFresh, IsPrompt};
@@ -45,6 +43,14 @@ impl<'a, R: Threads + Wait + Sync> TeamSession<'a, R> {
         ensures { result ≡ engine }
     {
         TeamSession { rt, engine }
+    }
+
+    /// Gives back the engine. Takes no memory.
+    pub fn into_engine(self) -> Engine<Unwatched>
+        ensures { result ≡ self.entry }
+    {
+        let TeamSession { rt: _, engine } = self;
+        engine
     }
 }
 

@@ -7,7 +7,8 @@ use std::io::{Read, Write};
 use std::process::Abort;
 use std::test::Fail;
 use street_stream::{
-    Answer, Cause, Counted, FaultKind, Halt, Limits, LineHandler, PartialLine, Tally, drive_lines,
+    Counted, FaultKind, Halt, LineAnswer, LineHandler, PartialLine, RunLimits, StopCause, Tally,
+    drive_lines,
 };
 
 /// A line that ended a run: how many came before it.
@@ -41,12 +42,12 @@ impl LineHandler for Answerer {
 
     ghost ready = { Unit {0} };
 
-    fn take(&mut self, alloc: Global, line: &PartialLine) -> Result<Answer, Stopped> {
+    fn take(&mut self, alloc: Global, line: &PartialLine) -> Result<LineAnswer, Stopped> {
         if line.as_slice() == b"x".as_slice() {
             return Err(Stopped { before: self.lines });
         }
         self.lines = self.lines.saturating_add(1);
-        Ok(Answer {
+        Ok(LineAnswer {
             is_call: line.as_slice().len() <= 3 && !line.is_blank(),
             reply: reply_to(alloc, line),
         })
@@ -63,7 +64,7 @@ fn drive(alloc: Global, text: &[u8], reads: u32) -> (Result<Tally, Halt<Stopped>
     let mut reader = Counted::new(text);
     let mut writer = Counted::new(Vec::new(alloc));
     let mut handler = Answerer { lines: 0 };
-    let limits = Limits { line: 3, reads };
+    let limits = RunLimits { line: 3, reads };
     let run = drive_lines(alloc, &mut handler, &mut reader, &mut writer, limits);
     (run, writer.into_inner())
 }
@@ -85,7 +86,7 @@ fn a_line_ends_the_run(rt: HostRuntime) -> Result<(), Fail> {
     let Err(halt) = run else {
         return Err(Fail::from("the run did not break"));
     };
-    let Cause::Line(stopped) = halt.cause else {
+    let StopCause::Line(stopped) = halt.cause else {
         return Err(Fail::from("the run failed"));
     };
     assert!(rt; stopped == Stopped { before: 3 });
@@ -100,7 +101,7 @@ fn reads_run_out(rt: HostRuntime) -> Result<(), Fail> {
     let Err(halt) = run else {
         return Err(Fail::from("the run did not break"));
     };
-    let Cause::Run(kind) = halt.cause else {
+    let StopCause::Run(kind) = halt.cause else {
         return Err(Fail::from("a line ended it"));
     };
     assert!(rt; kind == FaultKind::Endless);
@@ -168,7 +169,7 @@ fn replies_are_out_before_the_next_read(rt: HostRuntime) -> Result<(), Fail> {
         passed: &passed,
     });
     let mut handler = Answerer { lines: 0 };
-    let limits = Limits { line: 3, reads: 9 };
+    let limits = RunLimits { line: 3, reads: 9 };
     let run = drive_lines(rt.alloc(), &mut handler, &mut reader, &mut writer, limits);
     let Ok(tally) = run else {
         return Err(Fail::from("the run broke"));

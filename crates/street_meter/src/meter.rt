@@ -1,6 +1,4 @@
-//! A detector as sums.
-//!
-//! Source: this profile.
+//! A detector as sums: what it has counted, in rows. The detectors of a lane keep one for each.
 ghost use Rattle.std.specs.Prelude.{◌≡◌, ◌+◌, ◌*◌, ◌^◌, ◌<◌, ◌≤◌, List, [], ◌∷◌, ◌++◌, IfOk};
 ghost use Rattle.street_base.specs.Prelude.{last_clock, most_period, Triple};
 ghost use Rattle.street_meter.specs.Meter.{Stands, IsRead, IsPlacedAs, detector_of, next_step, triple};

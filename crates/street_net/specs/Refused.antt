@@ -1,5 +1,4 @@
 -- What a refused load or plan tells.
--- Source: this profile.
 use Rattle.std.specs.Prelude.{◌≡◌, ℕ, nat_le, List, Option, Some, None, if◌then◌else◌, Bool, true, false, MatchOption, slice_index}
 use Rattle.std.specs.Option.{option_map_or}
 use Rattle.street_base.specs.declared.net.NetSpec.{NetSpec}

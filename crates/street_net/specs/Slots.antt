@@ -1,5 +1,4 @@
 -- Lists with two entries for each link of a network, one a lane.
--- Source: this profile.
 use Rattle.std.specs.Prelude.{ℕ, ◌+◌, ◌*◌, List, Bool, false, slice_index_or}
 use Rattle.street_base.specs.declared.names.Place.{Place}
 

@@ -1,5 +1,4 @@
 -- What a network keeps beside its lists, so that a step searches for nothing in them.
--- Source: the order of release is this profile's.
 use Rattle.std.specs.Prelude.{◌≡◌, ℕ, ◌+◌, ◌*◌, ◌<◌, ◌≤◌, ◌==◌, List, map, filter, length, nat_lt, Bool, true, false, ◌&&◌, ◌||◌, Some, None, Vec}
 use Rattle.std.specs.Prelude.{unwrap_or, slice_index_or, ◌≢◌, Option, MatchOption, Contains}
 use Rattle.std.specs.Option.{option_map_or}

@@ -1,4 +1,5 @@
-//! What a step asks of a link, in a table of its own.
+//! What a step asks of a link, in a table of its own. `network.rt` makes them, and answers by them what motion and lane changes
+//! ask of a link.
 ghost use Rattle.std.specs.Prelude.{◌≡◌, None, IfOk};
 ghost use Rattle.street_base.specs.Prelude.{network_fault};
 ghost use Rattle.street_net.specs.Prelude.{ids_of_nodes, AreBriefs};

@@ -1,6 +1,6 @@
-//! Whether an entry of a load is bad.
+//! Whether an entry of a load is bad. `lists.rt` calls them.
 //!
-//! Source: nodes, links and turns of TRANSIMS; their ranges are this profile.
+//! Source: nodes, links and turns of TRANSIMS.
 ghost use Rattle.std.specs.Prelude.{◌≡◌, take};
 ghost use Rattle.street_base.specs.Prelude.{is_within, is_bad_node, is_bad_link, is_bad_turn, joins};
 ghost use Rattle.street_net.specs.Prelude.{ids_of_nodes, ids_of_links, keys_of_turns};

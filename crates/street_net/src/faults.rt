@@ -1,6 +1,4 @@
-//! Why a load or a plan is refused.
-//!
-//! Source: this profile.
+//! Why a load or a plan is refused. A load and an `enter` are refused by them.
 
 use std::alloc::{AllocError, AllocFailed};
 use street_base::Part;

@@ -1,4 +1,4 @@
-//! Look-ups of entries by their keys.
+//! Look-ups of entries by their keys. `network.rt` and `entries.rt` call them.
 ghost use Rattle.std.specs.Prelude.{◌≡◌, ◌==◌, take, option_copied};
 ghost use Rattle.std.specs.List.{list_any};
 ghost use Rattle.street_base.specs.Prelude.{node_of, link_of, is_same_turn, link_with};

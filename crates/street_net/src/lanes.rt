@@ -1,6 +1,5 @@
-//! Which lanes run to a node.
-//!
-//! Source: this profile, in whose order of releases the lanes to a node stand.
+//! Which lanes run to a node. The lanes to a node stand in the order of its releases. `network.rt` makes the table once;
+//! releases, and the slots of all tiles, go by it.
 ghost use Rattle.std.specs.Prelude.{◌≡◌, ◌+◌, ◌*◌, ◌<◌, ◌++◌, [], length, map, slice_index_or, Vec, EachIndex, None, IfOk, OnOk};
 ghost use Rattle.std.specs.List.{range_with_len};
 ghost use Rattle.std.specs.declared.alloc.Global.{Global};

@@ -1,6 +1,4 @@
-//! The parts of a load, each read once.
-//!
-//! Source: this profile.
+//! The parts of a load, each read once. `network.rt` calls them, one after another.
 ghost use Rattle.std.specs.Prelude.{◌≡◌, None, IfOk, IfErr, OnOk};
 ghost use Rattle.street_base.specs.Prelude.{in_part, nodes_fault, links_fault, turns_fault, values_fault};
 ghost use Rattle.street_base.specs.declared.refusal.Part.TheVariants.{Nodes, Links, Turns, Values};

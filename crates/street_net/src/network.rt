@@ -1,6 +1,4 @@
-//! The checked network.
-//!
-//! Source: this profile.
+//! The checked network. Every crate above asks it.
 ghost use Rattle.std.specs.Prelude.{◌≡◌, ◌<◌, None, Some, length, option_map, slice_get, IfOk, IfErr, IfSome, OnOk};
 ghost use Rattle.street_base.specs.Prelude.{link_at, link_of, node_of, end_node, turn, serves, network_fault};
 ghost use Rattle.street_net.specs.Prelude.{ids_of_nodes, ids_of_links, AreServed, IsServedOrNone, AreKept, in_places, turn_by_position, AreTables, TellsFault};

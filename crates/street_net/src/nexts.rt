@@ -1,6 +1,5 @@
-//! A few next links of each lane, which say quickly that a lane serves one.
-//!
-//! Source: this profile.
+//! A few next links of each lane, which say quickly that a lane serves one. `network.rt` makes them, and asks them whether a
+//! lane serves a link.
 ghost use Rattle.std.specs.Prelude.{◌≡◌, ◌<◌};
 ghost use Rattle.street_net.specs.Prelude.{has_next};
 

@@ -1,6 +1,5 @@
-//! Plans: the first bad entry, and the links by their positions.
-//!
-//! Source: this profile. An entry is good if it is a link, and the first or one to which a lane of the link before has a turn.
+//! Plans: the first bad entry, and the links by their positions. An entry is good if it is a link, and the first or one to
+//! which a lane of the link before has a turn. An `enter` calls them.
 ghost use Rattle.std.specs.Prelude.{◌≡◌, ◌-◌, ◌<◌, ◌≤◌, None, Some, length, IfOk, IfErr, OnOk, MatchOption, slice_index};
 ghost use Rattle.street_base.specs.Prelude.{most_plan, link_of, serves, plan_fault, plan_links};
 ghost use Rattle.street_net.specs.Prelude.{TellsRefusal, plan_refusal, has_turn, TellsEntry};

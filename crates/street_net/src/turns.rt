@@ -1,6 +1,6 @@
-//! The turns from each lane, by the positions of their next links.
+//! The turns from each lane, by the positions of their next links. `network.rt` makes the table, and looks turns up in it.
 //!
-//! Source: turns of TRANSIMS; that a lane serves a link by a turn is this profile.
+//! Source: turns of TRANSIMS.
 ghost use Rattle.std.specs.Prelude.{◌≡◌, ◌+◌, ◌*◌, ◌<◌, ◌≤◌, length, map, true, None, IfOk};
 ghost use Rattle.std.specs.List.Sorted.{IsNonDecreasingBy};
 ghost use Rattle.street_base.specs.Prelude.{network_fault, joins, most_turns};

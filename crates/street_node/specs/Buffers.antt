@@ -1,5 +1,4 @@
 -- The buffers of a node, as lists of a yard.
--- Source: this profile.
 use Rattle.std.specs.Prelude.{◌≡◌, ℕ, ◌<◌, ◌≤◌, List, [], ◌∷◌, ◌++◌, length, filter_map, Some, option_map, slice_set, slice_index_or, All}
 use Rattle.street_base.specs.declared.net.NetSpec.{NetSpec}
 use Rattle.street_base.specs.declared.net.NodeSpec.{NodeSpec}

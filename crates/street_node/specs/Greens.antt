@@ -1,5 +1,4 @@
 -- How a signal plan is kept, and what it shows.
--- Source: this profile.
 use Rattle.std.specs.Prelude.{◌≡◌, ℕ, ◌+◌, ◌*◌, ◌-◌, ◌%◌, ◌<◌, nat_lt, List, [], ◌∷◌, map, Bool, false, Option, Some, None, slice_index_or}
 use Rattle.std.specs.Prelude.{if◌then◌else◌, length, All}
 use Rattle.std.specs.Int.{bit_at}

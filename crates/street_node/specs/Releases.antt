@@ -1,5 +1,4 @@
 -- The release phase of one node: which fronts go, whereto, and what is left.
--- Source: this profile.
 use Rattle.std.specs.Prelude.{◌≡◌, ◌≢◌, ℕ, ◌+◌, ◌<◌, ◌==◌, nat_le, min, List, [], ◌∷◌, ◌++◌, length, map, drop, take, filter_map, Bool, true, false}
 use Rattle.std.specs.Prelude.{Option, Some, None, option_map, option_and_then, slice_get, slice_set, slice_index_or, if◌then◌else◌, All}
 use Rattle.std.specs.Option.{option_map_or}

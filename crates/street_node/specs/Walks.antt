@@ -1,5 +1,4 @@
 -- A walk over buffers, against the choice by entrance.
--- Source: releases are this profile.
 use Rattle.std.specs.Prelude.{◌≡◌, ℕ, ◌≤◌, List, Bool, true, not, ◌&&◌, Some, find, sum_by, slice_get, take}
 use Rattle.std.specs.List.{list_any}
 use Rattle.street_base.specs.declared.names.Place.{Place}

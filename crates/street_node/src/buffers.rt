@@ -1,6 +1,5 @@
-//! The buffers of a node: whether they have room, who comes in, and who is released.
-//!
-//! Source: this profile.
+//! The buffers of a node: whether they have room, who comes in, and who is released. A caller that keeps a single node uses it;
+//! the tiles of the program do not.
 ghost use Rattle.std.specs.Prelude.{◌≡◌, ◌+◌, ◌*◌, ◌<◌, ◌≤◌, length, map, nat_lt, vec_len, vec_capacity};
 ghost use Rattle.street_net.specs.Prelude.{in_places};
 ghost use Rattle.street_yard.specs.Prelude.{list_at, IsLoose};

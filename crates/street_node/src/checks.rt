@@ -1,6 +1,5 @@
-//! Which part of a signal plan for a node is bad, if one is. The node is told by its identifier.
-//!
-//! Source: this profile.
+//! Which part of a signal plan for a node is bad, if one is. The node is told by its identifier. `plan.rt` calls it before it
+//! makes a plan.
 ghost use Rattle.std.specs.Prelude.{◌≡◌, ◌*◌, ◌≤◌, None, length, sum_by};
 ghost use Rattle.std.specs.List.{list_all};
 ghost use Rattle.street_base.specs.Prelude.{most_phases, most_duration, first_bad, is_turn_to, is_bad_phase, signal_fault};

@@ -1,4 +1,4 @@
-//! Why a signal plan is refused.
+//! Why a signal plan is refused. A `signal` command is refused by it.
 
 use std::alloc::{AllocError, AllocFailed};
 use thiserror::Error;

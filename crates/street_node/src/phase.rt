@@ -1,6 +1,5 @@
-//! A phase of a signal plan as it is kept: its green turns in order, so that one is found by a search.
-//!
-//! Source: this profile.
+//! A phase of a signal plan as it is kept: its green turns in order, so that one is found by a search. `plan.rt` keeps and asks
+//! them.
 ghost use Rattle.std.specs.Prelude.{◌≡◌, ◌<◌, map};
 ghost use Rattle.std.specs.List.Sorted.{IsPermutation};
 ghost use Rattle.street_base.specs.declared.names.Place.{Place};

@@ -1,6 +1,5 @@
-//! Signal plans with fixed times: how one is made of the phases of a command, and which turns it shows green.
-//!
-//! Source: this profile.
+//! Signal plans with fixed times: how one is made of the phases of a command, and which turns it shows green. A `signal`
+//! command has it made, and motion asks it.
 ghost use Rattle.std.specs.Prelude.{◌≡◌, ◌<◌, true, length, map, None, Some, IfOk, IfErr, OnOk};
 ghost use Rattle.std.specs.List.{list_all};
 ghost use Rattle.street_base.specs.declared.names.Place.{Place};

@@ -1,6 +1,4 @@
-//! Releases from the buffers of one node: which fronts go, and what becomes of them.
-//!
-//! Source: this profile.
+//! Releases from the buffers of one node: which fronts go, and what becomes of them. `buffers.rt` calls it.
 ghost use Rattle.std.specs.Prelude.{◌≡◌, ◌+◌, ◌*◌, ◌<◌, ◌≤◌, false, length, map, option_map, slice_get, vec_len, vec_capacity, IfSome, IsSomeAnd, Some};
 ghost use Rattle.street_base.specs.Prelude.{vehicle_of, next_link};
 ghost use Rattle.street_net.specs.Prelude.{in_places};

@@ -1,4 +1,4 @@
-//! The signal plan of a node, looked up where it is asked for.
+//! The signal plan of a node, looked up where it is asked for. Motion looks its plan up once for each lane.
 ghost use Rattle.std.specs.Prelude.{◌≡◌, ◌<◌, length, None, slice_index_or, option_copied};
 
 use crate::plan::SignalPlan;

@@ -1,5 +1,4 @@
 -- Lane changes of a link, on the lists that its lanes stand for.
--- Source: this profile.
 use Rattle.std.specs.Prelude.{◌≡◌, ℕ, List, map, length, Some}
 use Rattle.street_base.specs.Prelude.{Traffic, LaneState, changing_on, changed_lanes}
 use Rattle.street_yard.specs.Prelude.{Yard, list_at, entry_at, car_of, list_on, Has, Away, IsWhole}

@@ -1,5 +1,4 @@
 -- A link of a network, with the list and the closed cells of each of its lanes.
--- Source: this profile.
 use Rattle.std.specs.Prelude.{ℕ, ◌<◌, List, [], length, map, slice_index_or, All}
 use Rattle.street_base.specs.declared.net.NetSpec.{NetSpec}
 use Rattle.street_base.specs.Prelude.{link_at, Track}

@@ -1,6 +1,5 @@
-//! The dice of a network, with what was drawn lately kept.
-//!
-//! Source: this profile, which says which word of a vehicle's stream is which draw.
+//! The dice of a network, with what was drawn lately kept. Which word of a vehicle's stream is which draw stands in `draws.rt`.
+//! Motion and lane changes ask it for each vehicle.
 
 ghost use Rattle.std.specs.Prelude.{◌≡◌, ℕ, ◌+◌, ◌-◌, ◌*◌, ◌/◌, ◌%◌, ◌^◌, ◌<◌, ◌==◌, ◌++◌, nat_lt, replicate, IfOk, IsTrue, ◌↔◌};
 ghost use Rattle.street_base.specs.Prelude.{key_of_seed, lane_draw, dawdle_draw};

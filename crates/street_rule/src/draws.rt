@@ -1,6 +1,6 @@
-//! Draws: words of the cipher's stream for a vehicle, scaled to 0 to 999.
+//! Draws: words of the cipher's stream for a vehicle, scaled to 0 to 999. `dice.rt` calls it.
 //!
-//! Source: this profile. The cipher is that of RFC 8439, with counter and stream as `rand_chacha` sets them.
+//! Source: the cipher is that of RFC 8439, with counter and stream as `rand_chacha` sets them.
 
 ghost use Rattle.std.specs.Prelude.{◌≡◌, ◌*◌, ◌/◌, ◌^◌};
 ghost use Rattle.street_base.specs.Prelude.{draw, key_of_seed};

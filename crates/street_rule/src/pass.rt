@@ -1,4 +1,4 @@
-//! The lane pass: first who goes is marked, then the marked ones go.
+//! The lane pass: first who goes is marked, then the marked ones go. `street_lanes` calls it for each link of two lanes.
 //!
 //! Source: Rickert, Nagel, Schreckenberg and Latour 1996: all decide by where the others stood before.
 ghost use Rattle.std.specs.Prelude.{◌≡◌, ◌<◌, ◌≤◌, ◌-◌, length, Some, None, false, IsSome};

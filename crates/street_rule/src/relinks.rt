@@ -1,4 +1,5 @@
-//! Moves of marked vehicles from one list to another: how the lane changes of a link are done once they are decided.
+//! Moves of marked vehicles from one list to another: how the lane changes of a link are done once they are decided. `pass.rt`
+//! calls it.
 ghost use Rattle.std.specs.Prelude.{◌≡◌, ◌≢◌, ◌<◌, length, Some};
 ghost use Rattle.street_yard.specs.Prelude.{list_on, IsOnList};
 ghost use Rattle.street_rule.specs.Prelude.{IsFallen, Carries, Relinks};

@@ -1,4 +1,5 @@
-//! A link of a network, with the lists and the closed cells of its lanes: what the passes of a step read of it.
+//! A link of a network, with the lists and the closed cells of its lanes: what the passes of a step read of it. `street_lanes`
+//! makes one for each pass.
 ghost use Rattle.std.specs.Prelude.{◌≡◌, ◌∷◌, ◌<◌, ◌≤◌, length, Option, option_map, option_to_list};
 ghost use Rattle.street_base.specs.Prelude.{link_at};
 ghost use Rattle.street_rule.specs.Prelude.{lane_of, lane_seen, length_of};

@@ -1,6 +1,7 @@
-//! What a driver sees on both lanes, and whether they wish to change and have room for it.
+//! What a driver sees on both lanes, and whether they wish to change and have room for it. `pass.rt` calls it for each vehicle
+//! of a lane.
 //!
-//! Source: Rickert, Nagel, Schreckenberg and Latour 1996, with this profile's turn zone and closed cells.
+//! Source: Rickert, Nagel, Schreckenberg and Latour 1996.
 ghost use Rattle.std.specs.Prelude.{◌≡◌, ℕ, ◌<◌, ◌≤◌, ◌+◌, ◌-◌, nat_lt, Option, length, Some, not, false};
 ghost use Rattle.std.specs.Option.{option_map_or};
 ghost use Rattle.street_base.specs.declared.names.Place.{Place};

@@ -2,9 +2,10 @@
 use Rattle.std.proofs.Common.{◌≡◌, ◌∙◌, ◌<◌, ℕ, List, [], ◌∷◌, Option, None, Some, length, get_or, ap, arith}
 use Rattle.street_base.specs.declared.command.Command.{Command}
 use Rattle.street_desk.specs.Passes.{DeskView, PassView}
+use Rattle.street_line.proofs.Alone.{went}
 use Rattle.street_line.specs.declared.script.Script.{Script}
 use Rattle.street_line.specs.declared.service.Served.{Served}
-use Rattle.street_line.specs.declared.service.Served.TheVariants.{Answered, Full}
+use Rattle.street_line.specs.declared.service.Served.TheVariants.{Answered, Full, Unrecorded}
 use Rattle.street_line.specs.Runs.{Said, silent, faulty, calls, said, Done, Goes}
 use Rattle.street_line.specs.Scripts.{IsRunFrom, ScriptServed}
 use Rattle.street_line.specs.Sessions.{DeskServes}
@@ -15,6 +16,7 @@ use Rattle.street_runs.specs.Scripts.{AreOpened, AreRun}
 least_served : (old : PassView) (command : Command) (r : Served) (new : PassView) → DeskServes old command r new → new.least ≡ old.least
 least_served old command (Answered reply) new is = is.same.1
 least_served old command Full new is = is.learns.same.1
+least_served old command Unrecorded new is = absurd is
 
 least_done : (old : PassView) (what : Said) (out : List ℕ) (new : PassView) → Done DeskServes old what out new → new.least ≡ old.least
 least_done old silent out new done = ap (λ (p : PassView). p.least) done.0
@@ -27,7 +29,7 @@ least_gone old (l ∷ ls) out new goes = least_gone goes.0 ls goes.2 new goes.4 
 
 least_read : (old : PassView) (text replies : List ℕ) (fault : Option FaultKind) (new : PassView) → ScriptServed old text replies fault new → new.least ≡ old.least
 least_read old text replies None new served = least_gone old (lines_of text) replies new served
-least_read old text replies (Some kind) new served = least_gone old served.3.done served.3.out new served.3.served
+least_read old text replies (Some kind) new served = least_gone old served.3.done served.3.out new (went old (Some []) text new (Some replies) served.0 served.1 served.3)
 
 least_run : {F R : Type 0} (file : Option F) (old new : Script R) → IsRunFrom file old new → new.session.least ≡ old.session.least
 least_run None old new run = ap (λ (p : PassView). p.least) run.0

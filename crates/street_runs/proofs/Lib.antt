@@ -4,3 +4,5 @@ pub mod First
 pub mod Scripts
 pub mod Told
 pub mod Parser
+pub mod Recording
+pub mod KeepsRecorded

@@ -1,5 +1,5 @@
 -- What the parser reads of the command, and what it finds, as rows.
-use Rattle.std.proofs.Common.{Bool, IfErr, Ok, Err, Result, inl, inr, ◌⊎◌, ◌≡◌, ◌∙◌, ◌≤◌, suc, List, [], ◌∷◌, Option, None, Some, All, IsSome, false, true, length, map, codes, is_some, option_map, true≢false, unwrap_or, vec_len, refl, sym, ap, subst, arith, append_assoc, append-nil}
+use Rattle.std.proofs.Common.{Bool, IfErr, Ok, Err, Result, inl, inr, ◌≡◌, ◌∙◌, ◌≤◌, suc, List, [], ◌∷◌, Option, None, Some, All, IsSome, false, true, length, map, codes, is_some, option_map, true≢false, unwrap_or, vec_len, refl, sym, ap, subst, arith, append_assoc, append-nil}
 use Rattle.std.specs.Borrow.{Bor}
 use Rattle.clap.proofs.OnLiterals.{clap_on_literals}
 use Rattle.clap.specs.Words.{AddsArg, AddsInTurn, App, FailsBy, HasKind, HasMatchesOf, IsAmong, Row, Rule, Text, app_of, fault_of, first_of, first_value, found_of, is_simple, kind_of, is_simple_and_free, matched_of, matches_of, raw_values, rows_of, rule_of}
@@ -11,10 +11,10 @@ use Rattle.clap.specs.declared.builder.arg.Arg.{Arg}
 use Rattle.clap.specs.declared.builder.command.Command.{Command}
 use Rattle.clap.specs.declared.parser.matches.ArgMatches.{ArgMatches}
 use Rattle.street_base.specs.Prelude.{most_calls, most_sessions, most_workers}
-use Rattle.street_runs.specs.declared.words.Options.{Options}
+use Rattle.street_runs.specs.declared.words.ProgramOptions.{ProgramOptions}
 use Rattle.street_runs.specs.declared.words.WordsFault.{WordsFault}
 use Rattle.street_runs.specs.declared.words.WordsFault.TheVariants.{Bad, Help, Starved}
-use Rattle.street_runs.specs.Parser.{IsCountIfSaid, IsFit, IsFound, IsNumberOf, IsRefused, IsUnfit, found_in, is_said, refusals_of, scripts_in, streetsim_app, with_rules}
+use Rattle.street_runs.specs.Parser.{IsCountIfSaid, IsFit, IsFound, IsNumberOf, IsRefused, IsUnfit, SaysDeskless, found_in, is_said, refusals_of, scripts_in, streetsim_app, with_rules}
 use Rattle.street_runs.specs.Words.{IsDeskless, StandsAlone, StandsTogether, TellsBad, ToldOf}
 
 -- a command to which arguments are added in turn has their rules behind its own
@@ -53,7 +53,7 @@ pub first_row : (matches : ArgMatches) (name : Text) (value : Option Text) → v
     → value ≡ first_of name (rows_of (found_of matches))
 first_row matches name value is = is ∙ first_value-rows (found_of matches) name
 
-pub found_rows : (matches : ArgMatches) (found : Options) → IsNumberOf (first_of (codes "workers") (rows_of (found_of matches))) 1 found.workers
+pub found_rows : (matches : ArgMatches) (found : ProgramOptions) → IsNumberOf (first_of (codes "workers") (rows_of (found_of matches))) 1 found.workers
     → IsNumberOf (first_of (codes "calls") (rows_of (found_of matches))) 65536 found.calls
     → option_map (λ s. s.now) found.tape ≡ first_value (found_of matches) (codes "tape")
     → option_map (λ s. s.now) found.replay ≡ first_value (found_of matches) (codes "replay")
@@ -61,9 +61,10 @@ pub found_rows : (matches : ArgMatches) (found : Options) → IsNumberOf (first_
     → found.endless ≡ is_said (first_of (codes "endless") (rows_of (found_of matches)))
     → option_map (λ s. s.now) found.keep ≡ first_value (found_of matches) (codes "keep")
     → found.unsynced ≡ is_said (first_of (codes "unsynced") (rows_of (found_of matches)))
+    → option_map (λ s. s.now) found.record_file ≡ first_value (found_of matches) (codes "record")
     → map (λ s. s.now) found.scripts.items ≡ unwrap_or (option_map raw_values (matched_of (found_of matches) (codes "script"))) []
     → IsFound (rows_of (found_of matches)) found
-found_rows matches found workers calls tape replay upgrade endless keep unsynced scripts = record {
+found_rows matches found workers calls tape replay upgrade endless keep unsynced recorded scripts = record {
   workers = workers;
   calls = calls;
   tape = first_row matches (codes "tape") _ tape;
@@ -72,6 +73,7 @@ found_rows matches found workers calls tape replay upgrade endless keep unsynced
   endless = endless;
   keep = first_row matches (codes "keep") _ keep;
   unsynced = unsynced;
+  record_file = first_row matches (codes "record") _ recorded;
   scripts = scripts ∙ ap (λ (o : Option (List Text)). unwrap_or o []) (raw_values-rows (found_of matches) (codes "script"));
 }
 
@@ -88,16 +90,18 @@ silent matches name None says is asks none = asks
 silent matches name (Some x) says is asks none = absurd (true≢false (ap is_some (first_row matches name _ is ∙ none)))
 
 -- the rows tell that there is no desk where the options do
-rows_deskless : (rows : List Row) (found : Options) → IsFound rows found → IsDeskless found → (is_said (first_of (codes "endless") rows) ≡ true) ⊎ IsSome (first_of (codes "keep") rows)
+rows_deskless : (rows : List Row) (found : ProgramOptions) → IsFound rows found → IsDeskless found → SaysDeskless rows
 rows_deskless rows found is (inl endless) = inl (sym is.endless ∙ endless)
-rows_deskless rows found is (inr keep) = inr (subst IsSome is.keep (some_there found.keep keep))
+rows_deskless rows found is (inr (inl keep)) = inr (inl (subst IsSome is.keep (some_there found.keep keep)))
+rows_deskless rows found is (inr (inr recorded)) = inr (inr (subst IsSome is.record_file (some_there found.record_file recorded)))
 
-found_deskless : (rows : List Row) (found : Options) → IsFound rows found → (is_said (first_of (codes "endless") rows) ≡ true) ⊎ IsSome (first_of (codes "keep") rows) → IsDeskless found
+found_deskless : (rows : List Row) (found : ProgramOptions) → IsFound rows found → SaysDeskless rows → IsDeskless found
 found_deskless rows found is (inl endless) = inl (is.endless ∙ endless)
-found_deskless rows found is (inr keep) = inr (some_back found.keep (subst IsSome (sym is.keep) keep))
+found_deskless rows found is (inr (inl keep)) = inr (inl (some_back found.keep (subst IsSome (sym is.keep) keep)))
+found_deskless rows found is (inr (inr recorded)) = inr (inr (some_back found.record_file (subst IsSome (sym is.record_file) recorded)))
 
 -- without a desk no word says how many calls there are
-pub unsaid_calls : (rows : List Row) (found : Options) → IsFound rows found → IsFit rows → IsDeskless found → first_of (codes "calls") rows ≡ None
+pub unsaid_calls : (rows : List Row) (found : ProgramOptions) → IsFound rows found → IsFit rows → IsDeskless found → first_of (codes "calls") rows ≡ None
 unsaid_calls rows found is fits none = (fits.alone (rows_deskless rows found is none)).0
 
 -- words that are told bad are not fit
@@ -107,7 +111,7 @@ bad_unfit kind (Help error) fit bad unfit = bad
 bad_unfit kind Starved fit bad unfit = tt
 
 -- options that stand together are found in fit words
-pub fit : (rows : List Row) (found : Options) → vec_len found.scripts ≡ length found.scripts.items → IsFound rows found
+pub fit : (rows : List Row) (found : ProgramOptions) → vec_len found.scripts ≡ length found.scripts.items → IsFound rows found
     → IsCountIfSaid most_workers (first_of (codes "workers") rows) → IsCountIfSaid most_calls (first_of (codes "calls") rows)
     → StandsTogether found → StandsAlone found → vec_len found.scripts ≤ most_sessions → (IsDeskless found → first_of (codes "calls") rows ≡ None) → IsFit rows
 fit rows found whole is workers calls together alone few unsaid =
@@ -133,7 +137,7 @@ fit rows found whole is workers calls together alone few unsaid =
     }
 
 -- and options that are found in fit words stand together
-pub stands : (rows : List Row) (found : Options) → vec_len found.scripts ≡ length found.scripts.items → IsFound rows found → IsFit rows → StandsTogether found
+pub stands : (rows : List Row) (found : ProgramOptions) → vec_len found.scripts ≡ length found.scripts.items → IsFound rows found → IsFit rows → StandsTogether found
 stands rows found whole is fits =
     let none : scripts_in rows ≡ [] → vec_len found.scripts ≡ 0 = λ e. whole ∙ sym (length_of_texts found.scripts.items) ∙ ap length (is.scripts ∙ e) in
     record {
@@ -143,7 +147,7 @@ stands rows found whole is fits =
           (none_back found.tape (is.tape ∙ only.0), none_back found.replay (is.replay ∙ only.1), none only.2);
     }
 
-pub stands_alone : (rows : List Row) (found : Options) → vec_len found.scripts ≡ length found.scripts.items → IsFound rows found → IsFit rows → StandsAlone found
+pub stands_alone : (rows : List Row) (found : ProgramOptions) → vec_len found.scripts ≡ length found.scripts.items → IsFound rows found → IsFit rows → StandsAlone found
 stands_alone rows found whole is fits =
     let none : scripts_in rows ≡ [] → vec_len found.scripts ≡ 0 = λ e. whole ∙ sym (length_of_texts found.scripts.items) ∙ ap length (is.scripts ∙ e) in
     record {
@@ -156,7 +160,7 @@ stands_alone rows found whole is fits =
       unsynced = λ said. some_back found.keep (subst IsSome (sym is.keep) (fits.unsynced (sym is.unsynced ∙ said)));
     }
 
-pub few : (rows : List Row) (found : Options) → vec_len found.scripts ≡ length found.scripts.items → IsFound rows found → IsFit rows → vec_len found.scripts ≤ most_sessions
+pub few : (rows : List Row) (found : ProgramOptions) → vec_len found.scripts ≡ length found.scripts.items → IsFound rows found → IsFit rows → vec_len found.scripts ≤ most_sessions
 few rows found whole is fits = omega (arith, whole, length_of_texts found.scripts.items, ap length is.scripts, fits.scripts)
 
 -- ---- a parse
@@ -183,7 +187,7 @@ unfit_refused words rows (Bad error) taken same unfit = inr (taken, λ fits. unf
 unfit_refused words rows (Help error) taken same unfit = absurd unfit
 unfit_refused words rows Starved taken same unfit = tt
 
-pub options_refused : (words : List Text) (rows : List Row) (result : Result Options WordsFault) → refusals_of words ≡ [] → rows ≡ found_in words
+pub options_refused : (words : List Text) (rows : List Row) (result : Result ProgramOptions WordsFault) → refusals_of words ≡ [] → rows ≡ found_in words
     → IfErr result (IsUnfit (IsFit rows)) → IfErr result (IsRefused words)
 options_refused words rows (Ok options) taken same unfit = tt
 options_refused words rows (Err fault) taken same unfit = unfit_refused words rows fault taken same unfit

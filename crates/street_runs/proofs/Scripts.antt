@@ -8,7 +8,7 @@ use Rattle.street_line.specs.declared.script.Script.{Script}
 use Rattle.street_line.specs.Scripts.{IsRunFrom, ScriptServed}
 use Rattle.street_stream.specs.declared.counted.Counted.{Counted}
 use Rattle.street_stream.specs.declared.tally.FaultKind.{FaultKind}
-use Rattle.street_runs.specs.declared.fault.Fault.{Fault}
+use Rattle.street_runs.specs.declared.fault.ProgramFault.{ProgramFault}
 use Rattle.street_runs.specs.Ends.{IsEnded}
 use Rattle.street_runs.specs.Scripts.{ArePlayed, IsOpened}
 use Rattle.street_runs.specs.Told.{AreTold, IsTold}
@@ -32,7 +32,7 @@ told_at (Some f) None desk place old new journal first opened run is none begins
     }
 
 pub are_told : {R W : Type 0} (desk : DeskView) (names : List (Bor (List ℕ))) (before after : Option (List ℕ)) (writer : Counted W)
-    (told : Result (Unit {0}) Fault) (pass : PassView) (journal : List Entry)
+    (told : Result (Unit {0}) ProgramFault) (pass : PassView) (journal : List Entry)
     → ArePlayed R desk names before after writer told pass → pass.desk ≡ desk → IsEnded pass journal → AreTold R desk names before after writer journal
 are_told {R} {W} desk names before after writer told pass journal played of ended = record {
   scripts = played.ran;

@@ -1,5 +1,4 @@
 -- A desk that ends with a tape.
--- Source: this profile.
 use Rattle.std.specs.Prelude.{◌≡◌, ◌⊎◌, ℕ, List, Option}
 use Rattle.std.specs.Borrow.{Bor}
 use Rattle.std.specs.Io.KnownBytes.{Appends}
@@ -10,8 +9,8 @@ use Rattle.street_stream.specs.declared.counted.Counted.{Counted}
 use Rattle.street_stream.specs.declared.tally.FaultKind.{FaultKind}
 use Rattle.street_stream.specs.Faults.{IsCausedByWriting}
 use Rattle.street_tape.specs.Tapes.{tape_text}
-use Rattle.street_runs.specs.declared.fault.Fault.{Fault}
-use Rattle.street_runs.specs.declared.fault.Fault.TheVariants.{Write}
+use Rattle.street_runs.specs.declared.fault.ProgramFault.{ProgramFault}
+use Rattle.street_runs.specs.declared.fault.ProgramFault.TheVariants.{Write}
 use Rattle.street_runs.specs.Faults.{fault_of_run}
 use Rattle.street_runs.specs.Outputs.{IsBegun}
 
@@ -21,7 +20,7 @@ pub record IsEnded (pass : PassView) (journal : List Entry) : Type 0 where
   pub heard : (seen : List Entry) → BeginsWith pass.seen seen → BeginsWith journal seen
 
 -- the fault of a writing under this name, which memory or the writer caused
-pub record TellsWriting {W : Type 0} (fault : Fault) (name : Bor (List ℕ)) (writer : Counted W) : Type 0 where
+pub record TellsWriting {W : Type 0} (fault : ProgramFault) (name : Bor (List ℕ)) (writer : Counted W) : Type 0 where
   pub kind : FaultKind
   pub is : fault ≡ fault_of_run kind name name
   pub caused : IsCausedByWriting kind writer
@@ -34,13 +33,13 @@ pub record IsTaped (pass : PassView) (before after : Option (List ℕ)) : Type 0
 
 -- of its tape the first bytes were written, and memory ran out or the writer has failed
 pub record IsTapedInPart {W : Type 0} (pass : PassView) (before after : Option (List ℕ)) (writer : Counted W) (name : Bor (List ℕ))
-    (fault : Fault) : Type 0 where
+    (fault : ProgramFault) : Type 0 where
   pub journal : List Entry
   pub ended : IsEnded pass journal
   pub begun : IsBegun before after (tape_text journal)
   pub told : TellsWriting fault name writer
 
 -- or the desk was left within a turn, and nothing was written
-abbrev pub StopsTape : {W : Type 0} → PassView → Option (List ℕ) → Option (List ℕ) → Counted W → Counted W → Bor (List ℕ) → Fault → Type 0
+abbrev pub StopsTape : {W : Type 0} → PassView → Option (List ℕ) → Option (List ℕ) → Counted W → Counted W → Bor (List ℕ) → ProgramFault → Type 0
 StopsTape pass before after old new name fault =
     IsTapedInPart pass before after new name fault ⊎ ((new ≡ old) × (fault ≡ Write name))

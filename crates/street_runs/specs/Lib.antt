@@ -6,3 +6,4 @@ pub mod Replays
 pub mod Scripts
 pub mod Ends
 pub mod Told
+pub mod KeptRecords

@@ -1,13 +1,12 @@
 -- What is printed of scripts, and what a fault leaves of a text.
--- Source: this profile.
 use Rattle.std.specs.Prelude.{◌≡◌, ℕ, ◌≤◌, ◌⊎◌, List, length, take, codes, Option, flat_map}
 use Rattle.std.specs.Borrow.{Bor}
 use Rattle.std.specs.Io.KnownBytes.{Appends}
 use Rattle.street_line.specs.declared.script.Script.{Script}
 use Rattle.street_stream.specs.declared.counted.Counted.{Counted}
 use Rattle.street_stream.specs.Streams.{HasFailed, IsFlushed}
-use Rattle.street_runs.specs.declared.fault.Fault.{Fault}
-use Rattle.street_runs.specs.declared.fault.Fault.TheVariants.{Write}
+use Rattle.street_runs.specs.declared.fault.ProgramFault.{ProgramFault}
+use Rattle.street_runs.specs.declared.fault.ProgramFault.TheVariants.{Write}
 
 -- the replies of these scripts, in their order
 abbrev pub replies_of : {R : Type 0} → List (Script R) → List ℕ
@@ -24,7 +23,7 @@ abbrev pub IsPrinted : {W : Type 0} → Option (List ℕ) → Option (List ℕ) 
 IsPrinted before after text writer = (Appends before after text × IsFlushed writer) ⊎ (IsBegun before after text × HasFailed writer)
 
 -- what is told where standard output fails
-pub record TellsOutput (fault : Fault) : Type 0 where
+pub record TellsOutput (fault : ProgramFault) : Type 0 where
   pub name : Bor (List ℕ)
   pub is : fault ≡ Write name
   pub says : name.now ≡ codes "standard output"

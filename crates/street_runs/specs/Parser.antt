@@ -1,5 +1,4 @@
 -- What the parser makes of the words of the command line, by its own rules.
--- Source: this profile.
 use Rattle.std.specs.Prelude.{◌≡◌, ◌≤◌, ◌⊎◌, ◌++◌, ℕ, List, [], ◌∷◌, Bool, true, false, Option, None, Some, bytes_eq, codes, length, option_map, IsSome, unwrap_or, map, ⊤}
 use Rattle.std.specs.Str.Parse.{IsNumeral, digits_value, without_leading_plus}
 use Rattle.clap.specs.Lexer.{usize_max}
@@ -7,7 +6,7 @@ use Rattle.clap.specs.Words.{App, IsAmong, Kinds, Row, Rule, Text, all_of, fault
 use Rattle.clap.specs.declared.builder.action.ArgAction.TheVariants.{Append, Set, SetTrue}
 use Rattle.clap.specs.declared.error.kind.ErrorKind.TheVariants.{DisplayHelp, DisplayVersion}
 use Rattle.street_base.specs.Prelude.{most_calls, most_sessions, most_workers}
-use Rattle.street_runs.specs.declared.words.Options.{Options}
+use Rattle.street_runs.specs.declared.words.ProgramOptions.{ProgramOptions}
 use Rattle.street_runs.specs.declared.words.WordsFault.{WordsFault}
 use Rattle.street_runs.specs.declared.words.WordsFault.TheVariants.{Bad, Help, Starved}
 
@@ -33,7 +32,7 @@ script_rule = record (new_rule (codes "script")) {
 abbrev pub streetsim_rules : List Rule
 streetsim_rules = option_rule (codes "workers") ∷ option_rule (codes "calls") ∷ option_rule (codes "tape") ∷ option_rule (codes "replay")
     ∷ option_rule (codes "upgrade") ∷ flag_rule (codes "endless")
-    ∷ option_rule (codes "keep") ∷ flag_rule (codes "unsynced") ∷ script_rule ∷ []
+    ∷ option_rule (codes "keep") ∷ flag_rule (codes "unsynced") ∷ option_rule (codes "record") ∷ script_rule ∷ []
 
 -- a command that has more arguments
 abbrev pub with_rules : App → List Rule → App
@@ -76,6 +75,10 @@ abbrev pub is_said : Option Text → Bool
 is_said None = false
 is_said (Some word) = bytes_eq word (codes "true")
 
+-- no end of calls is asked for, or a file in which the session is kept, or one for the record of its steps
+abbrev pub SaysDeskless : List Row → Type 0
+SaysDeskless rows = (is_said (first_of (codes "endless") rows) ≡ true) ⊎ IsSome (first_of (codes "keep") rows) ⊎ IsSome (first_of (codes "record") rows)
+
 -- what was found is fit: the numbers are in their ranges, and the options stand together
 pub record IsFit (rows : List Row) : Type 0 where
   pub workers : IsCountIfSaid most_workers (first_of (codes "workers") rows)
@@ -84,7 +87,7 @@ pub record IsFit (rows : List Row) : Type 0 where
   pub replay : IsSome (first_of (codes "replay") rows) → (first_of (codes "tape") rows ≡ None) × (scripts_in rows ≡ [])
   pub upgrade : IsSome (first_of (codes "upgrade") rows)
       → (first_of (codes "tape") rows ≡ None) × (first_of (codes "replay") rows ≡ None) × (scripts_in rows ≡ [])
-  pub alone : (is_said (first_of (codes "endless") rows) ≡ true) ⊎ IsSome (first_of (codes "keep") rows)
+  pub alone : SaysDeskless rows
       → (first_of (codes "calls") rows ≡ None) × (first_of (codes "tape") rows ≡ None) × (first_of (codes "replay") rows ≡ None)
       × (first_of (codes "upgrade") rows ≡ None) × (scripts_in rows ≡ [])
   pub unsynced : is_said (first_of (codes "unsynced") rows) ≡ true → IsSome (first_of (codes "keep") rows)
@@ -95,7 +98,7 @@ IsNumberOf None default n = n ≡ default
 IsNumberOf (Some word) default n = n ≡ digits_value 10 (without_leading_plus word)
 
 -- the options are those that were found
-pub record IsFound (rows : List Row) (found : Options) : Type 0 where
+pub record IsFound (rows : List Row) (found : ProgramOptions) : Type 0 where
   pub workers : IsNumberOf (first_of (codes "workers") rows) 1 found.workers
   pub calls : IsNumberOf (first_of (codes "calls") rows) 65536 found.calls
   pub tape : option_map (λ s. s.now) found.tape ≡ first_of (codes "tape") rows
@@ -104,10 +107,11 @@ pub record IsFound (rows : List Row) (found : Options) : Type 0 where
   pub endless : found.endless ≡ is_said (first_of (codes "endless") rows)
   pub keep : option_map (λ s. s.now) found.keep ≡ first_of (codes "keep") rows
   pub unsynced : found.unsynced ≡ is_said (first_of (codes "unsynced") rows)
+  pub record_file : option_map (λ s. s.now) found.record_file ≡ first_of (codes "record") rows
   pub scripts : map (λ s. s.now) found.scripts.items ≡ scripts_in rows
 
 -- there are options: the parser takes the words, and what it finds is fit
-pub record IsAsked (words : List Text) (found : Options) : Type 0 where
+pub record IsAsked (words : List Text) (found : ProgramOptions) : Type 0 where
   pub taken : refusals_of words ≡ []
   pub fit : IsFit (found_in words)
   pub is : IsFound (found_in words) found

@@ -1,5 +1,4 @@
 -- Scripts that share one desk, from their passes to what is told of them.
--- Source: this profile.
 use Rattle.std.specs.Prelude.{◌≡◌, ℕ, ◌+◌, ◌<◌, ◌⊎◌, ◌↔◌, List, [], length, slice_index_or, All, IsNone, IsSome, Option, Some, Result, Ok, Err}
 use Rattle.std.specs.Borrow.{Bor}
 use Rattle.std.specs.Io.KnownBytes.{Appends}
@@ -10,7 +9,7 @@ use Rattle.street_line.specs.Scripts.{IsRun}
 use Rattle.street_stream.specs.declared.counted.Counted.{Counted}
 use Rattle.street_stream.specs.declared.tally.FaultKind.{FaultKind}
 use Rattle.street_stream.specs.Streams.{HasFailed, IsFlushed}
-use Rattle.street_runs.specs.declared.fault.Fault.{Fault}
+use Rattle.street_runs.specs.declared.fault.ProgramFault.{ProgramFault}
 use Rattle.street_runs.specs.Faults.{fault_of_run}
 use Rattle.street_runs.specs.Outputs.{IsPrinted, TellsOutput, replies_of}
 
@@ -39,7 +38,7 @@ pub record AreRun {R : Type 0} (old new : List (Script R)) : Type 0 where
   pub each : (k : ℕ) (d : Script R) → k < length old → IsRun (slice_index_or old k d) (slice_index_or new k d)
 
 -- the fault of the first script that has one, in the order of the names, told by its name
-pub record IsFirstFault {R : Type 0} (scripts : List (Script R)) (names : List (Bor (List ℕ))) (fault : Fault) : Type 0 where
+pub record IsFirstFault {R : Type 0} (scripts : List (Script R)) (names : List (Bor (List ℕ))) (fault : ProgramFault) : Type 0 where
   pub place : ℕ
   pub kind : FaultKind
   pub within : place < length scripts
@@ -49,7 +48,7 @@ pub record IsFirstFault {R : Type 0} (scripts : List (Script R)) (names : List (
 
 -- no fault is told only where no script has one, and all replies are written and passed on; else the first script's fault, and where none has one, that of
 -- standard output
-abbrev pub Tells : {R W : Type 0} → List (Script R) → List (Bor (List ℕ)) → Option (List ℕ) → Option (List ℕ) → Counted W → Result (Unit {0}) Fault → Type 0
+abbrev pub Tells : {R W : Type 0} → List (Script R) → List (Bor (List ℕ)) → Option (List ℕ) → Option (List ℕ) → Counted W → Result (Unit {0}) ProgramFault → Type 0
 Tells scripts names before after writer (Ok u) = All (λ s. IsNone s.fault) scripts × Appends before after (replies_of scripts) × IsFlushed writer
 Tells scripts names before after writer (Err fault) =
     IsFirstFault scripts names fault ⊎ (All (λ s. IsNone s.fault) scripts × HasFailed writer × TellsOutput fault)
@@ -57,7 +56,7 @@ Tells scripts names before after writer (Err fault) =
 -- what became of scripts at a desk: each was opened as the session of its place and served, all replies are written in their order, what is told is the first
 -- fault, and the pass is that of the first script's session, and has seen what each script had seen
 pub record ArePlayed {W : Type 0} (R : Type 0) (desk : DeskView) (names : List (Bor (List ℕ))) (before after : Option (List ℕ)) (writer : Counted W)
-    (result : Result (Unit {0}) Fault) (pass : PassView) : Type 0 where
+    (result : Result (Unit {0}) ProgramFault) (pass : PassView) : Type 0 where
   pub opened : List (Script R)
   pub ran : List (Script R)
   pub many : length opened ≡ length names

@@ -1,5 +1,4 @@
 -- What the scripts of one desk are told, each beside the others.
--- Source: this profile.
 use Rattle.std.specs.Prelude.{◌≡◌, ◌<◌, ℕ, List, [], length, slice_index_or, IsNone, Option, Result}
 use Rattle.std.specs.Borrow.{Bor}
 use Rattle.street_desk.specs.declared.journal.Entry.{Entry}
@@ -10,7 +9,7 @@ use Rattle.street_line.specs.Runs.{Goes}
 use Rattle.street_line.specs.Sessions.{DeskServes}
 use Rattle.street_stream.specs.declared.counted.Counted.{Counted}
 use Rattle.street_stream.specs.Lines.{lines_of}
-use Rattle.street_runs.specs.declared.fault.Fault.{Fault}
+use Rattle.street_runs.specs.declared.fault.ProgramFault.{ProgramFault}
 use Rattle.street_runs.specs.Ends.{IsEnded}
 use Rattle.street_runs.specs.Outputs.{IsPrinted, replies_of}
 use Rattle.street_runs.specs.Scripts.{ArePlayed}
@@ -38,6 +37,6 @@ pub record AreTold {W : Type 0} (R : Type 0) (desk : DeskView) (names : List (Bo
 -- scripts that were played at a desk are told so, where the desk is ended with the pass that comes back from them
 abbrev pub PlayedAreTold : Type 0 → Type 0 → Type 0
 PlayedAreTold R W = (desk : DeskView) (names : List (Bor (List ℕ))) (before after : Option (List ℕ)) (writer : Counted W)
-    (told : Result (Unit {0}) Fault) (pass : PassView) (journal : List Entry)
+    (told : Result (Unit {0}) ProgramFault) (pass : PassView) (journal : List Entry)
     → ArePlayed R desk names before after writer told pass → pass.desk ≡ desk → IsEnded pass journal
     → AreTold R desk names before after writer journal

@@ -1,17 +1,16 @@
 -- What the words of the command line ask for.
--- Source: this profile.
 use Rattle.std.specs.Prelude.{◌≡◌, ◌≢◌, ◌≤◌, ◌⊎◌, vec_len, IsSome, None, true, ⊤}
 use Rattle.clap.specs.Words.{kind_of}
 use Rattle.clap.specs.declared.error.Error.{Error}
 use Rattle.clap.specs.declared.error.kind.ErrorKind.{ErrorKind}
 use Rattle.clap.specs.declared.error.kind.ErrorKind.TheVariants.{DisplayHelp, DisplayVersion, OutOfMemory}
 use Rattle.street_base.specs.Prelude.{most_calls, most_sessions, most_workers}
-use Rattle.street_runs.specs.declared.words.Options.{Options}
+use Rattle.street_runs.specs.declared.words.ProgramOptions.{ProgramOptions}
 use Rattle.street_runs.specs.declared.words.WordsFault.{WordsFault}
 use Rattle.street_runs.specs.declared.words.WordsFault.TheVariants.{Bad, Help, Starved}
 
 -- each number is in its range
-pub record IsInRange (found : Options) : Type 0 where
+pub record IsInRange (found : ProgramOptions) : Type 0 where
   pub some_workers : 1 ≤ found.workers
   pub few_workers : found.workers ≤ most_workers
   pub some_calls : 1 ≤ found.calls
@@ -19,20 +18,20 @@ pub record IsInRange (found : Options) : Type 0 where
   pub few_scripts : vec_len found.scripts ≤ most_sessions
 
 -- a replay stands with neither scripts nor a tape to write, and so does an upgrade; one of them stands without the other
-pub record StandsTogether (found : Options) : Type 0 where
+pub record StandsTogether (found : ProgramOptions) : Type 0 where
   pub replay : IsSome found.replay → (found.tape ≡ None) × (vec_len found.scripts ≡ 0)
   pub upgrade : IsSome found.upgrade → (found.tape ≡ None) × (found.replay ≡ None) × (vec_len found.scripts ≡ 0)
 
--- there is no desk: no end of calls is asked for, or the session is kept
-abbrev pub IsDeskless : Options → Type 0
-IsDeskless found = (found.endless ≡ true) ⊎ IsSome found.keep
+-- there is no desk: no end of calls is asked for, or the session is kept, or its steps are recorded
+abbrev pub IsDeskless : ProgramOptions → Type 0
+IsDeskless found = (found.endless ≡ true) ⊎ IsSome found.keep ⊎ IsSome found.record_file
 
 -- neither scripts nor tapes are there
-abbrev pub HasNoCompany : Options → Type 0
+abbrev pub HasNoCompany : ProgramOptions → Type 0
 HasNoCompany found = (found.tape ≡ None) × (found.replay ≡ None) × (found.upgrade ≡ None) × (vec_len found.scripts ≡ 0)
 
 -- where there is no desk there are neither scripts nor tapes; only a file in which a session is kept is not synced
-pub record StandsAlone (found : Options) : Type 0 where
+pub record StandsAlone (found : ProgramOptions) : Type 0 where
   pub alone : IsDeskless found → HasNoCompany found
   pub unsynced : found.unsynced ≡ true → IsSome found.keep
 

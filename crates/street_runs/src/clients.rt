@@ -1,6 +1,4 @@
-//! Clients of one desk: standard input, or scripts.
-//!
-//! Source: this profile.
+//! Clients of one desk: standard input, or scripts. `main` calls them.
 ghost use Rattle.std.specs.Io.KnownBytes.{Appends};
 ghost use Rattle.std.specs.Prelude.{◌≡◌, ◌<◌, ◌≤◌, All, IfOk, IfErr, IsNone, OnOk, OnErr, length, slice_index_or, vec_len};
 ghost use Rattle.street_base.specs.Prelude.{most_calls, most_reads, most_sessions, most_workers};
@@ -16,7 +14,7 @@ ghost use Rattle.street_stream.specs.Streams.{HasFailed, IsFlushed, IsFresh, IsP
 
 use crate::engines::staying_engine;
 use crate::outputs::{STANDARD_INPUT, STANDARD_OUTPUT, keep_tape, pass_on, write_out};
-use crate::{Fault, Options};
+use crate::{ProgramFault, ProgramOptions};
 use std::alloc::Global;
 use std::fs::File;
 use std::io;
@@ -36,8 +34,8 @@ use street_line::{Counted, DeskSession, RunFault, Script, Tally, run_alone, run_
 /// The fault of the session, else that of the tape.
 pub fn serve_input<'a, R: Threads + Wait + Sync + Input + Print + AllocGlobal + Files<File = File>>(
     rt: &R,
-    options: &Options<'a>,
-) -> Result<(), Fault<'a>>
+    options: &ProgramOptions<'a>,
+) -> Result<(), ProgramFault<'a>>
     requires { IsInRange options.now }
 {
     let alloc = rt.alloc();
@@ -56,7 +54,7 @@ pub fn serve_input<'a, R: Threads + Wait + Sync + Input + Print + AllocGlobal + 
     )?;
     let served = match run {
         Ok(_tally) => Ok(()),
-        Err(fault) => Err(Fault::of_run(fault.kind, STANDARD_INPUT, STANDARD_OUTPUT)),
+        Err(fault) => Err(ProgramFault::of_run(fault.kind, STANDARD_INPUT, STANDARD_OUTPUT)),
     };
     // After a fault it holds the replies to the lines that came in the last read.
     let _ = writer.flush();
@@ -70,7 +68,7 @@ pub fn serve_input<'a, R: Threads + Wait + Sync + Input + Print + AllocGlobal + 
 /// # Errors
 ///
 /// No memory for the desk: nothing was read or written.
-fn serve_alone<R: Threads + Wait + Sync, D: Read, W: Write>(
+pub fn serve_alone<R: Threads + Wait + Sync, D: Read, W: Write>(
     rt: &R,
     alloc: Global,
     workers: u32,
@@ -104,8 +102,8 @@ fn serve_alone<R: Threads + Wait + Sync, D: Read, W: Write>(
 /// The first fault of a script in their order, else that of standard output, else that of the tape.
 pub fn serve_scripts<'a, R: Threads + Wait + Sync + Print + AllocGlobal + Files<File = File>>(
     rt: &R,
-    options: &Options<'a>,
-) -> Result<(), Fault<'a>>
+    options: &ProgramOptions<'a>,
+) -> Result<(), ProgramFault<'a>>
     requires range { IsInRange options.now }
     requires some { 0 < vec_len options.now.scripts }
 {
@@ -129,14 +127,21 @@ pub fn serve_scripts<'a, R: Threads + Wait + Sync + Print + AllocGlobal + Files<
 /// # Errors
 ///
 /// No memory for the desk or the scripts: no line was served, and nothing was written.
-fn serve_named<'a, R: Threads + Wait + Sync + Files<File = File>, W: Write>(
+pub fn serve_named<'a, R: Threads + Wait + Sync + Files<File = File>, W: Write>(
     rt: &R,
     alloc: Global,
     workers: u32,
     calls: u64,
     names: &[&'a str],
     writer: &mut Counted<W>,
-) -> Result<(Result<(), Fault<'a>>, Desk<Unwatched>, Pass<Unwatched>), Starved>
+) -> Result<
+    (
+        Result<(), ProgramFault<'a>>,
+        Desk<Unwatched>,
+        Pass<Unwatched>,
+    ),
+    Starved,
+>
     requires workers { (1 ≤ workers) × (workers ≤ most_workers) }
     requires calls { (1 ≤ calls) × (calls ≤ most_calls) }
     requires names { (1 ≤ length names.now) × (length names.now ≤ most_sessions) }
@@ -165,7 +170,7 @@ fn serve_at<'a, R: Threads + Wait + Sync + Files<File = File>, W: Write>(
     pass: Pass<Unwatched>,
     names: &[&'a str],
     writer: &mut Counted<W>,
-) -> Result<(Result<(), Fault<'a>>, Pass<Unwatched>), Starved>
+) -> Result<(Result<(), ProgramFault<'a>>, Pass<Unwatched>), Starved>
     requires pass { (pass ≡ first_pass desk.now) × (desk.now.sessions ≡ length names.now) }
     requires some { 1 ≤ length names.now }
     requires writer { IsFresh writer.old }
@@ -191,7 +196,7 @@ fn answer_scripts<'a, R: Threads + Wait + Sync, W: Write>(
     scripts: &mut [Script<'_, R>],
     names: &[&'a str],
     writer: &mut Counted<W>,
-) -> Result<(), Fault<'a>>
+) -> Result<(), ProgramFault<'a>>
     requires names { length scripts.old ≡ length names.now }
     requires writer { IsFresh writer.old }
     ensures run { AreRun scripts.old scripts.new }
@@ -268,14 +273,14 @@ fn open_scripts<'a, R: Threads + Wait + Sync + Files<File = File>>(
 fn first_fault<'a, R: Threads + Wait + Sync>(
     scripts: &[Script<'_, R>],
     names: &[&'a str],
-) -> Result<(), Fault<'a>>
+) -> Result<(), ProgramFault<'a>>
     requires { length scripts.now ≡ length names.now }
     ensures none { OnOk result (All (λ s. IsNone s.fault) scripts.now) }
     ensures first { IfErr result (λ fault. IsFirstFault scripts.now names.now fault) }
 {
     for (script, name) in scripts.iter().zip(names) {
         if let Some(kind) = script.fault {
-            return Err(Fault::of_run(kind, name, name));
+            return Err(ProgramFault::of_run(kind, name, name));
         }
     }
     Ok(())
@@ -289,7 +294,7 @@ fn first_fault<'a, R: Threads + Wait + Sync>(
 fn print_replies<R: Threads + Wait + Sync, W: Write>(
     writer: &mut Counted<W>,
     scripts: &[Script<'_, R>],
-) -> Result<(), Fault<'static>>
+) -> Result<(), ProgramFault<'static>>
     ensures written { OnOk result (Appends (W.contents writer.old.stream) (W.contents writer.new.stream) (replies_of scripts.now)) }
     ensures flushed { OnOk result (IsFlushed writer.new) }
     ensures part { OnErr result (IsBegun (W.contents writer.old.stream) (W.contents writer.new.stream) (replies_of scripts.now)) }

@@ -1,6 +1,4 @@
-//! The command, as the parser knows it.
-//!
-//! Source: this profile.
+//! The command, as the parser knows it. `command_line.rt` has the words parsed by it.
 ghost use Rattle.std.specs.Prelude.{◌≡◌, All, IfOk, false, map};
 ghost use Rattle.clap.specs.Words.{app_of, rule_of};
 ghost use Rattle.street_runs.specs.Parser.{flag_rule, option_rule, script_rule, streetsim_app, streetsim_rules};
@@ -105,6 +103,13 @@ fn arguments<'a>(alloc: Global) -> Result<Vec<Arg<'a>>, AllocError>
             alloc,
             "unsynced",
             "With --keep: FILE outlives the end of the program, and not that of the machine",
+        ),
+        option(
+            alloc,
+            "record",
+            "FILE",
+            "Writes a record of each step to FILE, a file or a FIFO: where each vehicle is, before the replies go out; \
+             without an end of calls, and with neither scripts, --calls nor tapes",
         ),
         scripts(alloc),
     ]?)

@@ -1,6 +1,4 @@
-//! From the words of the command line to options.
-//!
-//! Source: this profile.
+//! From the words of the command line to options. `main` calls it first.
 ghost use Rattle.std.specs.Prelude.{◌≤◌, ◌<◌, ◌≡◌, [], false, true, IfErr, IfOk, IsNone, IsSome, SomeIff, codes, length, map, option_map, string_bytes, unwrap_or, vec_len};
 ghost use Rattle.std.specs.Str.Parse.{digits_value, without_leading_plus};
 ghost use Rattle.street_base.specs.Prelude.{most_sessions};
@@ -9,7 +7,7 @@ ghost use Rattle.street_runs.specs.Parser.{IsAsked, IsCount, IsCountIfSaid, IsFi
 ghost use Rattle.street_runs.specs.Words.{HasNoCompany, IsDeskless, IsInRange, StandsAlone, StandsTogether, TellsBad};
 
 use crate::command::streetsim;
-use crate::words::{Options, WordsFault};
+use crate::words::{ProgramOptions, WordsFault};
 use clap::error::ErrorKind;
 use clap::{ArgMatches, Command};
 use std::alloc::{AllocError, Global};
@@ -21,9 +19,9 @@ const WORKERS: u64 = 1;
 /// How many calls there is a place for where the words do not say.
 const CALLS: u64 = 65_536;
 
-/// What is told of words that stand beside `--endless` or `--keep`.
+/// What is told of words that stand beside `--endless`, `--keep` or `--record`.
 const COMPANY: &str =
-    "the arguments '--endless' and '--keep <FILE>' cannot be used with scripts, '--calls <N>', '--tape <FILE>', '--replay <FILE>' or '--upgrade <FILE>'";
+    "the arguments '--endless', '--keep <FILE>' and '--record <FILE>' cannot be used with scripts, '--calls <N>', '--tape <FILE>', '--replay <FILE>' or '--upgrade <FILE>'";
 
 /// The number that a word says in decimal digits, where it is from 1 to `most`; none for any other word.
 fn number_of(word: &str, most: u64) -> Option<u64>
@@ -92,7 +90,7 @@ fn bad_words(command: &mut Command<'_>, kind: ErrorKind, text: &str) -> WordsFau
 ///
 /// `Help`, with the parser's text, where a word asks for help or the version; `Bad`, with a text that says which word, where something
 /// else is wrong; `Starved` where memory was refused. Of several wrong things the parser's is told first.
-pub fn options<'a>(alloc: Global, words: &'a [String]) -> Result<Options<'a>, WordsFault>
+pub fn options<'a>(alloc: Global, words: &'a [String]) -> Result<ProgramOptions<'a>, WordsFault>
     ensures ranges { IfOk result IsInRange }
     ensures together { IfOk result StandsTogether }
     ensures alone { IfOk result StandsAlone }
@@ -114,7 +112,7 @@ fn asked<'a>(
     alloc: Global,
     command: &mut Command<'a>,
     words: &'a [String],
-) -> Result<Options<'a>, WordsFault>
+) -> Result<ProgramOptions<'a>, WordsFault>
     ensures ranges { IfOk result IsInRange }
     ensures together { IfOk result StandsTogether }
     ensures alone { IfOk result StandsAlone }
@@ -134,7 +132,7 @@ fn matched<'a>(
     alloc: Global,
     command: &mut Command<'a>,
     matches: &ArgMatches<'a>,
-) -> Result<Options<'a>, WordsFault>
+) -> Result<ProgramOptions<'a>, WordsFault>
     ensures ranges { IfOk result IsInRange }
     ensures together { IfOk result StandsTogether }
     ensures alone { IfOk result StandsAlone }
@@ -144,7 +142,7 @@ fn matched<'a>(
 {
     let workers = number(alloc, command, matches, "workers", WORKERS, MOST_WORKERS)?;
     let calls = number(alloc, command, matches, "calls", CALLS, MOST_CALLS)?;
-    let found = Options {
+    let found = ProgramOptions {
         workers: workers as u32,
         calls,
         tape: matches.get_str("tape"),
@@ -153,6 +151,7 @@ fn matched<'a>(
         endless: is_said(matches, "endless"),
         keep: matches.get_str("keep"),
         unsynced: is_said(matches, "unsynced"),
+        record_file: matches.get_str("record"),
         scripts: named_scripts(alloc, matches)?,
     };
     if let Some((kind, text)) = misfit(&found) {
@@ -183,8 +182,8 @@ fn named_scripts<'a>(alloc: Global, matches: &ArgMatches<'a>) -> Result<Vec<&'a 
 }
 
 /// What is wrong with these options together, if anything is: a replay or an upgrade beside what it excludes, or too many scripts.
-/// What `--endless` and `--keep` exclude is `misfit_alone`.
-fn misfit(found: &Options<'_>) -> Option<(ErrorKind, &'static str)>
+/// What `--endless`, `--keep` and `--record` exclude is `misfit_alone`.
+fn misfit(found: &ProgramOptions<'_>) -> Option<(ErrorKind, &'static str)>
     ensures none { IsNone result → StandsTogether found.now × (vec_len found.now.scripts ≤ most_sessions) }
     ensures some { IsSome result → StandsTogether found.now → most_sessions < vec_len found.now.scripts }
 {
@@ -207,20 +206,24 @@ fn misfit(found: &Options<'_>) -> Option<(ErrorKind, &'static str)>
     None
 }
 
-/// Whether standard input is served without a desk: `--endless` or `--keep` is said. A replay and an upgrade are not meant
-/// here.
-fn is_deskless(found: &Options<'_>) -> bool
+/// Whether standard input is served without a desk: `--endless`, `--keep` or `--record` is said. A replay and an upgrade are not
+/// meant here.
+fn is_deskless(found: &ProgramOptions<'_>) -> bool
     ensures is { result ≡ true → IsDeskless found.now }
     ensures not { result ≡ false → IsDeskless found.now → ⊥ }
 {
     if found.endless {
         return true;
     }
-    found.keep.is_some()
+    if found.keep.is_some() {
+        return true;
+    }
+    found.record_file.is_some()
 }
 
-/// Whether scripts, a tape to write, a replay or an upgrade are asked for, beside which `--endless` and `--keep` may not stand.
-fn has_company(found: &Options<'_>) -> bool
+/// Whether scripts, a tape to write, a replay or an upgrade are asked for, beside which `--endless`, `--keep` and `--record` may not
+/// stand.
+fn has_company(found: &ProgramOptions<'_>) -> bool
     ensures not { result ≡ false → HasNoCompany found.now }
     ensures is { result ≡ true → HasNoCompany found.now → ⊥ }
 {
@@ -237,7 +240,7 @@ fn has_company(found: &Options<'_>) -> bool
 }
 
 /// Whether `--unsynced` is said without `--keep`, which names the file that it speaks of.
-fn lacks_file(found: &Options<'_>) -> bool
+fn lacks_file(found: &ProgramOptions<'_>) -> bool
     ensures is { result ≡ true → (found.now.unsynced ≡ true) × IsNone found.now.keep }
     ensures not { result ≡ false → found.now.unsynced ≡ true → IsSome found.now.keep }
 {
@@ -247,9 +250,9 @@ fn lacks_file(found: &Options<'_>) -> bool
     found.keep.is_none()
 }
 
-/// What is wrong with `--endless`, `--keep` and `--unsynced` among these options, if anything is. `says_calls` tells whether the
-/// words say how many calls there are.
-fn misfit_alone(found: &Options<'_>, says_calls: bool) -> Option<(ErrorKind, &'static str)>
+/// What is wrong with `--endless`, `--keep`, `--unsynced` and `--record` among these options, if anything is. `says_calls` tells
+/// whether the words say how many calls there are.
+fn misfit_alone(found: &ProgramOptions<'_>, says_calls: bool) -> Option<(ErrorKind, &'static str)>
     ensures none { IsNone result → StandsAlone found.now × (IsDeskless found.now → says_calls ≡ false) }
     ensures some { IsSome result → StandsAlone found.now → IsDeskless found.now × (says_calls ≡ true) }
 {

@@ -1,13 +1,11 @@
-//! Standard input without a desk: no journal, and no end of calls.
-//!
-//! Source: this profile.
+//! Standard input without a desk: no journal, and no end of calls. `main` calls it for `--endless`.
 ghost use Rattle.std.specs.Prelude.{◌≤◌, None, IfOk, IfErr, OnOk};
 ghost use Rattle.street_base.specs.Prelude.{most_reads, most_workers};
 ghost use Rattle.street_line.specs.Streams.{MachineServesAll, MachineServesFirst};
 ghost use Rattle.street_stream.specs.Faults.{IsCaused};
 ghost use Rattle.street_stream.specs.Streams.{IsFlushed, IsFresh, IsPrompt};
 
-use crate::Fault;
+use crate::ProgramFault;
 use crate::engines::staying_engine;
 use crate::outputs::{STANDARD_INPUT, STANDARD_OUTPUT};
 use std::alloc::Global;
@@ -28,7 +26,7 @@ use street_line::{Counted, EngineSession, RunFault, Tally, TeamSession, run_engi
 pub fn serve_endless<R: Threads + Wait + Sync + Input + Print + AllocGlobal>(
     rt: &R,
     workers: u32,
-) -> Result<(), Fault<'static>>
+) -> Result<(), ProgramFault<'static>>
     requires { (1 ≤ workers) × (workers ≤ most_workers) }
 {
     let alloc = rt.alloc();
@@ -46,7 +44,7 @@ pub fn serve_endless<R: Threads + Wait + Sync + Input + Print + AllocGlobal>(
     let _ = writer.flush();
     match run {
         Ok(_tally) => Ok(()),
-        Err(fault) => Err(Fault::of_run(fault.kind, STANDARD_INPUT, STANDARD_OUTPUT)),
+        Err(fault) => Err(ProgramFault::of_run(fault.kind, STANDARD_INPUT, STANDARD_OUTPUT)),
     }
 }
 
@@ -56,7 +54,7 @@ pub fn serve_endless<R: Threads + Wait + Sync + Input + Print + AllocGlobal>(
 /// # Errors
 ///
 /// Those of [`run_engine`].
-fn serve_by_one<R: Threads + Sync, D: Read, W: Write>(
+pub fn serve_by_one<R: Threads + Sync, D: Read, W: Write>(
     rt: &R,
     alloc: Global,
     reader: &mut Counted<D>,
@@ -79,7 +77,7 @@ fn serve_by_one<R: Threads + Sync, D: Read, W: Write>(
 /// # Errors
 ///
 /// Those of [`run_team`].
-fn serve_by_team<R: Threads + Wait + Sync, D: Read, W: Write>(
+pub fn serve_by_team<R: Threads + Wait + Sync, D: Read, W: Write>(
     rt: &R,
     alloc: Global,
     workers: u32,

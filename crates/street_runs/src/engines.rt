@@ -1,6 +1,5 @@
-//! The engines of the program's runs, and how many workers they have.
-//!
-//! Source: this profile. Here alone the number of workers that the words ask for meets the number of processors.
+//! The engines of the program's runs, and how many workers they have. Here alone the number of workers that the words ask for
+//! meets the number of processors. Each run makes its engine by it.
 ghost use Rattle.std.specs.Prelude.{◌≡◌, ◌*◌, ◌≤◌, IfSome, IsNone, None, min};
 ghost use Rattle.street_base.specs.Prelude.{most_workers};
 ghost use Rattle.street_engine.specs.Prelude.{StandsFor};

@@ -1,185 +1,246 @@
-//! Standard input as a session that is kept in a file.
-//!
-//! Source: this profile. The file is plain lines of commands.
-ghost use Rattle.std.specs.Prelude.{◌≡◌, IfErr};
-ghost use Rattle.street_runs.specs.Faults.{IsFileFault, IsKeptFault, again_fault};
+//! Standard input as a session that is kept in a file. The file is plain lines of commands. `main` calls it for `--keep`.
+ghost use Rattle.std.specs.Prelude.{◌≡◌, ◌≤◌, None, IfErr, IfOk, OnOk};
+ghost use Rattle.street_base.specs.Prelude.{most_reads, most_workers};
+ghost use Rattle.street_line.specs.KeptFiles.{IsServeCaused};
+ghost use Rattle.street_line.specs.KeptStreams.{MachineServesOn, MachineServesOnFirst};
+ghost use Rattle.street_runs.specs.Faults.{IsKeptFault, IsRecordedFault, IsServeFault, redo_fault, begin_fault};
 ghost use Rattle.street_runs.specs.Words.{IsInRange};
-ghost use Rattle.street_runs.specs.declared.fault.Fault.TheVariants.{Write};
+ghost use Rattle.street_stream.specs.Streams.{IsFlushed, IsFresh, IsPrompt};
 
 use crate::engines::staying_engine;
-use crate::log_file::LogFile;
-use crate::outputs::{STANDARD_INPUT, STANDARD_OUTPUT, of_file};
-use crate::{Fault, Options};
-use std::fs::{File, OpenOptions};
+use crate::kept_open::{Teller, open_kept};
+use crate::kept_records::{OpenFault, RecordedFault, keep_recorded};
+use crate::outputs::{STANDARD_INPUT, STANDARD_OUTPUT, is_same_file};
+use crate::recorded::{RecordFile, has_failed};
+use crate::streams::hold_error;
+use crate::{ProgramFault, ProgramOptions};
+use std::alloc::Global;
+use std::fs::File;
+use std::io;
+use std::io::{Read, Write};
 use std::rt::Files;
 use std::sync::Wait;
 use std::thread::Threads;
-use std::{fs, io};
 use street_engine::{Engine, Unwatched};
 use street_line::{
-    Again, AgainFault, Counted, EngineSession, KeptFault, Service, TeamSession, run_again, run_kept,
+    BeginFault, Counted, EngineSession, KeptFault, KeptFile, KeptNotices, RedoFault, RedoneLines,
+    ServeFault, TeamSession, keep_engine, keep_team,
 };
 
-/// Does the lines of the file of this name first, and then serves standard input as a session that is kept there: what is kept of a
-/// line is in the file, and synced unless the options say otherwise, before its reply goes out.
+/// Opens the file of this name, does its lines first, and then serves standard input as a session that is kept there, as [`keep_session`]
+/// does: synced unless the options say otherwise. Where a record is asked for, it is that of the steps that standard input makes, and it
+/// is written before the replies, too.
 ///
 /// # Errors
 ///
-/// `Read` with the file's name where something else than a file has that name, or a read of it failed; `Write` where it can not be
-/// opened, made, locked, cut off or synced, or where a write or sync fails later; `BadTape` at its first line that is no command, or is
-/// refused: nothing was served then, and the file is as it was. Else the fault of the session.
+/// `BadArguments` where the record is to be written to the file of the session: nothing was served then, and the file has what it had,
+/// one that is new nothing. `Read` with the file's name where something else than a file has that name, or a read of it failed; `InUse`
+/// where another program keeps a session there; `Write` where it can not be opened, made, locked or written anew, or where a write or
+/// sync fails later; `BadTape` at its first line that is no command, or is refused, and at line 1 where it is no session's file: nothing
+/// was served then, and the file is as it was. Else the fault of the session, or of the record.
 pub fn serve_kept<
     'a,
     R: Threads + Wait + Sync + Input + Print + Eprint + AllocGlobal + Files<File = File>,
->(rt: &R, options: &Options<'a>, name: &'a str) -> Result<(), Fault<'a>>
+>(rt: &R, options: &ProgramOptions<'a>, name: &'a str) -> Result<(), ProgramFault<'a>>
     requires { IsInRange options.now }
 {
+    check_record(rt, options, name)?;
+    let _held = hold_error(rt);
+    let mut file = open_kept(rt, name, !options.unsynced)?;
+    // The file of the session is there by now: so a second name of it is seen to be one.
+    check_record(rt, options, name)?;
+    let notes = Teller { rt, name };
+    let mut reader = Counted::new(rt.reader());
+    let mut writer = Counted::new(io::writer(rt));
+    let workers = options.workers;
     let alloc = rt.alloc();
-    let syncs = !options.unsynced;
-    if options.workers == 1 {
-        let mut session = EngineSession::new(rt, Engine::new(alloc, 1, Unwatched::new()));
-        return serve_in(rt, &mut session, name, syncs);
+    if let Some(record) = options.record_file {
+        let opener = RecordFile { rt, name: record };
+        let (run, recorder) = keep_recorded(
+            rt,
+            alloc,
+            workers,
+            &mut file,
+            &notes,
+            &opener,
+            &mut reader,
+            &mut writer,
+        );
+        if has_failed(&recorder) {
+            return Err(ProgramFault::Write(record));
+        }
+        return match run {
+            Ok(_again) => Ok(()),
+            Err(fault) => Err(fault_of_recorded(fault, name, record)),
+        };
     }
-    let mut session = TeamSession::new(rt, staying_engine(rt, alloc, options.workers));
-    serve_in(rt, &mut session, name, syncs)
+    match keep_session(
+        rt,
+        alloc,
+        workers,
+        &mut file,
+        &notes,
+        &mut reader,
+        &mut writer,
+    ) {
+        Ok(_again) => Ok(()),
+        Err(fault) => Err(fault_of_serve(fault, name)),
+    }
 }
 
-/// Opens the file of this name, or makes it, and locks it; does its lines by this service, cuts off what a crash left behind them, and
-/// tells on standard error how many were done again. Then it serves standard input by this service as a session that is kept there;
-/// synced where `syncs` is true.
+/// Sees that no record is asked for, or one that has another file than that of this name.
 ///
 /// # Errors
 ///
-/// Those of [`serve_kept`].
-fn serve_in<'a, S: Service, R: Input + Print + Eprint + AllocGlobal + Files<File = File>>(
+/// `BadArguments` where both are one file.
+fn check_record<'a, R: Files<File = File>>(
     rt: &R,
-    service: &mut S,
-    name: &'a str,
-    syncs: bool,
-) -> Result<(), Fault<'a>>
-    requires { S.ready }
+    options: &ProgramOptions<'_>,
+    name: &str,
+) -> Result<(), ProgramFault<'a>> {
+    match options.record_file {
+        Some(record) if is_same_file(rt, name, record) => Err(ProgramFault::BadArguments),
+        _ => Ok(()),
+    }
+}
+
+/// Goes on from the lines that a file has, from nothing loaded, by so many workers: what is written is what the machine says to the lines
+/// of a text from the state that those of the file lead to; and before any of it is written, the file holds what is kept of those lines,
+/// and that stays. After a fault the same holds of the lines that were served, and of the bytes that were written of their output. By
+/// several workers this holds if it returns.
+///
+/// # Errors
+///
+/// Those of [`keep_engine`].
+pub fn keep_session<R: Threads + Wait + Sync, K: KeptFile, N: KeptNotices, D: Read, W: Write>(
+    rt: &R,
+    alloc: Global,
+    workers: u32,
+    file: &mut K,
+    notes: &N,
+    reader: &mut Counted<D>,
+    writer: &mut Counted<W>,
+) -> Result<RedoneLines, ServeFault>
+    requires workers { (1 ≤ workers) × (workers ≤ most_workers) }
+    requires sound { K.has_failed file.old → ⊥ }
+    requires reader { IsFresh reader.old }
+    ensures whole { IfOk result (MachineServesOn K.held K.synced D.remaining W.contents None file.old reader.old writer.old file.new reader.new writer.new) }
+    ensures broken { IfErr result (MachineServesOnFirst K.held K.synced D.remaining W.contents None file.old reader.old writer.old file.new reader.new writer.new) }
+    ensures caused { IfErr result (λ fault. IsServeCaused K.has_failed fault reader.new file.new writer.new most_reads) }
+    ensures bounded { reader.new.calls ≤ most_reads }
+    ensures prompt { IsPrompt reader.new }
+    ensures flushed { OnOk result (IsFlushed writer.new) }
 {
-    let alloc = rt.alloc();
-    let file = open_kept(rt, name)?;
-    let mut kept = Counted::new(file);
-    let again = match run_again(alloc, service, &mut kept) {
-        Ok(again) => again,
-        Err(fault) => return Err(fault_of_again(fault, name)),
-    };
-    let file = kept.into_inner();
-    settle(rt, &file, name, again.bytes, syncs)?;
-    tell(rt, again, name);
-    let mut log = LogFile::new(file, syncs);
-    let mut reader = Counted::new(rt.reader());
-    let mut writer = Counted::new(io::writer(rt));
-    match run_kept(alloc, service, &mut reader, &mut log, &mut writer) {
-        Ok(()) => Ok(()),
-        Err(fault) => Err(fault_of_kept(fault, name)),
+    if workers == 1 {
+        keep_by_one(rt, alloc, file, notes, reader, writer)
+    } else {
+        keep_by_team(rt, alloc, workers, file, notes, reader, writer)
+    }
+}
+
+/// Goes on so by one worker, who waits for nobody.
+///
+/// # Errors
+///
+/// Those of [`keep_engine`].
+fn keep_by_one<R: Threads + Sync, K: KeptFile, N: KeptNotices, D: Read, W: Write>(
+    rt: &R,
+    alloc: Global,
+    file: &mut K,
+    notes: &N,
+    reader: &mut Counted<D>,
+    writer: &mut Counted<W>,
+) -> Result<RedoneLines, ServeFault>
+    requires sound { K.has_failed file.old → ⊥ }
+    requires reader { IsFresh reader.old }
+    ensures whole { IfOk result (MachineServesOn K.held K.synced D.remaining W.contents None file.old reader.old writer.old file.new reader.new writer.new) }
+    ensures broken { IfErr result (MachineServesOnFirst K.held K.synced D.remaining W.contents None file.old reader.old writer.old file.new reader.new writer.new) }
+    ensures caused { IfErr result (λ fault. IsServeCaused K.has_failed fault reader.new file.new writer.new most_reads) }
+    ensures bounded { reader.new.calls ≤ most_reads }
+    ensures prompt { IsPrompt reader.new }
+    ensures flushed { OnOk result (IsFlushed writer.new) }
+{
+    let mut session = EngineSession::new(rt, Engine::new(alloc, 1, Unwatched::new()));
+    keep_engine(alloc, &mut session, file, notes, reader, writer)
+}
+
+/// Goes on so by so many workers, who wait for each other: so what it says holds if it returns.
+///
+/// # Errors
+///
+/// Those of [`keep_team`].
+fn keep_by_team<R: Threads + Wait + Sync, K: KeptFile, N: KeptNotices, D: Read, W: Write>(
+    rt: &R,
+    alloc: Global,
+    workers: u32,
+    file: &mut K,
+    notes: &N,
+    reader: &mut Counted<D>,
+    writer: &mut Counted<W>,
+) -> Result<RedoneLines, ServeFault>
+    requires workers { (1 ≤ workers) × (workers ≤ most_workers) }
+    requires sound { K.has_failed file.old → ⊥ }
+    requires reader { IsFresh reader.old }
+    ensures whole { IfOk result (MachineServesOn K.held K.synced D.remaining W.contents None file.old reader.old writer.old file.new reader.new writer.new) }
+    ensures broken { IfErr result (MachineServesOnFirst K.held K.synced D.remaining W.contents None file.old reader.old writer.old file.new reader.new writer.new) }
+    ensures caused { IfErr result (λ fault. IsServeCaused K.has_failed fault reader.new file.new writer.new most_reads) }
+    ensures bounded { reader.new.calls ≤ most_reads }
+    ensures prompt { IsPrompt reader.new }
+    ensures flushed { OnOk result (IsFlushed writer.new) }
+{
+    let mut session = TeamSession::new(rt, staying_engine(rt, alloc, workers));
+    keep_team(alloc, &mut session, file, notes, reader, writer)
+}
+
+/// The fault of the program where a session that goes on from the file of this name ended so.
+fn fault_of_serve<'a>(fault: ServeFault, name: &'a str) -> ProgramFault<'a>
+    ensures { IsServeFault fault name.entry result }
+{
+    match fault {
+        ServeFault::Begin(fault) => fault_of_begin(fault, name),
+        ServeFault::Session(fault) => fault_of_kept(fault, name),
+    }
+}
+
+/// The fault of the program where a session that goes on from the file of this name, with a record in a second one, ended so.
+fn fault_of_recorded<'a>(fault: RecordedFault, name: &'a str, second: &'a str) -> ProgramFault<'a>
+    ensures { IsRecordedFault fault name.entry second.entry result }
+{
+    match fault {
+        RecordedFault::Begin(fault) => fault_of_begin(fault, name),
+        RecordedFault::Open(OpenFault::Output) => ProgramFault::Write(second),
+        RecordedFault::Open(OpenFault::Starved) => ProgramFault::OutOfMemory,
+        RecordedFault::Session(fault) => fault_of_kept(fault, name),
+    }
+}
+
+/// The fault of the program where a session does not go on from the file of this name.
+fn fault_of_begin<'a>(fault: BeginFault, name: &'a str) -> ProgramFault<'a>
+    ensures { result ≡ begin_fault fault name.entry }
+{
+    match fault {
+        BeginFault::Recover(fault) => fault_of_redo(fault, name),
+        BeginFault::Foreign => ProgramFault::BadTape { line: 1 },
+        BeginFault::Settle => ProgramFault::Write(name),
     }
 }
 
 /// The fault of the program where the lines of the file of this name were not all done again.
-fn fault_of_again<'a>(fault: AgainFault, name: &'a str) -> Fault<'a>
-    ensures { result ≡ again_fault fault name.entry }
+fn fault_of_redo<'a>(fault: RedoFault, name: &'a str) -> ProgramFault<'a>
+    ensures { result ≡ redo_fault fault name.entry }
 {
     match fault {
-        AgainFault::Run(kind) => Fault::of_run(kind, name, name),
-        AgainFault::BadLine { line } => Fault::BadTape { line },
+        RedoFault::Run(kind) => ProgramFault::of_run(kind, name, name),
+        RedoFault::BadLine { line } => ProgramFault::BadTape { line },
     }
 }
 
 /// The fault of the program where a session that is kept in the file of this name ended so.
-fn fault_of_kept<'a>(fault: KeptFault, name: &'a str) -> Fault<'a>
+fn fault_of_kept<'a>(fault: KeptFault, name: &'a str) -> ProgramFault<'a>
     ensures { IsKeptFault fault name.entry result }
 {
     match fault {
-        KeptFault::Run(kind) => Fault::of_run(kind, STANDARD_INPUT, STANDARD_OUTPUT),
-        KeptFault::Log => Fault::Write(name),
-    }
-}
-
-/// Opens a file to be read and written behind its end, or makes it, and locks it.
-///
-/// # Errors
-///
-/// `Read` where something else than a file has the name; `Write` where it can not be opened, made or locked, as where another program
-/// keeps a session there.
-fn open_kept<'a, R: Files<File = File>>(rt: &R, name: &'a str) -> Result<File, Fault<'a>> {
-    let is_other = match fs::metadata(rt, name) {
-        Ok(found) => !found.is_file(),
-        Err(_) => false,
-    };
-    if is_other {
-        return Err(Fault::Read(name));
-    }
-    let file = OpenOptions::new()
-        .read(true)
-        .append(true)
-        .create(true)
-        .open(rt, name)
-        .map_err(|error| of_file(&error, Fault::Write(name)))?;
-    match file.try_lock() {
-        Ok(()) => Ok(file),
-        Err(_) => Err(Fault::Write(name)),
-    }
-}
-
-/// Cuts off what a crash has left behind the first `bytes` bytes, those of the lines that have ended, and, where `syncs` is
-/// true, has the file and its name outlive the machine.
-///
-/// # Errors
-///
-/// `Write` with the file's name where that failed, `OutOfMemory` where it failed for want of memory.
-fn settle<'a, R: Files<File = File>>(
-    rt: &R,
-    file: &File,
-    name: &'a str,
-    bytes: u64,
-    syncs: bool,
-) -> Result<(), Fault<'a>>
-    ensures { IfErr result (IsFileFault (Write name.entry)) }
-{
-    match cut_and_sync(rt, file, name, bytes, syncs) {
-        Ok(()) => Ok(()),
-        Err(error) => Err(of_file(&error, Fault::Write(name))),
-    }
-}
-
-/// Cuts the file off behind its first `bytes` bytes, where it has more, and syncs it and its folder where `syncs` is true.
-///
-/// # Errors
-///
-/// That of the file or of its folder; the file may be cut off then.
-fn cut_and_sync<R: Files<File = File>>(
-    rt: &R,
-    file: &File,
-    name: &str,
-    bytes: u64,
-    syncs: bool,
-) -> io::Result<()> {
-    if file.metadata()?.len() > bytes {
-        file.set_len(bytes)?;
-    }
-    if syncs {
-        file.sync_all()?;
-        File::open(rt, folder_of(name))?.sync_all()?;
-    }
-    Ok(())
-}
-
-/// The folder that a file of this name is in: all before the last `/`, and `.` where there is none.
-fn folder_of(name: &str) -> &str {
-    match name.rsplit_once('/') {
-        Some(("", _name)) => "/",
-        Some((folder, _name)) => folder,
-        None => ".",
-    }
-}
-
-/// Tells on standard error how many lines of the file of this name were done again, where there were some.
-fn tell(rt: &impl Eprint, again: Again, name: &str) {
-    if again.lines > 0 {
-        let lines = again.lines;
-        let _ = eprintln!(rt; "streetsim: {lines} lines of {name} were done again");
+        KeptFault::Run(kind) => ProgramFault::of_run(kind, STANDARD_INPUT, STANDARD_OUTPUT),
+        KeptFault::Log => ProgramFault::Write(name),
     }
 }

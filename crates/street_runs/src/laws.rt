@@ -1,6 +1,5 @@
-//! Laws of what the program serves: of standard input, and of scripts.
-//!
-//! Source: this profile.
+//! Laws of what the program serves: of standard input, and of scripts. Nothing is run here: they join what a run and its tape
+//! promise.
 ghost use Rattle.std.specs.Prelude.{◌≡◌, List};
 ghost use Rattle.street_desk.specs.declared.journal.Entry.{Entry};
 ghost use Rattle.street_desk.specs.Passes.{PassView};

@@ -1,21 +1,20 @@
-//! The program's files and standard output.
-//!
-//! Source: this profile.
+//! The program's files and standard output. All runs call it.
 ghost use Rattle.std.specs.Io.KnownBytes.{Appends, Keeps};
 ghost use Rattle.std.specs.Prelude.{◌≡◌, OnOk, OnErr, IfErr};
 ghost use Rattle.street_runs.specs.Ends.{IsTaped, StopsTape, TellsWriting};
 ghost use Rattle.street_runs.specs.Faults.{IsFileFault, IsTapeFault, LacksMemory};
 ghost use Rattle.street_runs.specs.Outputs.{IsBegun, TellsOutput};
-ghost use Rattle.street_runs.specs.declared.fault.Fault.TheVariants.{OutOfMemory, Read, Write};
+ghost use Rattle.street_runs.specs.declared.fault.ProgramFault.TheVariants.{OutOfMemory, Read, Write};
 ghost use Rattle.street_stream.specs.Streams.{HasFailed, IsFlushed, IsFresh};
 ghost use Rattle.street_tape.specs.Tapes.{tape_text};
 
-use crate::Fault;
+use crate::ProgramFault;
 use std::alloc::Global;
 use std::fs::File;
-use std::io;
 use std::io::Write;
+use std::os::unix::fs::MetadataExt;
 use std::rt::Files;
+use std::{fs, io};
 use street_desk::{Desk, Journal, Pass};
 use street_engine::Unwatched;
 use street_line::Counted;
@@ -27,18 +26,24 @@ pub const STANDARD_INPUT: &str = "standard input";
 /// The name of standard output in faults.
 pub const STANDARD_OUTPUT: &str = "standard output";
 
+/// The name of standard error in faults.
+pub const STANDARD_ERROR: &str = "standard error";
+
 /// Writes a text to standard output, with no flush.
 ///
 /// # Errors
 ///
 /// `Write` of standard output: the text is written up to some byte.
-pub fn write_out<W: Write>(writer: &mut Counted<W>, text: &[u8]) -> Result<(), Fault<'static>>
+pub fn write_out<W: Write>(
+    writer: &mut Counted<W>,
+    text: &[u8],
+) -> Result<(), ProgramFault<'static>>
     ensures written { OnOk result (Appends (W.contents writer.old.stream) (W.contents writer.new.stream) text.now) }
     ensures part { OnErr result (IsBegun (W.contents writer.old.stream) (W.contents writer.new.stream) text.now) }
     ensures failed { IfErr result (λ fault. HasFailed writer.new × TellsOutput fault) }
 {
     if street_stream::write_text(writer, text).is_err() {
-        return Err(Fault::Write(STANDARD_OUTPUT));
+        return Err(ProgramFault::Write(STANDARD_OUTPUT));
     }
     Ok(())
 }
@@ -48,13 +53,13 @@ pub fn write_out<W: Write>(writer: &mut Counted<W>, text: &[u8]) -> Result<(), F
 /// # Errors
 ///
 /// `Write` of standard output.
-pub fn pass_on<W: Write>(writer: &mut Counted<W>) -> Result<(), Fault<'static>>
+pub fn pass_on<W: Write>(writer: &mut Counted<W>) -> Result<(), ProgramFault<'static>>
     ensures kept { Keeps (W.contents writer.old.stream) (W.contents writer.new.stream) }
     ensures flushed { OnOk result (IsFlushed writer.new) }
     ensures failed { IfErr result (λ fault. HasFailed writer.new × TellsOutput fault) }
 {
     if street_stream::flush_out(writer).is_err() {
-        return Err(Fault::Write(STANDARD_OUTPUT));
+        return Err(ProgramFault::Write(STANDARD_OUTPUT));
     }
     Ok(())
 }
@@ -64,7 +69,10 @@ pub fn pass_on<W: Write>(writer: &mut Counted<W>) -> Result<(), Fault<'static>>
 /// # Errors
 ///
 /// `Write` of standard output: the text is written up to some byte.
-pub fn print_text<W: Write>(writer: &mut Counted<W>, text: &[u8]) -> Result<(), Fault<'static>>
+pub fn print_text<W: Write>(
+    writer: &mut Counted<W>,
+    text: &[u8],
+) -> Result<(), ProgramFault<'static>>
     ensures written { OnOk result (Appends (W.contents writer.old.stream) (W.contents writer.new.stream) text.now) }
     ensures flushed { OnOk result (IsFlushed writer.new) }
     ensures part { OnErr result (IsBegun (W.contents writer.old.stream) (W.contents writer.new.stream) text.now) }
@@ -86,7 +94,7 @@ pub fn keep_tape<'a, R: Files<File = File>>(
     desk: Desk<Unwatched>,
     pass: Pass<Unwatched>,
     name: Option<&'a str>,
-) -> Result<(), Fault<'a>>
+) -> Result<(), ProgramFault<'a>>
     requires { pass.desk ≡ desk }
     ensures { IfErr result (IsTapeFault name.entry) }
 {
@@ -99,13 +107,13 @@ pub fn keep_tape<'a, R: Files<File = File>>(
 
 /// Ends the desk by the pass that has seen all, and writes its journal as a tape; faults tell this name. A desk that was left
 /// within a turn, as a thread of it ended there, is told as a tape that could not be written.
-fn end_with_tape<'a, W: Write>(
+pub fn end_with_tape<'a, W: Write>(
     alloc: Global,
     desk: Desk<Unwatched>,
     pass: Pass<Unwatched>,
     writer: &mut Counted<W>,
     name: &'a str,
-) -> Result<(), Fault<'a>>
+) -> Result<(), ProgramFault<'a>>
     requires desk { pass.desk ≡ desk }
     requires writer { IsFresh writer.old }
     ensures written { OnOk result (IsTaped pass (W.contents writer.old.stream) (W.contents writer.new.stream)) }
@@ -115,7 +123,7 @@ fn end_with_tape<'a, W: Write>(
 {
     match desk.finish(pass) {
         Ok((_engine, journal)) => write_journal(alloc, &journal, writer, name),
-        Err(_torn) => Err(Fault::Write(name)),
+        Err(_torn) => Err(ProgramFault::Write(name)),
     }
 }
 
@@ -125,7 +133,7 @@ fn write_journal<'a, W: Write>(
     journal: &Journal,
     writer: &mut Counted<W>,
     name: &'a str,
-) -> Result<(), Fault<'a>>
+) -> Result<(), ProgramFault<'a>>
     requires { IsFresh writer.old }
     ensures written { OnOk result (Appends (W.contents writer.old.stream) (W.contents writer.new.stream) (tape_text journal.now)) }
     ensures flushed { OnOk result (IsFlushed writer.new) }
@@ -134,7 +142,7 @@ fn write_journal<'a, W: Write>(
 {
     match write_tape(alloc, journal, writer) {
         Ok(_bytes) => Ok(()),
-        Err(fault) => Err(Fault::of_run(fault.kind, name, name)),
+        Err(fault) => Err(ProgramFault::of_run(fault.kind, name, name)),
     }
 }
 
@@ -143,10 +151,21 @@ fn write_journal<'a, W: Write>(
 /// # Errors
 ///
 /// `Write` with its name, or `OutOfMemory`.
-fn create_file<'a, R: Files<File = File>>(rt: &R, name: &'a str) -> Result<File, Fault<'a>>
+pub(crate) fn create_file<'a, R: Files<File = File>>(
+    rt: &R,
+    name: &'a str,
+) -> Result<File, ProgramFault<'a>>
     ensures { IfErr result (IsFileFault (Write name.entry)) }
 {
-    File::create(rt, name).map_err(|error| of_file(&error, Fault::Write(name)))
+    File::create(rt, name).map_err(|error| of_file(&error, ProgramFault::Write(name)))
+}
+
+/// Whether two names are those of one file. Where a name has no file yet, the names tell.
+pub(crate) fn is_same_file<R: Files<File = File>>(rt: &R, first: &str, second: &str) -> bool {
+    match (fs::metadata(rt, first), fs::metadata(rt, second)) {
+        (Ok(one), Ok(other)) => one.dev() == other.dev() && one.ino() == other.ino(),
+        _ => first == second,
+    }
 }
 
 /// Opens the file of this name to be read.
@@ -154,20 +173,20 @@ fn create_file<'a, R: Files<File = File>>(rt: &R, name: &'a str) -> Result<File,
 /// # Errors
 ///
 /// `Read` with its name, or `OutOfMemory`.
-pub fn open_file<'a, R: Files<File = File>>(rt: &R, name: &'a str) -> Result<File, Fault<'a>>
+pub fn open_file<'a, R: Files<File = File>>(rt: &R, name: &'a str) -> Result<File, ProgramFault<'a>>
     ensures { IfErr result (IsFileFault (Read name.entry)) }
 {
-    File::open(rt, name).map_err(|error| of_file(&error, Fault::Read(name)))
+    File::open(rt, name).map_err(|error| of_file(&error, ProgramFault::Read(name)))
 }
 
 /// The fault of a file where this error came: `OutOfMemory` where memory ran out, else the one that is given.
-pub(crate) fn of_file<'a>(error: &io::Error, otherwise: Fault<'a>) -> Fault<'a>
+pub(crate) fn of_file<'a>(error: &io::Error, otherwise: ProgramFault<'a>) -> ProgramFault<'a>
     ensures starved { LacksMemory error.now → result ≡ OutOfMemory }
     ensures other { (LacksMemory error.now → ⊥) → result ≡ otherwise.entry }
     ensures either { IsFileFault otherwise.entry result }
 {
     match error.kind() {
-        io::ErrorKind::OutOfMemory => Fault::OutOfMemory,
+        io::ErrorKind::OutOfMemory => ProgramFault::OutOfMemory,
         _ => otherwise,
     }
 }

@@ -1,6 +1,4 @@
-//! What is told of wrong words: one line of the parser's text.
-//!
-//! Source: this profile.
+//! What is told of wrong words: one line of the parser's text. `main` calls it where words are wrong.
 ghost use Rattle.std.specs.List.{before_first};
 ghost use Rattle.std.specs.Prelude.{◌++◌, ◌≡◌, ◌≢◌, List, codes, eqb, ℕ};
 

@@ -1,6 +1,4 @@
-//! A tape, replayed or upgraded.
-//!
-//! Source: this profile.
+//! A tape, replayed or upgraded. `main` calls them for `--replay` and `--upgrade`.
 ghost use Rattle.std.specs.Prelude.{◌≤◌, IfErr, OnOk};
 ghost use Rattle.std.specs.Io.KnownBytes.{Appends};
 ghost use Rattle.street_base.specs.Prelude.{most_reads, most_workers};
@@ -11,7 +9,7 @@ ghost use Rattle.street_stream.specs.Streams.{IsFlushed, IsFresh, IsPrompt};
 ghost use Rattle.street_tape.specs.Faults.{IsTapeCaused};
 ghost use Rattle.street_text.specs.ReplyLines.{reply_line};
 
-use crate::Fault;
+use crate::ProgramFault;
 use crate::engines::started_engine;
 use crate::outputs::{STANDARD_OUTPUT, open_file, print_text};
 use std::alloc::Global;
@@ -34,14 +32,14 @@ pub fn replay_tape<'a, R: Threads + Sync + Print + AllocGlobal + Files<File = Fi
     rt: &R,
     workers: u32,
     name: &'a str,
-) -> Result<(), Fault<'a>>
+) -> Result<(), ProgramFault<'a>>
     requires { (1 ≤ workers) × (workers ≤ most_workers) }
 {
     let mut reader = Counted::new(open_file(rt, name)?);
     let mut writer = Counted::new(io::writer(rt));
     match replay_and_count(rt, rt.alloc(), workers, &mut reader, &mut writer) {
         Ok(()) => Ok(()),
-        Err(fault) => Err(Fault::of_tape(fault, name, STANDARD_OUTPUT)),
+        Err(fault) => Err(ProgramFault::of_tape(fault, name, STANDARD_OUTPUT)),
     }
 }
 
@@ -50,7 +48,7 @@ pub fn replay_tape<'a, R: Threads + Sync + Print + AllocGlobal + Files<File = Fi
 /// # Errors
 ///
 /// That of the replay; else `Run`, where the line of the count found no memory or was not written whole.
-fn replay_and_count<R: Threads + Sync, D: Read, W: Write>(
+pub fn replay_and_count<R: Threads + Sync, D: Read, W: Write>(
     rt: &R,
     alloc: Global,
     workers: u32,
@@ -110,11 +108,11 @@ fn print_reply<W: Write>(
 pub fn upgrade_tape<'a, R: Print + AllocGlobal + Files<File = File>>(
     rt: &R,
     name: &'a str,
-) -> Result<(), Fault<'a>> {
+) -> Result<(), ProgramFault<'a>> {
     let mut reader = Counted::new(open_file(rt, name)?);
     let mut writer = Counted::new(io::writer(rt));
     match upgrade(rt.alloc(), &mut reader, &mut writer) {
         Ok(_tally) => Ok(()),
-        Err(fault) => Err(Fault::of_tape(fault, name, STANDARD_OUTPUT)),
+        Err(fault) => Err(ProgramFault::of_tape(fault, name, STANDARD_OUTPUT)),
     }
 }

@@ -1,6 +1,4 @@
-//! What the words of the command line come to.
-//!
-//! Source: this profile.
+//! What the words of the command line come to. `command_line.rt` makes them, and `main` goes by them.
 ghost use Rattle.std.specs.Prelude.{◌≡◌};
 ghost use Rattle.street_runs.specs.Words.{ToldOf};
 ghost use Rattle.street_runs.specs.declared.words.WordsFault.TheVariants.{Starved};
@@ -11,7 +9,7 @@ use thiserror::Error;
 
 /// What the words ask for. Files are named as in the words.
 #[derive(Debug, PartialEq, Eq, Drop)]
-pub struct Options<'a> {
+pub struct ProgramOptions<'a> {
     /// At most how many workers share each step, 1 to 64, where there are processors for them.
     pub workers: u32,
     /// How many calls there is a place for, 1 to 1,000,000.
@@ -29,6 +27,8 @@ pub struct Options<'a> {
     pub keep: Option<&'a str>,
     /// Whether that file is not synced. It stands only with such a file.
     pub unsynced: bool,
+    /// The file to which the record of the steps is written. It stands with neither scripts nor tapes.
+    pub record_file: Option<&'a str>,
     /// The files whose lines are served, at most 1,024. Where there are none, standard input is served.
     pub scripts: Vec<&'a str>,
 }

@@ -12,8 +12,8 @@ use Rattle.street_stream.specs.Faults.{IsAtRead}
 use Rattle.street_stream.specs.HandledLines.{Effect, has_reply, has_text, text_in, Handles, output, IsTally, EndsLine, IsNext, Leaves, Breaks}
 use Rattle.street_stream.specs.Lines.{cut, lines_of, if_any, kept, IsPart}
 use Rattle.street_stream.specs.Progress.{Stands, Feeds, Finishes, FeedBreaks, FinishBreaks, LineBreaks, IsUntouched, IsHalf}
-use Rattle.street_stream.specs.declared.answer.Cause.{Cause}
-use Rattle.street_stream.specs.declared.answer.Cause.TheVariants.{Run, Line}
+use Rattle.street_stream.specs.declared.answer.StopCause.{StopCause}
+use Rattle.street_stream.specs.declared.answer.StopCause.TheVariants.{Run, Line}
 use Rattle.street_stream.specs.declared.driver.Progress.{Progress}
 use Rattle.street_stream.specs.declared.tally.FaultKind.{FaultKind}
 use Rattle.street_stream.specs.declared.tally.FaultKind.TheVariants.{Write, Starved}
@@ -96,14 +96,14 @@ module _ {S Stop : Type 0} (takes : S → List ℕ → Effect → S → Type 0) 
       }
 
   line_breaks : (at_end : Type 0) (start : S) (before : Option (List ℕ)) (text : List ℕ) (ls : List (List ℕ)) (l : List ℕ) (rest : List (List ℕ)) (es : List Effect) (s t : S) (w v : Option (List ℕ))
-      (tally counted : Tally) (cause : Cause Stop) → lines_of text ≡ ls ++ l ∷ rest → IsNext at_end text ls l → Handles takes start ls es s → Appends before w (output es) → IsTally tally ls es
+      (tally counted : Tally) (cause : StopCause Stop) → lines_of text ≡ ls ++ l ∷ rest → IsNext at_end text ls l → Handles takes start ls es s → Appends before w (output es) → IsTally tally ls es
       → LineBreaks takes stops s w tally l t v cause counted → Breaks takes stops at_end start before text t v cause counted
   line_breaks at_end start before text ls l rest es s t w v tally counted (Run kind) first next went wrote is b =
       half at_end start before text ls l rest es s t w v tally counted kind first went wrote is b.0 b.1
   line_breaks at_end start before text ls l rest es s t w v tally counted (Line stop) first next went wrote is b =
       stopped at_end start before text ls l rest es s t w v tally counted stop first next went wrote is b.0 b.1
 
-  leaves_at : (A B : Type 0) (text : List ℕ) (done : List (List ℕ)) (es : List Effect) (mid now : S) (cause : Cause Stop) (tally : Tally) → (A → B) → Leaves stops A text done es mid now cause tally
+  leaves_at : (A B : Type 0) (text : List ℕ) (done : List (List ℕ)) (es : List Effect) (mid now : S) (cause : StopCause Stop) (tally : Tally) → (A → B) → Leaves stops A text done es mid now cause tally
       → Leaves stops B text done es mid now cause tally
   leaves_at A B text done es mid now (Run kind) tally f h = h
   leaves_at A B text done es mid now (Line stop) tally f h =
@@ -115,7 +115,7 @@ module _ {S Stop : Type 0} (takes : S → List ℕ → Effect → S → Type 0) 
       ends_at text rest (inr over) = inr (over.0, f over.1)
 
   -- the text may end elsewhere
-  pub breaks_at : (A B : Type 0) (start : S) (before : Option (List ℕ)) (text : List ℕ) (now : S) (after : Option (List ℕ)) (cause : Cause Stop) (tally : Tally) → (A → B)
+  pub breaks_at : (A B : Type 0) (start : S) (before : Option (List ℕ)) (text : List ℕ) (now : S) (after : Option (List ℕ)) (cause : StopCause Stop) (tally : Tally) → (A → B)
       → Breaks takes stops A start before text now after cause tally → Breaks takes stops B start before text now after cause tally
   breaks_at A B start before text now after cause tally f h = record {
     done = h.done;
@@ -133,11 +133,11 @@ module _ {S Stop : Type 0} (takes : S → List ℕ → Effect → S → Type 0) 
 
 module _ {S Stop : Type 0} (takes : S → List ℕ → Effect → S → Type 0) (stops : S → List ℕ → Stop → S → Type 0) (longest : ℕ) where
   -- what a line that was not handled whole leaves
-  abbrev pub EndsRun : S → Option (List ℕ) → Progress → S → Option (List ℕ) → Cause Stop → Tally → Type 0
+  abbrev pub EndsRun : S → Option (List ℕ) → Progress → S → Option (List ℕ) → StopCause Stop → Tally → Type 0
   EndsRun s w p t v cause counted = (line : List ℕ) → IsPart longest p.part line → LineBreaks takes stops s w p.tally line t v cause counted
 
   -- a line ended, and was not handled whole
-  pub newline_breaks : (s t : S) (w v : Option (List ℕ)) (p : Progress) (cause : Cause Stop) (counted : Tally) → EndsRun s w p t v cause counted
+  pub newline_breaks : (s t : S) (w v : Option (List ℕ)) (p : Progress) (cause : StopCause Stop) (counted : Tally) → EndsRun s w p t v cause counted
       → FeedBreaks takes stops longest s w p (10 ∷ []) t v cause counted
   newline_breaks s t w v p cause counted ends = λ start before seen h more.
       let after = lines_after seen more in
@@ -150,7 +150,7 @@ module _ {S Stop : Type 0} (takes : S → List ℕ → Effect → S → Type 0) 
       breaks_whole takes stops ⊥ start before (seen ++ (bytes ++ more)) s w Starved tally (cut seen).0 later.0 h.0 later.1 h.1 h.2 (rw same h.4) (λ read. absurd read)
 
   -- bytes were fed before the end of the run, and others would have followed
-  pub feed_breaks : (s t u : S) (w v x : Option (List ℕ)) (p q : Progress) (cause : Cause Stop) (tally : Tally) (bytes xs ys zs : List ℕ) → xs ++ (ys ++ zs) ≡ bytes → Feeds takes longest s w p xs t v q
+  pub feed_breaks : (s t u : S) (w v x : Option (List ℕ)) (p q : Progress) (cause : StopCause Stop) (tally : Tally) (bytes xs ys zs : List ℕ) → xs ++ (ys ++ zs) ≡ bytes → Feeds takes longest s w p xs t v q
       → FeedBreaks takes stops longest t v q ys u x cause tally → FeedBreaks takes stops longest s w p bytes u x cause tally
   feed_breaks s t u w v x p q cause tally bytes xs ys zs split f g = λ start before seen h more.
       let same : (seen ++ xs) ++ (ys ++ (zs ++ more)) ≡ seen ++ ((xs ++ (ys ++ zs)) ++ more) = simp append_assoc in
@@ -167,7 +167,7 @@ module _ {S Stop : Type 0} (takes : S → List ℕ → Effect → S → Type 0) 
       (breaks_whole takes stops ⊥ start before ((seen ++ xs) ++ more) t x Write q.tally (cut (seen ++ xs)).0 later.0 fed.0 later.1 fed.1 (Appends-kept before v x (output fed.0) fed.2 keeps) fed.4 (λ read. absurd read))
 
   -- the last line was not handled whole
-  pub last_breaks : (s t : S) (w v : Option (List ℕ)) (p : Progress) (cause : Cause Stop) (counted : Tally) → ((line : List ℕ) → IsPart longest p.part line → length (kept longest line) ≡ 0 → ⊥)
+  pub last_breaks : (s t : S) (w v : Option (List ℕ)) (p : Progress) (cause : StopCause Stop) (counted : Tally) → ((line : List ℕ) → IsPart longest p.part line → length (kept longest line) ≡ 0 → ⊥)
       → EndsRun s w p t v cause counted → FinishBreaks takes stops longest s w p t v cause counted
   last_breaks s t w v p cause counted some ends = λ start before seen h.
       let lines : lines_of seen ≡ (cut seen).0 ++ (cut seen).1 ∷ [] = ap (λ (ls : List (List ℕ)). (cut seen).0 ++ ls) (last_line (cut seen).1 longest (some (cut seen).1 h.3)) in

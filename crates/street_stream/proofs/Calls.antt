@@ -2,8 +2,8 @@
 use Rattle.std.proofs.Common.{◌≡◌, ℕ, zero, suc, ◌+◌, refl, subst, sym, arith}
 use Rattle.street_stream.specs.Calls.{Gives, Takes, Passes, AreWrites, OnlyWrites, PassesOn, IsCutShort, IsRead, AreRounds, EndsIn, BreaksOff}
 use Rattle.street_stream.specs.Faults.{IsCausedByLine}
-use Rattle.street_stream.specs.declared.answer.Cause.{Cause}
-use Rattle.street_stream.specs.declared.answer.Cause.TheVariants.{Run, Line}
+use Rattle.street_stream.specs.declared.answer.StopCause.{StopCause}
+use Rattle.street_stream.specs.declared.answer.StopCause.TheVariants.{Run, Line}
 use Rattle.street_stream.specs.declared.counted.Counted.{Counted}
 use Rattle.street_stream.specs.declared.tally.FaultKind.TheVariants.{Read, Write, Starved, Endless}
 
@@ -26,7 +26,7 @@ module _ {R W : Type 0} (gives : Gives R) (takes : Takes W) (passes : Passes W) 
       let one : suc n ≡ n + 1 = omega arith in
       subst (λ m. AreRounds gives takes passes m reader writer read written) one (mid, between, before, reads, on)
 
-  pub breaks_off : {S : Type 0} (cause : Cause S) (told : Counted W) (n : ℕ) (reader : R) (writer : W) (read : R) (written : W) → IsCausedByLine cause told
+  pub breaks_off : {S : Type 0} (cause : StopCause S) (told : Counted W) (n : ℕ) (reader : R) (writer : W) (read : R) (written : W) → IsCausedByLine cause told
       → EndsIn gives takes passes (IsRead gives) (IsCutShort takes passes) n reader writer read written → BreaksOff gives takes passes cause n reader writer read written
   breaks_off (Run Read) told n reader writer read written caused ends = absurd caused
   breaks_off (Run Endless) told n reader writer read written caused ends = absurd caused

@@ -1,8 +1,8 @@
 -- A handler that holds a reference, and changes no more than what stands behind it: its runs are those of what stands there, and it holds the same reference after them.
 use Rattle.std.proofs.Common.{◌≡◌, ◌∙◌, ℕ, List, [], ◌∷◌, Option, ap}
 use Rattle.street_stream.specs.HandledLines.{Effect, Handles, Whole, Leaves, Broke}
-use Rattle.street_stream.specs.declared.answer.Cause.{Cause}
-use Rattle.street_stream.specs.declared.answer.Cause.TheVariants.{Run, Line}
+use Rattle.street_stream.specs.declared.answer.StopCause.{StopCause}
+use Rattle.street_stream.specs.declared.answer.StopCause.TheVariants.{Run, Line}
 use Rattle.street_stream.specs.declared.tally.Tally.{Tally}
 
 -- `part` is what stands behind the reference, and `name` is the reference's name
@@ -25,12 +25,12 @@ module _ {A S Stop : Type 0} (part : A → S) (name : A → ℕ) (takes : S → 
       let handled = handles_part a _ h.effects b h.handled in
       (handled.0, record { text = h.text; effects = h.effects; read = h.read; at_end = h.at_end; handled = handled.1; written = h.written; counted = h.counted })
 
-  leaves_part : (at_end : Type 0) (text : List ℕ) (done : List (List ℕ)) (es : List Effect) (mid now : A) (cause : Cause Stop) (tally : Tally)
+  leaves_part : (at_end : Type 0) (text : List ℕ) (done : List (List ℕ)) (es : List Effect) (mid now : A) (cause : StopCause Stop) (tally : Tally)
       → Leaves StopsPart at_end text done es mid now cause tally → (name now ≡ name mid) × Leaves stops at_end text done es (part mid) (part now) cause tally
   leaves_part at_end text done es mid now (Run kind) tally h = (ap name h.0, (ap part h.0, h.1, h.2))
   leaves_part at_end text done es mid now (Line stop) tally h = (h.2.0, (h.0, h.1, h.2.1, h.3, h.4))
 
-  pub broke_part : (a : A) (unread before : Option (List ℕ)) (b : A) (left after : Option (List ℕ)) (cause : Cause Stop) (tally : Tally)
+  pub broke_part : (a : A) (unread before : Option (List ℕ)) (b : A) (left after : Option (List ℕ)) (cause : StopCause Stop) (tally : Tally)
       → Broke TakesPart StopsPart a unread before b left after cause tally → (name b ≡ name a) × Broke takes stops (part a) unread before (part b) left after cause tally
   broke_part a unread before b left after cause tally h =
       let broken = h.breaks in

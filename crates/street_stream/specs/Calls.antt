@@ -1,9 +1,8 @@
 -- The calls that a run makes of its reader and its writer: what one call does is the stream's own relation, as `Source` and `Sink` of `src/ends` say.
--- Source: this profile.
 use Rattle.std.specs.Prelude.{◌≡◌, ℕ, zero, suc, ◌+◌, ◌⊎◌, List, Result, Ok, Err}
 use Rattle.std.specs.declared.io.Error.{Error}
-use Rattle.street_stream.specs.declared.answer.Cause.{Cause}
-use Rattle.street_stream.specs.declared.answer.Cause.TheVariants.{Run, Line}
+use Rattle.street_stream.specs.declared.answer.StopCause.{StopCause}
+use Rattle.street_stream.specs.declared.answer.StopCause.TheVariants.{Run, Line}
 use Rattle.street_stream.specs.declared.tally.FaultKind.TheVariants.{Read, Write, Starved, Endless}
 
 -- what a read gives, what a write takes, and what a flush does
@@ -62,7 +61,7 @@ module _ {R W : Type 0} (gives : Gives R) (takes : Takes W) (passes : Passes W) 
       (rounds : ℕ) × (mid : R) × (between : W) × (n ≡ rounds + 1) × AreRounds rounds reader writer mid between × reads mid read × writes between written
 
   -- what a run of so many reads called before it ended: a read that failed was the last call, and a run of too many reads ended with a flush
-  abbrev pub BreaksOff : {S : Type 0} → Cause S → ℕ → R → W → R → W → Type 0
+  abbrev pub BreaksOff : {S : Type 0} → StopCause S → ℕ → R → W → R → W → Type 0
   BreaksOff (Run Read) n = EndsIn (IsReadThatFailed gives) (λ old new. new ≡ old) n
   BreaksOff (Run Endless) n = AreRounds n
   BreaksOff (Run Write) n = EndsIn (IsRead gives) (IsCutShort takes passes) n

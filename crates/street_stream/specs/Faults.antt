@@ -1,9 +1,8 @@
 -- What causes each fault of a run, where in the run it comes, and what it leaves counted.
--- Source: this profile.
 use Rattle.std.specs.Prelude.{◌≡◌, ℕ, ◌+◌, ◌<◌, ◌⊎◌, List, length, ⊤}
 use Rattle.street_stream.specs.Streams.{HasFailed, IsLastRead}
-use Rattle.street_stream.specs.declared.answer.Cause.{Cause}
-use Rattle.street_stream.specs.declared.answer.Cause.TheVariants.{Run, Line}
+use Rattle.street_stream.specs.declared.answer.StopCause.{StopCause}
+use Rattle.street_stream.specs.declared.answer.StopCause.TheVariants.{Run, Line}
 use Rattle.street_stream.specs.declared.counted.Counted.{Counted}
 use Rattle.street_stream.specs.declared.tally.FaultKind.{FaultKind}
 use Rattle.street_stream.specs.declared.tally.FaultKind.TheVariants.{Read, Write, Starved, Endless}
@@ -26,12 +25,12 @@ IsCaused Write reader writer reads = IsCausedByWriting Write writer
 IsCaused Starved reader writer reads = IsCausedByWriting Starved writer
 
 -- a line that ends a run says why itself
-abbrev pub IsCausedBy : {S R W : Type 0} → Cause S → Counted R → Counted W → ℕ → Type 0
+abbrev pub IsCausedBy : {S R W : Type 0} → StopCause S → Counted R → Counted W → ℕ → Type 0
 IsCausedBy (Run kind) reader writer reads = IsCaused kind reader writer reads
 IsCausedBy (Line stop) reader writer reads = ⊤
 
 -- so while a line is handled, when nothing is read
-abbrev pub IsCausedByLine : {S W : Type 0} → Cause S → Counted W → Type 0
+abbrev pub IsCausedByLine : {S W : Type 0} → StopCause S → Counted W → Type 0
 IsCausedByLine (Run kind) writer = IsCausedByWriting kind writer
 IsCausedByLine (Line stop) writer = ⊤
 

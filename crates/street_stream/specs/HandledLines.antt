@@ -1,14 +1,13 @@
 -- Lines that are handled one after another.
--- Source: this profile.
 use Rattle.std.specs.Prelude.{◌≡◌, ℕ, ◌+◌, ◌<◌, ◌≤◌, ◌⊎◌, List, [], ◌∷◌, ◌++◌, length, take, Bool, true, false, Option, Some, None, Result, Ok, Err, IfOk, IfErr, Vec, count_by}
 use Rattle.std.specs.Io.KnownBytes.{Appends, Consumes, IsAtEnd}
 use Rattle.std.specs.declared.alloc.Global.{Global}
 use Rattle.street_base.specs.declared.reply.Starved.{Starved}
 use Rattle.street_stream.specs.Faults.{IsAtRead, IsCausedBy, CountsReplies}
 use Rattle.street_stream.specs.Lines.{cut, lines_of}
-use Rattle.street_stream.specs.declared.answer.Answer.{Answer}
-use Rattle.street_stream.specs.declared.answer.Cause.{Cause}
-use Rattle.street_stream.specs.declared.answer.Cause.TheVariants.{Run, Line}
+use Rattle.street_stream.specs.declared.answer.LineAnswer.{LineAnswer}
+use Rattle.street_stream.specs.declared.answer.StopCause.{StopCause}
+use Rattle.street_stream.specs.declared.answer.StopCause.TheVariants.{Run, Line}
 use Rattle.street_stream.specs.declared.answer.Halt.{Halt}
 use Rattle.street_stream.specs.declared.counted.Counted.{Counted}
 use Rattle.street_stream.specs.declared.tally.Tally.{Tally}
@@ -41,7 +40,7 @@ GivesText (Ok (Some text)) reply = reply ≡ Some text.items
 GivesText (Err starved) reply = (out : List ℕ) × (0 < length out) × (reply ≡ Some out)
 
 -- the answer tells what the line gave
-pub record Gives (answer : Answer) (effect : Effect) : Type 0 where
+pub record Gives (answer : LineAnswer) (effect : Effect) : Type 0 where
   pub is_call : answer.is_call ≡ effect.is_call
   pub text : GivesText answer.reply effect.reply
 
@@ -52,7 +51,7 @@ pub record Meaning (S Stop : Type 0) : Type 1 where
   pub stops : S → List ℕ → Stop → S → Type 0
 
 -- the line was handled, and the answer tells what it gave
-abbrev pub Handled : {S : Type 0} → (S → List ℕ → Effect → S → Type 0) → S → List ℕ → S → Answer → Type 0
+abbrev pub Handled : {S : Type 0} → (S → List ℕ → Effect → S → Type 0) → S → List ℕ → S → LineAnswer → Type 0
 Handled takes old line new answer = (effect : Effect) × takes old line effect new × Gives answer effect
 
 -- ---- lines
@@ -113,7 +112,7 @@ pub record IsNext (at_end : Type 0) (text : List ℕ) (done : List (List ℕ)) (
 -- a line that ended the run is counted, and all before it is whole; a fault of the run leaves the state of the lines that were handled, and at a read
 -- these are all lines that were read to their end, and their replies are whole
 abbrev pub Leaves : {S Stop : Type 0} → (S → List ℕ → Stop → S → Type 0)
-    → Type 0 → List ℕ → List (List ℕ) → List Effect → S → S → Cause Stop → Tally → Type 0
+    → Type 0 → List ℕ → List (List ℕ) → List Effect → S → S → StopCause Stop → Tally → Type 0
 Leaves stops at_end text done effects mid now (Run kind) tally =
     (now ≡ mid) × (tally.lines ≡ length done) × (IsAtRead kind → (done ≡ (cut text).0) × (tally.bytes ≡ length (output effects)))
 Leaves stops at_end text done effects mid now (Line stop) tally =
@@ -121,7 +120,7 @@ Leaves stops at_end text done effects mid now (Line stop) tally =
 
 -- the first lines of the text were handled, and of their output the first bytes are written; the last reply alone may be cut off
 pub record Breaks {S Stop : Type 0} (takes : S → List ℕ → Effect → S → Type 0) (stops : S → List ℕ → Stop → S → Type 0) (at_end : Type 0)
-    (start : S) (before : Option (List ℕ)) (text : List ℕ) (now : S) (after : Option (List ℕ)) (cause : Cause Stop) (tally : Tally) : Type 0 where
+    (start : S) (before : Option (List ℕ)) (text : List ℕ) (now : S) (after : Option (List ℕ)) (cause : StopCause Stop) (tally : Tally) : Type 0 where
   -- the lines that were handled, those that were not, and what the first gave
   pub done : List (List ℕ)
   pub rest : List (List ℕ)
@@ -138,7 +137,7 @@ pub record Breaks {S Stop : Type 0} (takes : S → List ℕ → Effect → S →
 
 -- so of what was read
 pub record Broke {S Stop : Type 0} (takes : S → List ℕ → Effect → S → Type 0) (stops : S → List ℕ → Stop → S → Type 0)
-    (start : S) (unread before : Option (List ℕ)) (now : S) (left after : Option (List ℕ)) (cause : Cause Stop) (tally : Tally) : Type 0 where
+    (start : S) (unread before : Option (List ℕ)) (now : S) (left after : Option (List ℕ)) (cause : StopCause Stop) (tally : Tally) : Type 0 where
   pub text : List ℕ
   pub read : Consumes unread left text
   pub breaks : Breaks takes stops (IsAtEnd left) start before text now after cause tally

@@ -1,5 +1,4 @@
 -- The lines of a text, and what is kept of a line while it is read.
--- Source: this profile.
 use Rattle.std.specs.Prelude.{◌≡◌, ◌≢◌, ℕ, ◌+◌, ◌<◌, ◌==◌, ◌||◌, ◌&&◌, List, [], ◌∷◌, ◌++◌, length, slice_index, take, Bool, true, if◌then◌else◌}
 use Rattle.street_stream.specs.declared.part.PartialLine.{PartialLine}
 

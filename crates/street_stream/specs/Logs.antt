@@ -1,5 +1,4 @@
 -- What a log holds, and what a text that follows it finds there.
--- Source: this profile.
 use Rattle.std.specs.Prelude.{◌≡◌, ℕ, ◌≤◌, List, length, take, Option}
 use Rattle.std.specs.Io.KnownBytes.{Appends}
 use Rattle.street_stream.specs.Streams.{HasFailed}
@@ -12,11 +11,12 @@ abbrev pub Extends : Option (List ℕ) → Option (List ℕ) → Type 0
 Extends old new = (more : List ℕ) × Appends old new more
 
 module _ {L W : Type 0} (held synced : L → Option (List ℕ)) (has_failed : L → Type 0) (contents : W → Option (List ℕ)) where
-  -- the log failed: it has the first bytes of the entries, what was synced stays, and the writer was not called; or the writer failed: the log has all entries,
+  -- the log failed: it has the first bytes of the entries, of which the first may stay, and the writer was not called; or the writer failed: the log has all entries,
   -- synced, and the writer the first bytes of the replies
   abbrev pub KeepStops : L → Counted W → List ℕ → List ℕ → L → Counted W → KeepFault → Type 0
   KeepStops old writer entries replies new written Log =
-      (written ≡ writer) × ((sent : ℕ) × Appends (held old) (held new) (take sent entries)) × Extends (synced old) (synced new) × has_failed new
+      (written ≡ writer) × ((sent : ℕ) × (stayed : ℕ) × (stayed ≤ sent) × Appends (held old) (held new) (take sent entries) × Appends (synced old) (synced new) (take stayed entries))
+      × has_failed new
   KeepStops old writer entries replies new written Output =
       Appends (held old) (held new) entries × (synced new ≡ held new)
       × ((sent : ℕ) × (sent ≤ length replies) × Appends (contents writer.stream) (contents written.stream) (take sent replies)) × HasFailed written

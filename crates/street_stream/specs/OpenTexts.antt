@@ -1,9 +1,10 @@
 -- A text whose lines are handled a part at a time.
--- Source: this profile.
-use Rattle.std.specs.Prelude.{ℕ, List, Option}
+use Rattle.std.specs.Prelude.{◌≡◌, ℕ, ◌+◌, List, ◌∷◌, ◌++◌, length, Option}
 use Rattle.std.specs.Io.KnownBytes.{Appends}
 use Rattle.street_stream.specs.HandledLines.{Effect, Meaning, Handles, output, IsTally}
-use Rattle.street_stream.specs.Lines.{IsInsideLine, IsPart}
+use Rattle.street_stream.specs.Lines.{cut, lines_of, IsInsideLine, IsPart}
+use Rattle.street_stream.specs.declared.answer.StopCause.{StopCause}
+use Rattle.street_stream.specs.declared.answer.StopCause.TheVariants.{Run, Line}
 use Rattle.street_stream.specs.declared.counted.Counted.{Counted}
 use Rattle.street_stream.specs.declared.open_text.OpenText.{OpenText}
 use Rattle.street_stream.specs.declared.tally.Tally.{Tally}
@@ -20,3 +21,10 @@ pub record HandlesTo {S Stop W : Type 0} (meaning : Meaning S Stop) (contents : 
   pub handled : Handles meaning.takes old ls effects new
   pub replied : Appends (contents writer.stream) (contents written.stream) (output effects)
   pub counted : IsTally tally ls effects
+
+-- the first lines of the text were handled, and no more; or the next, which has ended, ended the run, and is counted too
+abbrev pub HaltsIn : {S Stop : Type 0} → Meaning S Stop → S → List ℕ → S → StopCause Stop → Tally → Type 0
+HaltsIn meaning old text new (Run kind) tally = (done : List (List ℕ)) × (rest : List (List ℕ)) × (effects : List Effect)
+    × (lines_of text ≡ done ++ rest) × Handles meaning.takes old done effects new × (tally.lines ≡ length done)
+HaltsIn {S} meaning old text new (Line stop) tally = (done : List (List ℕ)) × (line : List ℕ) × (rest : List (List ℕ)) × (effects : List Effect) × (mid : S)
+    × ((cut text).0 ≡ done ++ line ∷ rest) × Handles meaning.takes old done effects mid × meaning.stops mid line stop new × (tally.lines ≡ length done + 1)

@@ -1,12 +1,11 @@
 -- A run of lines as far as it has come.
--- Source: this profile.
 use Rattle.std.specs.Prelude.{◌≡◌, ℕ, ◌+◌, ◌*◌, ◌^◌, ◌<◌, ◌≤◌, List, [], ◌++◌, length, take, if◌then◌else◌, Option, Some, Result, Ok, Err, OnOk, IfErr, ⊤}
 use Rattle.std.specs.Io.KnownBytes.{Appends}
 use Rattle.street_stream.specs.Faults.{IsAtRead, IsCausedByLine}
 use Rattle.street_stream.specs.HandledLines.{Effect, Meaning, has_reply, text_in, Handles, output, IsTally, Breaks}
 use Rattle.street_stream.specs.Lines.{cut, lines_of, IsPart}
-use Rattle.street_stream.specs.declared.answer.Cause.{Cause}
-use Rattle.street_stream.specs.declared.answer.Cause.TheVariants.{Run, Line}
+use Rattle.street_stream.specs.declared.answer.StopCause.{StopCause}
+use Rattle.street_stream.specs.declared.answer.StopCause.TheVariants.{Run, Line}
 use Rattle.street_stream.specs.declared.answer.Halt.{Halt}
 use Rattle.street_stream.specs.declared.counted.Counted.{Counted}
 use Rattle.street_stream.specs.declared.driver.Progress.{Progress}
@@ -56,7 +55,7 @@ pub record IsHalf {S : Type 0} (takes : S → List ℕ → Effect → S → Type
 
 -- a line ended the run, or its reply was not written whole
 abbrev pub LineBreaks : {S Stop : Type 0} (takes : S → List ℕ → Effect → S → Type 0) (stops : S → List ℕ → Stop → S → Type 0)
-    → S → Option (List ℕ) → Tally → List ℕ → S → Option (List ℕ) → Cause Stop → Tally → Type 0
+    → S → Option (List ℕ) → Tally → List ℕ → S → Option (List ℕ) → StopCause Stop → Tally → Type 0
 LineBreaks takes stops old before tally line new after (Run kind) counted = (IsAtRead kind → ⊥) × IsHalf takes old before tally line new after counted
 LineBreaks takes stops old before tally line new after (Line stop) counted = stops old line stop new × IsUntouched before tally after counted
 
@@ -88,13 +87,13 @@ module _ {S : Type 0} (takes : S → List ℕ → Effect → S → Type 0) (long
 
 module _ {S Stop : Type 0} (takes : S → List ℕ → Effect → S → Type 0) (stops : S → List ℕ → Stop → S → Type 0) (longest : ℕ) where
   -- the run ended while these bytes were fed, whatever follows them in the text
-  abbrev pub FeedBreaks : S → Option (List ℕ) → Progress → List ℕ → S → Option (List ℕ) → Cause Stop → Tally → Type 0
+  abbrev pub FeedBreaks : S → Option (List ℕ) → Progress → List ℕ → S → Option (List ℕ) → StopCause Stop → Tally → Type 0
   FeedBreaks old written progress bytes new written_then cause tally =
       (start : S) (before : Option (List ℕ)) (seen : List ℕ) → Stands takes longest start before seen old written progress
       → (more : List ℕ) → Breaks takes stops ⊥ start before (seen ++ (bytes ++ more)) new written_then cause tally
 
   -- the run ended at the end of the text
-  abbrev pub FinishBreaks : S → Option (List ℕ) → Progress → S → Option (List ℕ) → Cause Stop → Tally → Type 0
+  abbrev pub FinishBreaks : S → Option (List ℕ) → Progress → S → Option (List ℕ) → StopCause Stop → Tally → Type 0
   FinishBreaks old written progress new written_then cause tally =
       (start : S) (before : Option (List ℕ)) (seen : List ℕ) → Stands takes longest start before seen old written progress
       → Breaks takes stops ⊤ start before seen new written_then cause tally
@@ -108,7 +107,7 @@ module _ {S Stop W : Type 0} (meaning : Meaning S Stop) (contents : W → Option
       Taken meaning.takes meaning.longest old (contents writer.stream) part tally new (contents written.stream) counted
 
   -- it ended the run, or its reply is not whole in the writer
-  abbrev pub TakeStops : S → Counted W → PartialLine → Tally → S → Counted W → Tally → Cause Stop → Type 0
+  abbrev pub TakeStops : S → Counted W → PartialLine → Tally → S → Counted W → Tally → StopCause Stop → Type 0
   TakeStops old writer part tally new written counted cause = (line : List ℕ) → IsPart meaning.longest part line
       → LineBreaks meaning.takes meaning.stops old (contents writer.stream) tally line new (contents written.stream) cause counted
 
@@ -118,7 +117,7 @@ module _ {S Stop W : Type 0} (meaning : Meaning S Stop) (contents : W → Option
       Feeds meaning.takes meaning.longest old (contents writer.stream) progress bytes new (contents written.stream) fed
 
   -- the run ended while they were fed
-  abbrev pub FeedStops : S → Counted W → Progress → List ℕ → S → Counted W → Progress → Cause Stop → Type 0
+  abbrev pub FeedStops : S → Counted W → Progress → List ℕ → S → Counted W → Progress → StopCause Stop → Type 0
   FeedStops old writer progress bytes new written fed cause =
       FeedBreaks meaning.takes meaning.stops meaning.longest old (contents writer.stream) progress bytes new (contents written.stream) cause fed.tally
 
@@ -128,12 +127,12 @@ module _ {S Stop W : Type 0} (meaning : Meaning S Stop) (contents : W → Option
       Finishes meaning.takes meaning.longest old (contents writer.stream) progress new (contents written.stream) ended.tally
 
   -- the run ended there by a fault, or by that line
-  abbrev pub FinishStops : S → Counted W → Progress → S → Counted W → Progress → Cause Stop → Type 0
+  abbrev pub FinishStops : S → Counted W → Progress → S → Counted W → Progress → StopCause Stop → Type 0
   FinishStops old writer progress new written ended cause =
       FinishBreaks meaning.takes meaning.stops meaning.longest old (contents writer.stream) progress new (contents written.stream) cause ended.tally
 
   -- what became of the line of this part: it was handled and counted; or it ended the run, or its reply is not whole, and why is told
-  pub record TakesLine (old : S) (writer : Counted W) (part : PartialLine) (tally : Tally) (done : Result (Unit {0}) (Cause Stop))
+  pub record TakesLine (old : S) (writer : Counted W) (part : PartialLine) (tally : Tally) (done : Result (Unit {0}) (StopCause Stop))
       (new : S) (written : Counted W) (counted : Tally) : Type 0 where
     pub taken : OnOk done (TakesTo old writer part tally new written counted)
     pub grows : OnOk done (Grows tally counted 1)
@@ -141,7 +140,7 @@ module _ {S Stop W : Type 0} (meaning : Meaning S Stop) (contents : W → Option
     pub caused : IfErr done (λ cause. IsCausedByLine cause written)
 
   -- what became of these bytes, in which so many lines end at most: they were fed, or the run ended in them, and why is told
-  pub record FeedsBytes (old : S) (writer : Counted W) (progress : Progress) (bytes : List ℕ) (lines : ℕ) (done : Result (Unit {0}) (Cause Stop))
+  pub record FeedsBytes (old : S) (writer : Counted W) (progress : Progress) (bytes : List ℕ) (lines : ℕ) (done : Result (Unit {0}) (StopCause Stop))
       (new : S) (written : Counted W) (fed : Progress) : Type 0 where
     pub feeds : OnOk done (FeedsTo old writer progress bytes new written fed)
     pub grows : OnOk done (Grows progress.tally fed.tally lines)
@@ -149,7 +148,7 @@ module _ {S Stop W : Type 0} (meaning : Meaning S Stop) (contents : W → Option
     pub caused : IfErr done (λ cause. IsCausedByLine cause written)
 
   -- what became of the end of the text: a last line without an end, if there was one, was handled, or it ended the run, and why is told
-  pub record FinishesText (old : S) (writer : Counted W) (progress : Progress) (done : Result (Unit {0}) (Cause Stop))
+  pub record FinishesText (old : S) (writer : Counted W) (progress : Progress) (done : Result (Unit {0}) (StopCause Stop))
       (new : S) (written : Counted W) (over : Progress) : Type 0 where
     pub finishes : OnOk done (FinishesTo old writer progress new written over)
     pub grows : OnOk done (Grows progress.tally over.tally 1)
@@ -157,6 +156,6 @@ module _ {S Stop W : Type 0} (meaning : Meaning S Stop) (contents : W → Option
     pub caused : IfErr done (λ cause. IsCausedByLine cause written)
 
 -- how a run ended that has come so far
-abbrev pub ended : {T Stop : Type 0} → Result T (Cause Stop) → Progress → Result Tally (Halt Stop)
+abbrev pub ended : {T Stop : Type 0} → Result T (StopCause Stop) → Progress → Result Tally (Halt Stop)
 ended (Ok done) progress = Ok progress.tally
 ended (Err cause) progress = Err (record { cause = cause; tally = progress.tally })

@@ -1,5 +1,4 @@
 -- What a stream counts, and what a tally counts of a reply.
--- Source: this profile.
 use Rattle.std.specs.Prelude.{◌≡◌, ℕ, ◌+◌, ◌-◌, ◌^◌, ◌<◌, min, List, length, take, Option, true}
 use Rattle.std.specs.Io.KnownBytes.{Appends}
 use Rattle.street_stream.specs.declared.counted.Counted.{Counted}

@@ -1,16 +1,14 @@
-//! What a line gave, and why a run of lines ends.
-//!
-//! Source: this profile.
+//! What a line gave, and why a run of lines ends. A handler of lines gives them to `driver.rt` and `open_text.rt`.
 ghost use Rattle.std.specs.Prelude.{◌≡◌};
 ghost use Rattle.street_stream.specs.declared.tally.FaultKind.TheVariants as kinds;
-ghost use Rattle.street_stream.specs.declared.answer.Cause.TheVariants as causes;
+ghost use Rattle.street_stream.specs.declared.answer.StopCause.TheVariants as causes;
 
 use crate::tally::{FaultKind, Tally};
 use street_base::Starved;
 
 /// What a line gave.
 #[derive(Drop)]
-pub struct Answer {
+pub struct LineAnswer {
     /// Whether it was a call, which the tally counts.
     pub is_call: bool,
     /// The text of its reply with LF, or none where it gets no reply; or memory ran out for the text.
@@ -19,7 +17,7 @@ pub struct Answer {
 
 /// Why a run of lines ended before its text did.
 #[derive(Drop)]
-pub enum Cause<S> {
+pub enum StopCause<S> {
     /// A read or a write failed, memory ran out, or the reads ran out.
     Run(FaultKind),
     /// A line ended it.
@@ -30,25 +28,25 @@ pub enum Cause<S> {
 #[derive(Drop)]
 pub struct Halt<S> {
     /// Why.
-    pub cause: Cause<S>,
+    pub cause: StopCause<S>,
     /// What was done before; a line that ended the run is counted among the lines.
     pub tally: Tally,
 }
 
-impl<S> From<FaultKind> for Cause<S> {
+impl<S> From<FaultKind> for StopCause<S> {
     ghost from_gives = { λ kind cause. cause ≡ causes.Run kind };
 
     /// A fault of a run, as the cause that ended it.
-    fn from(kind: FaultKind) -> Cause<S> {
-        Cause::Run(kind)
+    fn from(kind: FaultKind) -> StopCause<S> {
+        StopCause::Run(kind)
     }
 }
 
-impl<S> From<Starved> for Cause<S> {
+impl<S> From<Starved> for StopCause<S> {
     ghost from_gives = { λ _ cause. cause ≡ causes.Run kinds.Starved };
 
     /// Lack of memory, as the cause that ended a run: the fault `Starved`.
-    fn from(_error: Starved) -> Cause<S> {
-        Cause::Run(FaultKind::Starved)
+    fn from(_error: Starved) -> StopCause<S> {
+        StopCause::Run(FaultKind::Starved)
     }
 }

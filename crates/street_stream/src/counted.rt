@@ -1,7 +1,6 @@
-//! Readers and writers that count their calls, and keep whether each read came behind a flush.
-//!
-//! Source: this profile. Counts stop at the greatest `u64`. Each call makes one call of the stream that is counted, and gives its
-//! result: see [`crate::Source`] and [`crate::Sink`].
+//! Readers and writers that count their calls, and keep whether each read came behind a flush. Counts stop at the greatest
+//! `u64`. Each call makes one call of the stream that is counted, and gives its result: see [`crate::Source`] and
+//! [`crate::Sink`]. Every run of lines reads and writes by it.
 ghost use Rattle.std.specs.Prelude.{◌≡◌, ◌==◌, ◌||◌, ◌&&◌, OnOk, OnErr, IfOk, if◌then◌else◌, true, false};
 ghost use Rattle.std.specs.Io.KnownBytes.{Keeps, ReadConsumes, WriteAppends};
 ghost use Rattle.std.specs.Io.{ReadsAtMost, WritesAtMost};

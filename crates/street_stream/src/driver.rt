@@ -1,6 +1,5 @@
-//! The lines of a text, cut out of reads and handled one after another.
-//!
-//! Source: this profile. Each reply is written, and passed on, before the next read.
+//! The lines of a text, cut out of reads and handled one after another. Each reply is written, and passed on, before the next
+//! read. `street_line` and `street_tape` call it with a handler of lines.
 ghost use Rattle.std.specs.Prelude.{◌≡◌, ◌+◌, ◌^◌, ◌<◌, [], ◌∷◌, ◌++◌, IfOk, OnOk, IfErr, OnErr, length};
 ghost use Rattle.street_stream.specs.Calls.{OnlyWrites, PassesOn, IsCutShort, AreRounds, BreaksOff};
 ghost use Rattle.street_stream.specs.Streams.{IsFlushed, IsFresh, IsPrompt};
@@ -8,7 +7,7 @@ ghost use Rattle.street_stream.specs.HandledLines.{Drives, IsTally};
 ghost use Rattle.street_stream.specs.Lines.{IsInsideLine, IsPart};
 ghost use Rattle.street_stream.specs.Progress.{IsWithin, TakesLine, FeedsBytes, FinishesText, ended};
 
-use crate::answer::{Answer, Cause, Halt};
+use crate::answer::{Halt, LineAnswer, StopCause};
 use crate::counted::Counted;
 use crate::ends::{Sink, Source};
 use crate::handler::LineHandler;
@@ -23,7 +22,7 @@ pub const READ_SIZE: usize = 4096;
 
 /// What a run may come to.
 #[derive(Debug, Clone, Copy, PartialEq, Eq)]
-pub struct Limits {
+pub struct RunLimits {
     /// The most bytes of a line, its LF not counted.
     pub line: usize,
     /// The most calls of `read`.
@@ -49,7 +48,7 @@ fn end_line<H: LineHandler, W: Sink>(
     writer: &mut Counted<W>,
     part: &PartialLine,
     tally: &mut Tally,
-) -> Result<(), Cause<H::Stop>>
+) -> Result<(), StopCause<H::Stop>>
     requires ready { H.ready }
     requires within { IsWithin tally.old }
     requires room { tally.old.lines < 2 ^ 62 }
@@ -60,9 +59,9 @@ fn end_line<H: LineHandler, W: Sink>(
     tally.lines += 1;
     let answer = match handler.take(alloc, part) {
         Ok(answer) => answer,
-        Err(stop) => return Err(Cause::Line(stop)),
+        Err(stop) => return Err(StopCause::Line(stop)),
     };
-    let Answer { is_call, reply } = answer;
+    let LineAnswer { is_call, reply } = answer;
     if is_call {
         tally.calls += 1;
     }
@@ -83,7 +82,7 @@ fn take_line<H: LineHandler, W: Sink>(
     writer: &mut Counted<W>,
     progress: &mut Progress,
     bytes: &[u8],
-) -> Result<(), Cause<H::Stop>>
+) -> Result<(), StopCause<H::Stop>>
     requires ready { H.ready }
     requires inside { IsInsideLine bytes.now }
     requires within { IsWithin progress.old.tally }
@@ -110,7 +109,7 @@ pub(crate) fn feed<H: LineHandler, W: Sink>(
     writer: &mut Counted<W>,
     progress: &mut Progress,
     bytes: &[u8],
-) -> Result<(), Cause<H::Stop>>
+) -> Result<(), StopCause<H::Stop>>
     requires ready { H.ready }
     requires within { IsWithin progress.old.tally }
     requires room { progress.old.tally.lines + length bytes.now < 2 ^ 62 }
@@ -134,7 +133,7 @@ fn feed_through<H: LineHandler, W: Sink>(
     writer: &mut Counted<W>,
     progress: &mut Progress,
     bytes: &[u8],
-) -> Result<(), Cause<H::Stop>>
+) -> Result<(), StopCause<H::Stop>>
     requires ready { H.ready }
     requires within { IsWithin progress.old.tally }
     requires room { progress.old.tally.lines + length bytes.now < 2 ^ 62 }
@@ -159,7 +158,7 @@ pub(crate) fn finish<H: LineHandler, W: Sink>(
     handler: &mut H,
     writer: &mut Counted<W>,
     progress: &mut Progress,
-) -> Result<(), Cause<H::Stop>>
+) -> Result<(), StopCause<H::Stop>>
     requires ready { H.ready }
     requires within { IsWithin progress.old.tally }
     requires room { progress.old.tally.lines < 2 ^ 62 }
@@ -180,7 +179,7 @@ fn finish_through<H: LineHandler, W: Sink>(
     handler: &mut H,
     writer: &mut Counted<W>,
     progress: &mut Progress,
-) -> Result<(), Cause<H::Stop>>
+) -> Result<(), StopCause<H::Stop>>
     requires ready { H.ready }
     requires within { IsWithin progress.old.tally }
     requires room { progress.old.tally.lines < 2 ^ 62 }
@@ -208,7 +207,7 @@ fn drive_all<H: LineHandler, R: Source, W: Sink>(
     writer: &mut Counted<W>,
     reads: u32,
     progress: &mut Progress,
-) -> Result<(), Cause<H::Stop>>
+) -> Result<(), StopCause<H::Stop>>
     requires ready { H.ready }
     requires fresh { IsFresh reader.old }
     requires begun { IsPart H.meaning.longest progress.old.part [] × IsTally progress.old.tally [] [] }
@@ -226,7 +225,7 @@ fn drive_all<H: LineHandler, R: Source, W: Sink>(
     for _ in 0..reads {
         let count = match reader.read_behind(writer, &mut buffer) {
             Ok(count) => count,
-            Err(_) => return Err(Cause::Run(FaultKind::Read)),
+            Err(_) => return Err(StopCause::Run(FaultKind::Read)),
         };
         if count == 0 {
             finish_through(alloc, handler, writer, progress)?;
@@ -234,7 +233,7 @@ fn drive_all<H: LineHandler, R: Source, W: Sink>(
         }
         feed_through(alloc, handler, writer, progress, &buffer[..count])?;
     }
-    Err(Cause::Run(FaultKind::Endless))
+    Err(StopCause::Run(FaultKind::Endless))
 }
 
 /// Hands each line of a text to the handler, in order and once, and writes each reply, and passes it on, before the next
@@ -261,7 +260,7 @@ pub fn drive_lines<H: LineHandler, R: Source, W: Sink>(
     handler: &mut H,
     reader: &mut Counted<R>,
     writer: &mut Counted<W>,
-    limits: Limits,
+    limits: RunLimits,
 ) -> Result<Tally, Halt<H::Stop>>
     requires ready { H.ready }
     requires longest { limits.line ≡ H.meaning.longest }

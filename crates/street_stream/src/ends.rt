@@ -1,7 +1,6 @@
-//! Readers and writers of which a contract can say that they were called.
-//!
-//! Source: this profile. The traits of std say what a call does to the bytes, where those are known, and not that a call was
-//! made. The relations here are each stream's own: only a call of it shows that they hold.
+//! Readers and writers of which a contract can say that they were called. The traits of std say what a call does to the bytes,
+//! where those are known, and not that a call was made. The relations here are each stream's own: only a call of it shows that
+//! they hold. `counted.rt` calls them.
 
 use std::io;
 use std::io::{Read, Write};

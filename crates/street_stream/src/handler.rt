@@ -1,11 +1,9 @@
-//! What is done with the lines of a text.
-//!
-//! Source: this profile.
+//! What is done with the lines of a text. `driver.rt` and `open_text.rt` call it for each line.
 ghost use Rattle.std.specs.Prelude.{List, ℕ, IfOk, IfErr};
 ghost use Rattle.street_stream.specs.HandledLines.{Handled};
 ghost use Rattle.street_stream.specs.Lines.{IsPart};
 
-use crate::answer::Answer;
+use crate::answer::LineAnswer;
 use crate::part::PartialLine;
 use std::alloc::Global;
 
@@ -30,7 +28,7 @@ pub trait LineHandler {
     /// # Errors
     ///
     /// Why the run ends with this line: nothing was called or written of it.
-    fn take(&mut self, alloc: Global, line: &PartialLine) -> Result<Answer, Self::Stop>
+    fn take(&mut self, alloc: Global, line: &PartialLine) -> Result<LineAnswer, Self::Stop>
         requires { ready }
         ensures taken { (whole : List ℕ) → IsPart meaning.longest line.now whole
             → IfOk result (Handled meaning.takes self.old whole self.new) }

@@ -18,12 +18,12 @@ mod part;
 mod tally;
 mod writes;
 
-pub use answer::{Answer, Cause, Halt};
+pub use answer::{Halt, LineAnswer, StopCause};
 pub use counted::Counted;
-pub use driver::{Limits, READ_SIZE, drive_lines};
+pub use driver::{READ_SIZE, RunLimits, drive_lines};
 pub use ends::{Sink, Source};
 pub use handler::LineHandler;
-pub use log::{KeepFault, Log, keep_first};
+pub use log::{KeepFault, WriteAheadLog, keep_first};
 pub use open_text::{OpenText, cut_off_text, whole_lines};
 pub use part::PartialLine;
 pub use tally::{FaultKind, RunFault, Tally};

@@ -1,7 +1,6 @@
-//! What outlives the program: a log that is written, and synced, before anything else goes out.
-//!
-//! Source: this profile.
-ghost use Rattle.std.specs.Prelude.{◌≡◌, ◌<◌, OnOk, OnErr, IfErr, length, take};
+//! A write-ahead log: what outlives the program is written, and synced, before anything else goes out. A kept session of
+//! `street_line` calls it.
+ghost use Rattle.std.specs.Prelude.{◌≡◌, ◌<◌, ◌≤◌, ℕ, OnOk, OnErr, IfErr, length, take};
 ghost use Rattle.std.specs.Io.KnownBytes.{Appends};
 ghost use Rattle.street_stream.specs.Logs.{Extends, KeepStops};
 ghost use Rattle.street_stream.specs.Streams.{IsFlushed};
@@ -11,9 +10,9 @@ use crate::writes::{flush_out, write_text};
 use std::io;
 use std::io::Write;
 
-/// What outlives the program. `held` is the text that it was given, and `synced` the part of it that stays whatever happens;
+/// What outlives the program. `held` is the text that it was given, and `synced` the first part of it, which stays whatever happens;
 /// both may be unknown. `has_failed` tells that a call failed, or that one took no byte of some.
-pub trait Log {
+pub trait WriteAheadLog {
     ghost use Rattle.std.specs.Prelude.{◌≡◌, ◌<◌, List, ℕ, Option, OnOk, OnErr, IfOk, length};
     ghost use Rattle.std.specs.Io.KnownBytes.{Keeps, WriteAppends};
     ghost use Rattle.std.specs.Io.{WritesAtMost};
@@ -34,10 +33,12 @@ pub trait Log {
         ensures bound { WritesAtMost result bytes.now }
         ensures bytes { WriteAppends (held self.old) (held self.new) result bytes.now }
         ensures synced { Extends (synced self.old) (synced self.new) }
+        ensures within { Extends (synced self.new) (held self.new) }
         ensures empty { IfOk result (λ n. n ≡ 0 → 0 < length bytes.now → has_failed self.new) }
+        ensures sound { IfOk result (λ n. 0 < n → has_failed self.new → has_failed self.old) }
         ensures failed { OnErr result (has_failed self.new) };
 
-    /// Has all that it holds stay, whatever happens.
+    /// Has all that it holds stay, whatever happens, where no call has failed before. Behind a failure it promises nothing more.
     ///
     /// # Errors
     ///
@@ -45,7 +46,9 @@ pub trait Log {
     fn sync(&mut self) -> io::Result<()>
         ensures bytes { Keeps (held self.old) (held self.new) }
         ensures synced { Extends (synced self.old) (synced self.new) }
-        ensures whole { OnOk result (synced self.new ≡ held self.new) }
+        ensures within { Extends (synced self.new) (held self.new) }
+        ensures whole { (has_failed self.old → ⊥) → OnOk result (synced self.new ≡ held self.new) }
+        ensures sound { OnOk result (has_failed self.new → has_failed self.old) }
         ensures failed { OnErr result (has_failed self.new) };
 }
 
@@ -63,11 +66,13 @@ pub enum KeepFault {
 /// # Errors
 ///
 /// How many of them, the first, the log took before a call failed or took none.
-fn append_all<L: Log>(log: &mut L, text: &[u8]) -> Result<(), usize>
+fn append_all<L: WriteAheadLog>(log: &mut L, text: &[u8]) -> Result<(), usize>
     ensures written { OnOk result (Appends (L.held log.old) (L.held log.new) text.now) }
     ensures part { IfErr result (λ sent. (sent < length text.now) × Appends (L.held log.old) (L.held log.new) (take sent text.now)) }
     ensures synced { Extends (L.synced log.old) (L.synced log.new) }
+    ensures within { Extends (L.synced log.old) (L.held log.old) → Extends (L.synced log.new) (L.held log.new) }
     ensures failed { OnErr result (L.has_failed log.new) }
+    ensures sound { OnOk result (L.has_failed log.new → L.has_failed log.old) }
 {
     let mut at = 0;
     while at < text.len() {
@@ -84,17 +89,22 @@ fn append_all<L: Log>(log: &mut L, text: &[u8]) -> Result<(), usize>
 /// # Errors
 ///
 /// How many bytes of the entries the log took: all where the sync failed. They may be lost.
-fn keep<L: Log>(log: &mut L, entries: &[u8]) -> Result<(), usize>
-    requires { L.synced log.old ≡ L.held log.old }
+fn keep<L: WriteAheadLog>(log: &mut L, entries: &[u8]) -> Result<(), usize>
+    requires synced { L.synced log.old ≡ L.held log.old }
+    requires sound { L.has_failed log.old → ⊥ }
     ensures kept { OnOk result (Appends (L.held log.old) (L.held log.new) entries.now × (L.synced log.new ≡ L.held log.new)) }
     ensures part { IfErr result (λ sent. Appends (L.held log.old) (L.held log.new) (take sent entries.now)) }
-    ensures synced { Extends (L.synced log.old) (L.synced log.new) }
+    ensures synced { IfErr result (λ sent. (stayed : ℕ) × (stayed ≤ sent) × Appends (L.synced log.old) (L.synced log.new) (take stayed entries.now)) }
     ensures failed { OnErr result (L.has_failed log.new) }
+    ensures sound { OnOk result (L.has_failed log.new → L.has_failed log.old) }
 {
     if entries.is_empty() {
         return Ok(());
     }
-    append_all(log, entries)?;
+    match append_all(log, entries) {
+        Ok(()) => {}
+        Err(sent) => return Err(sent),
+    }
     if log.sync().is_err() {
         return Err(entries.len());
     }
@@ -108,16 +118,18 @@ fn keep<L: Log>(log: &mut L, entries: &[u8]) -> Result<(), usize>
 ///
 /// `Log` where the log failed: the writer was not called. `Output` where the writer did: the log holds all entries, synced, and
 /// the writer has the first bytes of the replies.
-pub fn keep_first<L: Log, W: Write>(
+pub fn keep_first<L: WriteAheadLog, W: Write>(
     log: &mut L,
     writer: &mut Counted<W>,
     entries: &[u8],
     replies: &[u8],
 ) -> Result<(), KeepFault>
-    requires { L.synced log.old ≡ L.held log.old }
+    requires synced { L.synced log.old ≡ L.held log.old }
+    requires sound { L.has_failed log.old → ⊥ }
     ensures kept { OnOk result (Appends (L.held log.old) (L.held log.new) entries.now × (L.synced log.new ≡ L.held log.new)) }
     ensures replied { OnOk result (Appends (W.contents writer.old.stream) (W.contents writer.new.stream) replies.now) }
     ensures flushed { OnOk result (IsFlushed writer.new) }
+    ensures sound { OnOk result (L.has_failed log.new → L.has_failed log.old) }
     ensures stops { IfErr result (KeepStops L.held L.synced L.has_failed W.contents log.old writer.old entries.now replies.now log.new writer.new) }
 {
     match keep(log, entries) {

@@ -1,10 +1,8 @@
-//! A text whose lines are handled a part at a time.
-//!
-//! Source: this profile.
+//! A text whose lines are handled a part at a time. Kept sessions, and lines that are done again, are handled so.
 ghost use Rattle.std.specs.Prelude.{◌≡◌, ◌+◌, ◌<◌, ◌≤◌, ◌^◌, ◌++◌, List, ℕ, [], IfOk, IfErr, IfSome, IsNone, length, take};
 ghost use Rattle.street_stream.specs.Faults.{IsCausedByLine};
 ghost use Rattle.street_stream.specs.Lines.{cut, if_any};
-ghost use Rattle.street_stream.specs.OpenTexts.{HandlesTo, IsOpen};
+ghost use Rattle.street_stream.specs.OpenTexts.{HaltsIn, HandlesTo, IsOpen};
 
 use crate::answer::Halt;
 use crate::counted::Counted;
@@ -62,6 +60,8 @@ impl OpenText {
             handler.old writer.old (cut (line ++ bytes.now)).0 handler.new writer.new) }
         ensures open { (line : List ℕ) → IsOpen H.meaning.longest self.old line → IfOk result (λ tally.
             IsOpen H.meaning.longest self.new (cut (line ++ bytes.now)).1) }
+        ensures halted { (line : List ℕ) → IsOpen H.meaning.longest self.old line → IfErr result (λ halt.
+            HaltsIn H.meaning handler.old (line ++ bytes.now) handler.new halt.cause halt.tally) }
         ensures caused { IfErr result (λ halt. IsCausedByLine halt.cause writer.new) }
     {
         self.progress.tally = NOTHING;

@@ -1,6 +1,5 @@
-//! A line as far as it was read.
-//!
-//! Source: this profile. A line of spaces, tabs and CR alone is blank, however long it is.
+//! A line as far as it was read. A line of spaces, tabs and CR alone is blank, however long it is. `driver.rt` gathers a line
+//! in it.
 ghost use Rattle.std.specs.Prelude.{◌≡◌, List, ℕ, [], ◌++◌, OnOk};
 ghost use Rattle.std.specs.List.{list_all};
 ghost use Rattle.street_stream.specs.Lines.{is_space, is_blank, kept, IsPart};

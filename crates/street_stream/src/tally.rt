@@ -1,6 +1,4 @@
-//! What a run counts, and how it may fail.
-//!
-//! Source: this profile.
+//! What a run counts, and how it may fail. `driver.rt` counts, and each run returns both.
 ghost use Rattle.std.specs.Prelude.{◌≡◌};
 ghost use Rattle.street_stream.specs.declared.tally.FaultKind.{FaultKind};
 ghost use Rattle.street_stream.specs.declared.tally.FaultKind.TheVariants as kinds;

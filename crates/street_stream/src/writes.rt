@@ -1,6 +1,4 @@
-//! Bytes that go out in parts.
-//!
-//! Source: this profile. A write that takes no bytes is a fault.
+//! Bytes that go out in parts. A write that takes no bytes is a fault. All that writes replies, tapes and records calls it.
 ghost use Rattle.std.specs.Prelude.{◌≡◌, ◌<◌, ◌+◌, ◌^◌, OnOk, OnErr, IfErr, Ok, Err, length, take};
 ghost use Rattle.std.specs.Io.KnownBytes.{Appends, Keeps};
 ghost use Rattle.std.specs.declared.io.Error.{Error};

@@ -15,7 +15,7 @@ use Rattle.street_desk.specs.declared.journal.Entry.{Entry}
 use Rattle.street_text.specs.ReplyLines.{items_from, number_data, node_data, link_data, turn_data, green_data, phase_data}
 use Rattle.street_tape.specs.Entries.{head_in, is_part, outcome_in, call_in, entry_in, OutcomeFits, EntryFits}
 use Rattle.street_tape.specs.Tapes.{outcome_data, entry_data, head_data, old_head_data}
-use Rattle.street_tape.specs.declared.head.Head.TheVariants.{Version1, Version2}
+use Rattle.street_tape.specs.declared.head.TapeHead.TheVariants.{Version1, Version2}
 use Rattle.street_tape.proofs.Unbroken.{is_clear, are_items_clear}
 use Rattle.street_text.proofs.Again.{command_again, command_plain}
 use Rattle.street_text.proofs.CommandData.{flat_command, whole_command}

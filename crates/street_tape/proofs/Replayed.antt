@@ -8,8 +8,8 @@ use Rattle.street_desk.specs.History.{state_from}
 use Rattle.street_stream.proofs.Handles.{all_replies}
 use Rattle.street_stream.specs.HandledLines.{Effect, has_text, has_reply, text_in, Handles, output, calls_in as calls_of_effects, replies_in, IsNext, Breaks as LinesBreak, Whole, Broke}
 use Rattle.street_stream.specs.Lines.{lines_of}
-use Rattle.street_stream.specs.declared.answer.Cause.{Cause}
-use Rattle.street_stream.specs.declared.answer.Cause.TheVariants as cause
+use Rattle.street_stream.specs.declared.answer.StopCause.{StopCause}
+use Rattle.street_stream.specs.declared.answer.StopCause.TheVariants as cause
 use Rattle.street_stream.specs.declared.tally.FaultKind.{FaultKind}
 use Rattle.street_stream.specs.declared.tally.Tally.{Tally}
 use Rattle.street_engine.specs.Prelude.{EngineView, StandsFor}
@@ -26,14 +26,14 @@ use Rattle.street_tape.specs.declared.fault.TapeFault.TheVariants as fault
 use Rattle.street_tape.proofs.Taken.{says, none_read, some_read, whole_read, missing_read, takes_more, refused_entry, refused_head}
 use Rattle.street_tape.specs.Entries.{calls_in}
 use Rattle.street_tape.specs.TapeLines.{Takes, Refuses, TakesAll, may_end}
-use Rattle.street_tape.specs.declared.head.Head.{Head}
+use Rattle.street_tape.specs.declared.head.TapeHead.{TapeHead}
 use Rattle.street_tape.specs.declared.tape.Stop.{Stop}
 use Rattle.street_tape.specs.declared.tape.Stop.TheVariants.{NotTape, BadEntry, Starved}
 
 -- ---- lines
 
 -- the lines said these calls, which were applied, and replied to
-record AreReplayed (m : State) (old : Option Head) (ls : List (List ℕ)) (es : List Entry) (effects : List Effect) (new : Option Head × EngineView) : Type 0 where
+record AreReplayed (m : State) (old : Option TapeHead) (ls : List (List ℕ)) (es : List Entry) (effects : List Effect) (new : Option TapeHead × EngineView) : Type 0 where
   taken : TakesAll old ls es new.0
   good : AreReplayable m es
   state : StandsFor new.1 (state_from m es)
@@ -41,7 +41,7 @@ record AreReplayed (m : State) (old : Option Head) (ls : List (List ℕ)) (es : 
   calls : calls_of_effects effects ≡ length es
   replies : replies_in effects ≡ length es
 
-line_more : (m : State) (old mid new : Option Head × EngineView) (l : List ℕ) (ls : List (List ℕ)) (call : Option Entry) (first : Effect) (rest : List Effect)
+line_more : (m : State) (old mid new : Option TapeHead × EngineView) (l : List ℕ) (ls : List (List ℕ)) (call : Option Entry) (first : Effect) (rest : List Effect)
     → Takes old.0 l call mid.0 → Applies old.1 call first mid.1 → StandsFor old.1 m → ((k : State) → StandsFor mid.1 k → (es : List Entry) × AreReplayed k mid.0 ls es rest new)
     → (es : List Entry) × AreReplayed m old.0 (l ∷ ls) es (first ∷ rest) new
 line_more m old mid new l ls None first rest takes applies stands later =
@@ -79,14 +79,14 @@ line_more m old mid new l ls (Some e) first rest takes applies stands later =
       },
     )
 
-replayed : (m : State) (old : Option Head × EngineView) (ls : List (List ℕ)) (effects : List Effect) (new : Option Head × EngineView) → Handles ReplaysLine old ls effects new → StandsFor old.1 m
+replayed : (m : State) (old : Option TapeHead × EngineView) (ls : List (List ℕ)) (effects : List Effect) (new : Option TapeHead × EngineView) → Handles ReplaysLine old ls effects new → StandsFor old.1 m
     → (es : List Entry) × AreReplayed m old.0 ls es effects new
 replayed m old [] effects new h stands = (
   [],
   record {
-    taken = (ap (λ (s : Option Head × EngineView). s.0) h.0, refl);
+    taken = (ap (λ (s : Option TapeHead × EngineView). s.0) h.0, refl);
     good = tt;
-    state = subst (λ (s : Option Head × EngineView). StandsFor s.1 m) (sym h.0) stands;
+    state = subst (λ (s : Option TapeHead × EngineView). StandsFor s.1 m) (sym h.0) stands;
     out = ap output h.1;
     calls = ap calls_of_effects h.1;
     replies = ap replies_in h.1;
@@ -98,15 +98,15 @@ replayed m old (l ∷ ls) effects new h stands =
     (all.0, subst (λ (es : List Effect). AreReplayed m old.0 (l ∷ ls) all.0 es new) (sym h.5) all.1)
 
 -- so from the first line on
-from_first : (start : Option Head × EngineView) → start.0 ≡ None → StandsFor start.1 None → (ls : List (List ℕ)) (effects : List Effect) (new : Option Head × EngineView) → Handles ReplaysLine start ls effects new
+from_first : (start : Option TapeHead × EngineView) → start.0 ≡ None → StandsFor start.1 None → (ls : List (List ℕ)) (effects : List Effect) (new : Option TapeHead × EngineView) → Handles ReplaysLine start ls effects new
     → (es : List Entry) × AreReplayed None None ls es effects new
 from_first start fresh stands ls effects new h =
     let all = replayed None start ls effects new h stands in
-    (all.0, subst (λ (o : Option Head). AreReplayed None o ls all.0 effects new) fresh all.1)
+    (all.0, subst (λ (o : Option TapeHead). AreReplayed None o ls all.0 effects new) fresh all.1)
 
 -- ---- a tape that was read to its end
 
-module _ (start : Option Head × EngineView) (fresh : start.0 ≡ None) (stands : StandsFor start.1 None) (unread before : Option (List ℕ)) (now : Option Head × EngineView) (left after : Option (List ℕ)) where
+module _ (start : Option TapeHead × EngineView) (fresh : start.0 ≡ None) (stands : StandsFor start.1 None) (unread before : Option (List ℕ)) (now : Option TapeHead × EngineView) (left after : Option (List ℕ)) where
   pub replays_whole : (tally : Tally) → Whole ReplaysLine start unread before now left after tally → may_end now.0 ≡ true → ReplaysWhole unread before now.1 left after tally
   replays_whole tally h end =
       let all = from_first start fresh stands (lines_of h.text) h.effects now h.handled in
@@ -124,7 +124,7 @@ module _ (start : Option Head × EngineView) (fresh : start.0 ≡ None) (stands 
         counted = record { lines = counted.lines; calls = counted.calls ∙ r.calls; replies = counted.replies ∙ r.replies; bytes = counted.bytes ∙ ap length r.out };
       }
 
-  missing_by : (rest : Option Head) (tally : Tally) (fault : TapeFault) (h : Whole ReplaysLine start unread before now left after tally) (es : List Entry)
+  missing_by : (rest : Option TapeHead) (tally : Tally) (fault : TapeFault) (h : Whole ReplaysLine start unread before now left after tally) (es : List Entry)
       → AreReplayed None None (lines_of h.text) es h.effects now → now.0 ≡ rest → Misses rest tally fault → ReplayStops unread before now.1 left after fault
   missing_by None tally fault.NotTape h es r is missing =
       let none = none_read (lines_of h.text) es (subst (TakesAll None (lines_of h.text) es) is r.taken) in
@@ -167,12 +167,12 @@ begun_none : (start : State) (done : List (List ℕ)) (es : List Entry) (rest : 
 begun_none start done es [] view h = h
 begun_none start done es (l ∷ ls) view h = inl h
 
-module _ (start : Option Head × EngineView) (fresh : start.0 ≡ None) (stands : StandsFor start.1 None) (at_end : Type 0) (before : Option (List ℕ)) (text : List ℕ) (now : Option Head × EngineView) (after : Option (List ℕ)) (tally : Tally) where
-  abbrev Broken : Cause Stop → Type 0
+module _ (start : Option TapeHead × EngineView) (fresh : start.0 ≡ None) (stands : StandsFor start.1 None) (at_end : Type 0) (before : Option (List ℕ)) (text : List ℕ) (now : Option TapeHead × EngineView) (after : Option (List ℕ)) (tally : Tally) where
+  abbrev Broken : StopCause Stop → Type 0
   Broken why = LinesBreak ReplaysLine StopsLine at_end start before text now after why tally
 
   -- what is counted and written of the lines that were handled
-  breaks_after : (why : Cause Stop) (h : Broken why) (es : List Entry) (r : AreReplayed None None h.done es h.effects h.mid) (rest : List (List ℕ)) → HasBegunNext None h.done es rest now.1
+  breaks_after : (why : StopCause Stop) (h : Broken why) (es : List Entry) (r : AreReplayed None None h.done es h.effects h.mid) (rest : List (List ℕ)) → HasBegunNext None h.done es rest now.1
       → BreaksAfter None before h.done rest now.1 after tally
   breaks_after why h es r rest begun = record {
     entries = es;
@@ -187,7 +187,7 @@ module _ (start : Option Head × EngineView) (fresh : start.0 ≡ None) (stands 
   run_broken : (kind : FaultKind) (h : Broken (cause.Run kind)) (es : List Entry) → AreReplayed None None h.done es h.effects h.mid → TapeBreaks at_end None before text now.1 after (fault_of (cause.Run kind) tally)
   run_broken kind h es r =
       let leaves = h.leaves in
-      let state = subst (λ (s : Option Head × EngineView). StandsFor s.1 (state_from None es)) (sym leaves.0) r.state in
+      let state = subst (λ (s : Option TapeHead × EngineView). StandsFor s.1 (state_from None es)) (sym leaves.0) r.state in
       record {
         done = h.done;
         rest = h.rest;
@@ -234,7 +234,7 @@ module _ (start : Option Head × EngineView) (fresh : start.0 ≡ None) (stands 
     all_written h.effects es r.out all h.written,
   )
 
-  taken_some : (old : Option Head) (line : List ℕ) (e : Entry) (new : Option Head) (ls : List (List ℕ)) (es : List Entry) → TakesAll None ls es old → Takes old line (Some e) new → 0 < length ls
+  taken_some : (old : Option TapeHead) (line : List ℕ) (e : Entry) (new : Option TapeHead) (ls : List (List ℕ)) (es : List Entry) → TakesAll None ls es old → Takes old line (Some e) new → 0 < length ls
   taken_some None line e (Some new) ls es all takes = absurd takes
   taken_some None line e None ls es all takes = absurd takes
   taken_some (Some old) line e new ls es all takes = some_read ls es old all
@@ -253,7 +253,7 @@ module _ (start : Option Head × EngineView) (fresh : start.0 ≡ None) (stands 
       (λ fs said. let read = said.says in let same : fs ≡ es ++ e ∷ [] = cc in halt.0 (replayable_last None es e (subst (AreReplayable None) same said.good)))
       halt.1 lines all
 
-  begun_by : (mid : Option Head × EngineView) (done : List (List ℕ)) (es : List Entry) (line : List ℕ) (later : List (List ℕ)) → TakesAll None done es mid.0 → StandsFor mid.1 (state_from None es) → StopsLine mid line Starved now
+  begun_by : (mid : Option TapeHead × EngineView) (done : List (List ℕ)) (es : List Entry) (line : List ℕ) (later : List (List ℕ)) → TakesAll None done es mid.0 → StandsFor mid.1 (state_from None es) → StopsLine mid line Starved now
       → HasBegunNext None done es (line ∷ later) now.1
   begun_by mid done es line later taken state (inl refused) = inl (subst (λ (v : EngineView). StandsFor v (state_from None es)) (sym refused.1) state)
   begun_by mid done es line later taken state (inr stopped) =
@@ -273,11 +273,11 @@ module _ (start : Option Head × EngineView) (fresh : start.0 ≡ None) (stands 
         whole = λ read. absurd read;
       }
 
-  no_head : (mid : Option Head × EngineView) (m : State) (line : List ℕ) → StandsFor mid.1 m → StopsLine mid line NotTape now → Refuses mid.0 line NotTape × (now.1 ≡ mid.1)
+  no_head : (mid : Option TapeHead × EngineView) (m : State) (line : List ℕ) → StandsFor mid.1 m → StopsLine mid line NotTape now → Refuses mid.0 line NotTape × (now.1 ≡ mid.1)
   no_head mid m line state (inl refused) = refused
   no_head mid m line state (inr stopped) = absurd (stopped.3 m state)
 
-  broken_by : (why : Cause Stop) (h : Broken why) (es : List Entry) → AreReplayed None None h.done es h.effects h.mid → TapeBreaks at_end None before text now.1 after (fault_of why tally)
+  broken_by : (why : StopCause Stop) (h : Broken why) (es : List Entry) → AreReplayed None None h.done es h.effects h.mid → TapeBreaks at_end None before text now.1 after (fault_of why tally)
   broken_by (cause.Run kind) h es r = run_broken kind h es r
   broken_by (cause.Line NotTape) h es r =
       let l = h.leaves in
@@ -286,12 +286,12 @@ module _ (start : Option Head × EngineView) (fresh : start.0 ≡ None) (stands 
   broken_by (cause.Line BadEntry) h es r = let l = h.leaves in entry_broken h es r l.0 l.1 l.2 l.3 l.4
   broken_by (cause.Line Starved) h es r = let l = h.leaves in starved_broken h es r l.0 l.1 l.2 l.3
 
-  breaks_by : (why : Cause Stop) → Broken why → TapeBreaks at_end None before text now.1 after (fault_of why tally)
+  breaks_by : (why : StopCause Stop) → Broken why → TapeBreaks at_end None before text now.1 after (fault_of why tally)
   breaks_by why h =
       let all = from_first start fresh stands h.done h.effects h.mid h.handled in
       broken_by why h all.0 all.1
 
-pub replay_broke : (start : Option Head × EngineView) → start.0 ≡ None → StandsFor start.1 None → (unread before : Option (List ℕ)) (now : Option Head × EngineView) (left after : Option (List ℕ)) (why : Cause Stop) (tally : Tally)
+pub replay_broke : (start : Option TapeHead × EngineView) → start.0 ≡ None → StandsFor start.1 None → (unread before : Option (List ℕ)) (now : Option TapeHead × EngineView) (left after : Option (List ℕ)) (why : StopCause Stop) (tally : Tally)
     → Broke ReplaysLine StopsLine start unread before now left after why tally → ReplayStops unread before now.1 left after (fault_of why tally)
 replay_broke start fresh stands unread before now left after why tally h =
     record { text = h.text; read = h.read; breaks = breaks_by start fresh stands _ before h.text now after tally why h.breaks }

@@ -7,8 +7,8 @@ use Rattle.street_stream.specs.Lines.{kept}
 use Rattle.street_text.specs.declared.fault.LineFault.{LineFault}
 use Rattle.street_tape.specs.Entries.{longest_tape_line, tape_value, head_reading, entry_reading, after_call, is_sized, is_whole, may_have, onto, entries_of, calls_after, calls_in, all_after, tape_in}
 use Rattle.street_tape.specs.TapeLines.{Takes, Refuses, may_end, calls_of, TakesAll}
-use Rattle.street_tape.specs.declared.head.Head.{Head}
-use Rattle.street_tape.specs.declared.head.Head.TheVariants.{Version1, Version2}
+use Rattle.street_tape.specs.declared.head.TapeHead.{TapeHead}
+use Rattle.street_tape.specs.declared.head.TapeHead.TheVariants.{Version1, Version2}
 use Rattle.street_tape.specs.declared.tape.Stop.{Stop}
 use Rattle.street_tape.specs.declared.tape.Stop.TheVariants.{NotTape, BadEntry, Starved}
 
@@ -33,7 +33,7 @@ head_kept : (line : List ℕ) → head_reading (kept longest_tape_line line) ≡
 unfolding head_reading
 head_kept line = rw (value_kept line) refl
 
-pub takes_kept : (old : Option Head) (line : List ℕ) (call : Option Entry) (new : Option Head) → Takes old (kept longest_tape_line line) call new → Takes old line call new
+pub takes_kept : (old : Option TapeHead) (line : List ℕ) (call : Option Entry) (new : Option TapeHead) → Takes old (kept longest_tape_line line) call new → Takes old line call new
 takes_kept None line None (Some new) h = sym (head_kept line) ∙ h
 takes_kept None line None None h = absurd h
 takes_kept None line (Some e) new h = absurd h
@@ -41,7 +41,7 @@ takes_kept (Some old) line (Some e) (Some new) h = (h.0, sym (entry_kept (is_siz
 takes_kept (Some old) line (Some e) None h = absurd h
 takes_kept (Some old) line None new h = absurd h
 
-pub refuses_kept : (old : Option Head) (line : List ℕ) (stop : Stop) → Refuses old (kept longest_tape_line line) stop → Refuses old line stop
+pub refuses_kept : (old : Option TapeHead) (line : List ℕ) (stop : Stop) → Refuses old (kept longest_tape_line line) stop → Refuses old line stop
 refuses_kept None line NotTape h = λ head is. h head (head_kept line ∙ is)
 refuses_kept None line BadEntry h = absurd h
 refuses_kept None line Starved h = tt
@@ -51,7 +51,7 @@ refuses_kept (Some old) line Starved h = tt
 
 -- ---- a line more
 
-pub takes_more : (a : Option Head) (ls : List (List ℕ)) (es : List Entry) (b : Option Head) (l : List ℕ) (call : Option Entry) (c : Option Head) → TakesAll a ls es b → Takes b l call c
+pub takes_more : (a : Option TapeHead) (ls : List (List ℕ)) (es : List Entry) (b : Option TapeHead) (l : List ℕ) (call : Option Entry) (c : Option TapeHead) → TakesAll a ls es b → Takes b l call c
     → TakesAll a (ls ++ l ∷ []) (es ++ calls_of call) c
 takes_more a [] es b l call c h t =
     let same : b ≡ a = h.0 in
@@ -64,19 +64,19 @@ takes_more a (x ∷ ls) es b l call c h t =
 -- ---- what follows the first line
 
 -- what a first line tells after so many calls
-abbrev left : Head → ℕ → Head
+abbrev left : TapeHead → ℕ → TapeHead
 left Version1 n = Version1
 left (Version2 calls) n = Version2 (calls - n)
 
-left_none : (h : Head) → left h 0 ≡ h
+left_none : (h : TapeHead) → left h 0 ≡ h
 left_none Version1 = refl
 left_none (Version2 calls) = ap Version2 (omega arith)
 
-has_none : (h : Head) → may_have h 0 ≡ true
+has_none : (h : TapeHead) → may_have h 0 ≡ true
 has_none Version1 = refl
 has_none (Version2 calls) = le-leb 0 calls (omega arith)
 
-record IsNext (h next : Head) : Type 0 where
+record IsNext (h next : TapeHead) : Type 0 where
   sized : is_sized next ≡ is_sized h
   has : (n : ℕ) → may_have next n ≡ true → may_have h (n + 1) ≡ true
   is_left : (n : ℕ) → left next n ≡ left h (n + 1)
@@ -88,16 +88,16 @@ one_less calls some = record {
   is_left = λ n. ap Version2 (omega arith);
 }
 
-next_of : (calls : ℕ) (next : Head) (b : Bool) → (calls == 0) ≡ b → (if b then None else Some (Version2 (calls - 1))) ≡ Some next → IsNext (Version2 calls) next
+next_of : (calls : ℕ) (next : TapeHead) (b : Bool) → (calls == 0) ≡ b → (if b then None else Some (Version2 (calls - 1))) ≡ Some next → IsNext (Version2 calls) next
 next_of calls next true is e = absurd (cc)
 next_of calls next false is e = let same : next ≡ Version2 (calls - 1) = cc in rw same (one_less calls (eqb-false calls 0 is))
 
-after_is : (h next : Head) → after_call h ≡ Some next → IsNext h next
+after_is : (h next : TapeHead) → after_call h ≡ Some next → IsNext h next
 after_is Version1 next e = let same : next ≡ Version1 = cc in rw same (record { sized = refl; has = λ n t. refl; is_left = λ n. refl })
 after_is (Version2 calls) next e = next_of calls next (calls == 0) refl e
 
 -- a call may follow
-next_some : (h : Head) (n : ℕ) → may_have h (n + 1) ≡ true → (next : Head) × (after_call (left h n) ≡ Some next)
+next_some : (h : TapeHead) (n : ℕ) → may_have h (n + 1) ≡ true → (next : TapeHead) × (after_call (left h n) ≡ Some next)
 next_some Version1 n t = (Version1, refl)
 next_some (Version2 calls) n t =
     let fits : n + 1 ≤ calls = leb-true (n + 1) calls t in
@@ -105,12 +105,12 @@ next_some (Version2 calls) n t =
 
 -- ---- the lines that follow the first line
 
-record AreRead (h : Head) (ls : List (List ℕ)) (es : List Entry) (new : Option Head) : Type 0 where
+record AreRead (h : TapeHead) (ls : List (List ℕ)) (es : List Entry) (new : Option TapeHead) : Type 0 where
   says : entries_of (is_sized h) ls ≡ Some es
   has : may_have h (length ls) ≡ true
   rest : new ≡ Some (left h (length ls))
 
-read_next : (h next : Head) (l : List ℕ) (ls : List (List ℕ)) (e : Entry) (es : List Entry) (new : Option Head) → IsNext h next → entry_reading (is_sized h) l ≡ Ok e → AreRead next ls es new
+read_next : (h next : TapeHead) (l : List ℕ) (ls : List (List ℕ)) (e : Entry) (es : List Entry) (new : Option TapeHead) → IsNext h next → entry_reading (is_sized h) l ≡ Ok e → AreRead next ls es new
     → AreRead h (l ∷ ls) (e ∷ es) new
 read_next h next l ls e es new is reads r =
     let says : entries_of (is_sized h) ls ≡ Some es = rw is.sized at r.says in
@@ -121,13 +121,13 @@ read_next h next l ls e es new is reads r =
       rest = r.rest ∙ ap Some (is.is_left (length ls)) ∙ ap (λ n. Some (left h n)) more;
     }
 
-read_more : (h : Head) (l : List ℕ) (ls : List (List ℕ)) (call : Option Entry) (mid : Option Head) (rest : List Entry) (new : Option Head) → Takes (Some h) l call mid → TakesAll mid ls rest new
-    → ((next : Head) → TakesAll (Some next) ls rest new → AreRead next ls rest new) → AreRead h (l ∷ ls) (calls_of call ++ rest) new
+read_more : (h : TapeHead) (l : List ℕ) (ls : List (List ℕ)) (call : Option Entry) (mid : Option TapeHead) (rest : List Entry) (new : Option TapeHead) → Takes (Some h) l call mid → TakesAll mid ls rest new
+    → ((next : TapeHead) → TakesAll (Some next) ls rest new → AreRead next ls rest new) → AreRead h (l ∷ ls) (calls_of call ++ rest) new
 read_more h l ls (Some e) (Some next) rest new t more read = read_next h next l ls e rest new (after_is h next t.0) t.1 (read next more)
 read_more h l ls (Some e) None rest new t more read = absurd t
 read_more h l ls None mid rest new t more read = absurd t
 
-are_read : (h : Head) (ls : List (List ℕ)) (es : List Entry) (new : Option Head) → TakesAll (Some h) ls es new → AreRead h ls es new
+are_read : (h : TapeHead) (ls : List (List ℕ)) (es : List Entry) (new : Option TapeHead) → TakesAll (Some h) ls es new → AreRead h ls es new
 are_read h [] es new t =
     let none : es ≡ [] = t.1 in
     record { says = ap Some (sym none); has = has_none h; rest = t.0 ∙ ap Some (sym (left_none h)) }
@@ -136,25 +136,25 @@ are_read h (l ∷ ls) es new t = rw t.5 (read_more h l ls t.1 t.0 t.2 new t.3 t.
 -- ---- all lines
 
 -- nothing was read, or the first line and what follows it
-abbrev Begun : List (List ℕ) → List Entry → Option Head → Type 0
+abbrev Begun : List (List ℕ) → List Entry → Option TapeHead → Type 0
 Begun [] es new = (new ≡ None) × (es ≡ [])
-Begun (l ∷ ls) es new = (h : Head) × (head_reading l ≡ Ok h) × AreRead h ls es new
+Begun (l ∷ ls) es new = (h : TapeHead) × (head_reading l ≡ Ok h) × AreRead h ls es new
 
-begun_by : (l : List ℕ) (ls : List (List ℕ)) (call : Option Entry) (mid : Option Head) (rest : List Entry) (new : Option Head) → Takes None l call mid → TakesAll mid ls rest new → Begun (l ∷ ls) (calls_of call ++ rest) new
+begun_by : (l : List ℕ) (ls : List (List ℕ)) (call : Option Entry) (mid : Option TapeHead) (rest : List Entry) (new : Option TapeHead) → Takes None l call mid → TakesAll mid ls rest new → Begun (l ∷ ls) (calls_of call ++ rest) new
 begun_by l ls None (Some h) rest new t more = (h, t, are_read h ls rest new more)
 begun_by l ls None None rest new t more = absurd t
 begun_by l ls (Some e) mid rest new t more = absurd t
 
-begun : (ls : List (List ℕ)) (es : List Entry) (new : Option Head) → TakesAll None ls es new → Begun ls es new
+begun : (ls : List (List ℕ)) (es : List Entry) (new : Option TapeHead) → TakesAll None ls es new → Begun ls es new
 begun [] es new t = t
 begun (l ∷ ls) es new t = rw t.5 (begun_by l ls t.1 t.0 t.2 new t.3 t.4)
 
-says_begun : (ls : List (List ℕ)) (es : List Entry) (new : Option Head) → Begun ls es new → calls_in ls ≡ Some es
+says_begun : (ls : List (List ℕ)) (es : List Entry) (new : Option TapeHead) → Begun ls es new → calls_in ls ≡ Some es
 says_begun [] es new b = ap Some (sym b.1)
 says_begun (l ∷ ls) es new b = rw (b.1, b.2.has) b.2.says
 
 -- they say these calls
-pub says : (ls : List (List ℕ)) (es : List Entry) (new : Option Head) → TakesAll None ls es new → calls_in ls ≡ Some es
+pub says : (ls : List (List ℕ)) (es : List Entry) (new : Option TapeHead) → TakesAll None ls es new → calls_in ls ≡ Some es
 says ls es new t = says_begun ls es new (begun ls es new t)
 
 none_begun : (ls : List (List ℕ)) (es : List Entry) → Begun ls es None → (ls ≡ []) × (es ≡ [])
@@ -165,16 +165,16 @@ none_begun (l ∷ ls) es b = let nothing : None ≡ Some (left b.0 (length ls)) 
 pub none_read : (ls : List (List ℕ)) (es : List Entry) → TakesAll None ls es None → (ls ≡ []) × (es ≡ [])
 none_read ls es t = none_begun ls es (begun ls es None t)
 
-some_begun : (ls : List (List ℕ)) (es : List Entry) (rest : Head) → Begun ls es (Some rest) → 0 < length ls
+some_begun : (ls : List (List ℕ)) (es : List Entry) (rest : TapeHead) → Begun ls es (Some rest) → 0 < length ls
 some_begun [] es rest b = let nothing : Some rest ≡ None = b.0 in absurd (cc)
 some_begun (l ∷ ls) es rest b = omega arith
 
-pub some_read : (ls : List (List ℕ)) (es : List Entry) (rest : Head) → TakesAll None ls es (Some rest) → 0 < length ls
+pub some_read : (ls : List (List ℕ)) (es : List Entry) (rest : TapeHead) → TakesAll None ls es (Some rest) → 0 < length ls
 some_read ls es rest t = some_begun ls es rest (begun ls es (Some rest) t)
 
 -- ---- the end
 
-end_is : (h : Head) (n : ℕ) → may_have h n ≡ true → is_whole (left h n) 0 ≡ is_whole h n
+end_is : (h : TapeHead) (n : ℕ) → may_have h n ≡ true → is_whole (left h n) 0 ≡ is_whole h n
 end_is Version1 n t = refl
 end_is (Version2 calls) n t = end_at (n == calls) refl
   where
@@ -185,20 +185,20 @@ end_is (Version2 calls) n t = end_at (n == calls) refl
     end_at true is = let same : n ≡ calls = eqb-true n calls is in rw is (eq-eqb 0 (calls - n) (omega arith))
     end_at false is = let other = eqb-false n calls is in rw is (ne_eqb 0 (calls - n) (λ e. other (omega (arith, e, fits))))
 
-end_begun : (ls : List (List ℕ)) (es : List Entry) (rest : Head) → Begun ls es (Some rest) → (b : Bool) → is_whole rest 0 ≡ b → tape_in ls ≡ (if b then Some es else None)
+end_begun : (ls : List (List ℕ)) (es : List Entry) (rest : TapeHead) → Begun ls es (Some rest) → (b : Bool) → is_whole rest 0 ≡ b → tape_in ls ≡ (if b then Some es else None)
 end_begun [] es rest b whole is = let nothing : Some rest ≡ None = b.0 in absurd (cc)
 end_begun (l ∷ ls) es rest b whole is =
     let same : rest ≡ left b.0 (length ls) = let r = b.2.rest in cc in
-    let end : is_whole b.0 (length ls) ≡ whole = sym (end_is b.0 (length ls) b.2.has) ∙ ap (λ (h : Head). is_whole h 0) (sym same) ∙ is in
+    let end : is_whole b.0 (length ls) ≡ whole = sym (end_is b.0 (length ls) b.2.has) ∙ ap (λ (h : TapeHead). is_whole h 0) (sym same) ∙ is in
     rw (b.1, end) (ap (λ (os : Option (List Entry)). if whole then os else None) b.2.says)
 
 -- all calls were read
-pub whole_read : (ls : List (List ℕ)) (es : List Entry) (new : Option Head) → TakesAll None ls es new → may_end new ≡ true → tape_in ls ≡ Some es
+pub whole_read : (ls : List (List ℕ)) (es : List Entry) (new : Option TapeHead) → TakesAll None ls es new → may_end new ≡ true → tape_in ls ≡ Some es
 whole_read ls es None t end = absurd (cc)
 whole_read ls es (Some rest) t end = end_begun ls es rest (begun ls es (Some rest) t) true end
 
 -- some are missing
-pub missing_read : (ls : List (List ℕ)) (es : List Entry) (rest : Head) → TakesAll None ls es (Some rest) → may_end (Some rest) ≡ false → tape_in ls ≡ None
+pub missing_read : (ls : List (List ℕ)) (es : List Entry) (rest : TapeHead) → TakesAll None ls es (Some rest) → may_end (Some rest) ≡ false → tape_in ls ≡ None
 missing_read ls es rest t end = end_begun ls es rest (begun ls es (Some rest) t) false end
 
 -- ---- lines in two parts
@@ -232,12 +232,12 @@ under : (t : Bool) (os : Option (List Entry)) (es : List Entry) → (if t then o
 under true os es h = (refl, h)
 under false os es h = absurd (cc)
 
-has_fewer : (h : Head) (m n : ℕ) → m ≤ n → is_whole h n ≡ true → may_have h m ≡ true
+has_fewer : (h : TapeHead) (m n : ℕ) → m ≤ n → is_whole h n ≡ true → may_have h m ≡ true
 has_fewer Version1 m n less t = refl
 has_fewer (Version2 calls) m n less t = le-leb m calls (omega (arith, less, eqb-true n calls t))
 
 -- the first lines of a tape say its first calls
-all_split : (r : Result Head LineFault) (ls more : List (List ℕ)) (all : List Entry) → all_after r (ls ++ more) ≡ Some all
+all_split : (r : Result TapeHead LineFault) (ls more : List (List ℕ)) (all : List Entry) → all_after r (ls ++ more) ≡ Some all
     → (es : List Entry) × (rest : List Entry) × (calls_after r ls ≡ Some es) × (all ≡ es ++ rest)
 all_split (Ok h) ls more all is =
     let whole = under (is_whole h (length (ls ++ more))) (entries_of (is_sized h) (ls ++ more)) all is in
@@ -250,17 +250,17 @@ pub tape_split : (ls more : List (List ℕ)) (all : List Entry) → 0 < length l
 tape_split [] more all some is = absurd (omega arith)
 tape_split (l ∷ ls) more all some is = all_split (head_reading l) ls more all is
 
-head_split : (r : Result Head LineFault) (ls : List (List ℕ)) (all : List Entry) → all_after r ls ≡ Some all → (h : Head) × (r ≡ Ok h)
+head_split : (r : Result TapeHead LineFault) (ls : List (List ℕ)) (all : List Entry) → all_after r ls ≡ Some all → (h : TapeHead) × (r ≡ Ok h)
 head_split (Ok h) ls all is = (h, refl)
 head_split (Err f) ls all is = absurd (cc)
 
 -- and its first line is one
-pub tape_head : (l : List ℕ) (ls : List (List ℕ)) (all : List Entry) → tape_in (l ∷ ls) ≡ Some all → (h : Head) × (head_reading l ≡ Ok h)
+pub tape_head : (l : List ℕ) (ls : List (List ℕ)) (all : List Entry) → tape_in (l ∷ ls) ≡ Some all → (h : TapeHead) × (head_reading l ≡ Ok h)
 tape_head l ls all is = head_split (head_reading l) ls all is
 
 -- ---- a line that is not taken
 
-snoc_says : (h : Head) (ls : List (List ℕ)) (l : List ℕ) (fs : List Entry) → calls_after (Ok h) (ls ++ l ∷ []) ≡ Some fs
+snoc_says : (h : TapeHead) (ls : List (List ℕ)) (l : List ℕ) (fs : List Entry) → calls_after (Ok h) (ls ++ l ∷ []) ≡ Some fs
     → (may_have h (length ls + 1) ≡ true) × ((e : Entry) × (entry_reading (is_sized h) l ≡ Ok e))
 snoc_says h ls l fs is =
     let has = under (may_have h (length (ls ++ l ∷ []))) (entries_of (is_sized h) (ls ++ l ∷ [])) fs is in
@@ -268,11 +268,11 @@ snoc_says h ls l fs is =
     let last = onto_split (entry_reading (is_sized h) l) (Some []) split.rest split.more in
     (ap (may_have h) (sym (length-append ls (l ∷ []))) ∙ has.0, (last.0, last.2))
 
-sized_left : (h : Head) (n : ℕ) → is_sized (left h n) ≡ is_sized h
+sized_left : (h : TapeHead) (n : ℕ) → is_sized (left h n) ≡ is_sized h
 sized_left Version1 n = refl
 sized_left (Version2 calls) n = refl
 
-refused_begun : (ls : List (List ℕ)) (es : List Entry) (rest : Head) (l : List ℕ) → Begun ls es (Some rest) → Refuses (Some rest) l BadEntry → (fs : List Entry) → calls_in (ls ++ l ∷ []) ≡ Some fs → ⊥
+refused_begun : (ls : List (List ℕ)) (es : List Entry) (rest : TapeHead) (l : List ℕ) → Begun ls es (Some rest) → Refuses (Some rest) l BadEntry → (fs : List Entry) → calls_in (ls ++ l ∷ []) ≡ Some fs → ⊥
 refused_begun [] es rest l b bad fs is = let nothing : Some rest ≡ None = b.0 in cc
 refused_begun (x ∷ ls) es rest l b bad fs is =
     let says = snoc_says b.0 ls l fs (rw b.1 at is) in
@@ -282,13 +282,13 @@ refused_begun (x ∷ ls) es rest l b bad fs is =
     bad next.0 says.1.0 (ap after_call same ∙ next.1) (ap (λ (s : Bool). entry_reading s l) sized ∙ says.1.1)
 
 -- a further line was not taken: with it the lines say no calls
-pub refused_entry : (ls : List (List ℕ)) (es : List Entry) (old : Option Head) (l : List ℕ) → TakesAll None ls es old → Refuses old l BadEntry
+pub refused_entry : (ls : List (List ℕ)) (es : List Entry) (old : Option TapeHead) (l : List ℕ) → TakesAll None ls es old → Refuses old l BadEntry
     → (0 < length ls) × ((fs : List Entry) → calls_in (ls ++ l ∷ []) ≡ Some fs → ⊥)
 refused_entry ls es None l t bad = absurd bad
 refused_entry ls es (Some rest) l t bad = (some_read ls es rest t, refused_begun ls es rest l (begun ls es (Some rest) t) bad)
 
 -- the first line is none
-pub refused_head : (ls : List (List ℕ)) (es : List Entry) (old : Option Head) (l : List ℕ) → TakesAll None ls es old → Refuses old l NotTape
-    → (ls ≡ []) × ((h : Head) → head_reading l ≡ Ok h → ⊥)
+pub refused_head : (ls : List (List ℕ)) (es : List Entry) (old : Option TapeHead) (l : List ℕ) → TakesAll None ls es old → Refuses old l NotTape
+    → (ls ≡ []) × ((h : TapeHead) → head_reading l ≡ Ok h → ⊥)
 refused_head ls es None l t bad = ((none_read ls es t).0, bad)
 refused_head ls es (Some rest) l t bad = absurd bad

@@ -11,7 +11,7 @@ use Rattle.street_stream.specs.Lines.{lines_of}
 use Rattle.street_text.proofs.Texts.{value_read}
 use Rattle.street_tape.specs.Entries.{longest_tape_line, tape_value, head_reading, entry_reading, entries_of, tape_in, tape_reading, EntryFits, TapeFits}
 use Rattle.street_tape.specs.Tapes.{head_data, head_line, old_head_data, old_head_line, entry_data, entry_line, entry_lines, tape_text, old_tape_text}
-use Rattle.street_tape.specs.declared.head.Head.TheVariants.{Version1, Version2}
+use Rattle.street_tape.specs.declared.head.TapeHead.TheVariants.{Version1, Version2}
 use Rattle.street_tape.proofs.EntryData.{entry_again, head_again, old_head_again, entry_plain, head_plain, old_head_plain, clear_entry, clear_head, clear_old_head, shallow_entry}
 use Rattle.street_tape.proofs.Unbroken.{first_line, no_lines, text_unbroken}
 use Rattle.street_text.proofs.Plain.{IsPlain, plain_read, plain_utf8}

@@ -8,8 +8,8 @@ use Rattle.street_desk.specs.declared.journal.Entry.{Entry}
 use Rattle.street_stream.proofs.Handles.{all_replies}
 use Rattle.street_stream.specs.HandledLines.{Effect, has_reply, text_in, Handles, output, calls_in as calls_of_effects, replies_in, IsNext, Breaks as LinesBreak, Whole, Broke}
 use Rattle.street_stream.specs.Lines.{lines_of}
-use Rattle.street_stream.specs.declared.answer.Cause.{Cause}
-use Rattle.street_stream.specs.declared.answer.Cause.TheVariants as cause
+use Rattle.street_stream.specs.declared.answer.StopCause.{StopCause}
+use Rattle.street_stream.specs.declared.answer.StopCause.TheVariants as cause
 use Rattle.street_stream.specs.Faults.{CountsLines}
 use Rattle.street_stream.specs.declared.tally.FaultKind.{FaultKind}
 use Rattle.street_stream.specs.declared.tally.FaultKind.TheVariants as kinds
@@ -27,7 +27,7 @@ use Rattle.street_tape.proofs.Taken.{says, none_read, some_read, whole_read, mis
 use Rattle.street_tape.specs.TapeLines.{TakesAll, calls_of, may_end}
 use Rattle.street_tape.specs.Tapes.{entry_data, entry_line, entry_lines, head_line, tape_text}
 use Rattle.street_tape.specs.Written.{IsPrefix}
-use Rattle.street_tape.specs.declared.head.Head.{Head}
+use Rattle.street_tape.specs.declared.head.TapeHead.{TapeHead}
 use Rattle.street_tape.specs.declared.tape.Stop.{Stop}
 use Rattle.street_tape.specs.declared.tape.Stop.TheVariants.{NotTape, BadEntry, Starved}
 
@@ -115,7 +115,7 @@ module _ (start : Upgrader) (fresh : start.tape.rest ≡ None) (none : start.lin
       let r = all.1 in (
         all.0,
         record {
-          taken = subst (λ (o : Option Head). TakesAll o (lines_of h.text) all.0 now.tape.rest) fresh r.taken;
+          taken = subst (λ (o : Option TapeHead). TakesAll o (lines_of h.text) all.0 now.tape.rest) fresh r.taken;
           lines = r.lines ∙ ap (λ (t : List ℕ). t ++ entry_lines all.0) none;
           written = subst (Appends before mid) r.out h.written;
           calls = h.counted.calls ∙ r.calls;
@@ -176,7 +176,7 @@ module _ (start : Upgrader) (fresh : start.tape.rest ≡ None) (none : start.lin
         };
       }
 
-  missing_by : (rest : Option Head) (fault : TapeFault) (es : List Entry) → AreKept es → now.tape.rest ≡ rest → Misses rest tally fault → UpgradeStops unread before left mid fault
+  missing_by : (rest : Option TapeHead) (fault : TapeFault) (es : List Entry) → AreKept es → now.tape.rest ≡ rest → Misses rest tally fault → UpgradeStops unread before left mid fault
   missing_by None fault.NotTape es k is missing =
       let nothing = none_read (lines_of h.text) es (subst (TakesAll None (lines_of h.text) es) is k.taken) in
       record { text = h.text; read = h.read; breaks = (inr (h.at_end, nothing.0), k.written) }
@@ -210,17 +210,17 @@ module _ (start : Upgrader) (fresh : start.tape.rest ≡ None) (none : start.lin
 -- ---- an upgrade that was broken off before anything was written
 
 module _ (start : Upgrader) (fresh : start.tape.rest ≡ None) (at_end : Type 0) (before : Option (List ℕ)) (text : List ℕ) (now : Upgrader) (after : Option (List ℕ)) (tally : Tally) where
-  abbrev Broken : Cause Stop → Type 0
+  abbrev Broken : StopCause Stop → Type 0
   Broken why = LinesBreak UpgradesLine RefusesLine at_end start before text now after why tally
 
-  record IsUnwritten (ls : List (List ℕ)) (es : List Entry) (rest : Option Head) : Type 0 where
+  record IsUnwritten (ls : List (List ℕ)) (es : List Entry) (rest : Option TapeHead) : Type 0 where
     taken : TakesAll None ls es rest
     written : Appends before after []
     bytes : tally.bytes ≡ 0
     calls : tally.calls ≡ length es
     replies : tally.replies ≡ 0
 
-  unwritten : (why : Cause Stop) (h : Broken why) → (es : List Entry) × IsUnwritten h.done es h.mid.tape.rest
+  unwritten : (why : StopCause Stop) (h : Broken why) → (es : List Entry) × IsUnwritten h.done es h.mid.tape.rest
   unwritten why h =
       let all = upgraded start h.done h.effects h.mid h.handled in
       let r = all.1 in
@@ -228,7 +228,7 @@ module _ (start : Upgrader) (fresh : start.tape.rest ≡ None) (at_end : Type 0)
       let nothing : take tally.bytes (output h.effects) ≡ [] = ap (take tally.bytes) r.out ∙ take_all tally.bytes [] (omega arith) in (
         all.0,
         record {
-          taken = subst (λ (o : Option Head). TakesAll o h.done all.0 h.mid.tape.rest) fresh r.taken;
+          taken = subst (λ (o : Option TapeHead). TakesAll o h.done all.0 h.mid.tape.rest) fresh r.taken;
           written = subst (Appends before after) nothing h.written;
           bytes = omega (arith, h.within, none);
           calls = h.calls ∙ r.calls;
@@ -236,7 +236,7 @@ module _ (start : Upgrader) (fresh : start.tape.rest ≡ None) (at_end : Type 0)
         },
       )
 
-  cuts : (kind : FaultKind) (done rest : List (List ℕ)) (es : List Entry) (mid : Option Head) → IsUnwritten done es mid → lines_of text ≡ done ++ rest
+  cuts : (kind : FaultKind) (done rest : List (List ℕ)) (es : List Entry) (mid : Option TapeHead) → IsUnwritten done es mid → lines_of text ≡ done ++ rest
       → CountsLines kind tally done → Cuts at_end before text after kind tally
   cuts kind done rest es mid u first lines = record {
     done = done;
@@ -251,7 +251,7 @@ module _ (start : Upgrader) (fresh : start.tape.rest ≡ None) (at_end : Type 0)
     replies = u.replies;
   }
 
-  broken_by : (why : Cause Stop) (h : Broken why) (es : List Entry) → IsUnwritten h.done es h.mid.tape.rest → UpgradeBreaks at_end before text after (fault_of why tally)
+  broken_by : (why : StopCause Stop) (h : Broken why) (es : List Entry) → IsUnwritten h.done es h.mid.tape.rest → UpgradeBreaks at_end before text after (fault_of why tally)
   broken_by (cause.Run kind) h es u = cuts kind h.done h.rest es h.mid.tape.rest u h.first_lines (inl h.leaves.1)
   broken_by (cause.Line NotTape) h es u =
       let l = h.leaves in
@@ -275,9 +275,9 @@ module _ (start : Upgrader) (fresh : start.tape.rest ≡ None) (at_end : Type 0)
       let later = next_lines text [] at_end h.done l.0 l.1 (λ over. refl) in
       cuts kinds.Starved h.done (l.0 ∷ later.0) es h.mid.tape.rest u (ap lines_of (sym (append-nil text)) ∙ later.1 ∙ append_assoc h.done (l.0 ∷ []) later.0) (inr (refl, l.3))
 
-  breaks_by : (why : Cause Stop) → Broken why → UpgradeBreaks at_end before text after (fault_of why tally)
+  breaks_by : (why : StopCause Stop) → Broken why → UpgradeBreaks at_end before text after (fault_of why tally)
   breaks_by why h = let all = unwritten why h in broken_by why h all.0 all.1
 
-pub upgrade_broke : (start : Upgrader) → start.tape.rest ≡ None → (unread before : Option (List ℕ)) (now : Upgrader) (left after : Option (List ℕ)) (why : Cause Stop) (tally : Tally)
+pub upgrade_broke : (start : Upgrader) → start.tape.rest ≡ None → (unread before : Option (List ℕ)) (now : Upgrader) (left after : Option (List ℕ)) (why : StopCause Stop) (tally : Tally)
     → Broke UpgradesLine RefusesLine start unread before now left after why tally → UpgradeStops unread before left after (fault_of why tally)
 upgrade_broke start fresh unread before now left after why tally h = record { text = h.text; read = h.read; breaks = breaks_by start fresh _ before h.text now after tally why h.breaks }

@@ -1,16 +1,15 @@
 -- Texts that are no tapes, and tapes with a line that is bad or missing.
--- Source: this profile.
 use Rattle.std.specs.Prelude.{◌≡◌, ℕ, ◌+◌, ◌<◌, ◌⊎◌, List, [], ◌∷◌, ◌++◌, length, Some, None, Ok}
 use Rattle.street_desk.specs.declared.journal.Entry.{Entry}
 use Rattle.street_stream.specs.HandledLines.{IsNext}
 use Rattle.street_stream.specs.Lines.{lines_of}
 use Rattle.street_tape.specs.Entries.{head_reading, calls_in, tape_in}
-use Rattle.street_tape.specs.declared.head.Head.{Head}
+use Rattle.street_tape.specs.declared.head.TapeHead.{TapeHead}
 
 -- the first line, read to its end, is not that of a tape of a known version; or the text ends without any line
 abbrev pub IsNoTape : Type 0 → List ℕ → Type 0
 IsNoTape at_end text =
-    ((line : List ℕ) × IsNext at_end text [] line × ((head : Head) → head_reading line ≡ Ok head → ⊥))
+    ((line : List ℕ) × IsNext at_end text [] line × ((head : TapeHead) → head_reading line ≡ Ok head → ⊥))
     ⊎ (at_end × (lines_of text ≡ []))
 
 -- the calls of the first lines of a tape, which are good

@@ -1,5 +1,5 @@
 -- What the lines of a tape say.
--- Source: this profile. Keys may stand in any order, and unknown ones are ignored, as in commands.
+-- Keys may stand in any order, and unknown ones are ignored, as in commands.
 use Rattle.std.specs.Prelude.{◌≡◌, ℕ, ◌-◌, ◌==◌, ◌≤◌, List, [], ◌∷◌, length, nat_lt, nat_le, ◌&&◌, if◌then◌else◌, Bool, true, false, Option, Some, None, option_map, option_and_then, Result, Ok, Err, codes, bytes_eq, All, ⊤}
 use Rattle.std.specs.Option.{option_map_or}
 use Rattle.serde_json.specs.Data.{Data}
@@ -18,8 +18,8 @@ use Rattle.street_text.specs.LineCommands.{number_in, field, number_field, comma
 use Rattle.street_text.specs.declared.fault.LineFault.{LineFault}
 use Rattle.street_text.specs.declared.fault.LineFault.TheVariants.{LineTooLong, NotJson, BadCommand, Starved as NoMemory}
 use Rattle.street_tape.specs.Tapes.{entry_data}
-use Rattle.street_tape.specs.declared.head.Head.{Head}
-use Rattle.street_tape.specs.declared.head.Head.TheVariants.{Version1, Version2}
+use Rattle.street_tape.specs.declared.head.TapeHead.{TapeHead}
+use Rattle.street_tape.specs.declared.head.TapeHead.TheVariants.{Version1, Version2}
 use Rattle.street_text.specs.Fits.{IsWord, Fits}
 
 -- the most bytes of a line of a tape, its LF not counted
@@ -57,34 +57,34 @@ GivesTapeValue (Err e) wanted = FailsData e wanted
 -- ---- the first line
 
 -- version 2 also tells how many calls follow; no other version is known
-abbrev pub head_of : ℕ → Data → Option Head
+abbrev pub head_of : ℕ → Data → Option TapeHead
 head_of version d = if version == 1 then Some Version1 else (if version == 2 then option_map Version2 (number_field (codes "calls") d) else None)
 
 -- what a value tells as the first line of a tape
-unfoldable pub head_in : Data → Option Head
+unfoldable pub head_in : Data → Option TapeHead
 head_in d = option_and_then (λ version. head_of version d) (number_field (codes "tape") d)
 
 -- what the first line of a tape tells, or its first fault
-unfoldable pub head_reading : List ℕ → Result Head LineFault
+unfoldable pub head_reading : List ℕ → Result TapeHead LineFault
 head_reading line = and_then (λ d. or_fault BadCommand (head_in d)) (tape_value line)
 
 -- sizes are read from version 2 on: in version 1 each vehicle that enters has size 1
-abbrev pub is_sized : Head → Bool
+abbrev pub is_sized : TapeHead → Bool
 is_sized Version1 = false
 is_sized (Version2 calls) = true
 
 -- what it tells of the lines after a call, if one may follow
-abbrev pub after_call : Head → Option Head
+abbrev pub after_call : TapeHead → Option TapeHead
 after_call Version1 = Some Version1
 after_call (Version2 calls) = if calls == 0 then None else Some (Version2 (calls - 1))
 
 -- so many calls are not too many
-abbrev pub may_have : Head → ℕ → Bool
+abbrev pub may_have : TapeHead → ℕ → Bool
 may_have Version1 n = true
 may_have (Version2 calls) n = nat_le n calls
 
 -- nor too few
-abbrev pub is_whole : Head → ℕ → Bool
+abbrev pub is_whole : TapeHead → ℕ → Bool
 is_whole Version1 n = true
 is_whole (Version2 calls) n = n == calls
 
@@ -137,7 +137,7 @@ entries_of sized [] = Some []
 entries_of sized (l ∷ ls) = onto (entry_reading sized l) (entries_of sized ls)
 
 -- the calls of the lines that follow a first line, of which there may be so many
-abbrev pub calls_after : Result Head LineFault → List (List ℕ) → Option (List Entry)
+abbrev pub calls_after : Result TapeHead LineFault → List (List ℕ) → Option (List Entry)
 calls_after (Ok head) ls = if may_have head (length ls) then entries_of (is_sized head) ls else None
 calls_after (Err f) ls = None
 
@@ -147,7 +147,7 @@ calls_in [] = Some []
 calls_in (l ∷ ls) = calls_after (head_reading l) ls
 
 -- as many of them as the first line says
-abbrev pub all_after : Result Head LineFault → List (List ℕ) → Option (List Entry)
+abbrev pub all_after : Result TapeHead LineFault → List (List ℕ) → Option (List Entry)
 all_after (Ok head) ls = if is_whole head (length ls) then entries_of (is_sized head) ls else None
 all_after (Err f) ls = None
 

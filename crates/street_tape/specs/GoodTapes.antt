@@ -1,5 +1,4 @@
 -- What tapes of a legal history are read, replayed and upgraded as.
--- Source: this profile.
 use Rattle.std.specs.Prelude.{◌≡◌, ◌++◌, ℕ, All, List, [], Option, None, Some, false}
 use Rattle.street_desk.specs.declared.journal.Entry.{Entry}
 use Rattle.street_engine.specs.Prelude.{EngineView}

@@ -1,5 +1,5 @@
 -- A replay as a handler of lines.
--- Source: this profile. Its state is what is known of the tape, and the engine.
+-- Its state is what is known of the tape, and the engine.
 use Rattle.std.specs.Prelude.{◌≡◌, ℕ, ◌+◌, ◌⊎◌, List, Option, Some, None, true, false, ⊤}
 use Rattle.street_base.specs.declared.command.Command.{Command}
 use Rattle.street_base.specs.declared.command.Command.TheVariants.{Advance}
@@ -9,8 +9,8 @@ use Rattle.street_base.specs.declared.reply.Reply.{Reply}
 use Rattle.street_base.specs.Prelude.{reply_to, state_after, State}
 use Rattle.street_desk.specs.declared.journal.Entry.{Entry}
 use Rattle.street_stream.specs.HandledLines.{Effect}
-use Rattle.street_stream.specs.declared.answer.Cause.{Cause}
-use Rattle.street_stream.specs.declared.answer.Cause.TheVariants as cause
+use Rattle.street_stream.specs.declared.answer.StopCause.{StopCause}
+use Rattle.street_stream.specs.declared.answer.StopCause.TheVariants as cause
 use Rattle.street_stream.specs.declared.tally.FaultKind.TheVariants as kind
 use Rattle.street_stream.specs.declared.tally.Tally.{Tally}
 use Rattle.street_engine.specs.Prelude.{EngineView, StandsFor}
@@ -21,7 +21,7 @@ use Rattle.street_tape.specs.declared.fault.TapeFault.{TapeFault}
 use Rattle.street_tape.specs.declared.fault.TapeFault.TheVariants as fault
 use Rattle.street_tape.specs.TapeLines.{Takes, Refuses}
 use Rattle.street_tape.specs.Entries.{is_whole}
-use Rattle.street_tape.specs.declared.head.Head.{Head}
+use Rattle.street_tape.specs.declared.head.TapeHead.{TapeHead}
 use Rattle.street_tape.specs.declared.tape.Stop.{Stop}
 use Rattle.street_tape.specs.declared.tape.Stop.TheVariants.{NotTape, BadEntry, Starved}
 
@@ -37,7 +37,7 @@ Applies old (Some e) effect new =
     × (effect.reply ≡ Some (reply_line (reply_to m e.command e.outcome))) × StandsFor new (state_after m e.command e.outcome))
 
 -- the next line was taken, and its call, if it says one, was applied
-abbrev pub ReplaysLine : Option Head × EngineView → List ℕ → Effect → Option Head × EngineView → Type 0
+abbrev pub ReplaysLine : Option TapeHead × EngineView → List ℕ → Effect → Option TapeHead × EngineView → Type 0
 ReplaysLine old line effect new = (call : Option Entry) × Takes old.0 line call new.0 × Applies old.1 call effect new.1
 
 -- whatever state the engine stood for, the call can be replayed there, the reply is the machine's, and the engine stands for the state after the call
@@ -57,20 +57,20 @@ CallStops m c o view BadEntry = (IsReplayable m c o → ⊥) × StandsFor view m
 CallStops m c o view Starved = HasBegun m c view
 
 -- the line was not taken, or its call was not replayed
-abbrev pub StopsLine : Option Head × EngineView → List ℕ → Stop → Option Head × EngineView → Type 0
+abbrev pub StopsLine : Option TapeHead × EngineView → List ℕ → Stop → Option TapeHead × EngineView → Type 0
 StopsLine old line stop new =
     (Refuses old.0 line stop × (new.1 ≡ old.1))
-    ⊎ ((e : Entry) × (rest : Option Head) × Takes old.0 line (Some e) rest × ((m : State) → StandsFor old.1 m → CallStops m e.command e.outcome new.1 stop))
+    ⊎ ((e : Entry) × (rest : Option TapeHead) × Takes old.0 line (Some e) rest × ((m : State) → StandsFor old.1 m → CallStops m e.command e.outcome new.1 stop))
 
 -- the fault that is told
-abbrev pub fault_of : Cause Stop → Tally → TapeFault
+abbrev pub fault_of : StopCause Stop → Tally → TapeFault
 fault_of (cause.Run kind) tally = fault.Run (record { kind = kind; tally = tally })
 fault_of (cause.Line NotTape) tally = fault.NotTape
 fault_of (cause.Line BadEntry) tally = fault.BadEntry tally.lines
 fault_of (cause.Line Starved) tally = fault.Run (record { kind = kind.Starved; tally = tally })
 
 -- the fault of a tape that ended too early
-abbrev pub Misses : Option Head → Tally → TapeFault → Type 0
+abbrev pub Misses : Option TapeHead → Tally → TapeFault → Type 0
 Misses None tally fault.NotTape = ⊤
 Misses (Some rest) tally (fault.BadEntry line) = (is_whole rest 0 ≡ false) × (line ≡ tally.lines + 1)
 Misses rest tally other = ⊥

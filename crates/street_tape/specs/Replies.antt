@@ -1,5 +1,5 @@
 -- What the calls of a tape give when they are replayed.
--- Source: this profile. Each call goes as it went at the desk: whole, not at all, or as far as the steps that were made.
+-- Each call goes as it went at the desk: whole, not at all, or as far as the steps that were made.
 use Rattle.std.specs.Prelude.{◌≡◌, ℕ, List, [], ◌∷◌, ◌++◌, length, Option, Some, None, ⊤}
 use Rattle.street_base.specs.declared.command.Command.{Command}
 use Rattle.street_base.specs.declared.reply.Outcome.{Outcome}

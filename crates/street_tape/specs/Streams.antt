@@ -1,5 +1,4 @@
 -- Tapes that are read from one counted stream, and what is written to another.
--- Source: this profile.
 use Rattle.std.specs.Prelude.{ℕ, List, Option}
 use Rattle.street_engine.specs.Prelude.{EngineView}
 use Rattle.street_stream.specs.declared.counted.Counted.{Counted}

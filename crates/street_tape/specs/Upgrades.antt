@@ -1,5 +1,5 @@
 -- What an upgrade leaves.
--- Source: this profile. Nothing is applied; what is written is the tape of version 2.
+-- Nothing is applied; what is written is the tape of version 2.
 use Rattle.std.specs.Prelude.{◌≡◌, ℕ, ◌⊎◌, List, [], ◌++◌, length, Bool, true, false, Option, Some, None, ⊤}
 use Rattle.std.specs.Io.KnownBytes.{Appends, Consumes, IsAtEnd}
 use Rattle.street_desk.specs.declared.journal.Entry.{Entry}

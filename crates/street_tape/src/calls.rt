@@ -1,6 +1,4 @@
-//! One call of a tape, applied as it went at the desk.
-//!
-//! Source: this profile.
+//! One call of a tape, applied as it went at the desk. `replays.rt` calls it.
 ghost use Rattle.std.specs.Prelude.{◌≡◌, Option, IfOk, IfErr};
 ghost use Rattle.street_base.specs.declared.command.Command.TheVariants.{Advance};
 ghost use Rattle.street_base.specs.declared.reply.Outcome.TheVariants.{Whole, Short};

@@ -1,13 +1,11 @@
-//! From a line of a tape to what it says.
-//!
-//! Source: this profile.
+//! From a line of a tape to what it says. `tape.rt` calls it for each line.
 ghost use Rattle.std.specs.Prelude.{◌≡◌, ◌⊎◌};
 ghost use Rattle.serde_json.specs.Errors.{IsMemory};
 ghost use Rattle.serde_json.specs.View.{view};
 ghost use Rattle.street_text.specs.LineCommands.{or_fault, number_field, Gives};
 ghost use Rattle.street_tape.specs.Entries.{tape_value, head_in, head_reading, is_part, outcome_in, call_in, entry_in, entry_reading, GivesTapeValue};
 
-use crate::head::Head;
+use crate::head::TapeHead;
 use serde_json::{Category, Error, Value};
 use std::alloc::Global;
 use street_base::{Command, Outcome};
@@ -132,12 +130,12 @@ fn entry_of(alloc: Global, value: &Value, sized: bool) -> Result<Entry, LineFaul
 ///
 /// `BadCommand` where its version is not known, or one of version 2 does not tell how many calls follow.
 #[tactic(auto, unfolding(crate::specs::Entries::head_in))]
-fn head_of(value: &Value) -> Result<Head, LineFault>
+fn head_of(value: &Value) -> Result<TapeHead, LineFault>
     ensures { Gives result (or_fault LineFault.BadCommand (head_in (view value.now))) }
 {
     match number_of(value, "tape")? {
-        1 => Ok(Head::Version1),
-        2 => Ok(Head::Version2 {
+        1 => Ok(TapeHead::Version1),
+        2 => Ok(TapeHead::Version2 {
             calls: number_of(value, "calls")?,
         }),
         _ => Err(LineFault::BadCommand),
@@ -151,7 +149,7 @@ fn head_of(value: &Value) -> Result<Head, LineFault>
 /// `LineTooLong` above 2,097,152 bytes, then `NotJson`, then `BadCommand` where its version is not known, or one of version 2
 /// does not tell how many calls follow; `Starved` where the reading found no memory.
 #[tactic(auto, unfolding(crate::specs::Entries::head_reading))]
-pub fn read_head(alloc: Global, line: &[u8]) -> Result<Head, LineFault>
+pub fn read_head(alloc: Global, line: &[u8]) -> Result<TapeHead, LineFault>
     ensures { Gives result (head_reading line.now) }
 {
     let value = parse(alloc, line)?;

@@ -1,12 +1,10 @@
-//! Faults of a replay and of an upgrade.
-//!
-//! Source: this profile.
+//! Faults of a replay and of an upgrade. `replays.rt` and `upgrades.rt` return them.
 ghost use Rattle.std.specs.Prelude.{◌≡◌, ◌^◌, ◌<◌, true, IfErr, OnOk};
 ghost use Rattle.street_tape.specs.ReplayHandler.{fault_of, Misses};
 ghost use Rattle.street_tape.specs.TapeLines.{may_end};
 
 use crate::{Stop, Tape};
-use street_stream::{Cause, FaultKind, RunFault, Tally};
+use street_stream::{FaultKind, RunFault, StopCause, Tally};
 use thiserror::Error;
 
 /// Why a tape was not replayed, or not upgraded, to its end.
@@ -31,14 +29,14 @@ pub enum TapeFault {
 
 /// The fault of a tape that was not read to its end, by the cause and the tally at which its lines ended. The number of a bad line,
 /// the first being 1, is how many lines the tally counts: it is the last of them.
-pub(crate) fn fault_of(cause: Cause<Stop>, tally: Tally) -> TapeFault
+pub(crate) fn fault_of(cause: StopCause<Stop>, tally: Tally) -> TapeFault
     ensures { result ≡ fault_of cause tally }
 {
     match cause {
-        Cause::Run(kind) => TapeFault::Run(RunFault { kind, tally }),
-        Cause::Line(Stop::NotTape) => TapeFault::NotTape,
-        Cause::Line(Stop::BadEntry) => TapeFault::BadEntry { line: tally.lines },
-        Cause::Line(Stop::Starved) => TapeFault::Run(RunFault {
+        StopCause::Run(kind) => TapeFault::Run(RunFault { kind, tally }),
+        StopCause::Line(Stop::NotTape) => TapeFault::NotTape,
+        StopCause::Line(Stop::BadEntry) => TapeFault::BadEntry { line: tally.lines },
+        StopCause::Line(Stop::Starved) => TapeFault::Run(RunFault {
             kind: FaultKind::Starved,
             tally,
         }),

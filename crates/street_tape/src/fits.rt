@@ -1,7 +1,6 @@
 //! The numbers of a journal's calls are numbers of 64 bits, which the laws of tapes ask of a list of calls. Each function here
-//! looks at every number once: a contract knows the range of a number that was read.
-//!
-//! Source: this profile. The program calls none of them.
+//! looks at every number once: a contract knows the range of a number that was read. `laws.rt` calls it: the program calls none
+//! of them.
 ghost use Rattle.std.specs.Prelude.{All, length};
 ghost use Rattle.street_base.specs.declared.command.Command.TheVariants.{Load};
 ghost use Rattle.street_tape.specs.Entries.{IsOfWords, OutcomeFits};

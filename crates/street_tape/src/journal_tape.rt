@@ -1,6 +1,4 @@
-//! The tape of a journal, written.
-//!
-//! Source: this profile.
+//! The tape of a journal, written. `street_runs` calls it at the end of a run with `--tape`.
 ghost use Rattle.std.specs.Prelude.{◌≡◌, ◌≤◌, ◌+◌, ◌-◌, ◌^◌, OnOk, OnErr, IfOk, IfErr, length};
 ghost use Rattle.std.specs.Io.KnownBytes.{Appends};
 ghost use Rattle.street_stream.specs.Streams.{HasFailed, IsFlushed, IsFresh};

@@ -1,6 +1,4 @@
-//! A tape says the journal that it was written of.
-//!
-//! Source: this profile.
+//! A tape says the journal that it was written of. `replay_laws.rt` calls them: nothing is run here.
 ghost use Rattle.std.specs.Prelude.{◌≡◌, All, List, Some};
 ghost use Rattle.street_desk.specs.declared.journal.Entry.{Entry};
 ghost use Rattle.street_tape.specs.Entries.{tape_reading, EntryFits, HasTapeLine, TapeFits};

@@ -23,7 +23,7 @@ mod upgrades;
 
 pub use entries::{LONGEST_TAPE_LINE, read_entry, read_head};
 pub use fault::TapeFault;
-pub use head::Head;
+pub use head::TapeHead;
 pub use journal_tape::write_tape;
 pub use laws::{journal_reads_back, tape_reads_back};
 pub use replay_laws::{old_tape_replays, tape_replays};

@@ -1,6 +1,5 @@
-//! The tape of a desk's journal replays to the replies of its calls, and so does its upgrade.
-//!
-//! Source: this profile.
+//! The tape of a desk's journal replays to the replies of its calls, and so does its upgrade. Nothing is run here: they join
+//! tapes to histories.
 ghost use Rattle.std.specs.Prelude.{◌≡◌, All, List, None, true, map};
 ghost use Rattle.street_base.specs.Prelude.{Runs};
 ghost use Rattle.street_desk.specs.declared.journal.Entry.{Entry};

@@ -1,6 +1,4 @@
-//! A tape, replayed line by line.
-//!
-//! Source: this profile. Replies are passed on before the next read.
+//! A tape, replayed line by line. Replies are passed on before the next read. `street_runs` calls it for `--replay`.
 ghost use Rattle.std.specs.Prelude.{◌≡◌, ◌≤◌, None, Some, IfOk, IfErr, OnOk};
 ghost use Rattle.street_base.specs.Prelude.{most_reads, State};
 ghost use Rattle.street_stream.specs.Streams.{IsFlushed, IsFresh, IsPrompt};
@@ -19,7 +17,7 @@ use std::thread::Threads;
 use street_base::MOST_READS;
 use street_desk::Entry;
 use street_engine::{Engine, Unwatched};
-use street_stream::{Answer, Counted, Limits, LineHandler, PartialLine, Tally, drive_lines};
+use street_stream::{Counted, LineAnswer, LineHandler, PartialLine, RunLimits, Tally, drive_lines};
 use street_text::reply_text;
 
 /// An engine that a tape is replayed on, and the tape as far as it was read.
@@ -49,10 +47,10 @@ impl<'a, R: Threads + Sync> LineHandler for Replayer<'a, R> {
     ghost ready = { IsSync R.row };
 
     /// The first line tells what follows; the call of a further line is applied as it went at the desk, and replied to.
-    fn take(&mut self, alloc: Global, line: &PartialLine) -> Result<Answer, Stop> {
+    fn take(&mut self, alloc: Global, line: &PartialLine) -> Result<LineAnswer, Stop> {
         let taken = self.tape.take(alloc, line.as_slice())?;
         match taken {
-            None => Ok(Answer {
+            None => Ok(LineAnswer {
                 is_call: false,
                 reply: Ok(None),
             }),
@@ -71,7 +69,7 @@ fn answer<R: Threads + Sync>(
     alloc: Global,
     engine: &mut Engine<Unwatched>,
     call: &Entry,
-) -> Result<Answer, Stop>
+) -> Result<LineAnswer, Stop>
     ensures answered { IfOk result (λ answer. (effect : Effect)
         × Applies engine.old (Some call.now) effect engine.new × Gives answer effect) }
     ensures stopped { IfErr result (λ stop. (m : State) → StandsFor engine.old m
@@ -82,7 +80,7 @@ fn answer<R: Threads + Sync>(
         Ok(text) => Ok(Some(text)),
         Err(starved) => Err(starved),
     };
-    Ok(Answer {
+    Ok(LineAnswer {
         is_call: true,
         reply,
     })
@@ -114,7 +112,7 @@ fn replay_lines<R: Threads + Sync, D: Read, W: Write>(
     ensures prompt { IsPrompt reader.new }
     ensures flushed { OnOk result (IsFlushed writer.new) }
 {
-    let limits = Limits {
+    let limits = RunLimits {
         line: LONGEST_TAPE_LINE,
         reads,
     };

@@ -1,13 +1,11 @@
-//! A tape, read line by line.
-//!
-//! Source: this profile.
+//! A tape, read line by line. `replays.rt` and `upgrades.rt` keep one.
 ghost use Rattle.std.specs.Prelude.{◌≡◌, None, Some, Ok, IfOk, IfErr, is_some};
 ghost use Rattle.street_tape.specs.Entries.{entry_reading};
 ghost use Rattle.street_tape.specs.TapeLines.{Takes, Refuses, IsNoCall, may_end};
 ghost use Rattle.street_tape.specs.declared.tape.Stop.TheVariants as stops;
 
 use crate::entries::{read_entry, read_head};
-use crate::head::Head;
+use crate::head::TapeHead;
 use std::alloc::Global;
 use street_base::Starved;
 use street_desk::Entry;
@@ -38,7 +36,7 @@ impl From<Starved> for Stop {
 #[derive(Debug, Clone, Copy, PartialEq, Eq)]
 pub struct Tape {
     /// What the first line tells of the lines that follow here; `None` before it was read.
-    rest: Option<Head>,
+    rest: Option<TapeHead>,
 }
 
 impl Tape {
@@ -96,7 +94,7 @@ impl Tape {
 /// # Errors
 ///
 /// `NotTape` where it is not that of a tape whose version is known; `Starved` where the reading found no memory.
-fn first_line(alloc: Global, line: &[u8]) -> Result<Head, Stop>
+fn first_line(alloc: Global, line: &[u8]) -> Result<TapeHead, Stop>
     ensures taken { IfOk result (λ head. Takes None line.now None (Some head)) }
     ensures refused { IfErr result (λ stop. Refuses None line.now stop) }
 {

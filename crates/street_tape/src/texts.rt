@@ -1,6 +1,4 @@
-//! From a call, or the number of the calls, to the line of a tape.
-//!
-//! Source: this profile.
+//! From a call, or the number of the calls, to the line of a tape. `journal_tape.rt` and `upgrades.rt` call it.
 ghost use Rattle.std.specs.Prelude.{◌≡◌, IfOk, false};
 ghost use Rattle.serde_json.specs.View.{view};
 ghost use Rattle.serde_json.specs.Written.{has_float};

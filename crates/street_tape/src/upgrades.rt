@@ -1,6 +1,5 @@
-//! A tape, written anew in version 2.
-//!
-//! Source: this profile. Nothing is written before the tape was read to its end.
+//! A tape, written anew in version 2. Nothing is written before the tape was read to its end. `street_runs` calls it for
+//! `--upgrade`.
 ghost use Rattle.std.specs.Prelude.{◌≡◌, ◌≤◌, ◌<◌, ◌^◌, ◌++◌, OnOk, IfOk, IfErr};
 ghost use Rattle.street_base.specs.Prelude.{most_reads};
 ghost use Rattle.street_stream.specs.Streams.{IsFlushed, IsFresh};
@@ -19,8 +18,8 @@ use std::io::{Read, Write};
 use street_base::{MOST_READS, Starved};
 use street_desk::Entry;
 use street_stream::{
-    Answer, Counted, FaultKind, Limits, LineHandler, PartialLine, RunFault, Tally, drive_lines,
-    flush_out,
+    Counted, FaultKind, LineAnswer, LineHandler, PartialLine, RunFault, RunLimits, Tally,
+    drive_lines, flush_out,
 };
 
 /// A tape as far as it was read, and the lines of its calls in version 2.
@@ -55,16 +54,16 @@ impl LineHandler for Upgrader {
     ghost ready = { ⊤ };
 
     /// The first line tells what follows; the line of each call is kept.
-    fn take(&mut self, alloc: Global, line: &PartialLine) -> Result<Answer, Stop> {
+    fn take(&mut self, alloc: Global, line: &PartialLine) -> Result<LineAnswer, Stop> {
         let taken = self.tape.take(alloc, line.as_slice())?;
         match taken {
-            None => Ok(Answer {
+            None => Ok(LineAnswer {
                 is_call: false,
                 reply: Ok(None),
             }),
             Some(call) => {
                 keep_line(alloc, &mut self.lines, &call)?;
-                Ok(Answer {
+                Ok(LineAnswer {
                     is_call: true,
                     reply: Ok(None),
                 })
@@ -160,7 +159,7 @@ pub fn upgrade_within<D: Read, W: Write>(
     let tape = Tape::new();
     let lines = Vec::new(alloc);
     let mut upgrader = Upgrader { tape, lines };
-    let limits = Limits {
+    let limits = RunLimits {
         line: LONGEST_TAPE_LINE,
         reads,
     };

@@ -1,20 +1,20 @@
 //! The texts of the faults of the program.
 
 use std::test::Fail;
-use street_runs::Fault;
+use street_runs::ProgramFault;
 
 #[test]
 fn faults_are_told(rt: HostRuntime) -> Result<(), Fail> {
     let cases = [
-        (Fault::BadArguments, "bad arguments"),
-        (Fault::Read("a.jsonl"), "cannot read a.jsonl"),
+        (ProgramFault::BadArguments, "bad arguments"),
+        (ProgramFault::Read("a.jsonl"), "cannot read a.jsonl"),
         (
-            Fault::Write("standard output"),
+            ProgramFault::Write("standard output"),
             "cannot write standard output",
         ),
-        (Fault::OutOfMemory, "out of memory"),
-        (Fault::Endless, "endless input"),
-        (Fault::BadTape { line: 3 }, "bad tape at line 3"),
+        (ProgramFault::OutOfMemory, "out of memory"),
+        (ProgramFault::Endless, "endless input"),
+        (ProgramFault::BadTape { line: 3 }, "bad tape at line 3"),
     ];
     for (fault, want) in cases {
         let told = format!(in rt.alloc(); "{fault}")?;

@@ -3,7 +3,7 @@
 use std::alloc::{AllocError, Global};
 use std::process::Abort;
 use std::test::Fail;
-use street_runs::{Options, WordsFault, options, reason};
+use street_runs::{ProgramOptions, WordsFault, options, reason};
 
 /// The program's name and these words.
 fn words_of(alloc: Global, words: &[&str]) -> Result<Vec<String>, AllocError> {
@@ -22,7 +22,7 @@ type Files<'a> = (Option<&'a str>, Option<&'a str>, Option<&'a str>);
 type Wanted<'a> = ((u32, u64), Files<'a>, &'a [&'a str]);
 
 /// Whether the options are these.
-fn is_found(found: &Options<'_>, wanted: Wanted<'_>) -> bool {
+fn is_found(found: &ProgramOptions<'_>, wanted: Wanted<'_>) -> bool {
     let ((workers, calls), (tape, replay, upgrade), scripts) = wanted;
     found.workers == workers
         && found.calls == calls
@@ -89,7 +89,10 @@ fn upgrades(rt: HostRuntime) -> Result<(), Fail> {
 }
 
 /// What is told of words that are no options, after the word `bad` or `help`.
-fn told_of(alloc: Global, outcome: Result<Options<'_>, WordsFault>) -> Result<String, AllocError> {
+fn told_of(
+    alloc: Global,
+    outcome: Result<ProgramOptions<'_>, WordsFault>,
+) -> Result<String, AllocError> {
     match outcome {
         Ok(_found) => Ok(String::new(alloc)),
         Err(WordsFault::Bad(error)) => format!(in alloc; "bad {error}"),
@@ -191,9 +194,9 @@ fn an_upgrade_stands_alone(rt: HostRuntime) -> Result<(), Fail> {
     check_bad(&rt, &["--upgrade", "a.tape", "a.jsonl"], what)
 }
 
-/// What is told of words that stand beside `--endless` or `--keep`.
+/// What is told of words that stand beside `--endless`, `--keep` or `--record`.
 const COMPANY: &str =
-    "the arguments '--endless' and '--keep <FILE>' cannot be used with scripts, '--calls <N>', '--tape <FILE>', '--replay <FILE>' or '--upgrade <FILE>'";
+    "the arguments '--endless', '--keep <FILE>' and '--record <FILE>' cannot be used with scripts, '--calls <N>', '--tape <FILE>', '--replay <FILE>' or '--upgrade <FILE>'";
 
 /// Whether there is no desk by these words.
 fn is_endless(alloc: Global, words: &[&str]) -> Result<bool, Fail> {
@@ -263,6 +266,48 @@ fn a_session_is_kept(rt: HostRuntime) -> Result<(), Fail> {
     )
 }
 
+/// The file to which a record is written by these words, and the one in which the session is kept.
+fn check_recorded(
+    rt: &(impl Abort + AllocGlobal),
+    words: &[&str],
+    record: Option<&str>,
+    keep: Option<&str>,
+) -> Result<(), Fail> {
+    let words = words_of(rt.alloc(), words)?;
+    let found = options(rt.alloc(), words.as_slice())?;
+    assert!(rt;
+        found.record_file == record && found.keep == keep,
+        "other options are found"
+    );
+    Ok(())
+}
+
+#[test]
+fn a_record_is_written(rt: HostRuntime) -> Result<(), Fail> {
+    check_recorded(&rt, &[], None, None)?;
+    check_recorded(&rt, &["--record", "r.bin"], Some("r.bin"), None)?;
+    check_recorded(
+        &rt,
+        &["--endless", "--record=r.bin", "--keep", "a", "--unsynced"],
+        Some("r.bin"),
+        Some("a"),
+    )?;
+    for word in [
+        "--calls=65536",
+        "--tape=a",
+        "--replay=a",
+        "--upgrade=a",
+        "a.jsonl",
+    ] {
+        check_bad(&rt, &["--record", "b", word], COMPANY)?;
+    }
+    check_bad(
+        &rt,
+        &["--record", "b", "--unsynced"],
+        "the argument '--unsynced' is of use only with '--keep <FILE>'",
+    )
+}
+
 /// A text of one line, and one without the parser's mark, come as they are.
 #[test]
 fn a_reason_is_one_line(rt: HostRuntime) {
@@ -304,6 +349,7 @@ fn check_help(rt: &impl Abort, text: &str) {
         "--endless",
         "--keep <FILE>",
         "--unsynced",
+        "--record <FILE>",
         "--version",
         "[SCRIPT]...",
     ] {

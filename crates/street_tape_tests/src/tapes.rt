@@ -12,7 +12,7 @@ use street_base::{Command, Outcome};
 use street_desk::{Desk, Entry, Journal, Pass};
 use street_engine::{Engine, Unwatched};
 use street_stream::Counted;
-use street_tape::{Head, Stop, Tape, entry_text, head_text, read_entry, read_head, write_tape};
+use street_tape::{Stop, Tape, TapeHead, entry_text, head_text, read_entry, read_head, write_tape};
 use street_text::{LineFault, read_command};
 
 /// One vehicle that drives along one link and arrives.
@@ -198,11 +198,11 @@ fn bad_lines_have_their_faults(rt: HostRuntime) {
 #[test]
 fn first_lines_tell_their_version(rt: HostRuntime) {
     for (line, want) in [
-        (r#"{"tape":1}"#, Ok(Head::Version1)),
-        (r#"{"calls":"x","tape":1}"#, Ok(Head::Version1)),
+        (r#"{"tape":1}"#, Ok(TapeHead::Version1)),
+        (r#"{"calls":"x","tape":1}"#, Ok(TapeHead::Version1)),
         (
             r#" {"x":[],"tape":2,"calls":7}"#,
-            Ok(Head::Version2 { calls: 7 }),
+            Ok(TapeHead::Version2 { calls: 7 }),
         ),
         (r#"{"tape":2}"#, Err(LineFault::BadCommand)),
         (r#"{"calls":"7","tape":2}"#, Err(LineFault::BadCommand)),
@@ -223,7 +223,10 @@ fn first_lines_tell_their_version(rt: HostRuntime) {
 fn a_line_may_have_2_097_152_bytes(rt: HostRuntime) -> Result<(), Fail> {
     let mut line = Vec::from_slice(rt.alloc(), br#"{"tape":1}"#)?;
     line.extend_from_slice(vec![in rt.alloc(); b' '; 2_097_152 - 10]?.as_slice())?;
-    assert_eq!(rt; read_head(rt.alloc(), line.as_slice()), Ok(Head::Version1));
+    assert_eq!(rt;
+        read_head(rt.alloc(), line.as_slice()),
+        Ok(TapeHead::Version1)
+    );
     line.push(b' ')?;
     assert_eq!(rt;
         read_head(rt.alloc(), line.as_slice()),

@@ -1,4 +1,4 @@
-//! Items that are lent together.
+//! Items that are lent together to one thread. `team.rt` fills and empties them.
 ghost use Rattle.std.specs.Prelude.{◌≡◌, ℕ, ◌+◌, ◌<◌, ◌≤◌, true, false, vec_len, vec_capacity, slice_index_or};
 ghost use Rattle.street_team.specs.Lent.{IsBackOf, HasBack};
 
@@ -6,7 +6,7 @@ use std::alloc::{AllocError, Global};
 
 /// Items on their way to one worker or back, the last of them first, and what is shown to it.
 #[derive(Drop)]
-pub struct Block<T: Drop> {
+pub struct ItemBlock<T: Drop> {
     pub(crate) shown: Vec<bool>,
     pub(crate) items: Vec<T>,
 }
@@ -15,14 +15,14 @@ pub struct Block<T: Drop> {
 ///
 /// # Errors
 /// Memory was refused.
-pub fn blocks<T: Drop>(
+pub fn new_blocks<T: Drop>(
     alloc: Global,
     rooms: &[usize],
     shown: usize,
-) -> Result<Vec<Block<T>>, AllocError> {
+) -> Result<Vec<ItemBlock<T>>, AllocError> {
     let mut blocks = Vec::with_capacity(alloc, rooms.len())?;
     for number in 0..rooms.len() {
-        blocks.push_reserved(Block {
+        blocks.push_reserved(ItemBlock {
             shown: Vec::with_capacity(alloc, shown)?,
             items: Vec::with_capacity(alloc, rooms[number])?,
         });
@@ -30,7 +30,7 @@ pub fn blocks<T: Drop>(
     Ok(blocks)
 }
 
-impl<T: Drop> Block<T> {
+impl<T: Drop> ItemBlock<T> {
     /// Empties the block, and then puts into it what is shown and, the last first, as many of the last items as it has room for,
     /// which the list then has no more. False where memory for what is shown was refused: then none is taken.
     pub(crate) fn fill(&mut self, shown: &[bool], items: &mut Vec<T>) -> bool

@@ -2,16 +2,16 @@
 #![tactic(auto)]
 
 mod block;
-mod errand;
 mod shared;
+mod task;
 mod team;
 #[cfg(test)]
 mod tests;
 mod waits;
 mod work;
 
-pub use block::{Block, blocks};
-pub use errand::{Done, Errand};
-pub use shared::{Shared, join_all, start};
-pub use team::{Team, locks};
-pub use work::Work;
+pub use block::{ItemBlock, new_blocks};
+pub use shared::{TeamState, join_workers, start_workers};
+pub use task::{FinishedTask, Task};
+pub use team::{Team, new_locks};
+pub use work::TeamWork;

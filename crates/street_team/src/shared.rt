@@ -1,9 +1,10 @@
-//! What the threads of a team share.
+//! What the threads of a team share: a mailbox for each of them, and signals that something was lent or came back. `team.rt`
+//! and the workers meet in it.
 ghost use Rattle.std.specs.Prelude.{◌≡◌, vec_len, IfOk};
 
-use crate::errand::{Done, Errand};
-use crate::waits::Signal;
-use crate::work::Work;
+use crate::task::{FinishedTask, Task};
+use crate::waits::WakeSignal;
+use crate::work::TeamWork;
 use std::alloc::{AllocError, Global};
 use std::sync::atomic::{AtomicU64, Ordering};
 use std::sync::{Mutex, Wait};
@@ -11,55 +12,55 @@ use std::thread::{JoinHandle, Scope, Threads};
 
 /// Where the items of a thread are put: for it, and back for who lent them.
 #[derive(Drop)]
-struct Tray<'a, T: Drop, W: Work<T>> {
-    lent: Mutex<Option<Errand<'a, T, W>>>,
-    done: Mutex<Option<Done<'a, T, W>>>,
+struct Mailbox<'a, T: Drop, W: TeamWork<T>> {
+    lent: Mutex<Option<Task<'a, T, W>>>,
+    done: Mutex<Option<FinishedTask<'a, T, W>>>,
 }
 
-/// What the threads of a team share: what they do, a tray for each of them, how often all were lent something, and how often some
+/// What the threads of a team share: what they do, a mailbox for each of them, how often all were lent something, and how often some
 /// came back.
 #[derive(Drop)]
-pub struct Shared<'a, 'w, T: Drop, W: Work<T>> {
+pub struct TeamState<'a, 'w, T: Drop, W: TeamWork<T>> {
     pub(crate) work: &'w W,
-    trays: Vec<Tray<'a, T, W>>,
-    lent: Signal,
-    back: Signal,
+    mailboxes: Vec<Mailbox<'a, T, W>>,
+    lent: WakeSignal,
+    back: WakeSignal,
     ended: AtomicU64,
 }
 
-impl<'a, 'w, T: Drop, W: Work<T>> Shared<'a, 'w, T, W> {
+impl<'a, 'w, T: Drop, W: TeamWork<T>> TeamState<'a, 'w, T, W> {
     /// What so many threads share, to which nothing is lent yet.
     ///
     /// # Errors
     /// Memory was refused.
     pub fn new(alloc: Global, work: &'w W, count: usize) -> Result<Self, AllocError>
-        ensures { IfOk result (λ shared. vec_len shared.trays ≡ count) }
+        ensures { IfOk result (λ shared. vec_len shared.mailboxes ≡ count) }
     {
-        let mut trays = Vec::with_capacity(alloc, count)?;
+        let mut mailboxes = Vec::with_capacity(alloc, count)?;
         for _ in 0..count {
-            trays.push_reserved(Tray {
+            mailboxes.push_reserved(Mailbox {
                 lent: Mutex::new(None),
                 done: Mutex::new(None),
             });
         }
-        Ok(Shared {
+        Ok(TeamState {
             work,
-            trays,
-            lent: Signal::new(),
-            back: Signal::new(),
+            mailboxes,
+            lent: WakeSignal::new(),
+            back: WakeSignal::new(),
             ended: AtomicU64::new(0),
         })
     }
 
-    /// Puts an errand on the tray of the thread of a number, from 0.
-    pub(crate) fn put<R: Wait>(&self, rt: &R, number: usize, errand: Errand<'a, T, W>) {
-        if let Some(tray) = self.trays.get(number) {
-            let mut lent = tray.lent.lock(rt);
-            *lent = Some(errand);
+    /// Puts a task in the mailbox of the thread of a number, from 0.
+    pub(crate) fn put<R: Wait>(&self, rt: &R, number: usize, task: Task<'a, T, W>) {
+        if let Some(mailbox) = self.mailboxes.get(number) {
+            let mut lent = mailbox.lent.lock(rt);
+            *lent = Some(task);
         }
     }
 
-    /// Has the workers begin: all errands are on their trays.
+    /// Has the workers begin: all tasks are in their mailboxes.
     pub(crate) fn begin(&self) {
         self.lent.go_on();
     }
@@ -71,9 +72,9 @@ impl<'a, 'w, T: Drop, W: Work<T>> Shared<'a, 'w, T, W> {
     }
 
     /// Takes what came back from the thread of a number; none where nothing has.
-    pub(crate) fn take<R: Wait>(&self, rt: &R, number: usize) -> Option<Done<'a, T, W>> {
-        let tray = self.trays.get(number)?;
-        let mut done = tray.done.lock(rt);
+    pub(crate) fn take<R: Wait>(&self, rt: &R, number: usize) -> Option<FinishedTask<'a, T, W>> {
+        let mailbox = self.mailboxes.get(number)?;
+        let mut done = mailbox.done.lock(rt);
         done.take()
     }
 
@@ -87,16 +88,16 @@ impl<'a, 'w, T: Drop, W: Work<T>> Shared<'a, 'w, T, W> {
         self.back.wait(rt, seen);
     }
 
-    /// Works on what lies on the tray of the thread of a number, and puts it back; does nothing where nothing lies there.
+    /// Works on what lies in the mailbox of the thread of a number, and puts it back; does nothing where nothing lies there.
     fn run<R: Wait>(&self, rt: &R, number: usize) {
-        let Some(tray) = self.trays.get(number) else {
+        let Some(mailbox) = self.mailboxes.get(number) else {
             return;
         };
-        let Some(errand) = taken(rt, &tray.lent) else {
+        let Some(task) = taken(rt, &mailbox.lent) else {
             return;
         };
-        let done = errand.run(self.work);
-        put_back(rt, &tray.done, done);
+        let done = task.run(self.work);
+        put_back(rt, &mailbox.done, done);
         self.back.go_on();
     }
 }
@@ -113,21 +114,21 @@ fn put_back<R: Wait, X: Drop>(rt: &R, lock: &Mutex<Option<X>>, back: X) {
     *guard = Some(back);
 }
 
-/// Starts so many threads that stay, each of which serves until [`Shared::end`]; or fewer where one of them, or memory for their
+/// Starts so many threads that stay, each of which serves until [`TeamState::end`]; or fewer where one of them, or memory for their
 /// list, is refused.
-pub fn start<
+pub fn start_workers<
     's,
     'a: 's,
     'w: 's,
     E,
     T: Drop + Send + 's,
-    W: Work<T> + Send + Sync + 's,
+    W: TeamWork<T> + Send + Sync + 's,
     R: Threads + Wait + Sync,
 >(
     scope: &'s Scope<'s, E>,
     rt: &'s R,
     alloc: Global,
-    shared: &'s Shared<'a, 'w, T, W>,
+    shared: &'s TeamState<'a, 'w, T, W>,
     threads: usize,
 ) -> Vec<JoinHandle<()>> {
     let mut started = Vec::new(alloc);
@@ -135,7 +136,7 @@ pub fn start<
         return started;
     }
     for number in 0..threads {
-        let Some(thread) = start_one(scope, rt, shared, number) else {
+        let Some(thread) = start_worker(scope, rt, shared, number) else {
             return started;
         };
         started.push_reserved(thread);
@@ -144,34 +145,34 @@ pub fn start<
 }
 
 /// Starts the thread of a number, from 0; none where it is refused.
-fn start_one<
+fn start_worker<
     's,
     'a: 's,
     'w: 's,
     E,
     T: Drop + Send + 's,
-    W: Work<T> + Send + Sync + 's,
+    W: TeamWork<T> + Send + Sync + 's,
     R: Threads + Wait + Sync,
 >(
     scope: &'s Scope<'s, E>,
     rt: &'s R,
-    shared: &'s Shared<'a, 'w, T, W>,
+    shared: &'s TeamState<'a, 'w, T, W>,
     number: usize,
 ) -> Option<JoinHandle<()>> {
     scope.spawn(move || serve(rt, shared, number)).ok()
 }
 
 /// Waits until threads that are to end have ended, and have given back all memory that they were started with.
-pub fn join_all<R: Threads>(rt: &R, threads: Vec<JoinHandle<()>>) {
+pub fn join_workers<R: Threads>(rt: &R, threads: Vec<JoinHandle<()>>) {
     for thread in threads {
         thread.join(rt);
     }
 }
 
-/// The life of the worker of a number: whenever something was lent it works on what lies on its tray, until the team ends.
-pub fn serve<'a, 'w, T: Drop, W: Work<T>, R: Wait>(
+/// The life of the worker of a number: whenever something was lent it works on what lies in its mailbox, until the team ends.
+pub fn serve<'a, 'w, T: Drop, W: TeamWork<T>, R: Wait>(
     rt: &R,
-    shared: &Shared<'a, 'w, T, W>,
+    shared: &TeamState<'a, 'w, T, W>,
     number: usize,
 ) {
     let mut seen = 0;

@@ -1,11 +1,12 @@
-//! Lending items to the workers.
+//! The caller's side of a team: items are lent to the workers, and all are back when the call returns. The steps of
+//! `street_engine` by a team lend tiles so.
 ghost use Rattle.std.specs.Prelude.{◌≡◌, ℕ, ◌+◌, ◌<◌, length, vec_len, vec_capacity, slice_get, slice_index_or, Some, None, IfSome};
 ghost use Rattle.street_team.specs.Lent.{AllMay, EachDoes, BackDoes, IsBackOf};
 
-use crate::block::Block;
-use crate::errand::Errand;
-use crate::shared::Shared;
-use crate::work::Work;
+use crate::block::ItemBlock;
+use crate::shared::TeamState;
+use crate::task::Task;
+use crate::work::TeamWork;
 use std::alloc::{AllocError, Global};
 use std::snapshot::Snapshot;
 use std::sync::{OnceLock, OnceToken, Wait};
@@ -14,10 +15,10 @@ use std::sync::{OnceLock, OnceToken, Wait};
 ///
 /// # Errors
 /// Memory was refused.
-pub fn locks<T: Drop>(
+pub fn new_locks<T: Drop>(
     alloc: Global,
     count: usize,
-) -> Result<Vec<OnceLock<Snapshot<Block<T>>>>, AllocError> {
+) -> Result<Vec<OnceLock<Snapshot<ItemBlock<T>>>>, AllocError> {
     let mut locks = Vec::with_capacity(alloc, count)?;
     for _ in 0..count {
         locks.push_reserved(OnceLock::new());
@@ -27,17 +28,17 @@ pub fn locks<T: Drop>(
 
 /// Who lends items to so many threads, a block of them to each while there are locks and blocks; the others it works on itself.
 /// A block has as many as it has room for, the first block those behind the caller's own.
-pub struct Team<'a, 'r, 'w, 's, T: Drop, W: Work<T>, R: Wait> {
+pub struct Team<'a, 'r, 'w, 's, T: Drop, W: TeamWork<T>, R: Wait> {
     rt: &'r R,
-    shared: &'s Shared<'a, 'w, T, W>,
-    locks: &'a [OnceLock<Snapshot<Block<T>>>],
-    spare: Vec<Block<T>>,
+    shared: &'s TeamState<'a, 'w, T, W>,
+    locks: &'a [OnceLock<Snapshot<ItemBlock<T>>>],
+    spare: Vec<ItemBlock<T>>,
     used: usize,
     threads: usize,
     ghost known: { (k : ℕ) (l : _) → slice_get locks.now k ≡ Some l → l.id ≡ W.lock k },
 }
 
-impl<'a, 'r, 'w, 's, T: Drop, W: Work<T>, R: Wait> Drop for Team<'a, 'r, 'w, 's, T, W, R> {
+impl<'a, 'r, 'w, 's, T: Drop, W: TeamWork<T>, R: Wait> Drop for Team<'a, 'r, 'w, 's, T, W, R> {
     /// Drops the blocks.
     fn drop(self) {
         let Team {
@@ -51,14 +52,14 @@ impl<'a, 'r, 'w, 's, T: Drop, W: Work<T>, R: Wait> Drop for Team<'a, 'r, 'w, 's,
     }
 }
 
-impl<'a, 'r, 'w, 's, T: Drop, W: Work<T>, R: Wait> Team<'a, 'r, 'w, 's, T, W, R> {
-    /// A team of the caller and so many threads, which were started. `shared` has a tray for each of them, as else `lend` waits for
+impl<'a, 'r, 'w, 's, T: Drop, W: TeamWork<T>, R: Wait> Team<'a, 'r, 'w, 's, T, W, R> {
+    /// A team of the caller and so many threads, which were started. `shared` has a mailbox for each of them, as else `lend` waits for
     /// ever; `spare` has a block for each, and `locks` one for each lending to each.
     pub fn new(
         rt: &'r R,
-        shared: &'s Shared<'a, 'w, T, W>,
-        locks: &'a [OnceLock<Snapshot<Block<T>>>],
-        spare: Vec<Block<T>>,
+        shared: &'s TeamState<'a, 'w, T, W>,
+        locks: &'a [OnceLock<Snapshot<ItemBlock<T>>>],
+        spare: Vec<ItemBlock<T>>,
         threads: usize,
     ) -> Self
         requires { (k : ℕ) (l : _) → slice_get locks.now k ≡ Some l → l.id ≡ W.lock k }
@@ -116,7 +117,7 @@ impl<'a, 'r, 'w, 's, T: Drop, W: Work<T>, R: Wait> Team<'a, 'r, 'w, 's, T, W, R>
         part: u32,
         shown: &[bool],
         items: &mut Vec<T>,
-    ) -> Option<(usize, OnceToken<'a, Snapshot<Block<T>>>)>
+    ) -> Option<(usize, OnceToken<'a, Snapshot<ItemBlock<T>>>)>
         requires may { AllMay W.may part shown.now items.old.items }
         ensures capacity { vec_capacity items.new ≡ vec_capacity items.old }
         ensures rest { (i : ℕ) (d : T) → i < vec_len items.new → slice_index_or items.new.items i d ≡ slice_index_or items.old.items i d }
@@ -137,8 +138,8 @@ impl<'a, 'r, 'w, 's, T: Drop, W: Work<T>, R: Wait> Team<'a, 'r, 'w, 's, T, W, R>
         match lock.set(self.rt, Snapshot::of(&block)) {
             Ok(token) => {
                 let own = token.again();
-                let errand = Errand::new(at, part, first, block, token);
-                self.shared.put(self.rt, number, errand);
+                let task = Task::new(at, part, first, block, token);
+                self.shared.put(self.rt, number, task);
                 Some((first, own))
             }
             Err(_) => {
@@ -150,12 +151,12 @@ impl<'a, 'r, 'w, 's, T: Drop, W: Work<T>, R: Wait> Team<'a, 'r, 'w, 's, T, W, R>
     }
 
     /// Keeps a block for another lending.
-    fn keep(&mut self, block: Block<T>) {
+    fn keep(&mut self, block: ItemBlock<T>) {
         // It has the place from which it was taken.
         let _ = self.spare.push(block);
     }
 
-    /// Waits for the items that were lent to the thread of a number by the errand with this lock, part and first number, and gives
+    /// Waits for the items that were lent to the thread of a number by the task with this lock, part and first number, and gives
     /// them as worked on.
     fn receive(
         &self,
@@ -163,8 +164,8 @@ impl<'a, 'r, 'w, 's, T: Drop, W: Work<T>, R: Wait> Team<'a, 'r, 'w, 's, T, W, R>
         number: usize,
         part: u32,
         first: usize,
-        was: &OnceToken<'a, Snapshot<Block<T>>>,
-    ) -> Block<T>
+        was: &OnceToken<'a, Snapshot<ItemBlock<T>>>,
+    ) -> ItemBlock<T>
         requires { was.now.of ≡ W.lock at }
         ensures len { vec_len result.items ≡ vec_len was.now.value.value.items }
         ensures does { BackDoes W.does part first was.now.value.value.shown.items was.now.value.value.items.items result.items.items }
@@ -184,7 +185,7 @@ impl<'a, 'r, 'w, 's, T: Drop, W: Work<T>, R: Wait> Team<'a, 'r, 'w, 's, T, W, R>
 }
 
 /// Makes a part of the work on each of these items, the first of which has number 0: the caller's own, while this is shown.
-fn work_here<T, W: Work<T>>(work: &W, part: u32, shown: &[bool], items: &mut [T])
+fn work_here<T, W: TeamWork<T>>(work: &W, part: u32, shown: &[bool], items: &mut [T])
     requires may { AllMay W.may part shown.now items.old }
     ensures long { length items.new ≡ length items.old }
     ensures does { EachDoes W.does part shown.now items.old items.new }

@@ -1,7 +1,9 @@
 //! Numbers that a team adds to.
 ghost use Rattle.std.specs.Prelude.{◌≡◌, ℕ, ◌+◌, ◌<◌, length, slice_get, slice_index_or, List, Some, IfOk};
 
-use super::{Block, Shared, Team, Work, blocks, join_all, locks, start};
+use super::{
+    ItemBlock, Team, TeamState, TeamWork, join_workers, new_blocks, new_locks, start_workers,
+};
 use std::alloc::{AllocError, Global};
 use std::marker::{Brand, Model, PhantomData};
 use std::snapshot::Snapshot;
@@ -30,7 +32,7 @@ struct Adding<K: Course> {
     of: PhantomData<K>,
 }
 
-impl<K: Course> Work<u32> for Adding<K> {
+impl<K: Course> TeamWork<u32> for Adding<K> {
     ghost use Rattle.std.specs.Prelude.{◌≡◌, ◌+◌, ◌<◌};
 
     ghost lock = { K.lock };
@@ -99,9 +101,9 @@ fn add_all<K: Course, R: Wait>(
 fn add_with<'a, K: Course + Send + Sync, R: Threads + Wait + Sync>(
     rt: &R,
     alloc: Global,
-    shared: &Shared<'a, '_, u32, Adding<K>>,
-    spare: Vec<Block<u32>>,
-    locks: &'a [OnceLock<Snapshot<Block<u32>>>],
+    shared: &TeamState<'a, '_, u32, Adding<K>>,
+    spare: Vec<ItemBlock<u32>>,
+    locks: &'a [OnceLock<Snapshot<ItemBlock<u32>>>],
     items: Vec<u32>,
     threads: usize,
 ) -> Added<K>
@@ -117,11 +119,11 @@ fn add_with<'a, K: Course + Send + Sync, R: Threads + Wait + Sync>(
                 × (items.items ≡ K.begun)
                 × ((i : ℕ) (d : ℕ) → i < length K.begun → slice_index_or K.begun i d < 1000) }
         {
-            let started = start(scope, rt, alloc, shared, threads);
+            let started = start_workers(scope, rt, alloc, shared, threads);
             let mut team = Team::new(rt, shared, locks, spare, started.len());
             let added = add_all(&mut team, items);
             shared.end();
-            join_all(rt, started);
+            join_workers(rt, started);
             added
         },
     )
@@ -131,7 +133,7 @@ fn add_with<'a, K: Course + Send + Sync, R: Threads + Wait + Sync>(
 fn add_by<K: Course + Send + Sync, R: Threads + Wait + Sync>(
     rt: &R,
     alloc: Global,
-    locks: &[OnceLock<Snapshot<Block<u32>>>],
+    locks: &[OnceLock<Snapshot<ItemBlock<u32>>>],
     items: Vec<u32>,
     threads: usize,
 ) -> Result<Vec<u32>, AllocError>
@@ -141,9 +143,9 @@ fn add_by<K: Course + Send + Sync, R: Threads + Wait + Sync>(
     ensures { IfOk result (λ ys. (i : ℕ) (d : ℕ) → i < length K.begun → slice_index_or ys.items i d ≡ slice_index_or K.begun i d + 1) }
 {
     let work = Adding::<K> { of: PhantomData };
-    let shared = Shared::new(alloc, &work, threads)?;
+    let shared = TeamState::new(alloc, &work, threads)?;
     let rooms = vec![in alloc; 2; threads]?;
-    let spare = blocks(alloc, &rooms, 1)?;
+    let spare = new_blocks(alloc, &rooms, 1)?;
     Ok(add_with(rt, alloc, &shared, spare, locks, items, threads).into_items())
 }
 
@@ -157,7 +159,7 @@ fn add<R: Threads + Wait + Sync>(
     requires small { (i : ℕ) (d : ℕ) → i < length items.items → slice_index_or items.items i d < 1000 }
     ensures { IfOk result (λ ys. (i : ℕ) (d : ℕ) → i < length items.items → slice_index_or ys.items i d ≡ slice_index_or items.items i d + 1) }
 {
-    let all = locks::<u32>(alloc, threads)?;
+    let all = new_locks::<u32>(alloc, threads)?;
     add_by::<Brand, R>(rt, alloc, &all, items, threads)
 }
 

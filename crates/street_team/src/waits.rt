@@ -1,4 +1,4 @@
-//! Waiting for a number to change: a short while awake, then asleep.
+//! Waiting for a number to change: a short while awake, then asleep. `shared.rt` waits by it.
 
 use std::hint::spin_loop;
 use std::sync::Wait;
@@ -9,15 +9,15 @@ const LOOKS: u64 = 1_000;
 
 /// A number that goes on, and how many sleep until it does.
 #[derive(Drop)]
-pub(crate) struct Signal {
+pub(crate) struct WakeSignal {
     count: AtomicU64,
     asleep: AtomicU64,
 }
 
-impl Signal {
+impl WakeSignal {
     /// At 0, and nobody sleeps.
-    pub(crate) fn new() -> Signal {
-        Signal {
+    pub(crate) fn new() -> WakeSignal {
+        WakeSignal {
             count: AtomicU64::new(0),
             asleep: AtomicU64::new(0),
         }

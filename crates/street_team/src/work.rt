@@ -1,8 +1,8 @@
-//! What workers do.
+//! What workers do with an item. A caller says with it what its items are for: `street_tile` does for tiles.
 ghost use Rattle.std.specs.Prelude.{ℕ, List, Bool};
 
 /// What is done with items of a kind, in parts that have numbers.
-pub trait Work<T> {
+pub trait TeamWork<T> {
     ghost lock: { ℕ → ℕ };
 
     ghost may: { ℕ → ℕ → List Bool → T → Type 0 };

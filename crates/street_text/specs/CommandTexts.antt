@@ -1,5 +1,5 @@
 -- The text of a command.
--- Source: this profile. All its fields are written but a size of 1, keys in byte order.
+-- All its fields are written but a size of 1, keys in byte order.
 use Rattle.std.specs.Prelude.{ℕ, ◌==◌, List, Bool, false, not, if◌then◌else◌, codes}
 use Rattle.serde_json.specs.Data.{Data, Members, object, no_members}
 use Rattle.serde_json.specs.Written.{compact_text}

@@ -1,5 +1,4 @@
 -- The line that answers a faulty line.
--- Source: this profile.
 use Rattle.std.specs.Prelude.{ℕ, List, Option, option_map}
 use Rattle.street_text.specs.ReplyLines.{line_of, error_data}
 use Rattle.street_text.specs.declared.fault.LineFault.{LineFault}

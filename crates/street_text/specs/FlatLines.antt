@@ -1,5 +1,4 @@
 -- What a line of numbers, texts and lists of numbers says, as JSON.
--- Source: this profile.
 use Rattle.std.specs.Prelude.{◌≡◌, ℕ, suc, List, [], ◌∷◌, length, Some}
 use Rattle.json.specs.Json.{value, items, members}
 use Rattle.json.specs.Token.{Token}

@@ -1,5 +1,5 @@
 -- What a line says, by cases on its JSON value.
--- Source: this profile. A number is written with digits alone; unknown fields are ignored.
+-- A number is written with digits alone; unknown fields are ignored.
 use Rattle.std.specs.Prelude.{◌≡◌, ℕ, ◌==◌, List, [], ◌∷◌, length, nat_lt, if◌then◌else◌, Bool, true, false, Option, Some, None, option_map, option_and_then, Result, Ok, Err, codes, bytes_eq}
 use Rattle.std.specs.Str.{is_utf8}
 use Rattle.serde_json.specs.Data.{Data, Items, no_items, item}

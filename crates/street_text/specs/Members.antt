@@ -1,5 +1,4 @@
 -- The members of a command's object, each under its key.
--- Source: this profile.
 use Rattle.std.specs.Borrow.{Bor}
 use Rattle.std.specs.Prelude.{ℕ, List, [], ◌∷◌, Bool, true, false, if◌then◌else◌, Some, None}
 use Rattle.serde_json.specs.Data.{Data, null, string, array, object, Members, no_members, put}

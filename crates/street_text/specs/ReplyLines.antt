@@ -1,5 +1,5 @@
 -- The lines that answer: a reply, or an error that has no place.
--- Source: this profile. Keys stand in byte order, and no more is written than the object.
+-- Keys stand in byte order, and no more is written than the object.
 use Rattle.std.specs.Prelude.{ℕ, List, [], ◌∷◌, ◌++◌, nat_lt, if◌then◌else◌, true, codes}
 use Rattle.serde_json.specs.Data.{Data, boolean, number, unsigned, string, array, object, Items, no_items, item, Members, no_members, member}
 use Rattle.serde_json.specs.Written.{compact_text}

@@ -1,5 +1,4 @@
 -- What is printed straight into bytes: values behind one another, and the fields of an object.
--- Source: this profile.
 use Rattle.std.specs.Borrow.{Bor}
 use Rattle.std.specs.Prelude.{◌≡◌, ℕ, List, [], ◌∷◌, ◌++◌, Bool, true, false, if◌then◌else◌, Some, None}
 use Rattle.json.specs.Token.{Token}

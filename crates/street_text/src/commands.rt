@@ -1,6 +1,4 @@
-//! From a command to its text.
-//!
-//! Source: this profile.
+//! From a command to its text. `texts.rt` of `street_tape` writes the calls of a tape by it.
 ghost use Rattle.std.specs.Prelude.{◌≡◌, ◌≤◌, ◌==◌, IfOk, Ok, Some, None, if◌then◌else◌, length};
 ghost use Rattle.serde_json.specs.View.{view};
 ghost use Rattle.street_base.specs.declared.command.Command.TheVariants.{Load, Enter, Signal, Advance, PlaceMeter, ReadMeter, Lane, Count};

@@ -1,6 +1,4 @@
-//! The lines of errors that have no place.
-//!
-//! Source: this profile.
+//! The lines of errors that have no place. `street_line` prints a want of memory and a full desk by it.
 ghost use Rattle.std.specs.Prelude.{◌≡◌, IfOk};
 ghost use Rattle.street_text.specs.ReplyLines.{line_of, error_data};
 

@@ -1,6 +1,4 @@
-//! Faults of a line.
-//!
-//! Source: this profile.
+//! Faults of a line. All that reads a line returns them.
 ghost use Rattle.std.specs.Prelude.{◌≡◌};
 ghost use Rattle.street_text.specs.Faults.{number_of, name_of};
 

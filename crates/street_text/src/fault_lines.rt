@@ -1,6 +1,4 @@
-//! The line that answers a faulty line.
-//!
-//! Source: this profile.
+//! The line that answers a faulty line. The handlers of lines of `street_line` call it.
 ghost use Rattle.std.specs.Prelude.{◌≡◌, IfOk, Some};
 ghost use Rattle.street_text.specs.FaultLines.{fault_line};
 

@@ -1,6 +1,4 @@
-//! The objects of a reply, printed straight into bytes.
-//!
-//! Source: this profile.
+//! The objects of a reply, printed straight into bytes. `replies.rt` and `errors.rt` print by it.
 ghost use Rattle.std.specs.Prelude.{◌≡◌, IfOk, OnOk};
 ghost use Rattle.serde_json.specs.Data.{object};
 ghost use Rattle.street_text.specs.Tokens.{tokens_of, Adds, field_data, field_tokens, is_left_out, members_of};

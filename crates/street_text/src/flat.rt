@@ -1,6 +1,5 @@
-//! Lines of numbers, texts and lists of numbers, read in one pass with no JSON value made of them.
-//!
-//! Source: this profile. What stands so in most lines; any other line is left to the JSON value.
+//! Lines of numbers, texts and lists of numbers, read in one pass with no JSON value made of them. What stands so in most
+//! lines; any other line is left to the JSON value. `line_reader.rt` tries it first.
 ghost use Rattle.std.specs.Prelude.{◌≡◌, ◌<◌, ◌≤◌, ◌==◌, ℕ, suc, length, slice_index, Some, IfSome, option_map};
 ghost use Rattle.json.specs.Json.{value};
 ghost use Rattle.serde_json.specs.Data.{unsigned};

@@ -1,6 +1,4 @@
-//! Each command is read from its own text.
-//!
-//! Source: this profile.
+//! Each command is read from its own text. Nothing is run here.
 ghost use Rattle.std.specs.Prelude.{◌≡◌, ◌≤◌, Ok, length};
 ghost use Rattle.street_base.specs.declared.command.Command.{Command};
 ghost use Rattle.street_text.specs.LineCommands.{longest_line, reading};

@@ -1,6 +1,5 @@
-//! From the bytes of a line to a command: the reading of a line, and the commands `load` and `signal`; `number_commands` has the others.
-//!
-//! Source: this profile.
+//! From the bytes of a line to a command: the reading of a line, and the commands `load` and `signal`; `number_commands` has
+//! the others. `line_reader.rt` calls it where a line is not flat.
 ghost use Rattle.std.specs.Prelude.{◌≡◌, ◌⊎◌};
 ghost use Rattle.serde_json.specs.Errors.{IsMemory};
 ghost use Rattle.serde_json.specs.View.{view};

@@ -1,6 +1,4 @@
-//! Reading line after line.
-//!
-//! Source: this profile.
+//! Reading line after line. The handlers of lines of `street_line`, and tapes, keep one.
 ghost use Rattle.std.specs.Prelude.{◌≡◌, Ok, IfSome};
 ghost use Rattle.street_text.specs.LineCommands.{command_or_fault, reading, value_of, Gives};
 

@@ -1,6 +1,4 @@
-//! The lists of a command: numbers, and rows of numbers.
-//!
-//! Source: this profile.
+//! The lists of a command, printed: numbers, and rows of numbers. `members.rt` and `commands.rt` print by it.
 ghost use Rattle.std.specs.Prelude.{◌≡◌, IfOk};
 ghost use Rattle.serde_json.specs.Data.{Data, array};
 ghost use Rattle.serde_json.specs.View.{view};

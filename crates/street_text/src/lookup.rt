@@ -1,6 +1,4 @@
-//! Where the fields of a command are looked up.
-//!
-//! Source: this profile.
+//! Where the fields of a command are looked up. The commands look their fields up by it, in a flat line or in a JSON value.
 ghost use Rattle.serde_json.specs.Data.{Data};
 ghost use Rattle.serde_json.specs.View.{view};
 ghost use Rattle.street_text.specs.LineCommands.{number_in, list_in, field, number_field, number_or, or_fault, Gives};

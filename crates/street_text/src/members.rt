@@ -1,6 +1,4 @@
-//! The objects of a command.
-//!
-//! Source: this profile.
+//! The objects of a command, printed. `commands.rt` prints by it.
 ghost use Rattle.std.specs.Prelude.{◌≡◌, IfOk, OnOk};
 ghost use Rattle.serde_json.specs.View.{view, members_view};
 ghost use Rattle.street_text.specs.Members.{is_absent, member_data, put_member, object_of};

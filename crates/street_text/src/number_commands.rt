@@ -1,6 +1,5 @@
-//! Commands whose fields are numbers and lists of numbers: one small function for each.
-//!
-//! Source: this profile.
+//! Commands whose fields are numbers and lists of numbers: one small function for each. `line_reader.rt` and `line_commands.rt`
+//! call them.
 ghost use Rattle.street_text.specs.LineCommands.{size_in, enter_in, advance_in, close_in, reopen_in, take_out_in, place_meter_in, read_meter_in};
 ghost use Rattle.street_text.specs.LineCommands.{vehicle_in, lane_in, observing_names, number_names, named_in, or_fault, Gives};
 

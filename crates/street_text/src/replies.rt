@@ -1,6 +1,4 @@
-//! From a reply to its line.
-//!
-//! Source: this profile.
+//! From a reply to its line. `street_line` and replays call it for each reply.
 ghost use Rattle.std.specs.Prelude.{◌≡◌, IfOk, nat_lt, Some, None, if◌then◌else◌};
 ghost use Rattle.serde_json.specs.Data.{object, no_members};
 ghost use Rattle.street_text.specs.ReplyLines.{line_of, number_at, refused_data, ended_data, vehicle_data, reply_data, reply_line};

@@ -1,6 +1,4 @@
-//! The lists of a reply, printed straight into bytes: numbers, and rows of numbers.
-//!
-//! Source: this profile.
+//! The lists of a reply, printed straight into bytes: numbers, and rows of numbers. `fields.rt` prints by it.
 ghost use Rattle.std.specs.Prelude.{OnOk};
 ghost use Rattle.serde_json.specs.Data.{Data, array};
 ghost use Rattle.street_text.specs.Tokens.{tokens_of, Adds};

@@ -1,6 +1,4 @@
-//! From a JSON value to the numbers, rows and lists that stand in it.
-//!
-//! Source: this profile.
+//! From a JSON value to the numbers, rows and lists that stand in it. `line_commands.rt` and `lookup.rt` read by it.
 ghost use Rattle.std.specs.Prelude.{◌≡◌, Option};
 ghost use Rattle.serde_json.specs.Data.{Data};
 ghost use Rattle.serde_json.specs.View.{view};

@@ -9,6 +9,7 @@ use Rattle.street_lanes.specs.Prelude.{IsLane, IsOn, Detectors}
 use Rattle.street_node.specs.Prelude.{Crossing, crossing as crosses}
 use Rattle.street_node.proofs.Crossings.{crossing-leads}
 use Rattle.street_tile.specs.Prelude.{Transfer, crossing, TileView, IsTileOf, IsShare, AreTiles, SameTile, Each, AllStand, IsIdle, IsPrepared, nobody, Shows, ShowsOwn, detectors_at, HaveWatched, MetersStand, AllMetersStand, noted_by, LanePhase, MotionPhase, ReleasePhase, EnterPhase, ticked, MeterPhase, all_handed, received, Steps}
+use Rattle.street_record.specs.Rows.{arrival_at}
 use Rattle.street_tile.proofs.Rows.{in-row, roads-of}
 use Rattle.street_tile.proofs.OwnLanes.{lane-of}
 use Rattle.street_tile.proofs.SameTile.{same-moved, tile-of-same}
@@ -170,6 +171,18 @@ module _ (net : NetSpec) (view : List Bool) (x0 x1 x2 x3 x4 x5 : List TileView) 
       (meter i d (omega arith)).arrived ∙ (enters i d (omega arith)).arrived ∙ ap (λ (t : TileView). t.arrived) (moves i d (omega arith)) ∙ (releases i d (omega arith)).arrived
       ∙ arrived-motion net x0 x1 x2 e1 e2 lanes motion m s i d h
 
+  left-step : (x6 : List TileView) → length x6 ≡ length x0 → Each (MeterPhase net) x5 x6 → (m : Traffic) → AllStand net x0 m → All (λ y. y.left ≡ filter_map (arrival_at (changed m)) y.own.places) x6
+  left-step x6 e6 meter m s i d h =
+      let one = goes-all net changed x0 x1 e1 (λ j e l. (lanes j e l).goes) m (on-changed net m s.on) s in
+      let moved = motion i d (omega arith) in
+      let gone = releases i d (omega arith) in
+      let came = moves i d (omega arith) in
+      let entered = enters i d (omega arith) in
+      let noted = meter i d (omega arith) in
+      let places : (get_or x6 i d).own.places ≡ (get_or x1 i d).own.places =
+      noted.goes.same.own.places ∙ entered.same.own.places ∙ ap (λ (t : TileView). t.own.places) came ∙ gone.same.own.places ∙ moved.goes.same.own.places in
+      noted.left ∙ entered.left ∙ ap (λ (t : TileView). t.left) came ∙ gone.left ∙ moved.left (changed m) one.on (one.each i d (omega arith)) ∙ ap (filter_map (arrival_at (changed m))) (sym places)
+
   -- the detectors note the step
   meters-step : (x6 : List TileView) → length x6 ≡ length x0 → Each (MeterPhase net) x5 x6 → (m : Traffic) → AllStand net x0 m → AllMetersStand x0 m → AllMetersStand x6 (step m)
   meters-step x6 e6 meter m s stands i d h =
@@ -193,6 +206,7 @@ module _ (net : NetSpec) (view : List Bool) (x0 x1 x2 x3 x4 x5 : List TileView) 
   whole-step x6 e6 meter = record {
     machine = stand-step x6 e6 meter;
     arrived = arrived-step x6 e6 meter;
+    left = left-step x6 e6 meter;
     meters = meters-step x6 e6 meter;
     tiles =
         tiles-meter net x5 x6 (omega arith) meter

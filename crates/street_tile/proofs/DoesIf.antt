@@ -147,6 +147,10 @@ module _ (net : NetSpec) {x v : TileView} (is : x ≡ v) (tile : IsTileOf net v)
   pub seen-count : (closed : Bool) (first last : ℕ) (own : Lanes) (count : ℕ) → GoesAt n (with_marks closed first last) x.own own → ((s : LaneState) → LaneStands (lane_of own n) s → count ≡ closed_cells s.track.closed) → (m : Traffic) → StandsFor v m → count ≡ closed_after closed first last (lane_at m p)
   seen-count closed first last own count goes counts m s = counts (with_marks closed first last (lane_at m p)) (goes.goes (lane_at m p) (stands-in net x (tile-seen is tile) m (subst (λ (t : TileView). StandsFor t m) (sym is) s) n p (place-seen n p is at)))
 
+  -- what is true of whatever the lane stands for is true of the machine's lane
+  pub seen-any : (P : LaneState → Type 0) → ((s : LaneState) → LaneStands (lane_of x.own n) s → P s) → (m : Traffic) → StandsFor v m → P (lane_at m p)
+  seen-any P holds m s = holds (lane_at m p) (stands-in net x (tile-seen is tile) m (subst (λ (t : TileView). StandsFor t m) (sym is) s) n p (place-seen n p is at))
+
   pub seen-shown : (reply : Reply) → ((s : LaneState) → LaneStands (lane_of x.own n) s → reply ≡ shown_lane s) → (m : Traffic) → StandsFor v m → reply ≡ shown_lane (lane_at m p)
   seen-shown reply shows m s = shows (lane_at m p) (stands-in net x (tile-seen is tile) m (subst (λ (t : TileView). StandsFor t m) (sym is) s) n p (place-seen n p is at))
 

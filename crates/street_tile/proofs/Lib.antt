@@ -37,3 +37,4 @@ mod TileCommands
 mod Seen
 mod LaneCounts
 mod NextArrival
+pub mod Stepped

@@ -2,6 +2,8 @@
 use Rattle.std.proofs.Common.{◌≡◌, ℕ, ◌<◌, ◌≤◌, Bool, true, List, [], ◌∷◌, length, map, refl, sym, ◌∙◌, ap, subst, arith, Option, None, Some, filter_map, slice_get}
 use Rattle.street_base.specs.declared.net.NetSpec.{NetSpec}
 use Rattle.street_base.specs.declared.names.Place.{Place}
+use Rattle.street_base.specs.declared.record.RecordRow.{RecordRow}
+use Rattle.street_record.specs.Rows.{arrival_at}
 use Rattle.street_base.specs.Prelude.{Vehicle, is_free, Traffic, lane_at, departed, departed_lane, changed, driven, arrival, leaver_of}
 use Rattle.street_lanes.specs.Prelude.{LaneStands, Lanes, AllLanes, Same, place_at, IsOn, LanesStand, LanesGo, AllFree, Detectors}
 use Rattle.street_tile.specs.Prelude.{Transfer, vehicle_in, crossing, let_go, placed, placed_lane, TileView, IsTileOf, StandsFor, Shows, ShowSignals, ArePairs, nobody, is_own, KeepMeters, HaveWatched, LanePhase, MotionPhase, ReleasePhase, EnterPhase, IsReleasing}
@@ -46,15 +48,17 @@ module _ (net : NetSpec) (x : TileView) (tile : IsTileOf net x) where
     };
   }
 
-  pub moves-of : (own : Lanes) (mouths : List Bool) (arrived : List ℕ) (detectors : List Detectors) → Same x.own own → x.own.room ≤ own.room
+  pub moves-of : (own : Lanes) (mouths : List Bool) (arrived : List ℕ) (left : List RecordRow) (detectors : List Detectors) → Same x.own own → x.own.room ≤ own.room
       → ((m : Traffic) → IsOn net m → m.clock ≡ x.clock → ShowSignals x.low x.high x.signals m → LanesStand x.own.places x.own.lanes m → LanesStand own.places own.lanes (driven m))
       → ((m : Traffic) → IsOn net m → m.clock ≡ x.clock → ShowSignals x.low x.high x.signals m → LanesStand x.own.places x.own.lanes m → arrived ≡ filter_map (λ p. arrival (leaver_of m p)) x.own.places)
+      → ((m : Traffic) → IsOn net m → m.clock ≡ x.clock → ShowSignals x.low x.high x.signals m → LanesStand x.own.places x.own.lanes m → left ≡ filter_map (arrival_at m) x.own.places)
       → KeepMeters x.detectors detectors
       → ((m : Traffic) → IsOn net m → m.clock ≡ x.clock → ShowSignals x.low x.high x.signals m → LanesStand x.own.places x.own.lanes m → HaveWatched m x.own.places detectors)
       → ((m : Traffic) → LanesStand own.places own.lanes m → (j : ℕ) (p : Place) → slice_get own.places j ≡ Some p → mouth mouths p ≡ is_free (lane_at m p).track 0)
-      → MotionPhase net x (record x { own = own; mouths = mouths; arrived = arrived; detectors = detectors })
+      → MotionPhase net x (record x { own = own; mouths = mouths; arrived = arrived; left = left; detectors = detectors })
   unfolding driven
-  moves-of own mouths arrived detectors same room stand gone keep watched shown = record {
+  moves-of own mouths arrived left detectors same room stand gone rows keep watched shown = record {
+    left = λ m on s. rows m on (sym s.clock) s.signals s.lanes;
     arrived = λ m on s. gone m on (sym s.clock) s.signals s.lanes;
     detectors = keep;
     watched = λ m on s. watched m on (sym s.clock) s.signals s.lanes;
@@ -84,6 +88,7 @@ module _ (net : NetSpec) (x : TileView) (tile : IsTileOf net x) where
   releases-of view own mouths handed same room stand gone = record {
     same = record { low = refl; high = refl; links = refl; own = same; sized = refl };
     arrived = refl;
+    left = refl;
     coming = refl;
     detectors = refl;
     room = room;
@@ -100,6 +105,7 @@ module _ (net : NetSpec) (x : TileView) (tile : IsTileOf net x) where
     same = record { low = refl; high = refl; links = refl; own = same; sized = refl };
     handed = refl;
     arrived = refl;
+    left = refl;
     coming = refl;
     detectors = refl;
     stands = λ m entry on s coming free. record {

@@ -1,14 +1,18 @@
 -- Motion of a tile, lane after lane.
-use Rattle.std.proofs.Common.{◌≡◌, ℕ, ◌+◌, ◌-◌, ◌<◌, ◌≤◌, true, List, [], ◌∷◌, ◌++◌, length, take, get_or, refl, sym, ◌∙◌, ap, arith, Option, Some, None, nat_le, nat_lt, filter_map, option_to_list, slice_get}
+use Rattle.std.proofs.Common.{◌≡◌, ℕ, ◌+◌, ◌-◌, ◌<◌, ◌≤◌, true, List, [], ◌∷◌, ◌++◌, length, take, get_or, refl, sym, ◌∙◌, ap, arith, Option, Some, None, nat_le, nat_lt, filter_map, option_map, option_to_list, slice_get, inl, inr}
 use Rattle.std.specs.List.{cons_option}
-use Rattle.std.proofs.lemmas.Bool.{and_parts, leb-true, ltb-true}
+use Rattle.std.proofs.lemmas.Bool.{cases_Bool, and_parts, leb-true, ltb-true}
 use Rattle.std.proofs.lemmas.List.{take_more, take_all, append_assoc, get_or_default}
 use Rattle.std.proofs.lemmas.List.Elements.{filter_map-append}
 use Rattle.std.proofs.lemmas.Option.{slice_get_within, get_or_from_slice_get}
 use Rattle.street_base.specs.declared.net.NetSpec.{NetSpec}
 use Rattle.street_base.specs.declared.names.Place.{Place}
-use Rattle.street_base.specs.Prelude.{node_of, link_at, SignalPlan, Traffic, lane_at, driven, driven_lane, arrival, leaver_of, plan_at, last_clock}
-use Rattle.street_lanes.specs.Prelude.{IsLane, IsOn, PlanStands, IsStepOf}
+use Rattle.street_base.specs.Prelude.{node_of, link_at, SignalPlan, Traffic, lane_at, driven, driven_lane, Vehicle, is_on_last, arrival, plan_at, last_clock}
+use Rattle.street_lanes.specs.declared.motion.ArrivedCar.{ArrivedCar}
+use Rattle.street_record.specs.Rows.{arrival_row}
+use Rattle.street_net.specs.Prelude.{slot_of}
+use Rattle.street_tile.specs.Record.{arrived_from}
+use Rattle.street_lanes.specs.Prelude.{arrived_car, IsLane, IsOn, PlanStands, IsStepOf}
 use Rattle.street_tile.specs.declared.motion.MotionStep.{MotionStep}
 use Rattle.street_tile.specs.Prelude.{IsOfStep, HasPlanFor, ShowSignals, is_own}
 use Rattle.street_tile.proofs.Each.{lane_at-each}
@@ -17,23 +21,40 @@ pub lane_at-driven : (net : NetSpec) (m : Traffic) → IsOn net m → (p : Place
 unfolding driven
 lane_at-driven net m on p there = lane_at-each net m on p there (driven_lane m)
 
-module _ (m : Traffic) (ps : List Place) where
-  -- one more lane, of which this number arrives, or nobody
-  pub arrivals-more : (n : ℕ) (p : Place) → slice_get ps n ≡ Some p → (before now after : List ℕ) (number : Option ℕ) → now ≡ before ++ filter_map (λ q. arrival (leaver_of m q)) (take n ps) → number ≡ arrival (leaver_of m p) → after ≡ now ++ option_to_list number → after ≡ before ++ filter_map (λ q. arrival (leaver_of m q)) (take (n + 1) ps)
-  arrivals-more n p at before now after number so_far is grown =
+-- of each lane something or nothing is told, lane after lane
+module _ {A : Type 0} (tell : Place → Option A) (ps : List Place) where
+  -- one more lane, of which this is told, or nothing
+  pub arrivals-more : (n : ℕ) (p : Place) → slice_get ps n ≡ Some p → (before now after : List A) (told : Option A) → now ≡ before ++ filter_map tell (take n ps) → told ≡ tell p → after ≡ now ++ option_to_list told → after ≡ before ++ filter_map tell (take (n + 1) ps)
+  arrivals-more n p at before now after told so_far is grown =
       let h = slice_get_within ps n p at in
       let more : take (n + 1) ps ≡ take n ps ++ p ∷ [] = take_more ps n p h ∙ ap (λ (x : Place). take n ps ++ x ∷ []) (get_or_from_slice_get ps n p p at) in
       grown
-      ∙ ap (λ (xs : List ℕ). xs ++ option_to_list number) so_far
-      ∙ append_assoc before (filter_map (λ q. arrival (leaver_of m q)) (take n ps)) (option_to_list number)
-      ∙ ap (λ (xs : List ℕ). before ++ xs) (ap (λ (o : Option ℕ). filter_map (λ q. arrival (leaver_of m q)) (take n ps) ++ option_to_list o) is ∙ ap (λ (xs : List ℕ). filter_map (λ q. arrival (leaver_of m q)) (take n ps) ++ xs) (one (arrival (leaver_of m p))) ∙ sym (filter_map-append (λ q. arrival (leaver_of m q)) (take n ps) (p ∷ [])) ∙ ap (filter_map (λ q. arrival (leaver_of m q))) (sym more))
+      ∙ ap (λ (xs : List A). xs ++ option_to_list told) so_far
+      ∙ append_assoc before (filter_map tell (take n ps)) (option_to_list told)
+      ∙ ap (λ (xs : List A). before ++ xs) (ap (λ (o : Option A). filter_map tell (take n ps) ++ option_to_list o) is ∙ ap (λ (xs : List A). filter_map tell (take n ps) ++ xs) (one (tell p)) ∙ sym (filter_map-append tell (take n ps) (p ∷ [])) ∙ ap (filter_map tell) (sym more))
     where
-      one : (o : Option ℕ) → option_to_list o ≡ cons_option o []
+      one : (o : Option A) → option_to_list o ≡ cons_option o []
       one None = refl
       one (Some k) = refl
 
-  pub arrivals-all : (n : ℕ) (before now : List ℕ) → now ≡ before ++ filter_map (λ q. arrival (leaver_of m q)) (take n ps) → length ps ≤ n → now ≡ before ++ filter_map (λ q. arrival (leaver_of m q)) ps
-  arrivals-all n before now so_far all = so_far ∙ ap (λ (xs : List Place). before ++ filter_map (λ q. arrival (leaver_of m q)) xs) (take_all n ps all)
+  pub arrivals-all : (n : ℕ) (before now : List A) → now ≡ before ++ filter_map tell (take n ps) → length ps ≤ n → now ≡ before ++ filter_map tell ps
+  arrivals-all n before now so_far all = so_far ∙ ap (λ (xs : List Place). before ++ filter_map tell xs) (take_all n ps all)
+
+-- the number of who arrives
+pub arrival-number : (o : Option Vehicle) → option_map (λ (a : ArrivedCar). a.number) (arrived_car o) ≡ arrival o
+arrival-number None = refl
+arrival-number (Some v) = elim (cases_Bool (is_on_last v)) as (λ _. option_map (λ (a : ArrivedCar). a.number) (arrived_car (Some v)) ≡ arrival (Some v)) [
+  | inl last ↦ rw last refl
+  | inr on ↦ rw on refl
+]
+
+-- its row
+pub arrived-row : (p : Place) (o : Option Vehicle) → option_map (arrived_from (slot_of p)) (arrived_car o) ≡ arrival_row p o
+arrived-row p None = refl
+arrived-row p (Some v) = elim (cases_Bool (is_on_last v)) as (λ _. option_map (arrived_from (slot_of p)) (arrived_car (Some v)) ≡ arrival_row p (Some v)) [
+  | inl last ↦ rw last refl
+  | inr on ↦ rw on refl
+]
 
 -- an own lane's link runs to an own node
 pub own-node : (net : NetSpec) (low high : ℕ) (p : Place) (node : ℕ) → node_of net (link_at net p.link).to ≡ Some node → is_own net low high p ≡ true → (low ≤ node) × (node < high)

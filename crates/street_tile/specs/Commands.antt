@@ -1,5 +1,4 @@
 -- What commands do to a tile.
--- Source: this profile.
 use Rattle.std.specs.Prelude.{◌≡◌, ◌<◌, ◌≤◌, ℕ, List, sum_by, Option, Some, None, slice_get, slice_set, if◌then◌else◌}
 use Rattle.street_base.specs.declared.net.NetSpec.{NetSpec}
 use Rattle.street_base.specs.declared.reply.Whereabouts.{Whereabouts}

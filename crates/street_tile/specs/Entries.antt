@@ -1,5 +1,4 @@
 -- What entries and departures do to a tile's lanes.
--- Source: this profile.
 use Rattle.std.specs.Prelude.{◌≡◌, ℕ, ◌<◌, List, length, map, true, Option, IsSome}
 use Rattle.street_base.specs.declared.names.Place.{Place}
 use Rattle.street_base.specs.Prelude.{Vehicle, is_free, Traffic, LaneState, with_entry, departed_lane}

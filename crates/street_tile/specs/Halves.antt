@@ -1,6 +1,5 @@
 -- The release phase in two halves: fronts are let go, and who was let go is placed.
 -- Between them a vehicle is in no lane: it is handed over.
--- Source: releases are this profile.
 use Rattle.std.specs.Prelude.{List, map, filter, drop, Option, option_map, slice_get, if◌then◌else◌}
 use Rattle.street_base.specs.declared.net.NetSpec.{NetSpec}
 use Rattle.street_base.specs.Prelude.{Vehicle, is_place, link_at, Traffic, LaneState, each_lane, gives, on_next_link, with_entry}

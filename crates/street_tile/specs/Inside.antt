@@ -17,11 +17,12 @@ seen t = record {
   handed = t.handed.items;
   coming = map vehicle_in t.coming;
   arrived = t.arrived.items;
+  left = t.left.items;
   detectors = t.detectors.items;
 }
 
 -- a tile is wide enough: it has a plan or none for each of its nodes, a mouth and a number for each two lanes of a link, a place
--- for who comes to each of its lanes, and memory for a hand-over and an arrival of each
+-- for who comes to each of its lanes, and memory for a hand-over and an arrival of each, and for its row
 pub record IsWideEnough (t : Inside) : Type 0 where
   pub nodes : t.low + length t.signals.items ≡ t.high
   pub numbered : AreNumbers t.links t.own.places t.numbers.items
@@ -29,6 +30,7 @@ pub record IsWideEnough (t : Inside) : Type 0 where
   pub coming : length t.coming ≡ length t.own.places
   pub handed : length t.own.places ≤ vec_capacity t.handed
   pub arrived : length t.own.places ≤ vec_capacity t.arrived
+  pub left : length t.own.places ≤ vec_capacity t.left
 
 -- the detectors of a tile have noted all steps so far; where it says that none was ever placed it has none
 pub record HasNotedAll (t : Inside) : Type 0 where

@@ -10,6 +10,7 @@ pub mod Entries
 pub mod HandOvers
 pub mod Commands
 pub mod Hinted
+pub mod Record
 pub mod Steps
 pub mod Together
 pub mod Prelude

@@ -2,10 +2,13 @@
 use Rattle.std.specs.Prelude.{◌≡◌, ℕ, ◌+◌, ◌<◌, ◌≤◌, List, ◌++◌, length, map, filter_map, slice_get, Bool, true, false, Option, Some}
 use Rattle.street_base.specs.Prelude.{last_clock, is_free, Traffic, lane_at, driven, driven_lane, arrival, leaver_of}
 use Rattle.street_base.specs.declared.names.Place.{Place}
+use Rattle.street_base.specs.declared.record.RecordRow.{RecordRow}
 use Rattle.street_net.specs.Prelude.{mouth}
-use Rattle.street_lanes.specs.Prelude.{LaneStands, Lanes, Same, Others, lane_of, place_at, IsOn, LanesStand, cells_on, Detectors, watch_of}
+use Rattle.street_lanes.specs.declared.motion.ArrivedCar.{ArrivedCar}
+use Rattle.street_lanes.specs.Prelude.{LaneStands, arrived_car, Lanes, Same, Others, lane_of, place_at, IsOn, LanesStand, cells_on, Detectors, watch_of}
 use Rattle.street_lanes.specs.Lanes.{IsOf}
 use Rattle.street_tile.specs.declared.motion.MotionStep.{MotionStep}
+use Rattle.street_record.specs.Rows.{arrival_at}
 use Rattle.street_tile.specs.Tiles.{IsRoads, ShowSignals, AreBare, is_own, sizes_of}
 use Rattle.street_tile.specs.TileDetectors.{KeepMeters, HaveWatched}
 
@@ -23,13 +26,13 @@ HasPlanFor step p = is_own step.net.now step.low (step.low + length step.signals
 
 -- lane n of these was driven: whatever it stood for in traffic of the step, it then stands for what motion makes of it, and who
 -- arrived is told; the others are as they were
-pub record DrivesLane (step : MotionStep) (n : ℕ) (old new : Lanes) (told : Option ℕ) : Type 0 where
+pub record DrivesLane (step : MotionStep) (n : ℕ) (old new : Lanes) (told : Option ArrivedCar) : Type 0 where
   pub same : Same old new
   pub others : Others n old new
   pub room : old.room ≤ new.room
   pub stands : (m : Traffic) → IsOfStep step m → LaneStands (lane_of old n) (lane_at m (place_at old n))
       → LaneStands (lane_of new n) (driven_lane m (place_at old n) (lane_at m (place_at old n)))
-  pub arrived : (m : Traffic) → IsOfStep step m → LaneStands (lane_of old n) (lane_at m (place_at old n)) → told ≡ arrival (leaver_of m (place_at old n))
+  pub arrived : (m : Traffic) → IsOfStep step m → LaneStands (lane_of old n) (lane_at m (place_at old n)) → told ≡ arrived_car (leaver_of m (place_at old n))
 
 -- and the watches of its detectors have seen it, where any was placed
 pub record WatchesLane (step : MotionStep) (n : ℕ) (own : Lanes) (old new : Detectors) : Type 0 where
@@ -49,12 +52,13 @@ pub record MayDrive (step : MotionStep) (own : Lanes) (detectors : List Detector
   pub sized : sizes_of detectors ≡ map (cells_on step.net.now) own.places
   pub bare : step.has_meters ≡ false → AreBare detectors
 
--- all were driven, and the numbers of those who arrived stand behind those before
-pub record DrivesLanes (step : MotionStep) (old new : Lanes) (before after : List ℕ) : Type 0 where
+-- all were driven, and the numbers and the rows of those who arrived stand behind those before
+pub record DrivesLanes (step : MotionStep) (old new : Lanes) (before after : List ℕ) (rows_before rows_after : List RecordRow) : Type 0 where
   pub same : Same old new
   pub room : old.room ≤ new.room
   pub stand : (m : Traffic) → IsOfStep step m → LanesStand old.places old.lanes m → LanesStand new.places new.lanes (driven m)
   pub arrived : (m : Traffic) → IsOfStep step m → LanesStand old.places old.lanes m → after ≡ before ++ filter_map (λ p. arrival (leaver_of m p)) old.places
+  pub rows : (m : Traffic) → IsOfStep step m → LanesStand old.places old.lanes m → rows_after ≡ rows_before ++ filter_map (arrival_at m) old.places
 
 -- and the watches of their detectors have seen it, where any was placed
 pub record WatchLanes (step : MotionStep) (own : Lanes) (old new : List Detectors) : Type 0 where

@@ -1,11 +1,11 @@
 -- The phases of a tile: each speaks of the whole machine, whatever state the tile stood for.
--- Source: the phases and their order are this profile.
 use Rattle.std.specs.Prelude.{◌≡◌, ℕ, ◌+◌, ◌≤◌, List, map, filter_map, Bool, Option}
 use Rattle.street_base.specs.declared.net.NetSpec.{NetSpec}
 use Rattle.street_base.specs.Prelude.{Vehicle, Traffic, departed, arrival, leaver_of, changed, driven}
 use Rattle.street_base.specs.declared.names.Place.{Place}
 use Rattle.street_lanes.specs.Prelude.{Lanes, AllFree, IsOn, LanesStand}
 use Rattle.street_tile.specs.Halves.{crossing, let_go, placed}
+use Rattle.street_record.specs.Rows.{arrival_at}
 use Rattle.street_tile.specs.Tiles.{TileView, StandsFor, SameTile, Shows, ShowsOwn, nobody}
 use Rattle.street_tile.specs.TileDetectors.{KeepMeters, HaveWatched, MetersStand, noted_by}
 
@@ -29,10 +29,11 @@ pub record LanePhase (net : NetSpec) (x y : TileView) : Type 0 where
   pub arrived : y.arrived ≡ x.arrived
   pub detectors : y.detectors ≡ x.detectors
 
--- motion: also the numbers that arrived, lane by lane; the watches have seen it; and the tile holds the mouths after it
+-- motion: also the numbers and the rows of those who arrived, lane by lane; the watches have seen it; and the tile holds the mouths after it
 pub record MotionPhase (net : NetSpec) (x y : TileView) : Type 0 where
   pub goes : GoesBy net driven x y
   pub arrived : (m : Traffic) → IsOn net m → StandsFor x m → y.arrived ≡ filter_map (λ p. arrival (leaver_of m p)) x.own.places
+  pub left : (m : Traffic) → IsOn net m → StandsFor x m → y.left ≡ filter_map (arrival_at m) x.own.places
   pub detectors : KeepMeters x.detectors y.detectors
   pub watched : (m : Traffic) → IsOn net m → StandsFor x m → HaveWatched m x.own.places y.detectors
   pub shown : ShowsOwn y
@@ -41,6 +42,7 @@ pub record MotionPhase (net : NetSpec) (x y : TileView) : Type 0 where
 pub record ReleasePhase (net : NetSpec) (view : List Bool) (x y : TileView) : Type 0 where
   pub same : SameTile x y
   pub arrived : y.arrived ≡ x.arrived
+  pub left : y.left ≡ x.left
   pub coming : y.coming ≡ x.coming
   pub detectors : y.detectors ≡ x.detectors
   pub room : x.own.room ≤ y.own.room
@@ -53,6 +55,7 @@ pub record EnterPhase (net : NetSpec) (x y : TileView) : Type 0 where
   pub clock : y.clock ≡ x.clock
   pub handed : y.handed ≡ x.handed
   pub arrived : y.arrived ≡ x.arrived
+  pub left : y.left ≡ x.left
   pub coming : y.coming ≡ nobody x
   pub detectors : y.detectors ≡ x.detectors
   pub stands : (m : Traffic) (entry : Place → Option Vehicle) → IsOn net m → StandsFor x m → x.coming ≡ map entry x.own.places
@@ -66,6 +69,7 @@ ticked m = record m { clock = m.clock + 1 }
 pub record MeterPhase (net : NetSpec) (x y : TileView) : Type 0 where
   pub goes : GoesBy net ticked x y
   pub arrived : y.arrived ≡ x.arrived
+  pub left : y.left ≡ x.left
   pub noted : (before m : Traffic) → IsOn net m → StandsFor x m → HaveWatched before x.own.places x.detectors
       → MetersStand x m → MetersStand y (noted_by before m)
 

@@ -1,8 +1,8 @@
 -- One step of all tiles: what it needs, and what it does.
--- Source: this profile.
 use Rattle.std.specs.Prelude.{◌≡◌, ◌<◌, ◌≤◌, List, [], length, filter_map, All}
 use Rattle.street_base.specs.declared.net.NetSpec.{NetSpec}
 use Rattle.street_base.specs.Prelude.{last_clock, most_workers, Traffic, changed, step, arrival, leaver_of}
+use Rattle.street_record.specs.Rows.{arrival_at}
 use Rattle.street_tile.specs.Tiles.{TileView, IsIdle, IsPrepared, Each, AreTiles, AllStand, nobody}
 use Rattle.street_tile.specs.TileDetectors.{AllMetersStand}
 
@@ -14,11 +14,12 @@ pub record MayStep (net : NetSpec) (xs : List TileView) : Type 0 where
   pub prepared : All IsPrepared xs
   pub stand : (m : Traffic) × AllStand net xs m × (m.clock < last_clock)
 
--- whatever traffic the tiles stood for, they then stand for the next state, hold the numbers of those who arrived, and their
--- detectors have noted the step; they are tiles of the network, and nobody is on the way
+-- whatever traffic the tiles stood for, they then stand for the next state, hold the numbers and the rows of those who arrived,
+-- and their detectors have noted the step; they are tiles of the network, and nobody is on the way
 pub record Steps (net : NetSpec) (xs ys : List TileView) : Type 0 where
   pub machine : (m : Traffic) → AllStand net xs m → AllStand net ys (step m)
   pub arrived : (m : Traffic) → AllStand net xs m → Each (λ x y. y.arrived ≡ filter_map (λ p. arrival (leaver_of (changed m) p)) x.own.places) xs ys
+  pub left : (m : Traffic) → AllStand net xs m → All (λ y. y.left ≡ filter_map (arrival_at (changed m)) y.own.places) ys
   pub meters : (m : Traffic) → AllStand net xs m → AllMetersStand xs m → AllMetersStand ys (step m)
   pub tiles : AreTiles net ys
   pub handed : All (λ x. (x.handed ≡ []) × (x.coming ≡ nobody x)) ys

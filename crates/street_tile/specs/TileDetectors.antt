@@ -1,5 +1,4 @@
 -- The detectors of a tile, and what they note of a step.
--- Source: this profile.
 use Rattle.std.specs.Prelude.{◌≡◌, ℕ, ◌+◌, ◌<◌, List, [], map, length, filter, Some, slice_get, slice_index_or, All}
 use Rattle.street_base.specs.declared.net.NetSpec.{NetSpec}
 use Rattle.street_base.specs.declared.names.Place.{Place}

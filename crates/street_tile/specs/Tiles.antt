@@ -1,11 +1,11 @@
 -- A tile, and what it stands for of the machine.
--- Source: blocks of nodes with the links that run to them are this profile.
 use Rattle.std.specs.Prelude.{◌≡◌, ℕ, ◌+◌, ◌-◌, ◌*◌, ◌/◌, ◌<◌, ◌≤◌, nat_le, nat_lt, List, [], map, length, filter, Bool, false, ◌&&◌, Option, Some}
 use Rattle.std.specs.Prelude.{None, IsSome, slice_get, slice_index_or, All}
 use Rattle.std.proofs.Common.{suc}
 use Rattle.std.specs.Option.{option_map_or}
 use Rattle.street_base.specs.declared.net.NetSpec.{NetSpec}
 use Rattle.street_base.specs.declared.net.TurnSpec.{TurnSpec}
+use Rattle.street_base.specs.declared.record.RecordRow.{RecordRow}
 use Rattle.street_base.specs.Prelude.{Vehicle, is_free, link_at, node_of, turn, places, SignalPlan, Traffic, lane_at}
 use Rattle.street_base.specs.Limits.{most_nodes, most_links}
 use Rattle.street_base.specs.declared.names.Place.{Place}
@@ -47,7 +47,7 @@ ShowSignals low high signals m = (node : ℕ) → low ≤ node → node < high
 
 -- what contracts see of a tile: its nodes from low up to high, how many links the network has, its own lanes, the clock and
 -- the signal plans of its nodes; what it holds of mouths, as a view has them; who was let go and not yet moved, who comes to
--- each of its lanes, and who arrived; and the detectors of each own lane
+-- each of its lanes, and who arrived; the rows of those who arrived in the last step; and the detectors of each own lane
 pub record TileView : Type 0 where
   pub low : ℕ
   pub high : ℕ
@@ -59,6 +59,7 @@ pub record TileView : Type 0 where
   pub handed : List Transfer
   pub coming : List (Option Vehicle)
   pub arrived : List ℕ
+  pub left : List RecordRow
   pub detectors : List Detectors
 
 -- the link of this lane runs to a node from low up to high

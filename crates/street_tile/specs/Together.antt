@@ -1,10 +1,10 @@
 -- All tiles of a network together, between two steps, and what a call does to them.
--- Source: this profile.
-use Rattle.std.specs.Prelude.{◌≡◌, ◌*◌, ◌≤◌, ◌++◌, ◌∷◌, ℕ, List, [], length, true, slice_index_or, slice_set, All}
+use Rattle.std.specs.Prelude.{◌≡◌, ◌*◌, ◌≤◌, ◌++◌, ◌∷◌, ℕ, List, [], length, true, slice_index_or, slice_set, filter_map, All}
 use Rattle.street_base.specs.declared.net.NetSpec.{NetSpec}
 use Rattle.street_base.specs.declared.names.Place.{Place}
-use Rattle.street_base.specs.Prelude.{most_workers, Traffic, IsWhole}
+use Rattle.street_base.specs.Prelude.{most_workers, Traffic, IsWhole, changed, step}
 use Rattle.street_tile.specs.Commands.{HaveNot}
+use Rattle.street_record.specs.Rows.{arrival_at}
 use Rattle.street_tile.specs.Tiles.{TileView, IsStill, IsPrepared, Each, AreTiles, AllStand, is_own}
 use Rattle.street_tile.specs.TileDetectors.{AllMetersStand}
 
@@ -29,6 +29,11 @@ pub record AreKept (net : NetSpec) (xs : List TileView) (mouths : ℕ) : Type 0 
 pub record TilesStandFor (x : TilesView) (m : Traffic) : Type 0 where
   pub lanes : AllStand x.network x.tiles m
   pub meters : AllMetersStand x.tiles m
+
+-- they have made the step from this state: they stand for the next one, and hold the rows of those who arrived in the step
+pub record HaveStepped (x : TilesView) (m : Traffic) : Type 0 where
+  pub stand : TilesStandFor x (step m)
+  pub left : All (λ t. t.left ≡ filter_map (arrival_at (changed m)) t.own.places) x.tiles
 
 -- no tile holds the number of somebody who arrived
 abbrev pub NobodyArrived : TilesView → Type 0

@@ -1,6 +1,4 @@
-//! Lane changes on a tile's own lanes.
-//!
-//! Source: the order of the phases is this profile.
+//! Lane changes on a tile's own lanes. `step.rt` calls it.
 ghost use Rattle.std.specs.Prelude.{◌≡◌, ℕ, ◌<◌, ◌≤◌, length, IsTrue, ◌↔◌};
 ghost use Rattle.street_base.specs.declared.net.NetSpec.{NetSpec};
 ghost use Rattle.street_base.specs.Prelude.{link_at};

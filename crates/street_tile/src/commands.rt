@@ -1,6 +1,4 @@
-//! Commands to one tile that name one of its lanes or nodes.
-//!
-//! Source: this profile.
+//! Commands to one tile that name one of its lanes or nodes. `tiles.rt` calls them on the tile that owns the lane or node.
 ghost use Rattle.std.specs.Prelude.{◌≡◌, ◌<◌, ◌≤◌, length, Some, true, false, slice_get, IfOk, OnOk, OnErr};
 ghost use Rattle.street_base.specs.declared.net.NetSpec.{NetSpec};
 ghost use Rattle.street_base.specs.Prelude.{link_at, SignalPlan as PlanSeen, Traffic, lane_at, in_lane, with_marks, with_waiting, closed_after, shown_lane};

@@ -1,6 +1,4 @@
-//! How a network is cut into tiles, with nobody on them, and which tile owns a node.
-//!
-//! Source: this profile.
+//! How a network is cut into tiles, with nobody on them, and which tile owns a node. `tiles.rt` calls it at a load.
 ghost use Rattle.std.specs.Prelude.{◌≡◌, ◌+◌, ◌*◌, ◌/◌, ◌<◌, ◌≤◌, ◌++◌, [], length, map, replicate, min, vec_capacity, None, IfOk, OnOk, All};
 ghost use Rattle.std.specs.List.{range_with_len};
 ghost use Rattle.street_base.specs.Prelude.{most_workers, most_links, loaded};
@@ -12,7 +10,7 @@ ghost use Rattle.street_node.specs.Prelude.{AtMostOnce};
 use crate::hand_over::{Comers, HandOver};
 use crate::tile::Tile;
 use std::alloc::{AllocError, Global};
-use street_base::{CarNo, CellNo, LaneNo, LinkIx, NodeIx, Place, Starved, Step};
+use street_base::{CarNo, CellNo, LaneNo, LinkIx, NodeIx, Place, RecordRow, Starved, Step};
 use street_lanes::{Detectors, Lanes};
 use street_net::{Network, slot};
 use street_node::SignalPlan;
@@ -144,11 +142,11 @@ fn slots_of(
     Ok((numbers, mouths))
 }
 
-// Who is handed over, who comes to each lane, and who arrived.
-type Moving = (Vec<HandOver>, Comers, Vec<CarNo>);
+// Who is handed over, who comes to each lane, who arrived, and their rows.
+type Moving = (Vec<HandOver>, Comers, Vec<CarNo>, Vec<RecordRow>);
 
-/// The lists of who moves on a tile of so many lanes, with nobody in them: of those handed over, of those who come to each lane and
-/// of those who arrived. Each has room for one vehicle a lane, the most that a step needs.
+/// The lists of who moves on a tile of so many lanes, with nobody in them: of those handed over, of those who come to each lane, of
+/// those who arrived and of their rows. Each has room for one vehicle a lane, the most that a step needs.
 ///
 /// # Errors
 /// Memory was refused.
@@ -156,11 +154,13 @@ fn moving_of(alloc: Global, lanes: usize) -> Result<Moving, AllocError>
     ensures handed { IfOk result (λ moving. (moving.0.items ≡ []) × (lanes ≤ vec_capacity moving.0)) }
     ensures coming { IfOk result (λ moving. moving.1 ≡ replicate lanes None) }
     ensures arrived { IfOk result (λ moving. (moving.2.items ≡ []) × (lanes ≤ vec_capacity moving.2)) }
+    ensures left { IfOk result (λ moving. lanes ≤ vec_capacity moving.3) }
 {
     let handed = Vec::with_capacity(alloc, lanes)?;
     let coming = Comers::new(alloc, lanes)?;
     let arrived = Vec::with_capacity(alloc, lanes)?;
-    Ok((handed, coming, arrived))
+    let left = Vec::with_capacity(alloc, lanes)?;
+    Ok((handed, coming, arrived, left))
 }
 
 // By slot, numbers and mouths; who moves; and for each node its signal plan, if it has one.
@@ -180,6 +180,7 @@ fn tables_of(alloc: Global, links: usize, nodes: usize, own: &[Place]) -> Result
     ensures handed { IfOk result (λ tables. (tables.1.0.items ≡ []) × (length own.now ≤ vec_capacity tables.1.0)) }
     ensures coming { IfOk result (λ tables. tables.1.1 ≡ replicate (length own.now) None) }
     ensures arrived { IfOk result (λ tables. (tables.1.2.items ≡ []) × (length own.now ≤ vec_capacity tables.1.2)) }
+    ensures left { IfOk result (λ tables. length own.now ≤ vec_capacity tables.1.3) }
     ensures plans { IfOk result (λ tables. tables.2.items ≡ replicate nodes None) }
 {
     let slots = slots_of(alloc, links, own)?;
@@ -197,6 +198,9 @@ pub(crate) fn owner(net: &Network, count: usize, node: NodeIx) -> usize
     ensures low { result * length net.now.nodes / count ≤ node }
     ensures high { node < (result + 1) * length net.now.nodes / count }
 {
+    if count == 1 {
+        return 0;
+    }
     let nodes = net.spec().nodes.as_slice().len();
     ((node.position() + 1) * count - 1) / nodes
 }
@@ -219,7 +223,7 @@ impl Tile {
         let places = own_lanes(alloc, net, low, high)?;
         let (own, detectors) = fresh_lanes(alloc, net, &places)?;
         let tables = tables_of(alloc, links, high - low, &places)?;
-        let ((numbers, mouths), (handed, coming, arrived), signals) = tables;
+        let ((numbers, mouths), (handed, coming, arrived, left), signals) = tables;
         Ok(Tile {
             low,
             high,
@@ -232,6 +236,7 @@ impl Tile {
             handed,
             coming,
             arrived,
+            left,
             has_meters: false,
             detectors,
         })

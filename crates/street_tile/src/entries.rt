@@ -1,6 +1,4 @@
-//! Entries and departures on a tile's own lanes.
-//!
-//! Source: this profile.
+//! Entries and departures on a tile's own lanes. `step.rt` calls it.
 ghost use Rattle.std.specs.Prelude.{◌≡◌, ◌+◌, ◌<◌, ◌≤◌, length, None, Option, map};
 ghost use Rattle.street_lanes.specs.Prelude.{Same, Others};
 ghost use Rattle.street_tile.specs.Prelude.{PlacesAt, PlaceAll, DepartAll, EnterAll, EnterPhase, IsTileOf, IsPrepared};

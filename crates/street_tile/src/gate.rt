@@ -1,4 +1,4 @@
-//! What the caller of a step sees and says of its workers.
+//! What the caller of a step sees and says of its workers. `step.rt` calls it before and after each phase of a tile.
 
 use crate::tile::Tile;
 

@@ -1,8 +1,9 @@
-//! Hand-overs: vehicles between two lanes, and how each is moved to the tile that owns the lane that it enters.
+//! Hand-overs: vehicles between two lanes, and how each is moved to the tile that owns the lane that it enters. `step.rt` calls
+//! it between releases and entries.
 //!
-//! Releases leave hand-overs with the tile of the lane that the vehicle left. The thread that calls for the step moves each to the
-//! tile of the lane that it enters ([`move_all`]), where it is among those who come ([`Comers`]) until the entries. In a step at most
-//! one goes to a lane, as the lane's mouth closes behind the first: so nobody is put over another.
+//! Releases leave hand-overs with the tile of the lane that the vehicle left. The thread that calls for the step moves each to
+//! the tile of the lane that it enters ([`move_all`]), where it is among those who come ([`Comers`]) until the entries. In a
+//! step at most one goes to a lane, as the lane's mouth closes behind the first: so nobody is put over another.
 ghost use Rattle.std.specs.Prelude.{◌≡◌, ◌<◌, ◌≤◌, length, List, [], ◌∷◌, ◌++◌, Some, None, IfOk};
 ghost use Rattle.std.specs.Prelude.{option_to_list, map, replicate, true, slice_index_or, slice_set, All};
 ghost use Rattle.street_base.specs.Prelude.{vehicle_of, most_plan};
@@ -11,7 +12,7 @@ ghost use Rattle.street_tile.specs.Prelude.{Transfer, entry_in, Awaits, IsMoved,
 ghost use Rattle.street_tile.specs.Prelude.{KeepsHints, TileView, IsTileOf, Each, AreTiles, is_own, nobody};
 
 use crate::cut::{nones, owner};
-use crate::{Hints, Tile};
+use crate::{LinkHints, Tile};
 use std::alloc::{AllocError, Global};
 use std::marker::Model;
 use street_base::{Car, Place};
@@ -148,7 +149,7 @@ fn tile_of(net: &Network, tiles: &[Tile], to: Place) -> usize
 }
 
 /// The last hand-over of tile `i`, if it has one, is moved to the tile that owns the lane it goes to, and the hints follow.
-fn move_one(net: &Network, tiles: &mut [Tile], hints: &mut Hints, i: usize)
+fn move_one(net: &Network, tiles: &mut [Tile], hints: &mut LinkHints, i: usize)
     requires inside { i < length tiles.old }
     requires tiles { AreTiles net.now tiles.old }
     requires lanes { All (λ x. All (λ e. IsLane net.now e.to) x.handed) tiles.old }
@@ -165,7 +166,7 @@ fn move_one(net: &Network, tiles: &mut [Tile], hints: &mut Hints, i: usize)
 }
 
 /// The hand-overs of tile `i` are moved to the tiles that own the lanes they go to, and the hints follow.
-fn move_from(net: &Network, tiles: &mut [Tile], hints: &mut Hints, i: usize)
+fn move_from(net: &Network, tiles: &mut [Tile], hints: &mut LinkHints, i: usize)
     requires inside { i < length tiles.old }
     requires tiles { AreTiles net.now tiles.old }
     requires lanes { All (λ x. All (λ e. IsLane net.now e.to) x.handed) tiles.old }
@@ -181,7 +182,7 @@ fn move_from(net: &Network, tiles: &mut [Tile], hints: &mut Hints, i: usize)
 }
 
 /// Each hand-over is moved to the tile that owns the lane it goes to, and the hints follow.
-pub(crate) fn move_all(net: &Network, tiles: &mut [Tile], hints: &mut Hints)
+pub(crate) fn move_all(net: &Network, tiles: &mut [Tile], hints: &mut LinkHints)
     requires tiles { AreTiles net.now tiles.old }
     requires nobody { All (λ x. x.coming ≡ nobody x) tiles.old }
     requires lanes { All (λ x. All (λ e. IsLane net.now e.to) x.handed) tiles.old }
@@ -194,7 +195,7 @@ pub(crate) fn move_all(net: &Network, tiles: &mut [Tile], hints: &mut Hints)
 }
 
 /// As [`move_all`], of a vector, of which the contract of a team's step speaks: no tile is lent.
-pub(crate) fn move_vec(net: &Network, tiles: &mut Vec<Tile>, hints: &mut Hints)
+pub(crate) fn move_vec(net: &Network, tiles: &mut Vec<Tile>, hints: &mut LinkHints)
     requires tiles { AreTiles net.now tiles.old.items }
     requires nobody { All (λ x. x.coming ≡ nobody x) tiles.old.items }
     requires lanes { All (λ x. All (λ e. IsLane net.now e.to) x.handed) tiles.old.items }

@@ -1,4 +1,5 @@
-//! Where vehicles were last put: there a search begins, and nothing relies on it.
+//! Where vehicles were last put: there a search begins, and nothing relies on it. `tiles.rt` keeps them; searches for a vehicle
+//! begin by them.
 ghost use Rattle.std.specs.Prelude.{◌≡◌, ◌≤◌, ◌++◌, [], ◌∷◌, slice_get, slice_set, OnOk};
 
 use crate::hand_over::HandOver;
@@ -8,18 +9,18 @@ use street_base::{CarNo, LinkIx, Starved};
 
 /// For each number given so far the link on which its vehicle was last put. A vehicle is sought there first; whether it is
 /// there is asked of the lanes.
-pub struct Hints {
+pub struct LinkHints {
     links: Vec<LinkIx>,
 }
 
-impl Drop for Hints {
+impl Drop for LinkHints {
     /// Drops the list.
     fn drop(self) {
-        let Hints { links: _ } = self;
+        let LinkHints { links: _ } = self;
     }
 }
 
-impl Model for Hints {
+impl Model for LinkHints {
     ghost use Rattle.std.specs.Prelude.{◌-◌, vec_len, vec_capacity};
     ghost use Rattle.street_tile.specs.Prelude.{Hinted};
 
@@ -28,12 +29,12 @@ impl Model for Hints {
     ghost view = { λ h. record { links = h.links.items; room = vec_capacity h.links - vec_len h.links } };
 }
 
-impl Hints {
+impl LinkHints {
     /// No number is given yet. Takes no memory.
-    pub fn new(alloc: Global) -> Hints
+    pub fn new(alloc: Global) -> LinkHints
         ensures { result.links ≡ [] }
     {
-        Hints {
+        LinkHints {
             links: Vec::new(alloc),
         }
     }

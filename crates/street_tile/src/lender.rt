@@ -1,10 +1,7 @@
-//! Who makes the parts of a step of all tiles: threads that are started for each part, or a team of workers that stay, to which the
-//! tiles are lent by value. Between two parts the caller has all tiles, and alone shows mouths and moves hand-overs.
-//!
-//! [`Lender::lend`] names no handle. Who may wait says so in the bounds of its `impl` block, so a step by any other lender is proved
-//! to return.
-//!
-//! Source: this profile, whose five phases a step has in this order.
+//! Who makes the parts of a step of all tiles: threads that are started for each part, or a team of workers that stay, to which
+//! the tiles are lent by value. Between two parts the caller has all tiles, and alone shows mouths and moves hand-overs.
+//! [`Lender::lend`] names no handle. Who may wait says so in the bounds of its `impl` block, so a step by any other lender is
+//! proved to return. `step.rt` has a step made by one; `street_engine` chooses it.
 ghost use Rattle.std.specs.Prelude.{◌≡◌, ℕ, ◌*◌, ◌<◌, ◌≤◌, length, All};
 ghost use Rattle.street_base.specs.Prelude.{most_workers};
 ghost use Rattle.street_base.specs.declared.net.NetSpec.{NetSpec};
@@ -17,7 +14,7 @@ use std::sync::Wait;
 use std::thread;
 use std::thread::Threads;
 use street_net::Network;
-use street_team::{Team, Work};
+use street_team::{Team, TeamWork};
 
 /// Who makes a part of a step of all tiles. `knows` is what it asks of its type's parameters and of the network.
 pub trait Lender {
@@ -36,17 +33,17 @@ pub trait Lender {
 /// Who lends by this closure, as to threads that are started for each part: an `impl` for these would need a gate of a type parameter,
 /// which the kit does not let an `impl` of a trait send to threads.
 #[derive(Drop)]
-pub struct By<F> {
+pub struct ClosureLender<F> {
     lend: F,
 }
 
-impl<F: Fn(&Network, u32, &[bool], &mut [Tile])> By<F> {
+impl<F: Fn(&Network, u32, &[bool], &mut [Tile])> ClosureLender<F> {
     /// Who lends by this closure.
     pub fn new(lend: F) -> Self
         requires { MakesParts F.Fn lend }
         ensures { MakesParts F.Fn result.lend }
     {
-        By { lend }
+        ClosureLender { lend }
     }
 }
 
@@ -67,7 +64,7 @@ fn call<F: Fn(&Network, u32, &[bool], &mut [Tile])>(
     lend(net, part, shown, tiles);
 }
 
-impl<F: Fn(&Network, u32, &[bool], &mut [Tile])> Lender for By<F> {
+impl<F: Fn(&Network, u32, &[bool], &mut [Tile])> Lender for ClosureLender<F> {
     ghost knows = { λ lender net. MakesParts F.Fn lender.lend };
 
     fn lend(&mut self, net: &Network, part: u32, shown: &[bool], tiles: &mut Vec<Tile>) {
@@ -141,7 +138,7 @@ impl<'b, G: Gate + Sync, K: TeamNetwork> TileWork<'b, G, K> {
     }
 }
 
-impl<'b, G: Gate + Sync, K: TeamNetwork> Work<Tile> for TileWork<'b, G, K> {
+impl<'b, G: Gate + Sync, K: TeamNetwork> TeamWork<Tile> for TileWork<'b, G, K> {
     ghost use Rattle.std.specs.Prelude.{◌<◌};
 
     ghost lock = { K.lock };

@@ -20,6 +20,7 @@ mod hints;
 mod lender;
 mod meters;
 mod motion;
+mod record;
 mod release;
 mod sharing;
 mod step;
@@ -31,8 +32,8 @@ mod view;
 
 pub use gate::Gate;
 pub use hand_over::HandOver;
-pub use hints::Hints;
-pub use lender::{By, Lender, TeamNetwork, TileWork, share};
+pub use hints::LinkHints;
+pub use lender::{ClosureLender, Lender, TeamNetwork, TileWork, share};
 pub use step::{step_all, step_by};
 pub use tile::Tile;
 pub use tiles::Tiles;

@@ -1,6 +1,4 @@
-//! The detectors of a tile.
-//!
-//! Source: this profile.
+//! The detectors of a tile. `step.rt` calls the phase, `tiles.rt` the commands.
 ghost use Rattle.std.specs.Prelude.{◌≡◌, ℕ, ◌<◌, ◌≤◌, length, true, false, option_map, slice_get, IfOk, OnOk, OnErr};
 ghost use Rattle.street_base.specs.Prelude.{last_clock, most_period, link_at, shown_rows, Traffic};
 ghost use Rattle.street_lanes.specs.Prelude.{IsLane};

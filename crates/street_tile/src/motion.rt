@@ -1,17 +1,18 @@
-//! Motion on a tile's own lanes.
+//! Motion on a tile's own lanes. `step.rt` calls it.
 //!
-//! Source: that motion follows the lane changes is Rickert and others (1996); the rest is this profile.
+//! Source: that motion follows the lane changes is Rickert and others 1996.
 ghost use Rattle.std.specs.Prelude.{◌≡◌, ℕ, [], ◌+◌, ◌*◌, ◌<◌, ◌≤◌, length, false, vec_len, vec_capacity, Some, slice_get, not};
 ghost use Rattle.street_base.specs.Prelude.{last_clock, is_closed};
 ghost use Rattle.street_net.specs.Prelude.{mouth};
 ghost use Rattle.street_node.specs.Prelude.{AtMostOnce};
 ghost use Rattle.street_lanes.specs.Lanes.{IsOf};
 ghost use Rattle.street_lanes.specs.Prelude.{lane_of, place_at, HasNobodyInCells};
+ghost use Rattle.street_tile.specs.Record.{arrived_from};
 ghost use Rattle.street_tile.specs.Prelude.{IsTileOf, IsRoads, IsBare, MotionPhase, HasPlanFor, DrivesLane, WatchesLane, MayDrive, DrivesLanes, WatchLanes, ShowLanes};
 
 use crate::Tile;
-use street_base::{CarNo, Place, Step};
-use street_lanes::{Detectors, Lanes};
+use street_base::{CarNo, Place, RecordRow, Step};
+use street_lanes::{ArrivedCar, Detectors, Lanes};
 use street_net::{Network, slot};
 use street_node::{Signal, SignalPlan};
 
@@ -28,14 +29,14 @@ pub(crate) struct MotionStep<'a> {
     pub(crate) signals: &'a [Option<SignalPlan>],
 }
 
-/// Motion on own lane `n`, by the signal plan of the node that its link runs to. The lane's detectors watch. Answers the number of
-/// the vehicle that arrived, if one did.
+/// Motion on own lane `n`, by the signal plan of the node that its link runs to. The lane's detectors watch. Answers who arrived, if
+/// somebody did.
 fn move_lane(
     own: &mut Lanes,
     detectors: &mut Detectors,
     step: &MotionStep<'_>,
     n: usize,
-) -> Option<CarNo>
+) -> Option<ArrivedCar>
     requires lane { n < length own.old.lanes }
     requires of { IsOf step.now.net.now own.old }
     requires in_time { step.now.clock ≤ last_clock }
@@ -84,38 +85,55 @@ fn show_closed(own: &Lanes, net: &Network, mouths: &mut [bool])
     }
 }
 
-/// Motion on each of these lanes, which their detectors watch. The numbers of those who arrived are added to `arrived`, and
-/// of each lane `mouths` gets at its `slot` whether its cell 0 is free.
+/// The row of a vehicle that arrived from the lane of a slot.
+fn row_from(slot: u32, car: ArrivedCar) -> RecordRow
+    ensures { result ≡ arrived_from slot car }
+{
+    RecordRow {
+        car: car.number,
+        slot,
+        spot: u32::MAX,
+        speed: u32::from(car.speed),
+    }
+}
+
+/// Motion on each of these lanes, which their detectors watch. The numbers of those who arrived are added to `arrived` and their
+/// rows to `left`, and of each lane `mouths` gets at its `slot` whether its cell 0 is free.
 fn move_lanes(
     own: &mut Lanes,
     detectors: &mut [Detectors],
     step: &MotionStep<'_>,
     arrived: &mut Vec<CarNo>,
+    left: &mut Vec<RecordRow>,
     mouths: &mut [bool],
 )
     requires ready { MayDrive step.now own.old detectors.old }
     requires room { vec_len arrived.old + length own.old.places ≤ vec_capacity arrived.old }
+    requires rows { vec_len left.old + length own.old.places ≤ vec_capacity left.old }
     requires once { AtMostOnce own.old.places }
     requires wide { length mouths.old ≡ 2 * length step.now.net.now.links }
-    ensures drives { DrivesLanes step.now own.old own.new arrived.old.items arrived.new.items }
+    ensures drives { DrivesLanes step.now own.old own.new arrived.old.items arrived.new.items left.old.items left.new.items }
     ensures watches { WatchLanes step.now own.old detectors.old detectors.new }
     ensures capacity { vec_capacity arrived.old ≤ vec_capacity arrived.new }
+    ensures rows { vec_capacity left.old ≤ vec_capacity left.new }
     ensures shown { ShowLanes own.new mouths.new }
 {
     show_closed(own, step.net, mouths);
     let mut n = next_to_move(own, step, 0);
     while n < own.len() {
         let at = own.at(n);
-        if let Some(number) = move_lane(own, &mut detectors[n], step, n) {
-            arrived.push_reserved(number);
+        let slot = slot(at.link, at.lane);
+        if let Some(car) = move_lane(own, &mut detectors[n], step, n) {
+            arrived.push_reserved(car.number);
+            left.push_reserved(row_from(slot as u32, car));
         }
-        mouths[slot(at.link, at.lane)] = own.is_open(n);
+        mouths[slot] = own.is_open(n);
         n = next_to_move(own, step, n + 1);
     }
 }
 
 impl Tile {
-    /// Motion on each own lane, seen by its detectors; the tile then holds the numbers of those who arrived, and of each own
+    /// Motion on each own lane, seen by its detectors; the tile then holds the numbers and rows of those who arrived, and of each own
     /// lane whether its cell 0 is empty and not closed. Takes no memory.
     pub fn phase_motion(&mut self, net: &Network)
         requires tile { IsTileOf net.now self.old }
@@ -130,11 +148,13 @@ impl Tile {
             low: self.low,
             signals: &self.signals,
         };
+        self.left.clear();
         move_lanes(
             &mut self.own,
             &mut self.detectors,
             &step,
             &mut self.arrived,
+            &mut self.left,
             &mut self.mouths,
         );
     }

@@ -1,6 +1,4 @@
-//! Releases from a tile's own buffers.
-//!
-//! Source: this profile.
+//! Releases from a tile's own buffers. `step.rt` calls it.
 ghost use Rattle.std.specs.Prelude.{◌≡◌, [], ◌+◌, ◌*◌, ◌<◌, ◌≤◌, length, false, Some, vec_len, vec_capacity, IsSome, IfSome};
 ghost use Rattle.street_base.specs.Prelude.{Traffic, Queued, next_link};
 ghost use Rattle.street_lanes.specs.Prelude.{without_front, IsLane, AllLanes, Same, GoesAt, LanesStand};

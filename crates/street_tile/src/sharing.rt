@@ -1,12 +1,12 @@
 //! How the tiles are shared out among the threads of a team: blocks of neighbours with about as many vehicles in cells each.
-//!
-//! Looks at no lane. Nothing is promised of a block, since a step is the same however the tiles are lent.
+//! Looks at no lane. Nothing is promised of a block, since a step is the same however the tiles are lent. `street_engine` asks
+//! for them before a team starts.
 
 use crate::Tile;
 use crate::tiles::Tiles;
 use std::alloc::Global;
 use street_base::Starved;
-use street_team::{Block, blocks};
+use street_team::{ItemBlock, new_blocks};
 
 /// What a step takes of a lane, apart from its vehicles, in what it takes of a vehicle on a full link of one lane.
 const LANE: u64 = 2;
@@ -121,7 +121,7 @@ impl Tiles {
     ///
     /// # Errors
     /// Memory was refused.
-    pub fn blocks(&self, alloc: Global, threads: usize) -> Result<Vec<Block<Tile>>, Starved> {
+    pub fn blocks(&self, alloc: Global, threads: usize) -> Result<Vec<ItemBlock<Tile>>, Starved> {
         let mut rooms = Vec::with_capacity(alloc, threads)?;
         let whole = self.whole();
         let mut rest = whole.without(self.first_block(whole, threads.saturating_add(1)));
@@ -130,6 +130,6 @@ impl Tiles {
             rooms.push(block.tiles)?;
             rest = rest.without(block);
         }
-        Ok(blocks(alloc, &rooms, self.view.len())?)
+        Ok(new_blocks(alloc, &rooms, self.view.len())?)
     }
 }

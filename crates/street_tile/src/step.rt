@@ -1,19 +1,18 @@
-//! The parts of a step: of one tile, and of all tiles by whoever makes them. A tile needs what another has only between two parts.
+//! The parts of a step: of one tile, and of all tiles by whoever makes them. A tile needs what another has only between two
+//! parts. `street_engine` calls the steps of all tiles; workers call the parts.
 //!
 //! Lane changes and motion read and write a tile's own lanes alone, and so do entries, departures and detectors. Before the
 //! releases the tiles show each other their mouths, and after them they hand over who goes.
-//!
-//! Source: this profile, whose five phases a step has in this order.
 ghost use Rattle.std.specs.Prelude.{◌≡◌, ◌*◌, ◌<◌, length, [], None, slice_index_or, IfSome, OnOk, All};
 ghost use Rattle.street_base.specs.Prelude.{last_clock, Traffic};
 ghost use Rattle.street_tile.specs.Prelude.{KeepsHints, MayStep, Steps, MayRun, Runs, MayWork, DoesWork};
-ghost use Rattle.street_tile.specs.Prelude.{TileView, IsPrepared, AreTiles, TilesStandFor, TilesKeep};
+ghost use Rattle.street_tile.specs.Prelude.{TileView, IsPrepared, AreTiles, HaveStepped, TilesStandFor, TilesKeep};
 ghost use Rattle.street_tile.specs.Prelude.{NobodyArrived, PreparesOne, TakesArrival, TakesArrivalOf};
 
 use crate::hand_over::{move_all, move_vec};
 use crate::tiles::Tiles;
 use crate::view::{publish, publish_vec};
-use crate::{Gate, Hints, Lender, Tile, View, share};
+use crate::{Gate, Lender, LinkHints, Tile, View, share};
 use std::thread::Threads;
 use street_base::{CarNo, Starved};
 use street_net::Network;
@@ -96,7 +95,7 @@ pub fn step_all<R: Threads + Sync, G: Gate + Sync>(
     net: &Network,
     tiles: &mut [Tile],
     view: &mut View,
-    hints: &mut Hints,
+    hints: &mut LinkHints,
     gate: &G,
 )
     requires ready { MayStep net.now tiles.old }
@@ -122,7 +121,7 @@ pub fn step_by<L: Lender>(
     net: &Network,
     tiles: &mut Vec<Tile>,
     view: &mut View,
-    hints: &mut Hints,
+    hints: &mut LinkHints,
 )
     requires net { L.knows lender.old net.now }
     requires ready { MayStep net.now tiles.old.items }
@@ -179,6 +178,7 @@ impl Tiles {
         ensures network { self.new.network ≡ self.old.network }
         ensures len { length self.new.tiles ≡ length self.old.tiles }
         ensures steps { Steps self.old.network self.old.tiles self.new.tiles }
+        ensures stepped { (m : Traffic) → TilesStandFor self.old m → HaveStepped self.new m }
     {
         step_by(
             lender,

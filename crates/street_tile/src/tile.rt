@@ -1,11 +1,11 @@
 //! A tile: its fields, the numbers that arrived, and the memory for a step. Each phase has a file; commands are in `commands`,
-//! `vehicles` and `meters`.
+//! `vehicles` and `meters`. `tiles.rt` keeps the tiles, and the other files here add their calls to `Tile`.
 ghost use Rattle.std.specs.Prelude.{◌≡◌, ◌+◌, ◌<◌, ◌≤◌, [], ◌++◌, None, option_to_list, OnOk};
 ghost use Rattle.street_tile.specs.Prelude.{IsPrepared};
 
 use crate::hand_over::{Comers, HandOver};
 use std::marker::Model;
-use street_base::{CarNo, Starved, Step};
+use street_base::{CarNo, RecordRow, Starved, Step};
 use street_lanes::{Detectors, Lanes};
 use street_node::SignalPlan;
 
@@ -33,6 +33,8 @@ pub struct Tile {
     pub(crate) coming: Comers,
     /// The numbers of those who arrived in the last step, until `next_arrival` takes them.
     pub(crate) arrived: Vec<CarNo>,
+    /// The rows of those who arrived in the last step, lane by lane, until the next one's motion.
+    pub(crate) left: Vec<RecordRow>,
     /// Whether a detector was ever placed in the tile. While none was, nothing is noted.
     pub(crate) has_meters: bool,
     /// The detectors of each own lane, by its number in `own`.
@@ -54,6 +56,7 @@ impl Drop for Tile {
             handed: _,
             coming: _,
             arrived: _,
+            left: _,
             has_meters: _,
             detectors: _,
         } = self;

@@ -1,10 +1,8 @@
-//! All tiles of a network between two steps.
+//! All tiles of a network between two steps. `street_engine` keeps one `Tiles` in its streets.
 //!
-//! Here are their making, the network that they share, the commands that name a node or a lane, and counts of vehicles. Such a command
-//! is done by the tile that owns the node or lane, and the others stay as they are. Steps are in `step`, commands that name a
-//! vehicle in `tiles_vehicles`, the blocks in which a team lends the tiles in `sharing`.
-//!
-//! Source: this profile.
+//! Here are their making, the network that they share, the commands that name a node or a lane, and counts of vehicles. Such a
+//! command is done by the tile that owns the node or lane, and the others stay as they are. Steps are in `step`, commands that
+//! name a vehicle in `tiles_vehicles`, the blocks in which a team lends the tiles in `sharing`.
 ghost use Rattle.std.specs.Prelude.{◌≡◌, ◌+◌, ◌<◌, ◌≤◌, length, min, option_map, slice_get, IfOk, OnOk, OnErr};
 ghost use Rattle.street_base.specs.Prelude.{in_lane, IsSound, with_marks, metered, last_clock, most_workers, most_period, most_vehicles, loaded, with_waiting, closed_after};
 ghost use Rattle.street_base.specs.Prelude.{link_at, shown_lane, shown_rows, in_cells, in_buffers, in_wait, SignalPlan as PlanSeen, Traffic, lane_at};
@@ -13,7 +11,7 @@ ghost use Rattle.street_lanes.specs.Prelude.{IsLane, HasShortPlan, waiting_of};
 ghost use Rattle.street_tile.specs.Prelude.{at_place, planned, detectors_on, TilesStandFor, TilesGo, TilesKeep, NobodyArrived, OwnsLink};
 
 use crate::cut::owner;
-use crate::{Hints, Tile, View};
+use crate::{LinkHints, Tile, View};
 use std::alloc::Global;
 use std::marker::Model;
 use std::sync::Arc;
@@ -28,7 +26,7 @@ pub struct Tiles {
     pub(crate) network: Arc<Network, Global>,
     pub(crate) tiles: Vec<Tile>,
     pub(crate) view: View,
-    pub(crate) hints: Hints,
+    pub(crate) hints: LinkHints,
 }
 
 impl Drop for Tiles {
@@ -76,7 +74,7 @@ impl Tiles {
             network,
             tiles,
             view,
-            hints: Hints::new(alloc),
+            hints: LinkHints::new(alloc),
         })
     }
 

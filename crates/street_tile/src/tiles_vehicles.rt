@@ -1,6 +1,5 @@
 //! Commands that name a vehicle: it is sought on the lanes of the link on which it was last put, and then in all tiles.
-//!
-//! Source: this profile.
+//! `street_engine` calls them.
 ghost use Rattle.std.specs.Prelude.{◌≡◌, ℕ, ◌<◌, length, true, false, IsSome, IfOk};
 ghost use Rattle.street_base.specs.Prelude.{IsSound, IsWhole, seen, Traffic};
 ghost use Rattle.street_lanes.specs.Prelude.{IsLane};

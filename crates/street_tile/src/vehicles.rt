@@ -1,6 +1,4 @@
-//! Commands to one tile that name a vehicle, and how many vehicles are on its lanes.
-//!
-//! Source: this profile.
+//! Commands to one tile that name a vehicle, and how many vehicles are on its lanes. `tiles_vehicles.rt` calls them.
 ghost use Rattle.std.specs.Prelude.{◌≡◌, ◌<◌, length, count_by, is_some, option_map, None, true, IfOk, IfSome};
 ghost use Rattle.street_base.specs.Prelude.{vehicle_of, Traffic, lane_at, in_lane, seen_in};
 ghost use Rattle.street_lanes.specs.Prelude.{IsLane, place_at, vehicle_on};

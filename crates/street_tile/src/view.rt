@@ -1,6 +1,5 @@
-//! Which lanes are open, as all tiles see it: what each tile found of its own lanes' mouths is copied into the view.
-//!
-//! Source: this profile.
+//! Which lanes are open, as all tiles see it: what each tile found of its own lanes' mouths is copied into the view. `step.rt`
+//! calls it between motion and releases.
 ghost use Rattle.std.specs.Prelude.{◌≡◌, ℕ, ◌*◌, ◌<◌, length, false, slice_get, slice_set, Some, IsTrue, ◌↔◌, IfOk, All};
 ghost use Rattle.std.specs.List.{list_any};
 ghost use Rattle.street_base.specs.declared.names.Place.{Place};

@@ -17,6 +17,8 @@ mod meeting;
 #[cfg(test)]
 mod owners;
 #[cfg(test)]
+mod records;
+#[cfg(test)]
 mod scenes;
 #[cfg(test)]
 mod steps;

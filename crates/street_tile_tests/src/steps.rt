@@ -12,7 +12,7 @@ use std::test::Fail;
 use std::thread::Threads;
 use street_base::Starved;
 use street_net::Network;
-use street_tile::{Gate, Hints, Tile, View, step_all};
+use street_tile::{Gate, LinkHints, Tile, View, step_all};
 
 /// Takes the memory for a step.
 fn prepare(tiles: &mut [Tile]) -> Result<(), Starved>
@@ -40,7 +40,7 @@ fn step<R: Threads + Sync, G: Gate + Sync>(
 {
     prepare(tiles)?;
     let mut view = View::new(alloc, net)?;
-    let mut hints = Hints::new(alloc);
+    let mut hints = LinkHints::new(alloc);
     // Its clause `faultless` says that the machine has a state for the network.
     let _spec = net.spec();
     step_all(rt, net, tiles, &mut view, &mut hints, gate);

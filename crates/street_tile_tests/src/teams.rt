@@ -56,7 +56,7 @@ impl Gate for Held<'_> {
 }
 
 /// A ring, and a vehicle on each of its links that drives once around.
-fn begin(alloc: Global) -> Result<Vec<Command>, AllocError> {
+pub(crate) fn begin(alloc: Global) -> Result<Vec<Command>, AllocError> {
     let mut commands = Vec::new(alloc);
     commands.push(ring(alloc, AROUND)?)?;
     for link in 0..AROUND {

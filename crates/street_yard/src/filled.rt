@@ -1,6 +1,6 @@
-//! Which lists have a key, a bit each, so that the next one that has is found without a look at each of them.
-//!
-//! The lists of one kind of 64 lanes have a word together, and the words of the three kinds of these lanes lie side by side.
+//! Which lists have a key, a bit each, so that the next one that has is found without a look at each of them. The lists of one
+//! kind of 64 lanes have a word together, and the words of the three kinds of these lanes lie side by side. `list_table.rt`
+//! keeps it.
 ghost use Rattle.std.specs.Prelude.{◌≡◌, ◌^◌, ◌*◌, ◌<◌, ◌==◌, not, true, false, length, replicate, IfOk, slice_index_or, slice_set};
 
 use crate::names::ListKind;

@@ -1,7 +1,6 @@
 //! The links of a list: who is ahead of a key, and who is behind it. Behind nobody comes the first of the list, and ahead of
-//! nobody the last.
-//!
-//! `row` is the row of the list. Its caller has taken it from the `ListTable`, and writes it back there.
+//! nobody the last. `row` is the row of the list. Its caller has taken it from the `ListTable`, and writes it back there.
+//! `yard.rt` calls them.
 ghost use Rattle.std.specs.Prelude.{◌≡◌, length};
 ghost use Rattle.street_yard.specs.Prelude.{row_behind, row_ahead};
 ghost use Rattle.street_yard.specs.Inside.{hots_behind, hots_ahead, next_behind_of, IsBelow};

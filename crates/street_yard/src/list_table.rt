@@ -1,8 +1,6 @@
-//! The first and the last key of each list, how many keys it has, how many are on all lists of a kind together, and which lane is
-//! the next with somebody on its list of a kind.
-//!
-//! A lane has three lists with three numbers in a row: its cells, its buffer, and those who wait. So the remainder of a list's
-//! number by 3 tells of which kind it is.
+//! The first and the last key of each list, how many keys it has, how many are on all lists of a kind together, and which lane
+//! is the next with somebody on its list of a kind. A lane has three lists with three numbers in a row: its cells, its buffer,
+//! and those who wait. So the remainder of a list's number by 3 tells of which kind it is. `yard.rt` keeps one.
 ghost use Rattle.std.specs.Prelude.{◌≡◌, ◌^◌, ◌<◌, ◌≤◌, ◌/◌, length, map, replicate, IfOk, slice_index_or, slice_set};
 
 use crate::filled::FilledLists;

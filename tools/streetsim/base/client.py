@@ -2,14 +2,14 @@
 import fcntl
 import json
 import subprocess
-import tempfile
 from collections.abc import Iterable, Iterator, Sequence
 from dataclasses import dataclass
 from os import PathLike, fspath
-from typing import Any, Self
+from typing import Any
 
 from streetsim.base import limits
 from streetsim.base.files import Fault
+from streetsim.base.process import Process, ProgramEnded
 from streetsim.base.program import find_program
 
 Command = dict[str, Any] | str | bytes  # a command, or its line
@@ -79,15 +79,6 @@ class Starved(Exception):
 
 class NoReply(Exception):
     """What the program wrote is no reply of streetsim."""
-
-
-class ProgramEnded(Exception):
-    """The program ended before it replied, or, at Client.close alone, with a status other than 0."""
-
-    def __init__(self, status: int, stderr: str) -> None:
-        """status: of the program, 0 too where it ended too early, -N by signal N; stderr: its standard error."""
-        self.status, self.stderr = status, stderr
-        super().__init__(f"the program ended with status {status}: {stderr.strip() or 'nothing on standard error'}")
 
 
 @dataclass(slots=True, frozen=True)
@@ -282,7 +273,7 @@ def check_kept(path: str | PathLike[str]) -> None:
         raise Fault(f"{fspath(path)}: not the file of a session")
 
 
-class Client:
+class Client(Process):
     """One run of the program, over pipes. Methods raise what was refused, or Starved; `batch` gives these as values.
     All raise ProgramEnded where the program ends before it replied.
 
@@ -302,47 +293,8 @@ class Client:
         if keep is not None:
             check_kept(keep)
         words = words_of(program, calls, keep) + (["--workers", str(workers)] if workers != 1 else [])
-        self.errors = tempfile.TemporaryFile()
-        self.ended: tuple[int, str] | None = None
-        self.process = subprocess.Popen(
-            words, stdin=subprocess.PIPE, stdout=subprocess.PIPE, stderr=self.errors, bufsize=1 << 16
-        )
-        assert self.process.stdin and self.process.stdout
-        self.input, self.output = self.process.stdin, self.process.stdout
+        super().__init__(words, 1 << 16)
         self.chunk = min(CHUNK, fcntl.fcntl(self.input.fileno(), fcntl.F_GETPIPE_SZ) * 9 // 10)
-
-    def __enter__(self) -> Self:
-        """Gives the client itself; the program runs since it was made."""
-        return self
-
-    def __exit__(self, kind: type[BaseException] | None, *_: object) -> None:
-        """Closes as `close` does; after an exception the program is killed and its status is not looked at."""
-        if kind is None:
-            self.close()
-        else:
-            self.process.kill()
-            self.end()
-
-    def close(self) -> None:
-        """Ends the input and waits for the program; ProgramEnded if its status is not 0."""
-        status, told = self.end()
-        if status:
-            raise ProgramEnded(status, told)
-
-    def end(self) -> tuple[int, str]:
-        """Ends the input and waits for the program; gives (its status, its standard error), later the same."""
-        if self.ended is not None:
-            return self.ended
-        for pipe in (self.input, self.output):
-            try:
-                pipe.close()
-            except OSError:
-                pass
-        status = self.process.wait()
-        self.errors.seek(0)
-        self.ended = status, self.errors.read().decode(errors="replace")
-        self.errors.close()
-        return self.ended
 
     def exchange(self, lines: Iterable[bytes]) -> Iterator[bytes]:
         """Sends lines, each with its end, and gives the replies as bytes, in order; lines are sent only as replies are

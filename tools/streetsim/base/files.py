@@ -13,11 +13,14 @@ import sys
 import xml.etree.ElementTree as ElementTree
 import zlib
 from collections.abc import Callable, Collection, Iterable, Iterator, Mapping
+from itertools import chain
 from types import FrameType
 from typing import IO, Any, Literal, NoReturn, TypeVar, cast, overload
 from xml.etree.ElementTree import Element
 
+from streetsim.base.folders import NAMES, SETTING, foreign_path, remove_own
 from streetsim.base.halves import half_file, half_folder, is_half
+from streetsim.base.unpacking import PIPE, RATIO, Chunks, Nesting, lifted, refuse_bomb, refuse_crowded
 
 GZIP = b"\x1f\x8b"  # with which a gzip file begins
 Json = dict[str, Any]  # an object of JSON
@@ -33,31 +36,36 @@ class Fault(Exception):
 
 
 @overload
-def open_text(path: FilePath, mode: Literal["r"] = "r") -> IO[str]:
+def open_text(path: FilePath, mode: Literal["r"] = "r", ratio: int = RATIO) -> IO[str]:
     ...
 
 
 @overload
-def open_text(path: FilePath, mode: str) -> TextFile:
+def open_text(path: FilePath, mode: str, ratio: int = RATIO) -> TextFile:
     ...
 
 
-def open_text(path: FilePath, mode: str = "r") -> TextFile:
+def open_text(path: FilePath, mode: str = "r", ratio: int = RATIO) -> TextFile:
     """Opens a text file, of UTF-8, to read (mode r) or to write (w anew, a at its end); line ends stay as they are.
-    What is read is unpacked where `is_gzip` says so, and may begin with a byte order mark; what is written is gzip
-    where the name ends with .gz (without time or name inside, so that equal runs give equal bytes). OSError, and no
-    Fault, where it cannot be opened: `reading` makes a Fault of it."""
+    What is read is unpacked as open_bytes does it, and may begin with a byte order mark; what is written is gzip where
+    the name ends with .gz (without time or name inside, so that equal runs give equal bytes). OSError or ValueError,
+    and no Fault, where it cannot be opened: `reading` makes a Fault of it."""
     if mode == "r":
-        return io.TextIOWrapper(open_bytes(path), encoding="utf-8-sig", newline="")
+        return io.TextIOWrapper(open_bytes(path, ratio), encoding="utf-8-sig", newline="")
     if str(path).endswith(".gz"):
         return ZippedText(path, mode)
     return open(path, mode, encoding="utf-8", newline="")
 
 
-def open_bytes(path: FilePath) -> IO[bytes]:
-    """Opens a file of bytes to read, unpacked where `is_gzip` says so. OSError, and no Fault, where it cannot be
-    opened: `reading` makes a Fault of it."""
-    return cast(IO[bytes], gzip.open(path)) if is_gzip(path) else open(path, "rb")
+def open_bytes(path: FilePath, ratio: int = RATIO) -> IO[bytes]:
+    """Opens a file of bytes to read, unpacked where `is_gzip` says so. OSError or ValueError, and no Fault, where it
+    cannot be opened or unpacks to more than `ratio` times its size allows: `reading` makes a Fault of it."""
+    if not is_gzip(path):
+        return open(path, "rb")
+    if os.path.isfile(path):
+        with open(path, "rb") as file:
+            refuse_bomb(file, os.path.getsize(path), ratio)
+    return cast(IO[bytes], gzip.open(path))
 
 
 def is_gzip(path: FilePath) -> bool:
@@ -123,16 +131,32 @@ def elements(path: FilePath, roots: Collection[str] = ()) -> Iterator[Element]:
     large files need little memory. Fault where the file cannot be read or is no XML, or the root's tag is none of
     `roots` (without any all will do)."""
     with reading(path), open_bytes(path) as file:
-        events = ElementTree.iterparse(file, ("start", "end"))
-        _, root = next(events)
-        if roots and root.tag not in roots:
-            raise Fault(f"{path}: the root is <{root.tag}>, expected <{'> or <'.join(roots)}>")
-        depth = 0
-        for event, element in events:
-            depth += 1 if event == "start" else -1
-            if depth == 0:
+        chunks, parser, nesting = Chunks(file), ElementTree.XMLPullParser(("start", "end")), Nesting()
+        for event, element in events_of(parser, chunks):
+            if event == "start":
+                if nesting.depth == 0:
+                    root = element
+                    if roots and root.tag not in roots:
+                        raise Fault(f"{path}: the root is <{root.tag}>, expected <{'> or <'.join(roots)}>")
+                nesting.begin()
+                continue
+            nesting.end()
+            if nesting.depth == 1:
                 yield element
                 root.clear()
+                chunks.kept = 0
+
+
+def events_of(parser: ElementTree.XMLPullParser, chunks: Chunks) -> Iterator[tuple[str, Element]]:
+    """The events of a parser that is fed with chunks, (start or end, element), which it tells to them."""
+    for chunk in chain(chunks, (b"",)):
+        if chunk:
+            parser.feed(chunk)
+        else:
+            parser.close()
+        for event, element in parser.read_events():
+            chunks.stretch = 0
+            yield event, element
 
 
 def element_told(path: FilePath, element: Element) -> str:
@@ -225,11 +249,18 @@ def seconds(text: str) -> float:
     return value
 
 
+def json_in(path: FilePath) -> object:
+    """What a file holds as JSON; Fault where it cannot be read or is none."""
+    with reading(path), open_text(path) as file:
+        text = file.read(-1 if os.path.isfile(path) or lifted() else PIPE)
+        refuse_crowded(text, os.path.getsize(path))
+        return json.loads(text)
+
+
 def read_json(path: FilePath, keys: Iterable[str]) -> Json:
     """The JSON object of a file; Fault where the file cannot be read or is no JSON, holds no object, or one without a
     key of `keys`. Other keys may stand there too."""
-    with reading(path), open_text(path) as file:
-        value = json.load(file)
+    value = json_in(path)
     if not isinstance(value, dict):
         raise Fault(f"{path}: no object of JSON")
     if absent := [key for key in keys if key not in value]:
@@ -239,8 +270,7 @@ def read_json(path: FilePath, keys: Iterable[str]) -> Json:
 
 def read_json_list(path: FilePath) -> list[Json]:
     """The list of JSON objects of a file; Fault where it cannot be read, is no JSON or holds anything else."""
-    with reading(path), open_text(path) as file:
-        value = json.load(file)
+    value = json_in(path)
     if not isinstance(value, list) or not all(isinstance(one, dict) for one in value):
         raise Fault(f"{path}: no list of objects")
     return value
@@ -304,14 +334,26 @@ def whole_file(path: FilePath) -> Iterator[TextFile]:
         yield file
 
 
+def refuse_foreign(folder: FilePath, is_forced: bool = False, outputs: Iterable[FilePath | None] = ()) -> None:
+    """Fault for a folder that is there, is not empty, and is not one that the tools made: it has no setting, or
+    something that they do not write. Not so where it is forced. outputs: paths of other outputs of the command, which
+    may lie in the folder."""
+    also = [os.path.basename(path) for path in outputs if path is not None]
+    found = "" if is_forced or not os.path.isdir(folder) else foreign_path(folder, also)
+    if found != "":
+        why = f"has {found}, which no run of the tools wrote" if found else f"has no {SETTING} of a run of the tools"
+        more = "or --force to write there, where files of the names of the tools' are replaced"
+        raise Fault(f"{folder}: {why}: give --out another folder, {more}")
+
+
 @contextlib.contextmanager
-def whole_folder(path: FilePath, last: str, at_wish: Iterable[str] = ()) -> Iterator[str]:
-    """A folder to write to, whose files come to the output folder `path` together; after an exception of the block that
-    folder is as it was. Fault where it cannot be written, and for any OSError of the block.
+def whole_folder(path: FilePath, last: str, names: Collection[str] = NAMES) -> Iterator[str]:
+    """A folder to write to, whose files come to the output folder `path` together, in the place of all that the tools
+    wrote there before; after an exception of the block that folder is as it was. Whether it is one of the tools says
+    refuse_foreign. Fault where it cannot be written, and for any OSError of the block.
 
     A file of the name `last` is away while the others take their places, so that a folder without it is not whole.
-    at_wish: names of files that are written only where the user asks for them: old ones of a run before are removed
-    with it, so that none stays beside new results.
+    names: of the files that the tool writes there, where another one's may stay beside; as a rule all of the tools.
     """
     made = not os.path.isdir(path)
     try:
@@ -319,7 +361,7 @@ def whole_folder(path: FilePath, last: str, at_wish: Iterable[str] = ()) -> Iter
         with half_folder(path) as half:
             yield half
             with uninterrupted():
-                move_files(half, path, last, at_wish)
+                move_files(half, path, last, names)
         made = False
     except OSError as fault:
         named = fault.filename if fault.filename and not is_half(fault.filename) else path
@@ -330,26 +372,27 @@ def whole_folder(path: FilePath, last: str, at_wish: Iterable[str] = ()) -> Iter
                 os.rmdir(path)
 
 
-def move_files(source: str, target: FilePath, last: str, at_wish: Iterable[str] = ()) -> None:
+def move_files(source: str, target: FilePath, last: str, names: Collection[str] = NAMES) -> None:
     """Moves all files below the folder `source` to the same places below `target`; those of the name `last` go last of
-    all. In each folder that gets one, the older files of that name and of the names `at_wish` are removed first. Fault,
-    before any is moved, where anything but a regular file is at a place."""
-    names = [
+    all. What the tools wrote to `target` before, as of remove_own, is removed first. Fault, before any is moved, where
+    anything but a regular file is at a place, or a folder on the way is a link."""
+    moved = [
         os.path.relpath(os.path.join(folder, name), source) for folder, _, files in os.walk(source) for name in files
     ]
-    for name in names:
+    for name in moved:
+        inside = os.path.dirname(name)
+        own = os.path.normpath(os.path.join(os.path.realpath(target), inside))
+        if os.path.realpath(own) != own:
+            raise Fault(f"{own}: is a link to elsewhere")
+        checked_output_path(os.path.join(own, os.path.basename(name)))
+    remove_own(target, last, names)
+    for name in sorted(moved, key=lambda name: os.path.basename(name) == last):
         os.makedirs(os.path.dirname(os.path.join(target, name)), exist_ok=True)
-        checked_output_path(os.path.join(target, name))
-    for name in names:
-        if os.path.basename(name) == last:
-            for old in (last, *at_wish):
-                with contextlib.suppress(FileNotFoundError, NotADirectoryError):
-                    os.remove(os.path.join(target, os.path.dirname(name), old))
-    for name in sorted(names, key=lambda name: os.path.basename(name) == last):
         os.replace(os.path.join(source, name), os.path.join(target, name))
 
 
 ENDINGS = (signal.SIGTERM, signal.SIGINT, signal.SIGHUP)
+STATUSES = {128 + one: one.name for one in ENDINGS}  # of a tool that such a signal ended
 
 
 @contextlib.contextmanager
@@ -368,6 +411,20 @@ def end_by_signal(number: int, _frame: FrameType | None) -> NoReturn:
     sys.exit(128 + number)
 
 
+KEPT: list[str] = []  # what is kept, in words, of a tool that a signal ends, beside what was there before
+
+
+def note_kept(text: str) -> None:
+    """Notes what is kept where a signal ends the tool from now on: files that are whole, a session that can go on."""
+    KEPT.append(text)
+
+
+def tell_ended(name: str) -> None:
+    """Says on standard error which signal ended the tool, and what is kept of its work."""
+    with contextlib.suppress(OSError):
+        tell_fault(f"ended by {name}: {'kept: ' + ', '.join(KEPT) if KEPT else 'nothing was written'}")
+
+
 def run_tool(main: Main) -> NoReturn:
     """Runs a tool's main function on the words of the command line and ends the process with its status, as status_of
     has it; SIGTERM and SIGHUP end it as end_by_signal says."""
@@ -379,7 +436,7 @@ def run_tool(main: Main) -> NoReturn:
 def status_of(main: Main) -> int:
     """Runs a tool's main function on the words of the command line and gives the tool's status: what main gives, or
     that of what went wrong, which is told on standard error: 2 for a Fault or a file, 1 (untold) where nobody reads the
-    output, 130 (untold) for Ctrl-C."""
+    output, 130 for Ctrl-C; other signals end it by SystemExit, and are told too."""
     try:
         try:
             return main(sys.argv[1:])
@@ -396,7 +453,12 @@ def status_of(main: Main) -> int:
         tell_fault(f"{fault.filename or 'standard output'}: {fault.strerror or fault}")
         return 2
     except KeyboardInterrupt:
+        tell_ended("Ctrl-C")
         return 130
+    except SystemExit as ended:
+        if isinstance(ended.code, int) and ended.code in STATUSES:
+            tell_ended(STATUSES[ended.code])
+        raise
 
 
 def tell_fault(text: object) -> None:

@@ -1,19 +1,22 @@
 """Work in processes side by side, with results in order, news of how far each is, and the first Fault for all."""
-import multiprocessing
+from __future__ import annotations
+
 import os
 import signal
 from collections.abc import Callable, Iterable
-from multiprocessing.connection import Connection, wait
-from multiprocessing.process import BaseProcess
-from typing import Any, TypeVar
+from typing import TYPE_CHECKING, Any, TypeVar
 
 from streetsim.base.files import Fault
+
+if TYPE_CHECKING:  # what takes long to import, and one run does without
+    from multiprocessing.connection import Connection
+    from multiprocessing.process import BaseProcess
 
 Item = TypeVar("Item")
 Result = TypeVar("Result")
 Tell = Callable[[Any], object]  # takes any value that says how far a work is
 Told = Callable[[int, Any], object]  # takes the index of an item, from 0, and what its work told
-Running = dict[Connection, tuple[int, BaseProcess]]  # by the pipe that it tells to: index of its item, process
+Running = dict["Connection", tuple[int, "BaseProcess"]]  # by the pipe that it tells to: index of its item, process
 CORES = len(os.sched_getaffinity(0))  # that this process may use
 
 
@@ -48,6 +51,8 @@ def side_by_side(
 
 def start_process(work: Callable[[Item, Tell], object], index: int, item: Item, running: Running) -> None:
     """Starts a process for an item, and notes it in `running`; index: of the item, from 0."""
+    import multiprocessing
+
     pipe, end = multiprocessing.Pipe(duplex=False)
     process = multiprocessing.get_context("fork").Process(target=work_and_send, args=(work, item, end))
     process.start()
@@ -70,6 +75,8 @@ def work_and_send(work: Callable[[Item, Tell], object], item: Item, pipe: Connec
 def hear(running: Running, results: dict[int, Result], told: Told) -> None:
     """Waits for messages of the processes, and takes one of each that sent some: notes its result and takes it from
     `running`, or passes on what it tells; raises its Fault, or one where it ended without a result."""
+    from multiprocessing.connection import Connection, wait
+
     for pipe in wait(list(running)):
         assert isinstance(pipe, Connection)
         index, process = running[pipe]

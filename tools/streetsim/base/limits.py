@@ -7,6 +7,7 @@ LINKS = 4_096  # of a network
 TURNS = 32_768  # of a network
 CELLS = 1_000_000  # of a link
 LIMIT = 5  # cells a step
+KMH = range(5, 131)  # limits of streets that the tools take
 SIZE = 4  # cells of a vehicle
 RESIDENCE = 60  # steps in a node's buffer, at least
 BUFFER = 64  # vehicles that a buffer holds

@@ -1,36 +1,81 @@
-"""Which program, the simulator, the tools run."""
+"""Which program, the simulator, the tools run, and whether it is one without proofs."""
+import contextlib
+import functools
 import os
 import shutil
+import sys
 from pathlib import Path
 
 from streetsim.base.files import Fault
-from streetsim.base.places import PROGRAM, installed
+from streetsim.base.places import PREFIX, PROGRAM, TOP, installed
 
 VARIABLE = "STREETSIM_PROGRAM"
+UNBUILT = "STREETSIM_UNBUILT"  # where it is set, nothing counts as built in the repository
 BUILT = "crates/street_sim/out/street_sim"  # where `./build` of the repository puts it
-HELP = f"the simulator (default: ${VARIABLE}, else the one that is installed with the tools)"
+UNPROVED = "unproved/street_sim"  # where `./build --unproved` does
+MARK = b"\nstreetsim: NOT PROVED\n"  # the last bytes of a program without proofs, wherever it was copied to
+TOLD = "NOT PROVED: made by a program without proofs (./build --unproved)"  # of what such a program made
+HELP = (
+    f"the simulator (default: ${VARIABLE}, else the one that is installed with the tools, or the one that was built in "
+    "the repository)"
+)
+BUILDS = f"`./build` in streetsim's repository makes {BUILT}, in half an hour, and `./build --unproved` one without"
 
 
 def find_program(given: str | None = None) -> str:
     """The path of the program that is given (a path or a command's name), else of the one that STREETSIM_PROGRAM names,
-    else of the one that is installed with the tools; Fault where there is none. The repository's script `streetsim`
-    stands for the program that was built there: no tool starts a build."""
-    named = given or os.environ.get(VARIABLE) or installed(PROGRAM)
+    else of the one that is installed with the tools, else of the one that was built in their repository; Fault where
+    there is none. The repository's script `streetsim` stands for the program that was built there: no tool starts a
+    build. Tells once, on standard error, of a program without proofs that it is."""
+    named = given or os.environ.get(VARIABLE) or installed(PROGRAM) or (None if PREFIX else built_in(TOP))
     if not named:
-        raise Fault(
-            f"no simulator: give --program PATH or set {VARIABLE}; `./build` in streetsim's repository makes {BUILT}"
-        )
+        raise Fault(f"no simulator: give --program PATH or set {VARIABLE}; {BUILDS} proofs, in minutes")
     found = shutil.which(named)
     if found is None:
-        raise Fault(f"{named}: no program that can be run; `./build` in streetsim's repository makes {BUILT}")
-    path = Path(found).resolve()
-    return str(path.parent / BUILT) if is_script(path) else str(path)
+        raise Fault(f"{named}: no program that can be run; {BUILDS} proofs, in minutes")
+    path = of_script(Path(found).resolve())
+    if is_unproved(str(path)):
+        tell_unproved(path)
+    return str(path)
 
 
-def is_script(path: Path) -> bool:
-    """Whether a path is of the repository's script `streetsim`; Fault where it is, and nothing was built there."""
+def built_in(repository: Path) -> Path | None:
+    """The program that was built in a repository: the proved one, else the one without proofs, else none."""
+    if os.environ.get(UNBUILT):
+        return None
+    paths = (repository / name for name in (BUILT, UNPROVED))
+    return next((path for path in paths if os.access(path, os.X_OK)), None)
+
+
+def of_script(path: Path) -> Path:
+    """The program for which a path stands: that which was built beside the repository's script `streetsim`, else the
+    path itself; Fault where nothing was built there."""
     if path.name != "streetsim" or not (path.parent / "crates/street_sim").is_dir():
-        return False
-    if not os.access(path.parent / BUILT, os.X_OK):
-        raise Fault(f"{path.parent}: the simulator is not built: run `./build` there first")
-    return True
+        return path
+    built = built_in(path.parent)
+    if built is None:
+        made = "run `./build` there first, or `./build --unproved`, which takes minutes"
+        raise Fault(f"{path.parent}: the simulator is not built: {made}")
+    return built
+
+
+@functools.cache
+def is_unproved(path: str) -> bool:
+    """Whether a program is one that `./build --unproved` made, by the mark at its end; false where it cannot be read.
+    Looked up once for a path."""
+    with contextlib.suppress(OSError), open(path, "rb") as file:
+        file.seek(-len(MARK), os.SEEK_END)
+        return file.read() == MARK
+    return False
+
+
+def proof_note(path: str) -> dict[str, str]:
+    """What a setting says of a program's proofs: nothing, or of one without proofs `unproved`: TOLD."""
+    return {"unproved": TOLD} if is_unproved(path) else {}
+
+
+@functools.cache
+def tell_unproved(path: Path) -> None:
+    """Says on standard error that a program is one without proofs; once in a process."""
+    told = "results are those of the rules only if it is right; `./build` makes the proved program"
+    print(f"streetsim: NOT PROVED: {path} was built without proofs: {told}", file=sys.stderr, flush=True)

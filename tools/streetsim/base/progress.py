@@ -9,6 +9,8 @@ from typing import IO, Any, Self
 from streetsim.base.client import Census
 
 PAUSE = 0.2  # seconds between two writings of a line
+TABLES = 0.4  # what the tables at the end take, of the work of a run
+LEAST_SHARE = 0.01  # of the work that is done before an end is told
 
 
 class TerminalLine:
@@ -70,14 +72,23 @@ class Meanwhile(TerminalLine):
 
 class UnderWay(TerminalLine):
     """A line on the terminal with the clock of a run, or how many of several runs are done; vehicles on their way,
-    arrived, steps a second. It stays there, as the runs left it, when the block ends."""
+    arrived, how many times as fast as real time, and how long it still takes. It stays there, as the runs left it, when
+    the block ends.
 
-    def __init__(self, start: int, until: int, runs: int = 1, stream: IO[str] | None = None) -> None:
-        """start, until: the clocks at which each run begins and, by and large, ends; runs: how many there are. stream:
-        of the line, None: standard error."""
+    A second of a run costs about as much as there are vehicles on their way. So of the work that share is done which
+    arrived, and half of those who are on their way, of all vehicles; of a run without vehicles that of its seconds.
+    """
+
+    def __init__(
+        self, start: int, until: int, vehicles: int = 0, runs: int = 1, passes: int = 1, stream: IO[str] | None = None
+    ) -> None:
+        """start, until: the clocks at which each run begins and, by and large, ends; vehicles: that depart in each of
+        them; runs: how many there are; passes: how often each is made, with the rounds before the one that counts.
+        stream: of the line, None: standard error."""
         super().__init__(stream)
-        self.start, self.until = start, until
+        self.start, self.until, self.vehicles, self.passes = start, until, vehicles, passes
         self.clocks, self.ways, self.arrived = [start] * runs, [0] * runs, [0] * runs
+        self.passed, self.steps = [0] * runs, [0] * runs  # passes that are over, and their seconds
         self.over = 0  # runs
 
     def __enter__(self) -> Self:
@@ -87,27 +98,50 @@ class UnderWay(TerminalLine):
     def __exit__(self, *_: object) -> None:
         """Writes the line a last time, where it was written at all, and ends it."""
         if self.last:
-            self.write(f"{self.line(self.seconds())} ", "\n")
+            self.write_over(f"{self.line(self.seconds(), True)} ")
+            self.write("", "\n")
 
     def show(self, clock: int, census: Census | None, run: int = 0) -> None:
-        """Notes how far a run (its place, from 0) is, and writes the line if due; nothing without a census."""
+        """Notes how far a run (its place, from 0) is, and writes the line if due; nothing without a census. A clock
+        before the last one is of the next pass."""
         if census is not None:
+            if clock < self.clocks[run]:
+                self.passed[run] += 1
+                self.steps[run] += self.clocks[run] - self.start
             self.clocks[run], self.ways[run], self.arrived[run] = clock, census.cells + census.buffers, census.arrived
             if self.takes_turn():
-                self.write(f"{self.line(self.seconds())} ")
+                self.write_over(f"{self.line(self.seconds())} ")
 
     def note_end(self) -> None:
         """Notes that one of the runs has ended, at whatever clock."""
         self.over += 1
 
-    def line(self, seconds: float) -> str:
-        """The line's text; seconds: since the begin of the work."""
-        steps, runs = sum(clock - self.start for clock in self.clocks), len(self.clocks)
+    def share(self, run: int) -> float:
+        """The share of its work, 0 to 1, that a run (its place, from 0) has done, all passes together."""
+        seconds = max(1, self.until - self.start)
+        own = (self.arrived[run] + self.ways[run] / 2) / self.vehicles if self.vehicles else 0.0
+        own = own if self.vehicles else (self.clocks[run] - self.start) / seconds
+        return (min(self.passed[run], self.passes - 1) + min(1.0, own)) / (self.passes + TABLES)
+
+    def line(self, seconds: float, ended: bool = False) -> str:
+        """The line's text; seconds: since the begin of the work; ended: whether it is over."""
+        steps = sum(clock - self.start for clock in self.clocks) + sum(self.steps)
+        runs = len(self.clocks)
+        share = 1.0 if ended else sum(map(self.share, range(runs))) / runs
         place = f"{self.clocks[0]:,} s" if runs == 1 else f"{self.over} of {runs} runs done"
+        around = f"round {self.passed[0] + 1} of {self.passes}, " if runs == 1 < self.passes else ""
+        left = "" if ended or share < LEAST_SHARE else f", {time_told(seconds * (1 - share) / share)} left"
         return (
-            f"[{bar(steps, (self.until - self.start) * runs)}] {place}, {sum(self.ways):,} on their way, "
-            f"{sum(self.arrived):,} arrived, {steps / max(0.001, seconds):,.0f} steps/s"
+            f"[{bar(round(1000 * share), 1000)}] {around}{place}, {sum(self.ways):,} on their way, "
+            f"{sum(self.arrived):,} arrived, {steps / max(0.001, seconds):,.0f} x real time{left}"
         )
+
+
+def time_told(seconds: float) -> str:
+    """Seconds of waiting as people say them: 50 s, 3 min, 1.5 h."""
+    if seconds < 100:
+        return f"{seconds:.0f} s"
+    return f"{seconds / 60:.0f} min" if seconds < 6000 else f"{seconds / 3600:.1f} h"
 
 
 class Slow(TerminalLine):
@@ -162,6 +196,7 @@ class Stopping:
         signal.signal(signal.SIGINT, self.before)
 
     def note(self, _number: int, _frame: FrameType | None) -> None:
-        """Handles the first Ctrl-C: sets `asked` and gives Ctrl-C back."""
+        """Handles the first Ctrl-C: sets `asked`, says so, and gives Ctrl-C back."""
         self.asked = True
+        print("\nCtrl-C: ends with the best so far; a second one ends at once", file=sys.stderr, flush=True)
         signal.signal(signal.SIGINT, self.before)

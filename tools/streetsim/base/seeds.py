@@ -1,6 +1,7 @@
 """Seeds, and what the results of runs with several of them tell: means, 95 % intervals, how many runs are needed."""
 import re
-from collections.abc import Sequence
+from collections.abc import Iterable, Sequence
+from itertools import chain
 from math import ceil, sqrt
 from statistics import NormalDist, fmean, stdev
 
@@ -17,14 +18,33 @@ STUDENT = (
 )
 
 
-def seeds_of(text: str | int, name: str) -> range:
-    """The seeds of a text FIRST-LAST, both included, or of one number; Fault where it is neither, or names more than
-    1,000 or one of 2^64 or more. name: what the user calls them."""
-    if found := re.fullmatch(r"(\d{1,20})(?:-(\d{1,20}))?", str(text)):
-        first, last = int(found[1]), int(found[2] or found[1])
-        if first <= last < min(first + MOST_SEEDS, 2**64):
-            return range(first, last + 1)
-    raise Fault(f"{name} {text!r}: expected FIRST-LAST, at most {MOST_SEEDS:,} of them")
+def seeds_of(text: str | int, name: str) -> Sequence[int]:
+    """The seeds of a text, rising: numbers, and FIRST-LAST with both included, with commas between, as 1,4,7-9. Fault
+    where it is none, or names more than 1,000, one twice, or one of 2^64 or more. name: what the user calls them."""
+    ranges = [range_of(part) for part in str(text).split(",")]
+    count = sum(map(len, ranges))
+    if not all(ranges) or count > MOST_SEEDS or len(found := sorted({*chain(*ranges)})) < count:
+        told = f"expected FIRST-LAST, or such and numbers with commas between, at most {MOST_SEEDS:,} of them"
+        raise Fault(f"{name} {text!r}: {told}, each once")
+    return ranges[0] if len(ranges) == 1 else found
+
+
+def range_of(text: str) -> range:
+    """The numbers below 2^64 of a text FIRST-LAST, both included, or of one number; none where it is neither."""
+    found = re.fullmatch(r"(\d{1,20})(?:-(\d{1,20}))?", text)
+    first, last = (int(found[1]), int(found[2] or found[1])) if found else (1, 0)
+    return range(first, last + 1 if last < min(first + MOST_SEEDS, 2**64) else first)
+
+
+def seeds_told(seeds: Iterable[int]) -> str:
+    """Seeds that rise as the text that seeds_of reads, as 1,4,7-9."""
+    runs: list[list[int]] = []
+    for seed in seeds:
+        if runs and seed == runs[-1][1] + 1:
+            runs[-1][1] = seed
+        else:
+            runs.append([seed, seed])
+    return ",".join(f"{first}-{last}" if first < last else str(first) for first, last in runs)
 
 
 def student(degrees: int) -> float:
@@ -79,3 +99,16 @@ def mean_and_half_width(values: Sequence[float]) -> tuple[float, float | None]:
     if len(values) < 2:
         return fmean(values), None
     return fmean(values), half_width(stdev(values), len(values))
+
+
+def mean_and_day(values: Sequence[float]) -> tuple[float, float | None]:
+    """(mean, half the width of the 95 % interval in which the value of another day lies: None for a single value), of
+    the values of one or more drawn days: t s sqrt(1 + 1/n). So much wider than that of the mean is what one day tells
+    of the mean of many."""
+    mean, half = mean_and_half_width(values)
+    return mean, None if half is None else half * sqrt(len(values) + 1)
+
+
+def paired_day(before: Sequence[float], after: Sequence[float]) -> tuple[float, float | None]:
+    """As `mean_and_day`, of `after` less `before` over runs with equal seeds in the same order."""
+    return mean_and_day([there - here for here, there in zip(before, after, strict=True)])

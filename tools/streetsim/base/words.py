@@ -7,40 +7,89 @@ import sys
 from collections.abc import Callable, Iterable, Sequence
 from typing import Any, NoReturn
 
+from streetsim import VERSION
 from streetsim.base.files import Fault, seconds
+from streetsim.base.helping import help_of, nearest
 from streetsim.base.jobs import CORES
+from streetsim.base.unpacking import lift
 
 ROUNDS, MOST_ROUNDS = 2, 10  # of runs before the one that counts, by default and at most
 FALSE = ("false", "0", "no", "off", "f")  # as SUMO reads a word that is on or off
+CLOCK = re.compile(r"\d{1,2}:[0-5]\d")  # hours and minutes
 FREE = ("--title",)  # words whose text may be empty
 
 
-class Parser(argparse.ArgumentParser):
-    """A parser for which wrong words are a Fault, one line without the usage. A word with one - before it that is no
-    option by itself (-o) or up to a = (-o=FILE) is a value, as many of SUMO's edges begin so."""
+UNKNOWN = re.compile(r"unrecognized arguments: (\S+)")
+NO_CHOICE = re.compile(r"invalid choice: '([^']*)' \(choose from (.*)\)")
 
-    def __init__(self, *args: Any, **more: Any) -> None:
-        """All arguments are those of ArgumentParser."""
+
+class Parser(argparse.ArgumentParser):
+    """A parser for which wrong words are a Fault, one line without the usage, with the nearest right word; whose help
+    has groups and examples; and which knows --version. A word with one - before it that is no option by itself (-o) or
+    up to a = (-o=FILE) is a value, as many of SUMO's edges begin so."""
+
+    def __init__(self, *args: Any, examples: Sequence[str] = (), **more: Any) -> None:
+        """examples: whole lines of the shell, two at least of a command. All other arguments are those of
+        ArgumentParser."""
         super().__init__(*args, **more)
+        self.examples = examples
+        told = f"{self.prog.partition(' ')[0]} {VERSION}"
+        self.add_argument("--version", action="version", version=told, help="print the version and exit")
+        self.add_argument("--large-files", action=Lifting, nargs=0, help="read files of any size; see SECURITY.md")
         self._negative_number_matcher = re.compile("-[^-]")  # what argparse takes for a value all the same
 
     def parse_known_args(self, args: Any = None, namespace: Any = None) -> Any:
         """As argparse's; Fault for a word without a name in it, as `naming_nothing` tells."""
-        if (told := naming_nothing(sys.argv[1:] if args is None else list(args))) is not None:
+        words = sys.argv[1:] if args is None else list(args)
+        if (told := naming_nothing(words) or self.unknown_in(words)) is not None:
             self.error(told)
         return super().parse_known_args(args, namespace)
+
+    def unknown_in(self, words: Sequence[str]) -> str | None:
+        """What argparse says of the first word with -- before it that this command does not have, which it would say
+        only where no word lacks; None for a command of several kinds, whose words are those of the kind."""
+        if self._subparsers is not None:
+            return None
+        known = tuple(self._option_string_actions)
+        given = words[: words.index("--")] if "--" in words else words
+        named = (word for before, word in zip(("", *given), given) if word.startswith("--") and before not in known)
+        wrong = [word for word in named if not any(name.startswith(word.partition("=")[0]) for name in known)]
+        return f"unrecognized arguments: {wrong[0]}" if wrong else None
 
     def _get_option_tuples(self, option_string: str) -> list[Any]:
         """As argparse's, the options that a word may be short for; none where it has one - before it, as -hill."""
         return super()._get_option_tuples(option_string) if option_string.startswith("--") else []
 
+    def format_help(self) -> str:
+        """The text of --help, as `help_of` has it."""
+        return help_of(self, self.examples)
+
+    def near(self, message: str) -> str:
+        """The right word that is nearest to the wrong one of a message of argparse, as words to add; else nothing."""
+        if found := UNKNOWN.search(message):
+            return nearest(found[1].partition("=")[0], self._option_string_actions)
+        found = NO_CHOICE.search(message)
+        return nearest(found[1], re.findall(r"'([^']*)'", found[2])) if found else ""
+
     def error(self, message: str) -> NoReturn:
         """Raises the Fault of wrong words, in place of argparse's exit."""
-        told = message.removeprefix("argument ")
+        told = message.removeprefix("argument ") + self.near(message)
         option, _, lacks = told.partition(": ")
         if lacks.startswith("expected"):
             told += f", which goes as {option.rpartition('/')[2]}=-.. where it begins with -"
         raise Fault(f"{told} (what may be given: {self.prog} --help)")
+
+
+class Lifting(argparse.Action):
+    """Lifts the limits on what is read, for the whole process; the word leaves nothing among the words."""
+
+    def __init__(self, option_strings: Sequence[str], dest: str, **more: Any) -> None:
+        """As argparse's, without a place for a value."""
+        super().__init__(option_strings, argparse.SUPPRESS, default=argparse.SUPPRESS, **more)
+
+    def __call__(self, *_: object) -> None:
+        """Lifts them."""
+        lift()
 
 
 def naming_nothing(words: Sequence[str]) -> str | None:
@@ -68,21 +117,23 @@ def integer_within(least: int, most: int) -> Callable[[str], int]:
 
 
 def time_within(least: int, most: int) -> Callable[[str], int]:
-    """A conversion for argparse that takes whole seconds from least to most, both included, written as SUMO's times:
-    3600, 01:00:00 or 0:01:00:00; ArgumentTypeError otherwise."""
+    """A conversion for argparse that takes whole seconds from least to most, both included, written as SUMO's times,
+    3600, 01:00:00 or 0:01:00:00, or as a clock shows them, 01:00; ArgumentTypeError otherwise."""
 
     def time(text: str) -> int:
         """The seconds that a text writes; ArgumentTypeError where they are out of the range or not whole."""
         value = whole_seconds(text)
         if value is None or not least <= value <= most:
-            raise argparse.ArgumentTypeError(f"{text!r} is not {least} to {most:,} s, in seconds or as HH:MM:SS")
+            raise argparse.ArgumentTypeError(f"{text!r} is not {least} to {most:,} s, in seconds, HH:MM or HH:MM:SS")
         return value
 
     return time
 
 
 def whole_seconds(text: str) -> int | None:
-    """The seconds that a text writes as SUMO's times, as `seconds` reads it; None where these are no whole second."""
+    """The seconds that a text writes as SUMO's times, as `seconds` reads it, or as hours and minutes, 07:00; None where
+    these are no whole second."""
+    text += ":00" if CLOCK.fullmatch(text) else ""
     try:
         value = seconds(text)
     except ValueError:
@@ -115,8 +166,8 @@ def share_of(text: str) -> float:
 
 def add_run(made: argparse.ArgumentParser) -> None:
     """Adds to a parser the words that name what streetsim-import made: the run file (run) and its map (--map)."""
-    made.add_argument("run", help="the run (.jsonl)")
-    made.add_argument("--map", required=True, help="its map of names (.json)")
+    made.add_argument("run", metavar="RUN", help="the run that streetsim-import wrote (.jsonl)")
+    made.add_argument("--map", help="its map of names (default: NAME.map.json beside RUN, which is NAME.jsonl)")
 
 
 def add_names(made: argparse.ArgumentParser) -> None:

@@ -3,51 +3,73 @@ import argparse
 import contextlib
 import io
 import os
-import re
 import shutil
+import sys
 import tempfile
 from collections.abc import Iterator, Sequence
-from pathlib import Path
+from functools import partial
 
 from streetsim.base import program
-from streetsim.base.files import Fault, open_text, reading
+from streetsim.base.files import Fault, drop_output, reading
 from streetsim.base.progress import Slow
+from streetsim.base.unpacking import TooMuch, lifted
 from streetsim.base.words import Parser, add_jobs
+from streetsim.cli import report as report_words
 from streetsim.cli.checking import folder_again, run_again, study_again, write_files
+from streetsim.cli.given import refuse_other_words
 from streetsim.cli.report import text_again
 from streetsim.cli.study import MADE
 from streetsim.cli.words import add_simulator
 from streetsim.model.folder import LIGHTS
 from streetsim.model.sources import program_digest
-from streetsim.reports.elements import Mismatch, page_mismatches, numbers_in
-from streetsim.reports.seal import Seal, sealed_files, seal_of
-from streetsim.reports.sealing import COUNTS, NAMES, drawn_by, tools_sum
-from streetsim.results.tallying import Compared, folder_differences
+from streetsim.report.folder_differences import ComparedNumbers, folder_differences
+from streetsim.report.page_elements import Mismatch, numbers_in, page_mismatches
+from streetsim.report.page_seal import COUNTS, NAMES, Seal, seal_of, sealed_files
+from streetsim.report.page_sealing import sealed_again, tools_sum
 
 MOST = 3  # differences that the line names
-# Of a page's pictures of points: they depend on what drew them; the SHA-256 of what they were drawn from does not.
-PIXELS = re.compile(r"data:image/png;base64,[^\"]*")
+MOST_PAGE = 1 << 28  # bytes of a page
 
 
 def parser() -> Parser:
     """The parser of the words that streetsim-check takes."""
     made = Parser(
         prog="streetsim-check",
+        examples=(
+            "streetsim-check report.html",
+            "streetsim-check zero --jobs 2",
+        ),
         description="Runs again what made a page of streetsim-report --sealed, a folder of streetsim-run or one of "
         "streetsim-study, and says in one line whether each number is that of a run, or which are not. It shows that "
-        "numbers are the simulation's, not that the street will do so. Status 1 where one is not.",
+        "numbers are the simulation's, not that the street will do so. Status 1 where one is not, 2 where it could not "
+        "be checked.",
     )
     made.add_argument("target", metavar="PAGE|DIR", help="the page (.html), or the folder")
     add_simulator(made)
     add_jobs(made)
-    made.add_argument("--study", metavar="FILE", help="of a study's folder: the study, where it lies elsewhere now")
+    made.add_argument("--study", metavar="FILE", help="of a study's folder: the study that it was made of")
     return made
 
 
 def main(arguments: list[str]) -> int:
-    """Runs streetsim-check: makes the runs again and prints one line; gives 0 where each number is that of a run, else
-    1."""
+    """Runs streetsim-check: makes the runs again and prints one line; gives 0 where each number is that of a run, 1
+    where one is not, and 2 where nobody reads the line. Fault where it could not be checked, whatever it was."""
     words = parser().parse_args(arguments)
+    try:
+        status = checked(words)
+        sys.stdout.flush()
+        return status
+    except BrokenPipeError:
+        drop_output()
+        return 2
+    except Fault:
+        raise
+    except Exception as fault:
+        raise Fault(f"{words.target}: could not be checked: {type(fault).__name__}: {fault}") from None
+
+
+def checked(words: argparse.Namespace) -> int:
+    """Checks what the words name, and prints the result; gives 0 where it is that of a run, else 1."""
     words.program = program.find_program(words.program)
     study = os.path.exists(f"{words.target}/{MADE}")
     if words.study and not study:
@@ -65,26 +87,32 @@ def silent() -> Iterator[None]:
 
 
 def check_page(words: argparse.Namespace) -> int:
-    """Checks a sealed page, and prints the result; gives the status as `main` does. Pictures of points that another
-    matplotlib drew are left out. Fault where it is not sealed, its seal was changed, or it cannot be made again."""
-    with reading(words.target), open_text(words.target) as file:
-        text = file.read()
+    """Checks a sealed page, and prints the result; gives the status as `main` does. Fault where it is not sealed, its
+    seal was changed, or it cannot be made again."""
+    text = page_text(words.target)
     seal = seal_of(words.target, text)
     with Slow(f"running again what made {words.target}"):
         anew = page_again(words, seal)
-    note = ""
-    if seal.content["drawn_by"] != drawn_by():
-        text, anew = PIXELS.sub("", text), PIXELS.sub("", anew)
-        note = "; pictures of points by their data alone, as they were drawn by another matplotlib"
     found = page_mismatches(text, anew)
-    if found and seal.content["tools"] != tools_sum():
-        note += "; the page was made by other tools than these, so that words may differ, too"
+    note = ""
+    if seal.content["tools"] != tools_sum():
+        note = "; the page names other tools than these" + (", so that words may differ, too" if found else "")
     runs = sum(len(plan["seeds"]) for plan in seal.content["plans"])
     same = all(plan["program"] == program_digest(words.program) for plan in seal.content["plans"])
     which = "the program that made it" if same else "another program than the one that made it"
     again = f"{runs} run{'s' * (runs != 1)} made again by {which}"
-    good = f"each of the {numbers_in(text):,} numbers on the page is that of a run ({again})"
+    good = f"each of the {numbers_in(anew):,} numbers on the page is that of a run ({again})"
     return tell_result(words.target, found, good, note)
+
+
+def page_text(path: str) -> str:
+    """The text of a page, with all that is in its file; Fault where it cannot be read, has more than MOST_PAGE bytes or
+    is no UTF-8."""
+    with reading(path), open(path, "rb") as file:
+        content = file.read(-1 if lifted() else MOST_PAGE + 1)
+        if len(content) > MOST_PAGE and not lifted():
+            raise TooMuch(f"has more than {MOST_PAGE:,} bytes")
+        return content.decode()
 
 
 def tell_result(target: str, found: Sequence[Mismatch], good: str, note: str = "") -> int:
@@ -101,48 +129,40 @@ def tell_result(target: str, found: Sequence[Mismatch], good: str, note: str = "
 
 
 def page_again(words: argparse.Namespace, seal: Seal) -> str:
-    """The page that the sealed files and words give now, with the same seal; Fault where they give none."""
-    refuse_elsewhere(words.target, seal)
+    """The page that the sealed files and words give now, with a seal of its own; Fault where they give none."""
     with tempfile.TemporaryDirectory() as temporary:
-        write_files(temporary, sealed_files(seal, words.target))
         try:
+            write_files(temporary, sealed_files(seal, words.target))
             return made_again(words, seal, temporary)
-        except (Fault, LookupError, TypeError, ValueError, AttributeError) as fault:
-            raise Fault(f"{words.target}: what is sealed in it gives no such page: {fault}") from None
-
-
-def refuse_elsewhere(target: str, seal: Seal) -> None:
-    """Fault for a seal whose files would be written anywhere but below one folder, or whose runs are none of them."""
-    known = seal.content["files"]
-    for name in known:
-        if ".." in Path(name).parts or Path(name).is_absolute():
-            raise Fault(f"{target}: a sealed file is called {name!r}: the page was changed")
-    for plan in seal.content["plans"]:
-        if lost := [name for name in (plan["run"], plan["map"]) if name not in known]:
-            raise Fault(f"{target}: {lost[0]!r} is not sealed in it: the page was changed")
+        except (Fault, LookupError, TypeError, ValueError, AttributeError, OSError) as fault:
+            told = str(fault).removeprefix(f"{words.target}: ").replace(f"{temporary}/", "")
+            raise Fault(f"{words.target}: what is sealed in it gives no such page: {told}") from None
 
 
 def made_again(words: argparse.Namespace, seal: Seal, temporary: str) -> str:
     """The page, of sealed files that were unpacked into the folder `temporary`; runs are written there too. Where they
     give none it raises one of the exceptions that page_again tells as a Fault."""
-    plans = seal.content["plans"]
+    plans, needed = seal.content["plans"], ["x", "-o", "x"]
+    refuse_other_words(report_words.parser(), seal.content["words"], needed, report_words.ELSEWHERE, words.target)
     folders = [f"{temporary}/out-{at}" for at in range(len(plans))]
     for plan, folder in zip(plans, folders, strict=True):
         with silent():
             run_again(words, plan, temporary, folder)
         if os.path.exists(lights := f"{temporary}/{os.path.dirname(plan['run'])}/{LIGHTS}"):
             shutil.copy(lights, folder)
-    names = ["--names", f"{temporary}/{NAMES}"] if NAMES in seal.content["files"] else []
-    counts = sorted((name for name in seal.content["files"] if name.startswith(COUNTS)), key=len)
-    names += ["--counts", *(f"{temporary}/{name}" for name in counts)] if counts else []
+    others = {name: f"{temporary}/{name}" for name in seal.content["files"] if "/" not in name}
+    names = ["--names", others[NAMES]] if NAMES in others else []
+    counts = [others[name] for name in sorted(others.keys() - {NAMES}, key=lambda name: int(name[len(COUNTS) :]))]
+    given = [*folders, *seal.content["words"], *names, *(["--counts", *counts] if counts else [])]
     called = ["--plans", *(plan["name"] for plan in plans)]
-    return text_again([*folders, *seal.content["words"], *names, *called, "-o", words.target], seal)
+    sealing = partial(sealed_again, said=seal, page=words.target, others=others)
+    return text_again([*given, *called, "-o", words.target], sealing)
 
 
 def check_folder(words: argparse.Namespace, study: bool) -> int:
     """Checks a folder of a run, or of a study, and prints the result; gives the status as `main` does. Fault where the
     folder does not keep what made it, or cannot be made again."""
-    counts = Compared()
+    counts = ComparedNumbers()
     with tempfile.TemporaryDirectory() as temporary, Slow(f"running again what made {words.target}"):
         with silent():
             anew = (study_again if study else folder_again)(words, f"{temporary}/out")

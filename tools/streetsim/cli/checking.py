@@ -1,25 +1,27 @@
-"""Runs again what a folder of a run or of a study keeps, for streetsim-check."""
+"""Runs again what a page, or a folder of a run or of a study, keeps, for streetsim-check. No word that is kept there
+names a host, a program or a path outside of what is made for the check."""
 import argparse
+import json
 import os
 import tempfile
 from collections.abc import Iterable, Sequence
 from pathlib import Path
 
 from streetsim.base.files import Fault, Json, read_json
+from streetsim.base.seeds import seeds_told
+from streetsim.cli import run as run_words, study as study_words
+from streetsim.cli.given import given_words, refuse_other_words
 from streetsim.cli.run import main as run
-from streetsim.cli.study import MADE
-from streetsim.cli.study import main as study
+from streetsim.cli.study import MADE, main as study
 from streetsim.model.folder import NAME
 from streetsim.model.sources import sum_of
-from streetsim.reports.sealing import sealed_plan
-from streetsim.results.reading import read_folders
+from streetsim.report.page_sealing import sealed_plan
+from streetsim.report.run_tables import read_folders
 
 
 def seeds_words(seeds: Sequence[int]) -> list[str]:
-    """The words of streetsim-run that name seeds, one at least; Fault where these do not follow each other."""
-    if list(seeds) != list(range(seeds[0], seeds[0] + len(seeds))):
-        raise Fault(f"seeds {', '.join(map(str, seeds))} do not follow each other: the runs of some were taken away")
-    return [f"--seeds={seeds[0]}-{seeds[-1]}"]
+    """The words of streetsim-run that name seeds, one at least."""
+    return [f"--seeds={seeds_told(sorted(seeds))}"]
 
 
 def machine_words(words: argparse.Namespace) -> list[str]:
@@ -36,11 +38,31 @@ def write_files(top: str, files: Iterable[tuple[str, bytes]]) -> None:
 
 
 def run_again(words: argparse.Namespace, plan: Json, top: str, out: str) -> None:
-    """Makes the runs of a plan again, as sealed_plan tells it, of its files below the folder `top`, into `out`. Fault
-    where its seeds do not follow each other, or a run fails. Prints what streetsim-run does."""
-    own = [f"{top}/{plan['run']}", "--map", f"{top}/{plan['map']}", *plan["again"]]
+    """Makes the runs of a plan again, as sealed_plan tells it, of its files below the folder `top`, into `out`. The
+    files of the import, which its map names, are not looked for. Fault where its words are not those that a run keeps
+    or do not fit to each other, its seeds do not follow each other, or a run fails. Prints what streetsim-run does."""
+    refuse_run_words(plan, words.target)
+    mapped = f"{top}/{plan['map']}"
+    value = read_json(mapped, ("sources",))
+    write_files(top, [(plan["map"], json.dumps({**value, "sources": {}}).encode())])
+    own = [f"{top}/{plan['run']}", "--map", mapped, *plan["again"]]
     seeds = seeds_words(plan["seeds"]) if plan["several"] else []
     run([*own, *seeds, *machine_words(words), "--workers", str(words.workers), "--out", out])
+    for path in Path(out).rglob(NAME):
+        setting = read_json(path, ("map",))
+        setting["map"]["sources"] = value["sources"]
+        path.write_text(json.dumps(setting), encoding="utf-8")
+
+
+def refuse_run_words(plan: Json, where: str) -> None:
+    """Fault where the words of a run, or those by which it is made again, are not those that a run keeps, or the second
+    are not those of the first that are needed beside its lines. where: for the Fault."""
+    needed, works = ["x", "--map", "x", "--out", "x"], (*run_words.ELSEWHERE, *run_words.OF_WORKS)
+    for name, without in (("words", run_words.ELSEWHERE), ("again", works)):
+        refuse_other_words(run_words.parser(), plan[name], needed, without, where)
+    parsed = run_words.parser().parse_args([*needed, *plan["words"]])
+    if given_words(run_words.parser(), parsed, works) != plan["again"]:
+        raise Fault(f"{where}: the words of a run and those by which it is made again differ: it was changed")
 
 
 def folder_again(words: argparse.Namespace, out: str) -> str:
@@ -56,11 +78,15 @@ def folder_again(words: argparse.Namespace, out: str) -> str:
 
 
 def study_again(words: argparse.Namespace, out: str) -> str:
-    """Makes the study of the folder `words.target` again, into `out`, which it gives; Fault where its file is gone or
-    has changed since, and where a run fails. Prints what streetsim-study does."""
+    """Makes the study of the folder `words.target` again, into `out`, which it gives; Fault where --study does not name
+    its file, as a check takes no path from a folder, or that has changed since, and where a run fails. Prints what
+    streetsim-study does."""
     made = read_json(f"{words.target}/{MADE}", ("study", "sum", "words"))
-    path = words.study or os.path.join(words.target, made["study"])
-    if sum_of(path) != made["sum"]:
-        raise Fault(f"{path}: has changed since the study was made")
-    study([path, *made["words"], *machine_words(words), "--out", out])
+    if not words.study:
+        told = f"name the study that it was made of by --study FILE; the folder says {made['study']}"
+        raise Fault(f"{words.target}: {told}")
+    if sum_of(words.study) != made["sum"]:
+        raise Fault(f"{words.study}: has changed since the study was made, or is another one")
+    refuse_other_words(study_words.parser(), made["words"], ["x", "--out", "x"], study_words.ELSEWHERE, words.target)
+    study([words.study, *made["words"], *machine_words(words), "--out", out])
     return out

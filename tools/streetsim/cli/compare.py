@@ -2,18 +2,22 @@
 import argparse
 import sys
 
-from streetsim.base.files import Fault, whole_folder
+from streetsim.base.files import Fault, refuse_foreign, whole_folder
+from streetsim.base.folders import COMPARED
 from streetsim.base.progress import Slow
 from streetsim.base.words import Parser, paths_in
-from streetsim.cli.words import add_attribute, add_files
-from streetsim.counts.judging import judged
-from streetsim.counts.pictures import draw_fit
-from streetsim.counts.reading import read_counts
-from streetsim.counts.seen import passed_in
-from streetsim.counts.writing import JUDGED_AT_WISH, LAST, write_judged
+from streetsim.cli.words import add_attribute, add_files, add_out
+from streetsim.demand.calibration_field import read_times
+from streetsim.demand.compared_times import are_close, compared_times, lines_of_times
+from streetsim.demand.judging import judged
+from streetsim.demand.pictures import draw_fit
+from streetsim.demand.reading import read_counts
+from streetsim.demand.seen import passed_in
+from streetsim.demand.writing import LAST, write_judged
 from streetsim.model import trust
 from streetsim.model.folder import read_folder
-from streetsim.results.compare import (
+from streetsim.model.replications import is_drawn
+from streetsim.report.beside_sumo import (
     compare_edges, compare_trips, edge_values_of, read_edges, read_tripinfo, trip_times_of,
 )
 
@@ -22,28 +26,37 @@ def parser() -> argparse.ArgumentParser:
     """The parser of the words that streetsim-compare takes."""
     made = Parser(
         prog="streetsim-compare",
+        examples=(
+            "streetsim-compare zero --sumo trips.xml edges.xml",
+            "streetsim-compare zero --counts counts.csv --out fit",
+        ),
         description="Compares a run with SUMO's tripinfo and, if given, edgeData of the same periods; or with counts.",
     )
     made.add_argument("folder", help="what streetsim-run wrote")
     add_files(made, "--sumo", "tripinfo.xml, and edgedata.xml made with freq=900 (or the run's period)")
     add_files(made, "--counts", "counts of edges and turns, as of streetsim-demand; a column group names screen lines")
+    add_files(made, "--times", "travel times of segments and routes, as of streetsim-calibrate")
     add_attribute(made)
-    made.add_argument("--out", metavar="DIR", help="the folder for tables and pictures of --counts")
+    add_out(made, "the folder for tables and pictures of --counts", is_required=False)
     return made
 
 
 def main(arguments: list[str]) -> int:
     """Runs streetsim-compare: prints the comparison, and writes the folder of --out where it is given; gives its
-    status, as `with_sumo` or `with_counts` says."""
+    status, as `with_sumo`, `with_counts` or `with_times` says."""
     words = parser().parse_args(arguments)
-    sumo, counts = paths_in(words.sumo), paths_in(words.counts)
-    if not sumo and not counts:
-        what = "what to compare with: --sumo tripinfo.xml .., or --counts FILE .."
+    sumo, counts, times = (paths_in(files) for files in (words.sumo, words.counts, words.times))
+    if not (sumo or counts or times):
+        what = "what to compare with: --sumo tripinfo.xml .., --counts FILE .., or --times FILE .."
         raise Fault(f"{what} (what may be given: streetsim-compare --help)")
-    if sumo and counts:
-        raise Fault("--sumo and --counts are two comparisons: one at a time")
+    if sum(map(bool, (sumo, counts, times))) > 1:
+        raise Fault("--sumo, --counts and --times are comparisons of their own: one at a time")
     if (words.out or words.attribute) and not counts:
         raise Fault(f"--{'out' if words.out else 'attribute'} is of --counts: give it too")
+    if words.out:
+        refuse_foreign(words.out, words.force)
+    if times:
+        return with_times(words.folder, times)
     return with_counts(words.folder, counts, words.attribute, words.out) if counts else with_sumo(words.folder, sumo)
 
 
@@ -54,6 +67,8 @@ def with_sumo(path: str, files: list[str]) -> int:
         raise Fault("--sumo takes tripinfo.xml and at most one edgedata.xml")
     with Slow(f"reading {path}") as shown:
         folder = read_folder(path)
+        if is_drawn(folder.made):
+            raise Fault(f"{path}: its departures were drawn, and SUMO had those of the file: --departures listed")
         here, names = trip_times_of(folder), [row["id"] for row in folder.trips()]
         shown.text = f"reading {files[0]}"
         there = read_tripinfo(files[0])
@@ -63,10 +78,23 @@ def with_sumo(path: str, files: list[str]) -> int:
             edges, sumo = edge_values_of(folder), read_edges(files[1])
             lines += compare_edges(edges, sumo, folder.period, len(folder.mapping.links_of))
             common = common and any(key in sumo for key in edges)
-    print(*lines, sep="\n")
+    print(*lines, *folder.notes, sep="\n")
     if not common:
         print("nothing is common to both", file=sys.stderr)
     return 0 if common else 1
+
+
+def with_times(path: str, files: list[str]) -> int:
+    """Prints how the segments and routes of a folder meet travel times that were measured; status 1 where fewer than
+    85 % of them are within 15 % (routes also within a minute), else 0."""
+    with Slow(f"reading {path}"):
+        folder, notes = read_folder(path), list[str]()
+        found = compared_times(folder, read_times(files, notes))
+    print(*notes, sep="\n", end="\n" if notes else "", file=sys.stderr)
+    print(*lines_of_times(found), sep="\n")
+    if folder.doubts:
+        print(trust.verdict(folder.doubts))
+    return 0 if are_close(found) else 1
 
 
 def with_counts(path: str, files: list[str], attribute: str | None, out: str | None) -> int:
@@ -79,10 +107,10 @@ def with_counts(path: str, files: list[str], attribute: str | None, out: str | N
         shown.text = f"comparing with {len(counts):,} counts"
         fit = judged(counts, passed_in(folder, counts))
         if out:
-            with whole_folder(out, LAST, JUDGED_AT_WISH) as made:
+            with whole_folder(out, LAST, COMPARED) as made:
                 write_judged(made, fit)
                 draw_fit(made, fit, folder.mapping.links, "passed in the run")
-    print(*fit.lines(), sep="\n")
+    print(*fit.lines(), *folder.notes, sep="\n")
     if folder.doubts:
         print(trust.verdict(folder.doubts))
     return 0 if fit.meets_criteria else 1

@@ -5,31 +5,36 @@ from dataclasses import replace
 from itertools import chain
 
 from streetsim.base import program
-from streetsim.base.files import Fault, refuse_unwritable
+from streetsim.base.files import Fault, refuse_foreign, refuse_unwritable
 from streetsim.base.progress import Slow, Stopping
 from streetsim.base.report import Report
-from streetsim.base.words import Parser, add_rounds, integer_within, paths_in, share_of
+from streetsim.base.words import Parser, add_lost, add_rounds, integer_within, names_in, paths_in, share_of
+from streetsim.cli.defaults import complete_outputs, name_of_network, words_and_options
 from streetsim.cli.import_ import add_options, options_of
-from streetsim.cli.words import add_attribute, add_files, add_made_run, add_network, refuse_half_run
-from streetsim.counts import demanding, making
-from streetsim.counts.demanding import Asked
-from streetsim.counts.fitting import ERROR
-from streetsim.counts.making import Outputs, Running
-from streetsim.routes.loading import read_town
+from streetsim.cli.words import add_attribute, add_files, add_made_run, add_network, add_out, refuse_half_run
+from streetsim.demand import demanding, making
+from streetsim.demand.demanding import DemandInputs
+from streetsim.demand.fitting import ERROR
+from streetsim.demand.making import DemandOutputs, DemandRuns
+from streetsim.search.route_loading import read_town
 
 
-def parser() -> argparse.ArgumentParser:
+def parser() -> Parser:
     """The parser of the words that streetsim-demand takes."""
     made = Parser(
         prog="streetsim-demand",
+        examples=(
+            "streetsim-demand corridor.net.xml.gz --counts counts.csv -o fitted.rou.xml --out fit",
+            "streetsim-demand town.net.xml --zones zones.csv --matrix matrix.csv -o town.rou.xml --out fit",
+        ),
         description="Makes vehicles with routes of counts of edges and turns, of matrices between zones, or of flows "
         "and turn ratios, and says how well they fit.",
     )
     add_network(made)
     add_inputs(made)
     add_fit(made)
-    made.add_argument("-o", "--output", required=True, help="the vehicles (.rou.xml)")
-    made.add_argument("--out", required=True, metavar="DIR", help="the folder for tables and pictures")
+    made.add_argument("-o", "--output", help="the vehicles (.rou.xml; default: NET.fitted.rou.xml, here)")
+    add_out(made, "the folder for tables and pictures (default: NET-fitted, here)")
     add_made_run(made, "vehicles")
     made.add_argument("--program", help=program.HELP)
     add_options(made)
@@ -72,18 +77,24 @@ def add_fit(made: argparse.ArgumentParser) -> None:
         help="at most so many runs, after each of which the fit is corrected by what passed (default %(default)s)",
     )
     add_rounds(made)
+    made.add_argument(
+        "--close", action="extend", nargs="+", default=[], metavar="LANE:METRES-METRES:S-S",
+        help="road works, as of streetsim-run, in the runs and in the one that is written; nobody goes round them",
+    )
+    add_lost(made)
 
 
 def main(arguments: Sequence[str]) -> int:
     """Runs streetsim-demand: makes the demand, writes its files and prints how well it fits; gives its status, as
     `making.tell_result` says. Without --begin, or with 0, the demand begins with the first slice, which may lead in to
     counts."""
-    words = parser().parse_args(arguments)
-    asked, outputs = asked_of(words), Outputs(words.output, words.out, words.run, words.map)
+    words, _ = words_and_options(parser(), arguments, "", ("end",))
+    complete_outputs(words, output=f"{name_of_network(words)}.fitted.rou.xml", out=f"{name_of_network(words)}-fitted")
+    asked, outputs = asked_of(words), DemandOutputs(words.output, words.out, words.run, words.map)
     additional = paths_in(words.additional)
     inputs = (asked.counts, asked.zones, asked.matrices, asked.flows, asked.ratios, asked.candidates)
     check_words(words, [words.net, *additional, *chain(*inputs)])
-    running = Running(program.find_program(words.program), words.runs, words.rounds) if words.runs else None
+    running = DemandRuns(program.find_program(words.program), words.runs, words.rounds) if words.runs else None
     with Slow(f"reading {words.net}") as shown:
 
         def told(text: str) -> None:
@@ -94,6 +105,7 @@ def main(arguments: Sequence[str]) -> int:
         basis = demanding.basis_of(town, asked, told)
         if not words.begin:
             town.options = replace(town.options, begin=basis.slices.bounds[0])
+        town.works, town.lost = tuple(chain(*map(names_in, words.close))), words.lost or town.lost
         told("fitting")
         fitted = demanding.fit_to_counts(basis, asked, basis.free_costs())
         making.tell_inputs(basis, fitted)
@@ -101,15 +113,16 @@ def main(arguments: Sequence[str]) -> int:
             tried = making.run_and_tell(basis, asked, running, fitted, lambda: stopping.asked, told) if running else []
         made = making.best_demand(basis, asked, fitted, tried)
         told("writing")
-        making.write_made(outputs, made, making.setting_of(asked, made, words.runs))
+        note = program.proof_note(running.program) if running else {}
+        making.write_made(outputs, made, making.setting_of(asked, made, words.runs) | note)
     return making.tell_result(made)
 
 
-def asked_of(words: argparse.Namespace) -> Asked:
+def asked_of(words: argparse.Namespace) -> DemandInputs:
     """What the words ask for."""
     names = ("counts", "zones", "flows", "ratios", "candidates")
     files = {name: tuple(paths_in(getattr(words, name))) for name in names}
-    return Asked(
+    return DemandInputs(
         matrices=tuple(paths_in(words.matrix)), attribute=words.attribute, ways=words.ways, most=words.most,
         everywhere=words.ends == "all", error=words.error, seed=words.seed, **files,
     )  # fmt: skip
@@ -119,10 +132,14 @@ def check_words(words: argparse.Namespace, inputs: Sequence[str]) -> None:
     """Fault for words that do not fit to each other, or outputs that cannot be written, before anything is read;
     inputs: the files that will be."""
     refuse_half_run(words)
+    if words.lost and not words.close:
+        raise Fault("--lost is of road works: give --close too")
     if words.runs and not words.counts:
         raise Fault("--runs compares with counts: give --counts")
     if words.end is not None:
         raise Fault("--end is of files of vehicles: a demand ends with the last period of its counts, matrix or flows")
     if words.ends == "all" and (words.zones or words.matrix or words.flows):
         raise Fault("--ends says where trips begin without zones: give no --zones, --matrix or --flows beside")
-    refuse_unwritable(words.out, {"-o": words.output, "--run": words.run, "--map": words.map}, inputs)
+    outputs = {"-o": words.output, "--run": words.run, "--map": words.map}
+    refuse_unwritable(words.out, outputs, inputs)
+    refuse_foreign(words.out, words.force, outputs.values())

@@ -1,9 +1,11 @@
 """streetsim-example: the files of an example, put into a folder."""
+import filecmp
 import os
 import shutil
 from pathlib import Path
 
 from streetsim.base.files import Fault
+from streetsim.base.helping import nearest
 from streetsim.base.places import examples, example_files
 from streetsim.base.words import Parser
 
@@ -12,6 +14,10 @@ def parser() -> Parser:
     """The parser of the words that streetsim-example takes."""
     made = Parser(
         prog="streetsim-example",
+        examples=(
+            "streetsim-example corridor",
+            "streetsim-example sessions --out walk",
+        ),
         description="Puts the files of an example into a folder; without a name, says which examples there are.",
     )
     made.add_argument("name", metavar="NAME", nargs="?", help="the example, such as corridor")
@@ -20,13 +26,18 @@ def parser() -> Parser:
 
 
 def target_paths(example: Path, folder: Path) -> dict[Path, Path]:
-    """{file of an example: where it goes in a folder}; Fault where a file of that name is there already."""
+    """{file of an example: where it goes in a folder}; Fault where something else of that name is there already."""
     begin = example if example.is_dir() else example.parent
     found = {path: folder / path.relative_to(begin) for path in example_files(example)}
-    for target in found.values():
-        if os.path.lexists(target):
-            raise Fault(f"{target} is there; give another folder by --out")
+    for path, target in found.items():
+        if os.path.lexists(target) and not is_same(path, target):
+            raise Fault(f"{target} is there, and is another file; give another folder by --out")
     return found
+
+
+def is_same(path: Path, target: Path) -> bool:
+    """Whether a file is there that has the same bytes as that of a path; a link is none."""
+    return target.is_file() and not target.is_symlink() and filecmp.cmp(path, target, shallow=False)
 
 
 def copy_example(example: Path, folder: Path) -> int:
@@ -35,6 +46,8 @@ def copy_example(example: Path, folder: Path) -> int:
     found = target_paths(example, folder)
     try:
         for path, target in found.items():
+            if target.exists():
+                continue
             target.parent.mkdir(parents=True, exist_ok=True)
             shutil.copy(path, target)
     except OSError as fault:
@@ -56,7 +69,8 @@ def main(arguments: list[str]) -> int:
         print(*(f"{name}: {files_told(len(example_files(path)))}" for name, path in known.items()), sep="\n")
         return 0
     if words.name not in known:
-        raise Fault(f"there is no example {words.name!r}, but {', '.join(known) or 'none'}")
+        told = f"there is no example {words.name!r}, but {', '.join(known) or 'none'}"
+        raise Fault(told + nearest(words.name, known))
     folder = Path(words.out or words.name)
     print(f"{files_told(copy_example(known[words.name], folder))} in {folder}")
     return 0

@@ -3,16 +3,20 @@ import os
 
 from streetsim.base.files import Fault, checked_output_path
 from streetsim.base.words import Parser, add_names
-from streetsim.gis.exporting import features, find_ogr2ogr, export_told, write_geojson, write_package
-from streetsim.gis.projecting import converter_of
 from streetsim.model.names import read_own
-from streetsim.results.reading import read_with_any_tables
+from streetsim.report.gis_export import export_told, features, find_ogr2ogr, write_geojson, write_package
+from streetsim.report.gis_projection import converter_of
+from streetsim.report.run_tables import read_with_any_tables
 
 
 def parser() -> Parser:
     """The parser of the words that streetsim-export takes."""
     made = Parser(
         prog="streetsim-export",
+        examples=(
+            "streetsim-export zero -o zero.geojson",
+            "streetsim-export zero-seeds -o zero.gpkg --names names.csv",
+        ),
         description="Writes the edges and junctions of a run with flow, speed, control delay, level of service, "
         "v/c and queues by interval, in WGS84: GeoJSON, or a GeoPackage by GDAL's ogr2ogr. "
         "With --seeds means over the seeds.",

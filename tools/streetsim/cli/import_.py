@@ -2,18 +2,21 @@
 import argparse
 import sys
 from dataclasses import replace
-from typing import Any
 
 from streetsim.base import limits
-from streetsim.base.files import Fault, refuse_unwritable
+from streetsim.base.files import Fault, Json, refuse_unwritable
 from streetsim.base.progress import Slow
 from streetsim.base.report import COLUMNS, Report
-from streetsim.base.words import FALSE, Parser, add_names, integer_within, names_in, paths_in, share_of
+from streetsim.base.words import Parser, add_names, integer_within, names_in, paths_in
+from streetsim.cli.defaults import complete_outputs, end_of, map_beside, name_of_network, words_and_options
 from streetsim.cli.words import add_clock, add_files
-from streetsim.importing.convert import read_and_converted, write_run
+from streetsim.model.mapping import INVENTED, TOLD_INVENTED
 from streetsim.model.sources import Sources
 from streetsim.model.tables import write_table
-from streetsim.sumo.configuration import DEFAULTS, files_named, read_configuration
+from streetsim.sumo.driver_words import (
+    CUTS, DriverValues, number_within, read_drivers, shares_read, speeds_read,
+)
+from streetsim.sumo.import_files import read_and_converted, write_run
 from streetsim.sumo.network import Options
 from streetsim.sumo.types import CLASSES
 
@@ -28,16 +31,23 @@ NUMBERS = {
 }
 
 
-def parser() -> argparse.ArgumentParser:
+def parser() -> Parser:
     """The parser of the words that streetsim-import takes."""
     made = Parser(
         prog="streetsim-import",
+        examples=(
+            "streetsim-import corridor.net.xml.gz --routes corridor.rou.xml -o zero.jsonl --map zero.map.json",
+            "streetsim-import -c town.sumocfg -o town.jsonl --map town.map.json",
+        ),
         description="Makes load, signal and enter lines, and a map of the names, of a SUMO network and its routes.",
     )
-    made.add_argument("net", nargs="?", help="the network (.net.xml, .net.xml.gz)")
+    made.add_argument(
+        "net", nargs="?", metavar="NET", help="the network (.net.xml), or SUMO's configuration (.sumocfg)"
+    )
     made.add_argument(
         "-c", "--configuration", metavar="FILE",
-        help="SUMO's configuration (.sumocfg): its network, files, begin, end and seed, where no words give others",
+        help="the same as a configuration in the place of NET: its network, files, begin, end and seed, where no words "
+        "give others",
     )
     made.add_argument(
         "additional", nargs="*",
@@ -50,8 +60,8 @@ def parser() -> argparse.ArgumentParser:
         "trips, and flows with from and to: each gets the way that is shortest with the waits at signals and the "
         "volumes so far (better ways: streetsim-route)",
     )
-    made.add_argument("-o", "--output", required=True, help="the run: lines of JSON (.jsonl, .jsonl.gz)")
-    made.add_argument("--map", required=True, help="the map of names to write (.json)")
+    made.add_argument("-o", "--output", help="the run: lines of JSON (.jsonl, .jsonl.gz; default: of NET's name, here)")
+    made.add_argument("--map", help="the map of names to write (default: NAME.map.json beside the run NAME.jsonl)")
     add_names(made)
     made.add_argument("--warnings", metavar="FILE", help="a table of all that is said, with all names (.csv)")
     made.add_argument("--strict", action="store_true", help="end with status 1 where vehicles were skipped")
@@ -70,8 +80,25 @@ def add_options(made: argparse.ArgumentParser) -> None:
     add_vehicles(made)
     add_numbers(made)
     made.add_argument(
-        "--permissive", type=share_of, metavar="SHARE",
-        help="the last share of each permissive green that is shown (default: by the flows that it gives way to)",
+        "--permissive", metavar="SHARE|EDGE=SHARE",
+        help="the last share of each permissive green that is shown, of all or of surveyed approaches, with commas "
+        "between (default: by the flows that it gives way to)",
+    )
+    add_drivers(made)
+
+
+def add_drivers(made: argparse.ArgumentParser) -> None:
+    """Adds the words of drivers that were measured."""
+    made.add_argument(
+        "--speed-factor", metavar="FACTOR|KMH=FACTOR",
+        help="of free speeds, of all streets or of those with a limit in km/h, with commas between (default 1)",
+    )
+    made.add_argument(
+        "--cut", metavar="S", help="seconds cut from the begin of greens; below 0: yellow that is driven at (default 0)"
+    )
+    made.add_argument(
+        "--drivers", metavar="FILE",
+        help="of streetsim-calibrate (drivers.json): dawdle, speed factors, cut and shares, where no words give others",
     )
 
 
@@ -109,8 +136,10 @@ def add_numbers(made: argparse.ArgumentParser) -> None:
     """Adds the words that set numbers of the model, each within what the program takes."""
     for name, (least, most, told) in NUMBERS.items():
         usual = getattr(Options(), name)
+        default = "as SUMO's vehicles need" if usual is None else str(usual)
         made.add_argument(
-            f"--{name}", type=integer_within(least, most), default=usual, help=f"{told} (default %(default)s)"
+            f"--{name}", type=integer_within(least, most), default=None if name == "dawdle" else usual,
+            help=f"{told} (default {default})",
         )
 
 
@@ -122,31 +151,37 @@ def options_of(words: argparse.Namespace) -> Options:
     classes = tuple(names_in(words.classes))
     if unknown := [name for name in classes if name not in CLASSES]:
         raise Fault(f"--classes: SUMO has no vehicle class {unknown[0]!r}; it has {', '.join(CLASSES)}")
-    given = {name: getattr(words, name) for name in (*NUMBERS, "permissive", "begin", "end", "ignore_route_errors")}
+    given = {name: getattr(words, name) for name in (*NUMBERS, "begin", "end", "ignore_route_errors")}
+    given.update(drivers_of(words))
     given.update(strict_turns=words.turns == "strict", sizes=words.sizes == "on", joint=tuple(names_in(words.joint)))
     return Options(classes=classes, **given)
 
 
+def drivers_of(words: argparse.Namespace) -> Json:
+    """The options of drivers: of the words, else of the file of --drivers, else the usual ones. Fault where one of them
+    is wrong."""
+    known = read_drivers(words.drivers) if words.drivers else DriverValues()
+    dawdle = next((one for one in (words.dawdle, known.dawdle) if one is not None), Options().dawdle)
+    permissive, shares = shares_read(words.permissive or "", "--permissive")
+    cut = known.cut or 0.0
+    if words.cut is not None:
+        cut = number_within(words.cut, CUTS, "--cut")
+    speeds = speeds_read(words.speed_factor or "", "--speed-factor")
+    both = {**dict(known.shares), **dict(shares)}
+    return {
+        "dawdle": dawdle, "permissive": permissive, "cut": cut, "speeds": speeds or known.speeds,
+        "shares": tuple(both.items()),
+    }  # fmt: skip
+
+
 def words_of(arguments: list[str]) -> tuple[argparse.Namespace, dict[str, str]]:
-    """The words of a command, where no word is given completed by the configuration (-c) that they name (its routes
-    only without --trips); and the options of that configuration, empty where they name none."""
-    made = parser()
-    words = made.parse_args(arguments)
-    if not words.configuration:
-        if not words.net:
-            raise Fault("no network: give NET.net.xml, or -c FILE.sumocfg (what may be given: streetsim-import --help)")
-        return words, {}
-    options = read_configuration(words.configuration)
-    given: dict[str, Any] = {name.replace("-", "_"): options[name] for name in DEFAULTS if options.get(name)}
-    if given.get("end", "").startswith("-"):
-        del given["end"]  # SUMO's -1: none
-    if "ignore_route_errors" in given:
-        given["ignore_route_errors"] = given["ignore_route_errors"].lower() not in FALSE
-    made.set_defaults(**given)
-    words = made.parse_args(arguments)
-    net, additional, routes = files_named(words.configuration, options)
-    words.net, words.additional = words.net or net, words.additional or additional
-    words.routes = words.routes or (routes if not words.trips else [])
+    """The words of a command, where no word is given completed by the configuration that they name, and outputs by
+    the network's name; and the options of that configuration, empty where they name none."""
+    words, options = words_and_options(parser(), arguments, "routes")
+    if not words.net:
+        raise Fault("no network: give NET.net.xml, or -c FILE.sumocfg (what may be given: streetsim-import --help)")
+    output = words.output or f"{name_of_network(words)}.jsonl"
+    complete_outputs(words, output=output, map=map_beside(output))
     return words, options
 
 
@@ -161,7 +196,9 @@ def main(arguments: list[str]) -> int:
     report, options = Report(), replace(options_of(words), slow=tuple(names_in(words.slow)))
     with Slow(f"importing {words.net}"):
         made = read_and_converted(sources, options, report, told)
-    mapping = write_run(words.output, words.map, made, report, sources, words.names)
+        if any(name.startswith(INVENTED) for name in made[3]):
+            report.warn(TOLD_INVENTED, do="counts and matrices: streetsim-demand")
+    mapping = write_run(words.output, words.map, made, report, sources, words.names, end_of(told))
     if words.warnings:
         write_table(words.warnings, COLUMNS, report.rows())
     print(*report.lines(), sep="\n", end="\n" if any(report.lines()) else "", file=sys.stderr)

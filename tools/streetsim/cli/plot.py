@@ -4,19 +4,28 @@ import argparse
 from streetsim.base import limits, program
 from streetsim.base.files import Fault, checked_output_path
 from streetsim.base.words import Parser, integer_within, names_in
+from streetsim.cli.defaults import complete_outputs, stem_of
 from streetsim.cli.words import add_clock
 from streetsim.model.folder import read_folder
-from streetsim.pictures import maps
-from streetsim.pictures.drawing import Figure, Pyplot, load_pyplot, picture_format, save_picture
-from streetsim.pictures.greens import draw_greens
-from streetsim.pictures.plots import (
+from streetsim.report import picture_maps
+from streetsim.report.picture_files import Figure, Pyplot, load_pyplot, picture_format, save_picture
+from streetsim.report.picture_greens import draw_greens
+from streetsim.report.picture_plots import (
     MARKERS, Corridor, draw_arrivals, draw_corridor, draw_fundamental, draw_queues, draw_ring,
 )
-from streetsim.pictures.works import draw_works
+from streetsim.report.picture_works import draw_works
+from streetsim.report.run_tables import read_folders
 
 def parser() -> Parser:
     """The parser of the words that streetsim-plot takes: the kind of picture first, and those of the kind."""
-    made = Parser(prog="streetsim-plot", description="Draws pictures of what streetsim-run wrote.")
+    made = Parser(
+        prog="streetsim-plot",
+        description="Draws pictures of what streetsim-run wrote.",
+        examples=(
+            "streetsim-plot map zero --what delay -o delay.png",
+            'streetsim-plot corridor zero --edges "WJ1 J1J2 J2J3" --first 1800 --last 2400 -o zero.png',
+        ),
+    )
     kinds = made.add_subparsers(dest="kind", required=True)
     for kind, words in (
         ("corridor", "ways of the vehicles along a path over time, with red signals; run with --every 1"),
@@ -31,7 +40,7 @@ def parser() -> Parser:
         often = "?" if kind == "fundamental" else None
         # argparse takes None too, which is its default.
         one.add_argument("folder", nargs=often, help="what streetsim-run wrote")  # type: ignore[arg-type]
-        one.add_argument("-o", "--output", required=True, help="the picture (.png, .svg, .pdf)")
+        one.add_argument("-o", "--output", help="the picture (.png, .svg, .pdf; default: FOLDER.KIND.png, here)")
         if kind in ("corridor", "fundamental"):
             one.add_argument(
                 "--edges", required=kind == "corridor", default="", help="edges, with spaces or commas between"
@@ -43,7 +52,7 @@ def parser() -> Parser:
         if kind == "fundamental":
             add_diagram(one)
         if kind == "map":
-            one.add_argument("--what", choices=maps.WHAT, default="density", help="(default: %(default)s)")
+            one.add_argument("--what", choices=picture_maps.WHAT, default="density", help="(default: %(default)s)")
             add_clock(one, "--begin", "the interval shown (default: the busiest; of density all)")
         if kind == "greens":
             one.add_argument(
@@ -85,21 +94,26 @@ def main(arguments: list[str]) -> int:
         raise Fault("--ring goes without a folder, --edges and --counts")
     if words.kind == "map" and words.what == "density" and words.begin is not None:
         raise Fault("--begin: the map of density is of all polls; it goes with --what delay, los, vc, flow and queue")
+    kind = words.what if words.kind == "map" else words.kind
+    complete_outputs(words, output=f"{stem_of(words.folder or 'ring')}.{kind}.png")
     picture_format(words.output)
     checked_output_path(words.output)
-    save_picture(picture_of(load_pyplot(), words), words.output)
+    figure = picture_of(load_pyplot(), words)
+    if words.folder and (notes := read_folders(words.folder).first.notes):
+        figure.text(1, 0, "\n".join(notes), ha="right", va="top", color="#a00")
+    save_picture(figure, words.output)
     return 0
 
 
 def picture_of(pyplot: Pyplot, words: argparse.Namespace) -> Figure:
     """The picture that the words ask for, drawn but not saved. Fault where that cannot be read or drawn."""
     if words.kind == "map" and words.what != "density":
-        return maps.draw_measure(pyplot, words.folder, words.what, words.begin)
+        return picture_maps.draw_measure(pyplot, words.folder, words.what, words.begin)
     if words.kind == "fundamental" and words.ring:
         return draw_ring(pyplot, words.program, words.ring, words.limit)
     folder = read_folder(words.folder)
     if words.kind == "map":
-        return maps.draw_density(pyplot, folder)
+        return picture_maps.draw_density(pyplot, folder)
     if words.kind == "corridor":
         return draw_corridor(pyplot, folder, Corridor(names_in(words.edges), words.first, words.last, words.both))
     if words.kind == "fundamental":

@@ -1,37 +1,33 @@
 """streetsim-report: a page for a council of a run's junctions, or of what another plan changes, with its appendix."""
 import argparse
-import hashlib
-import json
 import os
-import tempfile
-from collections.abc import Sequence
+from collections.abc import Callable, Sequence
 from html import escape
-from pathlib import Path
 
 from streetsim.base.files import Fault, refuse_unwritable, whole_file
 from streetsim.base.report import first_few
 from streetsim.base.words import Parser, add_names, integer_within, names_in, paths_in
+from streetsim.cli.defaults import complete_outputs, stem_of
 from streetsim.cli.given import given_words
 from streetsim.cli.words import add_attribute, add_clock, add_files
-from streetsim.counts.judging import judged
-from streetsim.counts.reading import read_counts
-from streetsim.counts.reporting import counts_section
-from streetsim.counts.seen import passed_in
+from streetsim.demand.judging import judged
+from streetsim.demand.reading import read_counts
+from streetsim.demand.reporting import counts_section
+from streetsim.demand.seen import passed_in
 from streetsim.model.folder import Folder
 from streetsim.model.names import read_own
 from streetsim.model.tables import write_table
-from streetsim.pictures.drawing import load_pyplot, save_picture
-from streetsim.pictures.plots import Corridor, draw_corridor
-from streetsim.reports.council import ranked_rows
-from streetsim.reports.making import Wishes, report_of
-from streetsim.reports.markup import Section, image
-from streetsim.reports.seal import Seal, beside_of, write_beside
-from streetsim.reports.sealing import COUNTS, NAMES, seal_for
-from streetsim.reports.sheets import Timings, changed, clashes, sheets
-from streetsim.reports.tables import CHANGES, change_rows
-from streetsim.results.reading import Runs, read_runs
-from streetsim.results.series import red_times, trajectories, way_back
-from streetsim.results.timings import timings_of
+from streetsim.report.light_timings import timings_of
+from streetsim.report.page_corridor import corridor_picture
+from streetsim.report.page_making import PageWishes, report_of
+from streetsim.report.page_markup import Section
+from streetsim.report.page_seal import COUNTS, NAMES, Seal, beside_of, write_beside
+from streetsim.report.page_sealing import seal_for
+from streetsim.report.page_summary import ranked_rows
+from streetsim.report.page_table import CHANGES, change_rows
+from streetsim.report.run_series import way_back
+from streetsim.report.run_tables import Runs, read_runs
+from streetsim.report.timing_sheets import Timings, changed, clashes, sheets
 
 ALL = "all"  # --sheets without a value
 # Words that say where a page is and what it is of; plans' names, --names and --counts are sealed beside the words.
@@ -44,6 +40,10 @@ def parser() -> Parser:
     """The parser of the words that streetsim-report takes."""
     made = Parser(
         prog="streetsim-report",
+        examples=(
+            "streetsim-report zero-seeds -o report.html",
+            'streetsim-report zero-seeds wave-seeds --plans "all at once" "green wave" --sealed -o report.html',
+        ),
         description="Makes one HTML page, without anything from outside, of folders that streetsim-run wrote with "
         "--junctions: first a page for a council with what was asked, a map, the verdict, what it costs whom and what "
         "is doubted; behind it junctions by level of service, queues, before and after, what was run.",
@@ -51,7 +51,7 @@ def parser() -> Parser:
     made.add_argument(
         "runs", nargs="+", metavar="RUN", help="a folder, or one with seeds; a second one is the plan after it"
     )
-    made.add_argument("-o", "--output", required=True, help="the page (.html)")
+    made.add_argument("-o", "--output", help="the page (default: RUN.report.html, here)")
     made.add_argument("--title", default="Junction report", help="(default: %(default)s)")
     made.add_argument("--question", default="", metavar="TEXT", help="what was asked, at the head of the page")
     made.add_argument(
@@ -88,6 +88,7 @@ def main(arguments: list[str]) -> int:
     made = parser()
     words = made.parse_args(arguments)
     given = given_words(made, words, ELSEWHERE)
+    complete_outputs(words, output=f"{stem_of(words.runs[-1])}.report.html")
     refuse_clashing_words(words)
     beside = {f"{COUNTS}{at}": path for at, path in enumerate(paths_in(words.counts), 1)}
     beside |= {NAMES: words.names} if words.names else {}
@@ -110,15 +111,13 @@ def main(arguments: list[str]) -> int:
     return 0
 
 
-def text_again(arguments: list[str], seal: Seal) -> str:
-    """The text of a page by the words that made it, with its seal; for the runs' programs it names those of the seal.
-    Fault where they give none."""
+def text_again(arguments: list[str], sealing: Callable[[list[Runs]], Seal]) -> str:
+    """The text of a page by the words that made it, with the seal that `sealing` gives of its plans. Fault where they
+    give none."""
     words = parser().parse_args(arguments)
     refuse_clashing_words(words)
     plans = read_plans(words)
-    for runs, plan in zip(plans, seal.content["plans"], strict=True):
-        for folder in runs.folders.values():
-            folder.made["program"] = plan["program"]
+    seal = sealing(plans)
     return report_of(plans, interval_of(plans, words), wishes_of(plans, words, seal))
 
 
@@ -149,7 +148,7 @@ def read_plans(words: argparse.Namespace) -> list[Runs]:
     return plans
 
 
-def wishes_of(plans: Sequence[Runs], words: argparse.Namespace, seal: Seal | None) -> Wishes:
+def wishes_of(plans: Sequence[Runs], words: argparse.Namespace, seal: Seal | None) -> PageWishes:
     """What the words ask of a page, with the sections and pictures that they add to its appendix. seal: none where the
     page is not sealed. Fault where one of them cannot be made."""
     pictures = []
@@ -162,7 +161,7 @@ def wishes_of(plans: Sequence[Runs], words: argparse.Namespace, seal: Seal | Non
         pictures.append(Section("sheets", "Signal timing sheets", sheets_told(plans, timings, words.sheets)))
     last, doubts = seal.html() if seal else "", clashes(timings[-1], plans[-1])
     detail = DETAIL if words.detail is None else words.detail
-    return Wishes(words.title, words.question, detail, words.short, doubts, pictures, last)
+    return PageWishes(words.title, words.question, detail, words.short, doubts, pictures, last=last)
 
 
 def counts_told(runs: Runs, words: argparse.Namespace) -> str:
@@ -207,18 +206,13 @@ def interval_of(all_runs: Sequence[Runs], words: argparse.Namespace) -> tuple[in
 
 
 def corridor_told(runs: Runs, words: argparse.Namespace) -> str:
-    """The corridor's picture of a plan's first seed, as HTML, with the SHA-256 of the data that it is drawn from; in
-    both directions where edges lead back. Fault where it cannot be drawn, as of draw_corridor."""
+    """The corridor's picture of a plan's first seed, as HTML; in both directions where edges lead back. Fault where it
+    cannot be drawn, as of corridor_picture."""
     folder, ways = runs.first, path_and_way_back(runs.first, names_in(words.corridor))
     first, last = (usual if getattr(words, name) is None else getattr(words, name) for name, usual in PICTURE.items())
-    figure = draw_corridor(load_pyplot(), folder, Corridor(ways[0], first, last, both=len(ways) == 2))
-    with tempfile.TemporaryDirectory() as made:
-        save_picture(figure, f"{made}/corridor.png")
-        content = Path(f"{made}/corridor.png").read_bytes()
     text = f"Ways of the vehicles along {words.corridor}{', and back' if len(ways) == 2 else ''}: {runs.name}"
-    drawn = json.dumps([[trajectories(folder, way, first, last), red_times(folder, way, first, last)] for way in ways])
-    sum_ = hashlib.sha256(drawn.encode()).hexdigest()
-    return f'<figure data-drawn="{sum_}">{image(content, text)}<figcaption>{escape(text)}</figcaption></figure>'
+    picture = corridor_picture(folder, ways, first, last, text)
+    return f"<figure>{picture}<figcaption>{escape(text)}</figcaption></figure>"
 
 
 def path_and_way_back(folder: Folder, edges: list[str]) -> list[list[str]]:

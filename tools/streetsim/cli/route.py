@@ -4,49 +4,58 @@ import sys
 from collections.abc import Sequence
 
 from streetsim.base import limits, program
-from streetsim.base.files import Fault, refuse_unwritable
+from streetsim.base.files import Fault, refuse_foreign, refuse_unwritable
 from streetsim.base.progress import Slow, Stopping
 from streetsim.base.report import Report
 from streetsim.base.seeds import seeds_of
 from streetsim.base.words import (
     Parser, add_lights, add_lost, add_rounds, integer_within, names_in, paths_in, share_of, time_within,
 )
+from streetsim.cli.defaults import complete_outputs, name_of_network, words_and_options
 from streetsim.cli.import_ import add_options, options_of
+from streetsim.cli.run import add_priority
 from streetsim.cli.words import (
-    add_check, add_clock, add_machines, add_made_run, add_network, refuse_half_run, seeds_to_check,
+    add_check, add_clock, add_machines, add_made_run, add_network, add_out, refuse_half_run, seeds_to_check,
 )
 from streetsim.model import trust
 from streetsim.model.sources import program_digest
-from streetsim.model.stops import unmade_stops_told
-from streetsim.routes.diverting import check_works, give_ways_of_file
-from streetsim.routes.job import AFTER, Closed, Job, Target, search_routes, tell_found, write_found
-from streetsim.routes.loading import read_town
-from streetsim.routes.search import Asked
-from streetsim.routes.team import team
-from streetsim.routes.watching import Ground
-from streetsim.ways.trips import connected_trips, read_trips
+from streetsim.search.route_diverting import check_works, give_ways_of_file
+from streetsim.search.route_job import (
+    AFTER, Job, RouteFiles, RouteWorks, search_routes, tell_found, tell_stops, write_found,
+)
+from streetsim.search.route_loading import read_town
+from streetsim.search.route_search import RouteSettings
+from streetsim.search.route_team import team
+from streetsim.search.route_watching import RunGround
+from streetsim.sumo.trips import connected_trips, read_trips
 
 # Words that the setting keeps.
 KEPT = (
     "net", "additional", "trips", "anew", "slice", "iterations", "gap", "share", "tried", "rounds", "seeds", "check",
+    "priority", "seen",
 )
 
 
-def parser() -> argparse.ArgumentParser:
+def parser() -> Parser:
     """The parser of the words that streetsim-route takes."""
     made = Parser(
         prog="streetsim-route",
+        examples=(
+            "streetsim-route town.net.xml --trips town.trips.xml -o town.rou.xml --out ways",
+            "streetsim-route town.net.xml --trips town.rou.xml --close A_0:0-100:600-1800 -o round.rou.xml --out ways",
+        ),
         description="Finds routes for trips by feedback between a router and runs, until nobody gains much by another "
         "way, and tells by seeds that the search did not see how much that is.",
     )
     add_network(made)
     made.add_argument(
-        "--trips", required=True, nargs="+", metavar="FILE",
-        help="trips, flows with from and to, and vehicles, whose routes are first ways",
+        "--trips", nargs="+", metavar="FILE",
+        help="trips, flows with from and to, and vehicles, whose routes are first ways (default: the routes of the "
+        "configuration)",
     )
-    made.add_argument("-o", "--output", required=True, help="the routes found (.rou.xml)")
+    made.add_argument("-o", "--output", help="the routes found (.rou.xml; default: NET.found.rou.xml, here)")
     add_made_run(made, "routes")
-    made.add_argument("--out", required=True, metavar="DIR", help="the folder for tables")
+    add_out(made, "the folder for tables (default: NET-routes, here)")
     add_search(made)
     add_works(made)
     add_machines(made)
@@ -79,7 +88,8 @@ def add_search(made: argparse.ArgumentParser) -> None:
     )
     add_rounds(made)
     add_lights(made)
-    made.add_argument("--seeds", default="1", metavar="FIRST-LAST", help="of the search (default %(default)s)")
+    add_priority(made)
+    made.add_argument("--seeds", default="1", metavar="SEEDS", help="of the search (default %(default)s)")
     add_check(made, "101-103", "seeds by which the routes are judged, which the search does not see")
 
 
@@ -113,13 +123,18 @@ def shares_of(text: str) -> list[float]:
 def main(arguments: Sequence[str]) -> int:
     """Runs streetsim-route: searches, writes the routes and tables, and prints what was found; gives the greatest
     status that `tell_found` gives for one of the shares of drivers who know."""
-    words = parser().parse_args(arguments)
+    words, _ = words_and_options(parser(), arguments, "trips")
+    if not words.trips:
+        raise Fault("no trips: give --trips FILE (what may be given: streetsim-route --help)")
+    complete_outputs(words, output=f"{name_of_network(words)}.found.rou.xml", out=f"{name_of_network(words)}-routes")
     check_words(words)
     with Slow(f"reading {words.net}"):
         job = job_of(words)
     with team(job.ground, words.jobs, words.cluster) as workers, Stopping() as stopping:
         all_ = search_routes(job, workers, stopping)
     write_found(job, all_)
+    for one in all_[len(all_) > 1 :]:
+        tell_stops(job, one)
     status = max([tell_found(job, one, all_[0]) for one in all_[len(all_) > 1 :]])
     if named := list(dict.fromkeys(text for one in all_ for text in one.named_doubts())):
         print(trust.verdict(named))
@@ -133,6 +148,9 @@ def check_words(words: argparse.Namespace) -> None:
     outputs = {"-o": words.output, "--run": words.run, "--map": words.map}
     read = [words.net, *paths_in([*words.additional, *words.trips]), *filter(None, [words.before])]
     refuse_unwritable(words.out, outputs, read)
+    refuse_foreign(words.out, words.force, outputs.values())
+    if words.seen is not None and not words.priority:
+        raise Fault("--seen is of vehicles with --priority")
     for name in ("knowing", "sign", "before", "lost"):
         if getattr(words, name) and not words.close:
             raise Fault(f"--{name} is of road works: give --close too")
@@ -154,8 +172,6 @@ def job_of(words: argparse.Namespace) -> Job:
     if words.before:
         before = read_trips([words.before], town.net, town.graph, town.types, town.options, Report())
         give_ways_of_file(trips.all, before, town.graph, words.before)
-    if unmade := unmade_stops_told(sum(len(trip.stops) for trip in trips.all)):
-        report.warn(f"{unmade}; the routes that are written have those that lie on them")
     print(*report.lines(), sep="\n", end="\n" if any(report.lines()) else "", file=sys.stderr)
     last = int(trips.all[-1].depart)
     until = min(limits.CLOCK, last + AFTER) if words.until is None else words.until
@@ -166,13 +182,13 @@ def job_of(words: argparse.Namespace) -> Job:
     return Job(
         town,
         trips,
-        ground=Ground(
+        ground=RunGround(
             simulator, program_digest(simulator), town.graph, words.slice, until, words.rounds,
-            words.lights == "actuated",
+            words.lights == "actuated", tuple(names_in(words.priority)), words.seen,
         ),
-        asked=Asked(words.iterations, words.gap, words.share, seeds_of(words.seeds, "--seeds"), words.tried),
+        asked=RouteSettings(words.iterations, words.gap, words.share, seeds_of(words.seeds, "--seeds"), words.tried),
         check=seeds_to_check(words),
-        works=Closed(closed, words.sign, words.lost or "lead", words.knowing or [1.0], words.before),
-        target=Target(words.output, words.run, words.map, words.out),
+        works=RouteWorks(closed, words.sign, words.lost or "lead", words.knowing or [1.0], words.before),
+        target=RouteFiles(words.output, words.run, words.map, words.out),
         words={**{name: getattr(words, name) for name in KEPT}, **files},
     )

@@ -5,29 +5,38 @@ from streetsim.base import limits
 from streetsim.base.words import (
     Parser, add_jobs, add_lights, add_lost, add_rounds, add_run, integer_within, time_within,
 )
-from streetsim.buses.planned import MOST_SEEN, SEEN
+from streetsim.cli.defaults import complete_outputs, complete_run, stem_of
 from streetsim.cli.given import given_words
-from streetsim.cli.words import add_clock, add_simulator
-from streetsim.outputs.kinds import KINDS, kinds_of
-from streetsim.sumo.slowing import LIMITS
+from streetsim.cli.words import add_clock, add_departures, add_out, add_simulator
+from streetsim.control.bus_planned import MOST_SEEN, SEEN
+from streetsim.model.folder import POLLS
+from streetsim.model.replications import DRAWN
+from streetsim.model.tables import ROUTES_FILE
+from streetsim.observe.sumo_kinds import KINDS, kinds_of
 
 OF_WORKS = ("close", "joint", "lost", "works_limit")  # words that the lines that a folder keeps have in them
 # Words that say where, on what and with which seeds a run is made.
-ELSEWHERE = ("run", "map", "out", "program", "workers", "jobs", "seeds")
+ELSEWHERE = ("run", "map", "out", "force", "program", "workers", "jobs", "seeds", "keep")
 
 
 def parser() -> argparse.ArgumentParser:
     """The parser of the words that streetsim-run takes."""
     made = Parser(
         prog="streetsim-run",
+        examples=(
+            "streetsim-run zero.jsonl --map zero.map.json --out zero",
+            "streetsim-run zero.jsonl --map zero.map.json --until 4500 --seeds 1-5 --junctions 3600 --out zero-seeds",
+        ),
         description="Runs a file that streetsim-import made, and writes counts, trips, queues, a summary "
         "and what stood on the lanes.",
     )
     add_run(made)
     add_looks(made)
     made.add_argument(
-        "--seeds", metavar="FIRST-LAST", help="run each of these seeds, side by side, into folders of their own"
+        "--seeds", metavar="SEEDS",
+        help="run each of these seeds (1-5, or 1,4,7-9), side by side, into folders of their own",
     )
+    add_departures(made, "default: drawn with --seeds, else listed")
     add_jobs(made)
     add_lanes(made)
     add_outputs(made)
@@ -41,8 +50,8 @@ def add_looks(made: argparse.ArgumentParser) -> None:
     """Adds the words that say when a run ends, what is polled and counted on the way, and who is rescued."""
     add_clock(
         made, "--until",
-        "the clock at the end (default: when all have arrived, or no vehicle has changed its cell for longer than the "
-        "longest cycle)", least=1,
+        "the clock at the end (default: that of SUMO's configuration, else when all have arrived, or no vehicle has "
+        "changed its cell for longer than the longest cycle)", least=1,
     )
     add_clock(made, "--every", "seconds between polls of the lanes; 0: never (default: 10)")
     made.add_argument(
@@ -52,15 +61,28 @@ def add_looks(made: argparse.ArgumentParser) -> None:
     made.add_argument(
         "--edges", default="", help="edges whose lanes are polled, with spaces or commas between (default: all)"
     )
+    add_rescue(made)
+    made.add_argument(
+        "--counted", choices=["all", "busiest"], default="all",
+        help="of earlier versions, and without effect: every lane is counted",
+    )
+
+
+def add_rescue(made: argparse.ArgumentParser) -> None:
+    """Adds the word that says after how many seconds at a stop line vehicles are rescued."""
     add_clock(
         made, "--rescue",
         "take out who stood so long at a stop line and enter it on the next link; 0: never (default %(default)s)",
         default=300,
     )
+
+
+def add_merge(made: argparse.ArgumentParser) -> None:
+    """Adds the word that says how vehicles merge before road works."""
     made.add_argument(
-        "--counted", choices=["all", "busiest"], default="all",
-        help=f"all: where a run has more than {limits.METERS:,} lanes, further runs repeat it to count the others; "
-        "busiest: the lanes on most plans alone",
+        "--merge", choices=["turns", "none"], default="turns",
+        help="before road works on one lane of a joint link the lanes take turns; none: who stands there waits for a "
+        "gap (default %(default)s)",
     )
 
 
@@ -72,14 +94,10 @@ def add_lanes(made: argparse.ArgumentParser) -> None:
         help="road works: close a lane (edge_index) between two places, from one second to another; "
         "several with commas between, or by the word again",
     )
-    made.add_argument(
-        "--merge", choices=["turns", "none"], default="turns",
-        help="before road works on one lane of a joint link the lanes take turns; none: who stands there waits for a "
-        "gap (default %(default)s)",
-    )
+    add_merge(made)
     add_lost(made)
     made.add_argument(
-        "--works-limit", type=integer_within(LIMITS[0], LIMITS[-1]), metavar="KMH",
+        "--works-limit", type=integer_within(limits.KMH[0], limits.KMH[-1]), metavar="KMH",
         help="the limit along the works of --close, for the whole run; their edges are imported anew in parts",
     )
     made.add_argument(
@@ -89,11 +107,16 @@ def add_lanes(made: argparse.ArgumentParser) -> None:
 
 
 def add_buses(made: argparse.ArgumentParser) -> None:
-    """Adds the words that say how buses stop, and which lights wait for them."""
+    """Adds the words that say whether buses stop, and which lights wait for them."""
     made.add_argument(
         "--stops", choices=["made", "none"], default="made",
         help="made: vehicles stop where and as long as SUMO's files say; none: they drive by (default %(default)s)",
     )
+    add_priority(made)
+
+
+def add_priority(made: argparse.ArgumentParser) -> None:
+    """Adds the words that say which lights wait for whom."""
     made.add_argument(
         "--priority", default="", metavar="NAMES",
         help="classes of vehicles or lines, with commas between, for which lights keep or fetch a green within bounds",
@@ -116,13 +139,29 @@ def add_outputs(made: argparse.ArgumentParser) -> None:
         help="also write delay, level of service, queues and v/c of movements, approaches and junctions, "
         "by intervals of so many seconds (default: --period)",
     )
-    made.add_argument("--out", required=True, metavar="DIR", help="the folder to write to")
+    made.add_argument(
+        "--polls", action="store_true", help=f"also write what stands on the lanes at polls as text, {POLLS}"
+    )
+    made.add_argument(
+        "--along", action="append", default=[], metavar="EDGES",
+        help="also write seconds along a route of these edges, with blanks or commas between, from the stop line of "
+        f"the first to that of the last, {ROUTES_FILE}; several routes by the word again",
+    )
+    add_out(made, "the folder to write to (default: NAME-run of NAME.jsonl; with --seeds NAME-seeds)")
+    made.add_argument(
+        "--keep", metavar="FILE",
+        help="keep the session of the run in this file; the same words go on there after the machine has ended",
+    )
 
 
 def main(arguments: list[str]) -> int:
     """Runs streetsim-run, as `running.run_by` says; gives status 0."""
     made = parser()
     words = made.parse_args(arguments)
+    complete_run(words)
+    complete_outputs(words, out=f"{stem_of(words.run)}-{'seeds' if words.seeds else 'run'}")
+    if words.seeds and words.departures is None:
+        words.departures = DRAWN
     from streetsim.cli.running import run_by
 
     return run_by(words, given_words(made, words, ELSEWHERE), given_words(made, words, (*ELSEWHERE, *OF_WORKS)))

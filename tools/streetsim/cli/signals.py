@@ -6,25 +6,32 @@ from contextlib import contextmanager
 from statistics import fmean, stdev
 
 from streetsim.base import limits, program
-from streetsim.base.files import Fault, refuse_unwritable
+from streetsim.base.files import Fault, refuse_foreign, refuse_unwritable
 from streetsim.base.progress import Slow
 from streetsim.base.seeds import seeds_for, seeds_of
-from streetsim.base.words import Parser, add_rounds, add_run, integer_within, names_in, paths_in, time_within
-from streetsim.cli.words import add_check, add_clock, add_machines, seeds_to_check
+from streetsim.base.words import Parser, add_rounds, add_run, integer_within, names_in, paths_in
+from streetsim.cli.defaults import complete_outputs, complete_run, plan_files, stem_of
+from streetsim.cli.words import add_check, add_clock, add_machines, add_out, seeds_to_check
+from streetsim.control.ending import after_departures
 from streetsim.model.folder import Folder
-from streetsim.outputs.folder import Making
-from streetsim.pictures.drawing import load_pyplot
-from streetsim.pictures.plots import Corridor, refuse_broken
-from streetsim.sessions.machines import machines
-from streetsim.signals.bounded import Asked, Found, bounded_outcomes, ground_of, searched_bounds, write_found_bounds
-from streetsim.signals.bounds import bounds_text
-from streetsim.signals.formulas import streets_of
-from streetsim.signals.found import Target, before_after_rows, doubts_of, tell_found, write_found
-from streetsim.signals.in_sumo import PROGRAM_ID, sumo_for, verified
-from streetsim.signals.planning import CHANGES, CYCLES, DRAWN, ended_search, proposed_cycles, refuse_budget, tried_seeds
-from streetsim.signals.plans import LEAST, plan_text
-from streetsim.signals.search import Search, search_plan
-from streetsim.signals.town import Reading, Runner, Town, read_town, sessions_of
+from streetsim.model.runs import read_with_map
+from streetsim.observe.making import Making
+from streetsim.report.picture_files import load_pyplot
+from streetsim.report.picture_plots import Corridor, refuse_broken
+from streetsim.search.run_machines import machines
+from streetsim.search.signal_bounded import (
+    BoundsSettings, FoundBounds, bounded_outcomes, ground_of, searched_bounds, write_found_bounds,
+)
+from streetsim.search.signal_bounds import bounds_text
+from streetsim.search.signal_formulas import streets_of
+from streetsim.search.signal_found import PlanFiles, before_after_rows, doubts_of, tell_found, write_found
+from streetsim.search.signal_in_sumo import PROGRAM_ID, sumo_for, verified
+from streetsim.search.signal_planning import (
+    CHANGES, CYCLES, DRAWN, ended_search, proposed_cycles, refuse_budget, tried_seeds,
+)
+from streetsim.search.signal_plans import LEAST, plan_text
+from streetsim.search.signal_search import PlanSearch, search_plan
+from streetsim.search.signal_town import Reading, Runner, SignalTown, read_town, sessions_of
 
 RESERVE = 80  # a chance of slowing down, of 1,000, by which a tenth fewer pass in a green
 
@@ -33,17 +40,23 @@ def parser() -> Parser:
     """The parser of the words that streetsim-signals takes."""
     made = Parser(
         prog="streetsim-signals",
+        examples=(
+            "streetsim-signals zero.jsonl --plans corridor.net.xml.gz --until 4500",
+            "streetsim-signals zero.jsonl --plans corridor.net.xml.gz --until 4500 --change splits,cycle --budget 200",
+        ),
         description="Finds signal plans by simulation: cycles, splits and offsets under which trips are shorter. "
         "The order of phases, yellow and all-red stay. What is found is a proposal to be checked.",
     )
     add_run(made)
     made.add_argument(
         "--plans", required=True, nargs="+", metavar="FILE",
-        help="the network (.net.xml), and additional files with programs, of which the last of a light counts",
+        help="the network (.net.xml), or SUMO's configuration, and additional files with programs, of which the last "
+        "of a light counts",
     )
-    made.add_argument(
-        "--until", required=True, type=time_within(1, limits.CLOCK), metavar="S", help="the clock at the end of a run"
-    )
+    add_clock(
+        made, "--until", "the clock at the end of a run (default: that of SUMO's configuration, else two hours after "
+        "the last departure)", least=1,
+    )  # fmt: skip
     add_search(made)
     add_rounds(made)
     add_machines(made)
@@ -54,8 +67,8 @@ def parser() -> Parser:
     made.add_argument("--edges", default="", help="draw the ways of the vehicles along these edges, before and after")
     add_clock(made, "--first", "the first second drawn (default: a third of the run)")
     add_clock(made, "--last", f"the last second drawn (default: {DRAWN} s later)")
-    made.add_argument("-o", "--output", required=True, help="the plan found (.add.xml)")
-    made.add_argument("--out", required=True, metavar="DIR", help="the folder for tables and pictures")
+    made.add_argument("-o", "--output", help="the plan found (default: RUN.found.add.xml, here)")
+    add_out(made, "the folder for tables and pictures (default: RUN-signals, here)")
     return made
 
 
@@ -75,10 +88,18 @@ def add_search(made: argparse.ArgumentParser) -> None:
         help="the least green (default %(default)s); a phase's minDur and maxDur bound it too",
     )
     made.add_argument(
+        "--constraints", metavar="FILE",
+        help="what phases must keep, beside their minDur and maxDur: a table light,phase,least,most,pedestrians (.csv)",
+    )
+    made.add_argument(
+        "--mend", action="store_true",
+        help="search also from a plan that breaks what its phases must keep; its greens are mended first",
+    )
+    made.add_argument(
         "--keep", default="", metavar='"LIGHT .."', help="lights that stay as they are, with spaces or commas between"
     )
     made.add_argument(
-        "--seeds", metavar="FIRST-LAST",
+        "--seeds", metavar="SEEDS",
         help="of the search (default: one, or more where runs of the given plan differ much)",
     )
     add_check(made, "101-110", "seeds of the report, which the search does not see")
@@ -98,6 +119,7 @@ def main(arguments: list[str]) -> int:
     """Runs streetsim-signals: searches, writes the plan (or the bounds) and tables, and prints what was found; gives
     the status, as `tell_found` says, or with --bounds `write_found_bounds`."""
     words = parser().parse_args(arguments)
+    complete_words(words)
     refuse_unused(words)
     check = check_seeds(words)
     reading = reading_of(words)
@@ -107,7 +129,7 @@ def main(arguments: list[str]) -> int:
     if words.bounds:
         return find_bounds(words, reading, town, check)
     making = Making(reading.program, words.rounds)
-    target = Target(words.output, words.out, corridor_of(words, town), making, words.until)
+    target = PlanFiles(words.output, words.out, corridor_of(words, town), making, words.until)
     in_sumo = sumo_for(reading, town.mapping, town.run) if words.verify_sumo else None
     with runner_of(words, town, check) as runner:
         search, stopped = search_for_plan(words, runner, check)
@@ -119,13 +141,25 @@ def main(arguments: list[str]) -> int:
     return tell_found(town, search, rows, stopped, doubts, sumo)
 
 
-def find_bounds(words: argparse.Namespace, reading: Reading, town: Town, check: range) -> int:
+def complete_words(words: argparse.Namespace) -> None:
+    """Gives what is missing of the words what is usual: the map beside the run, its end, and outputs of its name; and
+    the files of a configuration in its place. Fault where a file cannot be read."""
+    complete_run(words)
+    words.plans = [path for named in paths_in(words.plans) for path in plan_files(named)]
+    if words.until is None:
+        run, mapping = read_with_map(words.run, words.map)
+        words.until = mapping.end or after_departures(run)
+    name = stem_of(words.run)
+    complete_outputs(words, output=f"{name}.found.add.xml", out=f"{name}-signals")
+
+
+def find_bounds(words: argparse.Namespace, reading: Reading, town: SignalTown, check: Sequence[int]) -> int:
     """Finds bounds of actuated and NEMA lights, and the best plan of seconds to compare them with; writes and prints
     both, and gives the exit status of write_found_bounds. check: seeds by which both are judged."""
     ground = ground_of(reading, town)
     in_sumo = sumo_for(reading, town.mapping, town.run) if words.verify_sumo else None
     with machines(words.jobs, words.cluster, ground.sessions) as workers:
-        asked = Asked(words.budget, given_seeds(words), words.least)
+        asked = BoundsSettings(words.budget, given_seeds(words), words.least)
         search, stopped = searched_bounds(asked, workers, ground, tried_seeds(check))
         before, after = ([*bounded_outcomes(workers, [one], check)] for one in (ground.given, search.best[1]))
     with runner_of(words, town, check) as runner:
@@ -133,15 +167,19 @@ def find_bounds(words: argparse.Namespace, reading: Reading, town: Town, check: 
         beside = runner.outcomes(fixed.best[1], check)
     texts = [bounds_text(town.mapping, one, PROGRAM_ID) for one in (ground.given, search.best[1])]
     sumo = verified(in_sumo, town, texts, check, words.jobs) if in_sumo else None
-    return write_found_bounds(words.output, words.out, ground, Found(search, stopped, before, after, beside, sumo))
+    found = FoundBounds(search, stopped, before, after, beside, sumo)
+    return write_found_bounds(words.output, words.out, ground, found)
 
 
 def refuse_unused(words: argparse.Namespace) -> None:
-    """Fault for --first and --last without --edges, and for --edges with --bounds."""
+    """Fault for --first and --last without --edges, and for --edges, --constraints and --mend with --bounds."""
     if given := [name for name in ("first", "last") if getattr(words, name) is not None and not words.edges]:
         raise Fault(f"--{given[0]} is of the pictures: give --edges too")
     if words.bounds and words.edges:
         raise Fault("--edges draws plans of seconds, and --bounds finds none")
+    if words.bounds and (words.constraints or words.mend):
+        word = "constraints" if words.constraints else "mend"
+        raise Fault(f"--{word} is of plans of seconds, and --bounds finds none")
 
 
 def changes_and_cycles(words: argparse.Namespace) -> tuple[list[str], range]:
@@ -164,7 +202,7 @@ def given_seeds(words: argparse.Namespace) -> Sequence[int]:
     return seeds_of(words.seeds, "--seeds") if words.seeds else ()
 
 
-def check_seeds(words: argparse.Namespace) -> range:
+def check_seeds(words: argparse.Namespace) -> Sequence[int]:
     """The seeds of --check, by which the plan that is found is judged. Fault for fewer than two of them, one that
     --seeds names too, and a --budget below the simulations of one plan: one for each seed of --seeds."""
     check = seeds_to_check(words)
@@ -178,7 +216,8 @@ def reading_of(words: argparse.Namespace) -> Reading:
     """What is to be read of a town; Fault where an output cannot be written or is an input, where there is no program,
     and as of changes_and_cycles. The reserve is 0 where offsets alone are changed and no bounds are to be found."""
     plans, (changed, _) = paths_in(words.plans), changes_and_cycles(words)
-    refuse_unwritable(words.out, {"-o": words.output}, [words.run, words.map, *plans])
+    refuse_unwritable(words.out, {"-o": words.output}, [words.run, words.map, *plans, *given_paths(words)])
+    refuse_foreign(words.out, words.force, [words.output])
     return Reading(
         run=words.run,
         map=words.map,
@@ -190,19 +229,32 @@ def reading_of(words: argparse.Namespace) -> Reading:
         rounds=words.rounds,
         reserve=words.reserve if {"splits", "cycle"} & {*changed} or words.bounds else 0,
         fixed=words.bounds,
+        constraints=words.constraints,
+        mend=words.mend,
     )
 
 
-def check_cycles(words: argparse.Namespace, town: Town) -> None:
-    """Fault where there are cycles to try and no light can keep any of them."""
+def given_paths(words: argparse.Namespace) -> list[str]:
+    """The files that are read where a word names them."""
+    return [words.constraints] if words.constraints else []
+
+
+def check_cycles(words: argparse.Namespace, town: SignalTown) -> None:
+    """Fault where there are cycles to try and no light can keep any of them, or with --cycle where the least seconds of
+    a light's phases are above all of them."""
     _, cycles = changes_and_cycles(words)
-    able = (town.lights[name].scaled(timing, cycle) for name, timing in town.plan.items() for cycle in cycles)
+    able = (town.lights[name].scaled(timing, cycle) for name, timing in town.base.items() for cycle in cycles)
     if cycles and not any(able):
         told = f"no light can keep such a cycle (--least {words.least}, and the bounds of its phases)"
         raise Fault(f"--cycle {words.cycle or CYCLES}: {told}")
+    for name, light in town.lights.items():
+        needed = sum(least for least, _ in light.bounds)
+        if words.cycle and needed > cycles[-1] and any(one.low for one in light.constraints):
+            told = f"light {name!r}: its phases must last {needed} s together"
+            raise Fault(f"--cycle {words.cycle}: {told} (leave it as it is: --keep {name})")
 
 
-def corridor_of(words: argparse.Namespace, town: Town) -> Corridor | None:
+def corridor_of(words: argparse.Namespace, town: SignalTown) -> Corridor | None:
     """What is drawn in the end of ways along --edges, none where it is not given; Fault for what could not be drawn."""
     if not words.edges:
         return None
@@ -217,7 +269,7 @@ def corridor_of(words: argparse.Namespace, town: Town) -> Corridor | None:
 
 
 @contextmanager
-def runner_of(words: argparse.Namespace, town: Town, check: range) -> Iterator[Runner]:
+def runner_of(words: argparse.Namespace, town: SignalTown, check: Sequence[int]) -> Iterator[Runner]:
     """What runs plans of a town, as long as the block lasts; for the seeds of the search it finds first, by runs, the
     gaps by which vehicles give way without a light. check: seeds that it does not see. Fault where a run fails."""
     with machines(words.jobs, words.cluster, [town.session]) as workers:
@@ -227,7 +279,7 @@ def runner_of(words: argparse.Namespace, town: Town, check: range) -> Iterator[R
         yield Runner(workers, town, places)
 
 
-def search_seeds(words: argparse.Namespace, runner: Runner, check: range) -> Sequence[int]:
+def search_seeds(words: argparse.Namespace, runner: Runner, check: Sequence[int]) -> Sequence[int]:
     """The seeds of the search: those of --seeds, else of tried_seeds as many as the spread of runs of the given plan
     asks for. Makes these runs in both cases; prints how many seeds, and why. Fault where --budget is below them."""
     tried = tried_seeds(check)
@@ -241,13 +293,13 @@ def search_seeds(words: argparse.Namespace, runner: Runner, check: range) -> Seq
     return seeds
 
 
-def search_for_plan(words: argparse.Namespace, runner: Runner, check: range) -> tuple[Search, bool]:
+def search_for_plan(words: argparse.Namespace, runner: Runner, check: Sequence[int]) -> tuple[PlanSearch, bool]:
     """Searches for a plan; gives (search when it has ended, whether the user ended it by Ctrl-C)."""
     town, seeds, (changed, cycles) = runner.town, search_seeds(words, runner, check), changes_and_cycles(words)
     streets = streets_of(town.run, town.mapping, town.lights)
 
-    def search_from_given(search: Search) -> None:
+    def search_from_given(search: PlanSearch) -> None:
         """Searches from the given plan."""
-        search_plan(search, town.plan, town.lights, streets, changed, proposed_cycles(cycles, town, streets))
+        search_plan(search, town.base, town.lights, streets, changed, proposed_cycles(cycles, town, streets))
 
     return ended_search(lambda plans: runner.mean_trips(plans, seeds), words.budget, len(seeds), search_from_given)

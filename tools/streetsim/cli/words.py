@@ -1,10 +1,19 @@
 """Words that several commands take."""
 import argparse
+from collections.abc import Sequence
 
 from streetsim.base import limits, program
 from streetsim.base.files import Fault
 from streetsim.base.seeds import seeds_of
 from streetsim.base.words import add_jobs, integer_within, time_within
+from streetsim.model.replications import DRAWN, LISTED
+
+
+def add_out(made: argparse.ArgumentParser, told: str, is_required: bool = False) -> None:
+    """Adds --out, the folder that a command writes, with its help (told), and --force."""
+    made.add_argument("--out", required=is_required, metavar="DIR", help=f"{told}: a new one, or one of such a run")
+    made.add_argument("--force", action="store_true", help="write to --out whatever is there; of its files only those "
+                      "are replaced or removed that are called as the tools' are")
 
 
 def add_files(made: argparse.ArgumentParser, name: str, told: str) -> None:
@@ -19,7 +28,7 @@ def add_clock(made: argparse.ArgumentParser, name: str, told: str, least: int = 
 
 def add_network(made: argparse.ArgumentParser) -> None:
     """Adds the words without a name that are files of SUMO: a network (net) and additional ones."""
-    made.add_argument("net", help="the network (.net.xml, .net.xml.gz)")
+    made.add_argument("net", metavar="NET", help="the network (.net.xml), or SUMO's configuration (.sumocfg)")
     made.add_argument(
         "additional", nargs="*", default=[], help="additional files with signal programs and vehicle types"
     )
@@ -45,6 +54,15 @@ def add_attribute(made: argparse.ArgumentParser) -> None:
     )
 
 
+def add_departures(made: argparse.ArgumentParser, usual: str) -> None:
+    """Adds --departures, drawn or listed; None where it is not given; usual: what stands for it then."""
+    made.add_argument(
+        "--departures", choices=[DRAWN, LISTED],
+        help="drawn: each way has a Poisson number of vehicles a quarter hour around the file's, at any second of it, "
+        f"by the seed; listed: those of the file ({usual})",
+    )
+
+
 def add_simulator(made: argparse.ArgumentParser) -> None:
     """Adds the words of the program that runs: its path (--program) and how many workers it has."""
     made.add_argument("--program", help=program.HELP)
@@ -62,10 +80,10 @@ def add_machines(made: argparse.ArgumentParser) -> None:
 
 def add_check(made: argparse.ArgumentParser, default: str, told: str) -> None:
     """Adds --check, the seeds by which what a search found is judged; told: its help."""
-    made.add_argument("--check", default=default, metavar="FIRST-LAST", help=f"{told} (default %(default)s)")
+    made.add_argument("--check", default=default, metavar="SEEDS", help=f"{told} (default %(default)s)")
 
 
-def seeds_to_check(words: argparse.Namespace) -> range:
+def seeds_to_check(words: argparse.Namespace) -> Sequence[int]:
     """The seeds of --check; Fault where they are none, or --seeds, where it is given, names one of them too."""
     check = seeds_of(words.check, "--check")
     if words.seeds and set(seeds_of(words.seeds, "--seeds")) & set(check):

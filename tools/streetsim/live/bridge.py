@@ -8,22 +8,34 @@ import json
 import secrets
 import sys
 import threading
-from collections.abc import Callable, Iterable, Sequence
+from collections.abc import Callable, Iterable
 from http import HTTPStatus
 from http.server import BaseHTTPRequestHandler, ThreadingHTTPServer
 from typing import Any
 
+from streetsim.base import limits
 from streetsim.base.client import ProgramEnded
-from streetsim.base.files import Fault
-from streetsim.live.engine import Engine
-from streetsim.live.kept import KeptEngine
+from streetsim.base.files import Fault, Json
+from streetsim.control.merging_links import CLOSING
+from streetsim.live.hand import DONE
+from streetsim.live.session import PageSession
+from streetsim.live.world import PageRun
 
 HOST = "127.0.0.1"
-MOST_LINE = 1 << 20  # bytes: streetsim answers a longer line by a fault
-MOST_BODY = 8 << 20  # bytes of one request
+MOST_BODY = 1 << 20  # bytes of one request; a line of the program has no more
 HEARD_EVERY = 1.0  # seconds between the bytes by which the bridge notices that its page is gone
-VERBS = ("begin", "lines", "stay", "take", "leave", "join", "known", "know", "settle")
-Join = Callable[[Iterable[str]], tuple[bytes, list[bytes]]]  # the page and a run's own lines with some lanes joint
+MOST_PASSED_OVER = 4 * MOST_BODY  # bytes of a refused body that are still read
+PASSED_OVER_FOR = 2.0  # seconds that the bridge waits for them
+Join = Callable[[Iterable[str]], tuple[bytes, PageRun]]  # the page and its run with some lanes joint
+# What a page sends of its session, by the verbs, which are methods of PageSession: what each is given.
+ASKED: dict[str, dict[str, Any]] = {
+    "step": {"steps": int}, "change": {"text": str, "commands": list}, "works": {"asked": dict},
+    "go_back": {"clock": int}, "undo": {"number": int}, "compare": {"wanted": (bool, type(None)), "shows_was": bool},
+    "watch": {"node": int}, "ask": {"commands": list}, "text": {"which": int},
+}  # fmt: skip
+VERBS = ("begin", "stay", "take", "leave", "join", *ASKED)
+SPAN = ("link", "lane", "first", "last")
+ASKING = ("vehicle", "lane", "count", "read")  # commands that change nothing
 POLICY = (
     "default-src 'none'; script-src 'unsafe-inline'; style-src 'unsafe-inline'; img-src data: blob:; connect-src 'self'"
 )
@@ -39,15 +51,15 @@ class Refusal(Exception):
 
 
 class Bridge(ThreadingHTTPServer):
-    """Serves one page, and passes its lines to its engines: the traffic as it is, and as it was without changes."""
+    """Serves one page, and does what it asks of its session."""
 
     daemon_threads = True
 
-    def __init__(self, engines: Sequence[Engine], page: bytes, port: int = 0, join: Join | None = None) -> None:
-        """engines: the traffic as it is, and as it was without changes; page: its HTML; port: OSError where it cannot
-        be had, 0: any; join: imports the run anew, None: that is refused, as for a session that is kept."""
+    def __init__(self, session: PageSession, page: bytes, port: int = 0, join: Join | None = None) -> None:
+        """page: its HTML; port: OSError where it cannot be had, 0: any; join: imports the run anew, None: that is
+        refused, as for a session that is kept."""
         super().__init__((HOST, port), Handler)
-        self.engines, self.page, self.join = engines, page, join
+        self.session, self.page, self.join = session, page, join
         self.token, self.owner, self.lock = secrets.token_urlsafe(24), "", threading.Condition()
 
     @property
@@ -71,14 +83,13 @@ class Bridge(ThreadingHTTPServer):
             self.lock.notify_all()
 
     def join_lanes(self, names: Iterable[str]) -> None:
-        """Has the run imported anew with further lanes (names) joint, and ends what the engines run; the page gets it
-        when it is loaded again. Refusal for a session that is kept, Fault where they cannot be joint."""
+        """Has the run imported anew with further lanes (names) joint, and ends what runs; the page gets it when it is
+        loaded again. Refusal for a session that is kept, Fault where they cannot be joint."""
         if self.join is None:
             advice = "start streetsim-live with --joint and another file"
             raise Refusal(HTTPStatus.NOT_FOUND, f"a session that is kept stays as it was imported: {advice}")
-        self.page, lines = self.join(names)
-        for engine in self.engines:
-            engine.replace_lines(lines)
+        self.page, run = self.join(names)
+        self.session.replace_run(run)
 
     def release_page(self, name: str) -> None:
         """Has no page served, where it was the one of this name."""
@@ -99,17 +110,16 @@ class Bridge(ThreadingHTTPServer):
 
 
 class Handler(BaseHTTPRequestHandler):
-    """A request: GET /TOKEN/ is the page; POST /TOKEN/PAGE/VERB is what the page of that name sends. begin and lines go
-    to an engine, which a number behind them names; begin makes the page the one that is served, unless another one is;
-    take makes it that one in any case, and leave has none served; stay is answered as long as it is that one; join has
-    lanes joint. Of a kept session known tells the changes and the clock, know keeps changes, settle ends what `anew` of
-    begin began."""
+    """A request: GET /TOKEN/ is the page; POST /TOKEN/PAGE/VERB is what the page of that name sends, as JSON. begin
+    makes the page the one that is served, unless another one is; take makes it that one in any case, and leave has none
+    served; stay is answered as long as it is that one; join has lanes joint. The others are of its session."""
 
     protocol_version = "HTTP/1.1"
     # An answer goes out at once and in one piece: the system else holds the second piece back for 40 ms.
     disable_nagle_algorithm = True
     wbufsize = -1
     server: Bridge
+    unread = 0  # bytes of the request's body that were not read yet
 
     def do_GET(self) -> None:
         """Answers a GET: the page."""
@@ -122,6 +132,8 @@ class Handler(BaseHTTPRequestHandler):
     def serve(self, answer: Callable[[list[str]], tuple[bytes, str] | None]) -> None:
         """Sends what an answer gives, (body, type), for the path's words; None: it was sent already. A Refusal, Fault
         or ProgramEnded is sent as JSON with its status."""
+        length = self.headers.get("Content-Length", "")
+        self.unread = int(length) if length.isdecimal() else 0
         try:
             answered = answer(self.checked_path())
             if answered:
@@ -130,6 +142,17 @@ class Handler(BaseHTTPRequestHandler):
             self.refuse(refusal.status, refusal.why)
         except (Fault, ProgramEnded) as fault:
             self.refuse(HTTPStatus.INTERNAL_SERVER_ERROR, str(fault))
+        if self.unread:
+            self.pass_over()
+
+    def pass_over(self) -> None:
+        """Ends the connection behind a body that was refused unread, as soon as it was sent: who still sends when the
+        connection ends may never read the answer. Of a body that is too long or too slow a part is passed over."""
+        self.close_connection = True
+        self.connection.settimeout(PASSED_OVER_FOR)
+        left = min(self.unread, MOST_PASSED_OVER)
+        while left and (passed := self.rfile.read(min(left, 1 << 16))):
+            left -= len(passed)
 
     def checked_path(self) -> list[str]:
         """The words of the path behind the token; Refusal where the host, the origin or the token is wrong."""
@@ -151,46 +174,30 @@ class Handler(BaseHTTPRequestHandler):
         return self.server.page, "text/html; charset=utf-8"
 
     def post(self, words: list[str]) -> tuple[bytes, str] | None:
-        """Does what the page's words ask: its name, a verb and perhaps an engine's number; gives (body, type), None
-        where all was sent already. Refusal for other words, and where the page must be the one that is served."""
-        body = self.body()
-        name, verb, *which = [*words, "", ""][: max(2, len(words))]
-        if verb not in VERBS or not name or which not in ([], ["0"], ["1"]):
+        """Does what the page's words ask, its name and a verb; gives (body, type), None where all was sent already.
+        Refusal for other words, and where the page must be the one that is served."""
+        body, server = self.body(), self.server
+        if len(words) != 2 or not words[0] or words[1] not in VERBS:
             raise Refusal(HTTPStatus.NOT_FOUND, f"a page sends {', '.join(VERBS)}")
-        engine, answer = self.server.engines[int(which[0]) if which else 0], b""
+        name, verb = words
+        answer = b""
         if verb not in ("leave", "take", "begin"):
-            self.server.check_owner(name)
+            server.check_owner(name)
         if verb == "leave":
-            self.server.release_page(name)
+            server.release_page(name)
         elif verb == "take":
-            self.server.claim_page(name, True)
+            server.claim_page(name, True)
         elif verb == "begin":
-            self.server.claim_page(name)
-            answer = b"".join(engine.begin_run(body == b"anew"))
-        elif verb == "lines":
-            answer = b"".join(engine.ask(checked_lines(body)))
+            server.claim_page(name)
+            answer = server.session.begin()
         elif verb == "join":
-            self.server.join_lanes(body.decode(errors="replace").split())
+            server.join_lanes(body.decode(errors="replace").split())
         elif verb == "stay":
             self.stay(name)
             return None
         else:
-            return self.keeping(verb, engine, body)
-        return answer, "text/plain"
-
-    def keeping(self, verb: str, engine: Engine, body: bytes) -> tuple[bytes, str]:
-        """Does what a page asks of a session that is kept (known, know or settle), and gives (body, type). Refusal
-        where this one is not kept, or changes are no list."""
-        if not isinstance(engine, KeptEngine):
-            raise Refusal(HTTPStatus.NOT_FOUND, "this session is not kept")
-        if verb == "known":
-            return json.dumps(engine.changes_and_clock()).encode(), "application/json"
-        changes = checked_changes(body)
-        if verb == "know":
-            engine.keep_changes(changes)
-        else:
-            engine.replace_session(changes)
-        return b"", "text/plain"
+            answer = getattr(server.session, verb)(**checked(verb, body, server.session.of))
+        return answer, "application/octet-stream"
 
     def stay(self, name: str) -> None:
         """Sends a byte each HEARD_EVERY seconds as long as this page is served; where it cannot, the page is gone."""
@@ -213,8 +220,8 @@ class Handler(BaseHTTPRequestHandler):
         if not length.isdecimal():
             raise Refusal(HTTPStatus.LENGTH_REQUIRED, "a request says how long it is")
         if int(length) > MOST_BODY:
-            self.close_connection = True
             raise Refusal(HTTPStatus.REQUEST_ENTITY_TOO_LARGE, f"a request has at most {MOST_BODY:,} bytes")
+        self.unread = 0
         return self.rfile.read(int(length))
 
     def refuse(self, status: HTTPStatus, why: str) -> None:
@@ -228,7 +235,7 @@ class Handler(BaseHTTPRequestHandler):
             "Content-Type": kind, "Content-Length": str(len(body)), "Content-Security-Policy": POLICY,
             "Cache-Control": "no-store", "Referrer-Policy": "no-referrer", "X-Content-Type-Options": "nosniff",
             "X-Frame-Options": "DENY",
-        }
+        } | ({"Connection": "close"} if self.unread else {})
         for name, value in headers.items():
             self.send_header(name, value)
         self.end_headers()
@@ -239,24 +246,45 @@ class Handler(BaseHTTPRequestHandler):
         """Writes nothing: requests are not logged."""
 
 
-def checked_changes(body: bytes) -> list[Any]:
-    """The changes that a page sends, a list of JSON; Refusal for anything else."""
+def checked(verb: str, body: bytes, of: PageRun) -> Json:
+    """What a page sends with a verb of ASKED, by name; Refusal where it is of another form, or out of its bounds in the
+    run of the page (of). What the program refuses is left to it."""
     try:
-        changes = json.loads(body)
-    except ValueError:
-        changes = None
-    if not isinstance(changes, list):
-        raise Refusal(HTTPStatus.BAD_REQUEST, "changes are a list")
-    return changes
+        given = json.loads(body)
+        if given.keys() != ASKED[verb].keys() or not all(is_a(given[name], kind) for name, kind in ASKED[verb].items()):
+            raise ValueError("other names or kinds of values")
+        check_bounds(verb, given, of)
+    except (ValueError, LookupError, TypeError, AttributeError, RecursionError) as fault:
+        raise Refusal(HTTPStatus.BAD_REQUEST, f"{verb} is not of its form: {fault}") from None
+    return dict(given)
 
 
-def checked_lines(body: bytes) -> list[bytes]:
-    """The lines of a request, each with its LF; Refusal for other bytes, blank lines and those above MOST_LINE."""
-    lines = body.splitlines(keepends=True) if b"\r" not in body else []
-    if not lines or not body.endswith(b"\n"):
-        raise Refusal(HTTPStatus.BAD_REQUEST, "lines end with LF and have no CR")
-    if any(len(line) > MOST_LINE + 1 for line in lines):
-        raise Refusal(HTTPStatus.REQUEST_ENTITY_TOO_LARGE, f"a line has at most {MOST_LINE:,} bytes")
-    if any(not line.strip(b" \t\n") for line in lines):
-        raise Refusal(HTTPStatus.BAD_REQUEST, "a line is not blank")
-    return lines
+def check_bounds(verb: str, given: Json, of: PageRun) -> None:
+    """ValueError, or another of the errors of a wrong form, where what is given to a verb is out of its bounds."""
+    if verb == "works":
+        asked, link = given["asked"], of.mapping.links[given["asked"]["link"]]
+        numbers = [asked["link"], asked["begin"], asked["end"], asked["from"], *asked["lanes"]]
+        numbers += [] if asked["until"] is None else [asked["until"]]
+        right = all(is_a(one, int) and one >= 0 for one in numbers) and is_a(asked["text"], str)
+        right = right and asked["cmd"] in CLOSING and 0 <= max(asked["lanes"]) < len(link.lanes)
+    elif verb == "change":
+        right = bool(given["commands"]) and all(is_change(one) for one in given["commands"])
+    elif verb == "ask":
+        right = all(one["cmd"] in ASKING for one in given["commands"])
+    else:
+        most = {"steps": limits.STEPS, "clock": limits.CLOCK, "which": 1, "node": len(of.mapping.nodes) - 1}
+        right = all(0 <= value <= most.get(name, limits.CLOCK) for name, value in given.items() if is_a(value, int))
+    if not right:
+        raise ValueError("a value is out of its bounds")
+
+
+def is_change(one: Json) -> bool:
+    """Whether one of the commands of a change has its form: {clock, command}."""
+    command = one["command"]
+    whole = SPAN if command["cmd"] in CLOSING else ("node",) if command["cmd"] == "signal" else ()
+    return is_a(one["clock"], int) and command["cmd"] in DONE and all(is_a(command[name], int) for name in whole)
+
+
+def is_a(value: object, kind: Any) -> bool:
+    """Whether a value is of a kind; true and false are no numbers."""
+    return isinstance(value, kind) and (kind is not int or not isinstance(value, bool))

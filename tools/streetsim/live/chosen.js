@@ -54,32 +54,36 @@ function choose(what) {
 
 function say(text, isFault = false) { at("chosen").append(element("div", { className: isFault ? "fault" : "said" }, text)); }
 
-// Makes a change, tells the reply below what is chosen, and has the traffic as it was run beside.
-async function change(text, commands, told) {
-  const reply = await session.change(text, commands), refused = refusalOf(reply);
-  say(refused || (typeof told === "function" ? told(reply) : told), Boolean(refused));
-  showLog(session);
-  if (!refused) { await worlds.follow(); await lookAgain(); }
+// Makes a change, and tells below what is chosen what came of it.
+async function change(text, commands, told) { return changed((await session.change(text, commands)).refused, told); }
+
+// Shows what a change has made; gives whether it was done.
+function changed(refused, told) {
+  say(refused || told, Boolean(refused));
+  draw(1); showTables(); showLog(session);
   return !refused;
 }
 
+// Has the chart show the queue before a junction.
+const watch = node => guarded(async () => { await session.watch(node); showComparison(); });
+
 function chooseLight(node) {
   const own = session.data, { light, name } = junctions.get(node), movements = movementsAt(node, own.turns, links, light?.name);
-  const known = [...own.signals, ...own.timed.map(([, line]) => JSON.parse(line))].filter(command => command.cmd === "signal" && command.node === node);
-  worlds.watch(node);
+  const known = own.signals.filter(command => command.node === node);
+  watch(node);
   at("title").textContent = `Light at ${name}`;
   editor = new PlanEditor({
     made: () => new Bars(session.plans.get(node), movements, known), light, clock: () => session.clock, wide: at("chosen").clientWidth || 300,
     set: command => setPlan(name, command), save: (lightName, text) => saveAs(`${lightName}.add.xml`, text, "application/xml"),
   });
-  const isDriven = own.driven.includes(light?.name) && !session.changes.some(one => one.commands.some(({ command }) => command.cmd === "signal" && command.node === node));
+  const isDriven = session.now.shown.has(node);
   const told = isDriven ? "Detectors drive this light: its bars have the listed seconds. A plan that is set takes their place." : "";
   at("chosen").replaceChildren(editor.element, element("div", { id: "planTold", role: "status" }, told));
 }
 
 // A junction without a light: the chart has its queue, and how vehicles give way there is told.
 function chooseJunction(node) {
-  worlds.watch(node);
+  watch(node);
   at("title").textContent = `Junction ${junctions.get(node).name}`;
   const gives = session.givers.has(node) ? "Vehicles give way here as in the run, by the gaps that were found before it." : session.givers.size ? "In this run nobody has to give way here." : session.data.yields ? "Nobody gives way here on this page." : "";
   at("chosen").replaceChildren(element("div", { className: "said" }, `There is no light here. ${gives} The chart shows who stands before it.`), element("table", { id: "before" }));
@@ -89,28 +93,24 @@ function chooseJunction(node) {
 // Who stands before the junction that is chosen, by street.
 function showBefore() {
   if (chosen?.node === undefined || !document.getElementById("before")) return;
-  const rows = approaches(chosen.node).map(own => rowOf([`${streetName(own[0])}, from ${FROM[windOf(own[0])]}`, String(own.reduce((sum, link) => sum + worlds.now.lanesOf(link).reduce((still, lane) => still + lane.still, 0), 0))]));
+  const rows = approaches(chosen.node).map(own => rowOf([`${streetName(own[0])}, from the ${own[0].from}`, String(own.reduce((sum, link) => sum + session.now.of(session.now.standing, link), 0))]));
   at("before").replaceChildren(rowOf(["street", "standing"], "th"), ...rows);
 }
 
-// A plan that is set again in the same second takes the place of the one before: dragging makes one change.
 async function setPlan(name, command) {
-  const last = session.changes.at(-1), again = last?.made === session.clock && last.commands[0]?.command.cmd === "signal" && last.commands[0].command.node === command.node;
-  const reply = await session.change(`plan of ${name}`, [{ clock: session.clock, command }]), refused = refusalOf(reply);
-  if (!refused && again) session.changes.splice(session.changes.indexOf(last), 1);
-  at("planTold").textContent = refused || `set: a cycle of ${reply.cycle} s`; at("planTold").className = refused ? "fault" : "said";
-  showLog(session);
-  if (!refused) { await worlds.follow(); draw(1); showTables(); }
+  const { refused } = await session.change(`plan of ${name}`, [{ clock: session.clock, command }]);
+  at("planTold").textContent = refused || `set: a cycle of ${command.phases.reduce((sum, [seconds]) => sum + seconds, 0)} s`; at("planTold").className = refused ? "fault" : "said";
+  draw(1); showTables(); showLog(session);
 }
 
 async function chooseCar(car) {
-  const reply = await session.ask({ cmd: "vehicle", car });
-  at("title").textContent = `Vehicle ${session.data.cars[car] ?? car}`;
+  const [reply] = await session.ask({ cmd: "vehicle", car }), name = session.now.nameOf(car);
+  at("title").textContent = `Vehicle ${name}`;
   const where = reply.link === undefined ? "" : ` on ${laneText(links.get(reply.link), reply.lane ?? 0)}`, way = (reply.plan ?? []).map(link => streetName(links.get(link)));
-  const streets = way.filter((name, i) => name !== way[i - 1]).join(", ");
+  const streets = way.filter((street, i) => street !== way[i - 1]).join(", ");
   at("chosen").replaceChildren(
     element("div", {}, `${reply.state}${where}${reply.speed === undefined ? "" : `, ${reply.speed * KMH} km/h`}`), element("div", {}, streets ? `its way: ${streets}` : ""),
-    button("Follow it", async () => { followed = car; }), button("Take it out", () => change(`vehicle ${session.data.cars[car] ?? car} taken out`, [{ clock: session.clock, command: { cmd: "takeout", car } }], "taken out")));
+    button("Follow it", async () => { followed = car; }), button("Take it out", () => change(`vehicle ${name} taken out`, [{ clock: session.clock, command: { cmd: "takeout", car } }], "taken out")));
 }
 
 function chooseStretch(what) {
@@ -119,5 +119,5 @@ function chooseStretch(what) {
     const command = { cmd: "meter", link: what.link.number, lane, cell, period };
     if (await change(`detector: ${laneText(what.link, lane)}, ${metresAt(what.link, cell)} m`, [{ clock: session.clock, command }], "the detector is placed")) await showDetectors(session);
   };
-  at("chosen").replaceChildren(...stretchPanel(what, { session, tell: change, redraw: () => draw(1), put }));
+  at("chosen").replaceChildren(...stretchPanel(what, { session, redraw: () => draw(1), put }));
 }

@@ -20,9 +20,5 @@ function scaled([low, middle, high], share) {
   return `rgb(${from.map((value, i) => Math.round(value + (to[i] - value) * part)).join()})`;
 }
 
-// What colours of vehicles mean: the mean speeds that there are, as drivers dawdle.
-function speedWords(links, dawdle) {
-  const most = links.reduce((fastest, link) => Math.max(fastest, link.limit), 1), mean = cells => Math.round(KMH * (cells - dawdle));
-  const words = ["standing", `${mean(1)} km/h`, ...(most > 1 ? [`${mean(2)} km/h${most > 2 ? " and more" : ""}`] : [])];
-  return words.map((word, i) => [word, colours().speeds[i]]);
-}
+// What colours of vehicles mean, on all pages.
+const speedWords = () => SPEED_WORDS.map((word, i) => [word, colours().speeds[i]]);

@@ -13,7 +13,7 @@ const oneStep = () => guarded(async () => { await advance(1); draw(1); showTable
 function anew(act) {
   stop();
   return guarded(async () => {
-    await worlds.anew(act);
+    await act();
     wave.lines = new Map();
     draw(1); showTables(); showLog(session);
     if (chosen?.node !== undefined) choose(chosen);
@@ -24,10 +24,10 @@ function goBack() {
   const second = secondsOf(at("second").value);
   if (second === null) return guarded(async () => { throw new Error("a clock is hours:minutes:seconds, as 0:12:30"); });
   if (second > session.clock) return guarded(async () => { throw new Error(`${clockText(second)} is still to come`); });
-  return anew(one => one.backTo(second));
+  return anew(() => session.goBack(second));
 }
 
-const undo = change => anew(one => one.without(change));
+const undo = number => anew(() => session.undo(number));
 
 function switchTheme() {
   theme = theme === "dark" ? "light" : "dark";
@@ -42,7 +42,7 @@ function showTheme() {
 }
 
 function legend() {
-  const own = colours(), words = [...speedWords(session.data.links, session.data.dawdle), ["closed", own.closed], ["red light", own.red], ["green light", own.green]];
+  const own = colours(), words = [...speedWords(), ["closed", own.closed], ["red light", own.red], ["green light", own.green]];
   return words.flatMap(([word, colour]) => [element("i", { className: word === "green light" ? "key gaps" : "key", style: `background:${colour};--key:${colour}` }), word]);
 }
 
@@ -81,7 +81,7 @@ function onKey(event) {
 function click(point, view) {
   if (!wave.isPicking) { choose(nearest(point, view)); return; }
   const near = session.data.nodes.map(node => [Math.hypot(node.x - point[0], node.y - point[1]), node]).sort((a, b) => a[0] - b[0])[0];
-  if (near[0] < 30 / scene.scale) guarded(async () => { wave.pick(near[1].number); await lookAgain(); showWave(); });
+  if (near[0] < 30 / scene.scale) guarded(async () => { wave.pick(near[1].number); draw(1); showWave(); });
 }
 
 // Pointers on a map: one drags it or draws works, two zoom.
@@ -151,9 +151,10 @@ async function setOffset(command) {
 function watchButtons() {
   const acts = { play: toggle, step: oneStep, back: goBack, works: switchDrawing, path: switchPicking, dark: switchTheme };
   for (const [id, act] of Object.entries(acts)) at(id).onclick = act;
-  at("save").onclick = () => saveAs("session.jsonl", session.saved(), "application/x-ndjson");
+  at("save").onclick = () => guarded(async () => saveAs("session.jsonl", await session.text(), "application/x-ndjson"));
   at("whole").onclick = () => { scene.moved = false; scene.fit(); draw(1); };
-  at("maps").onchange = () => { showMaps(); return guarded(async () => { await worlds.showWas(at("maps").value !== "now"); draw(1); }); };
-  at("compare").onchange = () => guarded(async () => { worlds.wanted = at("compare").checked; await worlds.follow(); showMaps(); draw(1); showTables(); });
+  const compare = wanted => guarded(async () => { await session.compare(wanted, at("maps").value !== "now"); showMaps(); draw(1); showTables(); });
+  at("maps").onchange = () => compare(session.wanted);
+  at("compare").onchange = () => compare(at("compare").checked);
   onkeydown = onKey;
 }

@@ -40,3 +40,9 @@ def departures_and_ends(run: Run, mapping: Map) -> tuple[list[int], list[int]]:
         departs.append(depart)
         ends.append(round(depart + known[plan]))
     return sorted(departs), sorted(ends)
+
+
+def nodes_giving_way(run: Run, mapping: Map) -> list[int]:
+    """The nodes without a light at which the run has signal lines by which vehicles give way, sorted."""
+    lit, known = {node for _, node in mapping.signals}, {one.node for one in mapping.yields}
+    return sorted({command["node"] for _, command in run.signals()} & known - lit)

@@ -1,14 +1,16 @@
 """A run as a page shows it, which is imported anew where more of its lanes are to be joint."""
-from collections.abc import Iterable
+from collections.abc import Callable, Iterable
 from dataclasses import dataclass, replace
 
-from streetsim.actuated.lights import NONE_DRIVEN, driven_lights
 from streetsim.base.files import FilePath
-from streetsim.live.page import live_page, own_lines
+from streetsim.control.settings import Settings
+from streetsim.control.works_sites import WorksOptions, with_works
+from streetsim.live.page import live_page
+from streetsim.live.world import PageRun
 from streetsim.model.mapping import Map
+from streetsim.model.replications import DRAWN, LISTED, drawn
 from streetsim.model.runs import Run
-from streetsim.run.rounds import giving_way_of_open_run
-from streetsim.works.sites import WorksOptions, with_works
+from streetsim.observe.giving_way_rounds import giving_way_of_open_run
 
 
 @dataclass(slots=True)
@@ -18,39 +20,43 @@ class Joining:
     run: Run
     mapping: Map
     map_path: FilePath
-    proved: bool = False  # whether the page's program is the one that ./build --page made
-    kept: bool = False  # whether its session is kept in a file
-    driven: bool = False  # whether the bridge drives lights by detectors
+    program: str  # which runs it, and makes the rounds
+    asked: Callable[[Run, Map], Settings]  # what is asked of a run
+    proved: bool = False  # whether the program is the one that ./build made
     names: tuple[str, ...] = ()  # of the lanes and edges that are joint beside those of the import
     rounds: int = 0  # by which vehicles give way without a light
-    program: str | None = None  # which makes the rounds
+    workers: int = 1  # of the program
+    departures: str = LISTED
 
     def joint_run(self) -> tuple[Run, Map, list[str]]:
         """(the run with the lanes of names joint, its map, the texts to tell); Fault where that cannot be done."""
         run, mapping, told = with_works(self.run, self.mapping, self.map_path, [], WorksOptions(self.names))
         return run, replace(mapping, sources=self.mapping.sources), told
 
-    def giving_way(self, run: Run, mapping: Map, told: list[str]) -> tuple[Run, Map, list[str]]:
-        """As given, with signal lines by which vehicles give way without a light, where there are rounds; where those
-        find nobody who has to, the map's yields are empty. Fault where the rounds cannot be made."""
-        if not self.rounds or not mapping.yields:
-            return run, mapping, told
-        lights = driven_lights(run, mapping) if self.driven else NONE_DRIVEN
-        run, yielding = giving_way_of_open_run(run, mapping, self.rounds, self.program, lights=lights)
-        if not yielding.lines:
-            return run, replace(mapping, yields=[]), told
-        return run, mapping, [*told, yielding.told()]
+    def page_run(self) -> tuple[PageRun, list[str]]:
+        """(the run as the page shows it, with signal lines by which vehicles give way without a light, where there are
+        rounds; the texts to tell). Where the rounds find nobody who has to, the map's yields are empty. Fault as of
+        joint_run, or where the rounds cannot be made."""
+        run, mapping, told = self.joint_run()
+        if self.departures == DRAWN:
+            run, mapping = drawn(run, mapping)
+        settings = self.asked(run, mapping)
+        told += [*settings.lights.notes(), *settings.buses.notes()]
+        if self.rounds and mapping.yields:
+            more = self.program, self.workers, settings.lights
+            run, yielding = giving_way_of_open_run(run, mapping, self.rounds, *more)
+            told += [yielding.told()] if yielding.lines else []
+            mapping = mapping if yielding.lines else replace(mapping, yields=[])
+        return PageRun(run, mapping, settings, self.program, self.workers), told
 
-    def page(self, engine: bytes | None = None) -> tuple[bytes, list[bytes], list[str]]:
-        """(the page, the run's own lines, the texts to tell). engine: the program for browsers, which then is in the
-        page; None: it asks the bridge. Fault as of joint_run and live_page, or where the rounds cannot be made."""
-        run, mapping, told = self.giving_way(*self.joint_run())
-        page = live_page(run, mapping, engine, self.map_path, self.proved, self.kept, self.driven)
-        return page, own_lines(run), told
+    def page(self, of: PageRun) -> bytes:
+        """The page of a run; Fault as of live_page."""
+        return live_page(of, self.map_path, self.proved)
 
-    def join(self, names: Iterable[str]) -> tuple[bytes, list[bytes]]:
-        """(the page, the run's own lines) with further lanes or edges (names) joint; after a Fault all is as before."""
+    def join(self, names: Iterable[str]) -> tuple[bytes, PageRun]:
+        """(the page, its run) with further lanes or edges (names) joint; after a Fault all is as before."""
         more = replace(self, names=tuple(dict.fromkeys([*self.names, *names])))
-        page, lines, _ = more.page()
+        run, _ = more.page_run()
+        page = more.page(run)
         self.names = more.names
-        return page, lines
+        return page, run

@@ -1,43 +1,38 @@
-"""The engine of a page whose session is kept in a file: the page goes on after it, the bridge or the program has ended.
+"""A page's session that is kept in a file, so that the page goes on after it, the bridge or the program has ended.
 
 FILE has the lines that changed something, which the program keeps. FILE.page has what the page alone knows, its
 changes in words, one note a line, each written before the lines that it is of are sent. FILE.new is a session in the
-making, where all is run anew without a change; it takes FILE's place when it has come as far."""
+making, as all is run anew; it takes FILE's place when it is whole. What was kept is run anew by a program that keeps
+nothing, from the changes and the clock, so that all is known that was; the program that keeps goes on from there."""
 import fcntl
+import hashlib
 import json
 import os
 import time
+from collections.abc import Iterable
 from pathlib import Path
 from typing import Any
 
-from streetsim.base.client import Client
-from streetsim.base.files import Fault, reading
-from streetsim.live.engine import Engine
+from streetsim.base.files import Fault, Json, reading
+from streetsim.model.runs import Run, texts_of
 
-ASKING = tuple(b'{"cmd":"%s"' % name for name in (b"vehicle", b"lane", b"count", b"read"))  # that change nothing
-COUNT = b'{"cmd":"count"}\n'
 PATIENCE = 10  # seconds for a program whose bridge was killed to end
 
 
-class KeptEngine(Engine):
-    """The engine of a session that is kept. A page sends again all that was sent, answered by a program that keeps
-    nothing; when all lines of the file are done, the program that keeps goes on from there."""
+class Kept:
+    """The files of a session that is kept."""
 
-    def __init__(self, program: str, lines: list[bytes], file: Path, start: int) -> None:
-        """file: of the session, which begin_run has made where it is not there; start: the run's first clock. Locks
-        FILE.page until close, deletes FILE.new, and waits up to PATIENCE seconds for a program that still has the file.
-        Fault, after which the files are free, where the file is of another run, another bridge or program has it, or
-        one cannot be read or written."""
-        super().__init__(program, lines)
-        self.file, self.start = file, start
-        self.making, self.notes_path = Path(f"{file}.new"), Path(f"{file}.page")
-        self.kept: list[bytes] = []  # what the file has, and how much of it was sent again
-        self.again = 0
+    def __init__(self, file: Path, run: Run, words: Any) -> None:
+        """file: of the session; run: the one that it is of; words: what it is asked for. Locks FILE.page until close,
+        deletes FILE.new, and waits up to PATIENCE seconds for a program that still has the file. Fault, after which the
+        files are free, where the file is of another run, another bridge or program has it, or one cannot be read or
+        written."""
+        self.file, self.making, self.notes_path = file, Path(f"{file}.new"), Path(f"{file}.page")
+        self.changes: list[Json] = []
         self.notes = self.lock_notes()
         try:
-            self.changes = self.changes_left()
             self.await_end()
-            self.check_file()
+            self.check_run(run, digest_of(run, words))
         except BaseException:
             self.notes.close()
             raise
@@ -53,16 +48,6 @@ class KeptEngine(Engine):
             raise Fault(f"{self.file}: another streetsim-live keeps its session there") from None
         return notes
 
-    def changes_left(self) -> list[Any]:
-        """The page's changes by its notes; where the bridge ended while all was run anew, those of before or after, by
-        whether the new session is in place. A note that was cut off is taken away, and what is left of FILE.new."""
-        self.notes.truncate(len(whole_lines(self.notes_path)))
-        changes, coming = read_notes(self.notes_path)
-        if coming is not None and not self.making.exists():
-            changes = coming
-        self.making.unlink(missing_ok=True)
-        return changes
-
     def await_end(self) -> None:
         """Waits up to PATIENCE seconds until no program has the file; Fault where one still has."""
         until = time.monotonic() + PATIENCE
@@ -71,95 +56,65 @@ class KeptEngine(Engine):
                 raise Fault(f"{self.file}: another program keeps its session there")
             time.sleep(0.05)
 
-    def check_file(self) -> None:
-        """Fault where the file does not begin with the run's own lines, as far as it goes, or cannot be read."""
-        for number, (line, own) in enumerate(zip(lines_of_file(self.file), self.lines), 1):
-            if line != own:
-                raise Fault(f"{self.file}: line {number} is not of this run: it has another session")
-
-    def start_program(self, anew: bool) -> list[bytes]:
-        """Begins the session where it was left, or (anew) one from nothing in FILE.new, which replace_session then puts
-        in its place; gives the replies to the run's own lines. Fault where the file cannot be read."""
+    def check_run(self, run: Run, digest: str) -> None:
+        """Takes the page's changes by its notes; where the bridge ended while all was run anew, those of before or
+        after, by whether the new session is in place. A note that was cut off is taken away, and what is left of
+        FILE.new. Fault where the file is of another run, or of this one with other words."""
+        self.notes.truncate(len(whole_lines(self.notes_path)))
+        notes = read_notes(self.notes_path)
+        known = {note["run"] for note in notes if "run" in note}
+        lines = lines_of_file(self.file)
+        if lines[:1] not in ([], [run.load.text.encode() + b"\n"]):
+            raise Fault(f"{self.file}: line 1 is not of this run: it has another session")
+        if (lines or known) and known != {digest}:
+            raise Fault(f"{self.file}: it has the session of another run, or of this one with other words")
+        if not known:
+            self.write_note("run", digest)
+        self.changes = next((note["changes"] for note in reversed(notes) if "changes" in note), [])
+        if notes and "next" in notes[-1] and not self.making.exists():
+            self.changes = notes[-1]["next"]
         self.making.unlink(missing_ok=True)
-        self.kept, self.again = [] if anew else lines_of_file(self.file), 0
-        self.client = Client(self.program, keep=None if self.kept else self.making if anew else self.file)
-        return self.replies_to(self.lines)
 
-    def replies_to(self, lines: list[bytes]) -> list[bytes]:
-        """The replies to lines; those that the file has already are done again, not kept twice. Fault where others than
-        those change something before all of these are done."""
-        replies: list[bytes] = []
-        while lines and self.again < len(self.kept):
-            count = self.count_matching(lines)
-            replies += super().replies_to(lines[:count]) if count else self.refusal_reply(lines[0])
-            lines = lines[max(1, count) :]
-            if self.again == len(self.kept):
-                self.hand_over()
-        return replies + super().replies_to(lines)
+    def steps(self) -> int:
+        """How many steps the session has made. Fault where the file cannot be read."""
+        commands = map(json.loads, lines_of_file(self.file))
+        return sum(one["steps"] for one in commands if one["cmd"] == "advance")
 
-    def count_matching(self, lines: list[bytes]) -> int:
-        """How many of the lines, from the first on, change nothing or come next in the file; `again` counts these."""
-        for count, line in enumerate(lines):
-            if self.again == len(self.kept):
-                return count
-            if line == self.kept[self.again]:
-                self.again += 1
-            elif not line.startswith(ASKING):
-                return count
-        return len(lines)
+    def keep_changes(self, changes: list[Json]) -> None:
+        """Keeps the changes of the page, before the lines that they make are sent."""
+        self.write_note("changes", changes)
+        self.changes = changes
 
-    def refusal_reply(self, line: bytes) -> list[bytes]:
-        """The reply to a line that the file does not have, and that must be refused; Fault where it is not."""
-        replies = super().replies_to([line])
-        if b'"error":' not in replies[0]:
-            raise Fault(f"{self.file}: line {self.again + 1} is not what the page sent: {line[:80].decode().strip()}")
-        return replies
-
-    def hand_over(self) -> None:
-        """Has the program that keeps take over; Fault, after which none runs, where it is at another state."""
-        state = super().replies_to([COUNT])
-        self.stop()
-        self.client, self.kept, self.again = Client(self.program, keep=self.file), [], 0
-        if super().replies_to([COUNT]) != state:
-            self.stop()
-            raise Fault(f"{self.file}: it leads to another state than the page")
-
-    def changes_and_clock(self) -> dict[str, Any]:
-        """What a page that begins must know: {"changes": those of the page, "clock": the clock so far}. Fault where the
-        file cannot be read."""
-        with self.lock:
-            commands = map(json.loads, lines_of_file(self.file))
-            steps = sum(one["steps"] for one in commands if one["cmd"] == "advance")
-            return {"changes": self.changes, "clock": self.start + steps}
-
-    def keep_changes(self, changes: list[Any]) -> None:
-        """Keeps the changes of the page; the page sends them before the lines that they make."""
-        with self.lock:
-            self.write_note("changes", changes)
-            self.changes = changes
-
-    def replace_session(self, changes: list[Any]) -> None:
-        """Puts the session that was made anew, with these changes, in the place of the one before; Fault if none is."""
-        with self.lock:
-            if not self.making.exists():
-                raise Fault(f"{self.file}: no session was begun anew")
+    def replace_session(self, lines: Iterable[bytes], changes: list[Json]) -> None:
+        """Puts a session that was made anew, its lines and changes, in the place of the one before."""
+        with reading(self.making):
+            with open(self.making, "wb") as file:
+                file.writelines(lines)
+                file.flush()
+                os.fsync(file.fileno())
             self.write_note("next", changes)
             os.replace(self.making, self.file)
             sync_folder(self.file)
-            self.write_note("changes", changes)
-            self.changes = changes
+        self.keep_changes(changes)
 
-    def write_note(self, kind: str, changes: list[Any]) -> None:
-        """Writes a note to the disk: "changes", or "next" (kind), the changes of a session in the making."""
+    def write_note(self, kind: str, value: Any) -> None:
+        """Writes a note to the disk: "run", "changes", or "next" (kind), the changes of a session in the making."""
         with reading(self.notes_path):
-            self.notes.write(json.dumps({kind: changes}, separators=(",", ":")).encode() + b"\n")
+            self.notes.write(json.dumps({kind: value}, separators=(",", ":")).encode() + b"\n")
             self.notes.flush()
             os.fsync(self.notes.fileno())
 
     def close(self) -> None:
-        """Ends the program, and gives the file of the notes free."""
-        super().close()
+        """Gives the file of the notes free."""
         self.notes.close()
+
+
+def digest_of(run: Run, words: Any) -> str:
+    """A sum by which the run of a session, and what it is asked for (words), are known again."""
+    found = hashlib.sha256(json.dumps(words).encode())
+    for text in texts_of(run):
+        found.update(text.encode() + b"\n")
+    return found.hexdigest()
 
 
 def is_locked(path: Path) -> bool:
@@ -186,12 +141,10 @@ def lines_of_file(path: Path) -> list[bytes]:
     return [line for line in whole_lines(path).splitlines(keepends=True) if line.strip()]
 
 
-def read_notes(path: Path) -> tuple[list[Any], list[Any] | None]:
-    """(the page's changes by its last note, those of a session that was in the making or None)."""
+def read_notes(path: Path) -> list[Any]:
+    """The notes of a session; Fault where one is none."""
     with reading(path):
-        notes = [json.loads(line) for line in whole_lines(path).splitlines()]
-    changes: list[Any] = next((note["changes"] for note in reversed(notes) if "changes" in note), [])
-    return changes, notes[-1].get("next") if notes else None
+        return [json.loads(line) for line in whole_lines(path).splitlines()]
 
 
 def sync_folder(path: Path) -> None:

@@ -1,24 +1,9 @@
 // The movements at a light: from a street to the next one, which way they turn, and who crosses whom.
 
 const ARROWS = { left: "↰", straight: "↑", right: "↱", back: "↶" };
-const STRAIGHT = 40, BACK = 160; // degrees
 const PATH_POINTS = 12;
-
-const direction = ([ax, ay], [bx, by]) => Math.atan2(by - ay, bx - ax);
-
-const WINDS = ["W", "SW", "S", "SE", "E", "NE", "N", "NW"];
-const FROM = { W: "the west", SW: "the south-west", S: "the south", SE: "the south-east", E: "the east", NE: "the north-east", N: "the north", NW: "the north-west" };
-// Where one comes from who drives along a link's end.
-const windOf = link => WINDS[round(Math.round(direction(...link.points.slice(-2)) / (Math.PI / 4)), WINDS.length)];
-
-// Which way one turns from a link into the next.
-function turnKind(link, next) {
-  const into = direction(...link.points.slice(-2)), out = direction(next.points[0], next.points[1]);
-  const degrees = Math.atan2(Math.sin(out - into), Math.cos(out - into)) * 180 / Math.PI;
-  if (Math.abs(degrees) < STRAIGHT) return "straight";
-  if (Math.abs(degrees) > BACK) return "back";
-  return degrees > 0 ? "left" : "right";
-}
+// Where one comes from who drives along a link's end, in one or two letters.
+const windOf = link => link.from.split("-").map(word => word[0].toUpperCase()).join("");
 
 // The points of a way across a junction, from the end of a lane to the begin of the next.
 function pathAcross(link, lane, next, nextLane) {
@@ -40,10 +25,10 @@ const pathsCross = (one, other) => one.slice(1).some((end, i) => other.slice(1).
 // light's state where the light controls it.
 function movementsAt(node, turns, links, signal) {
   const found = new Map();
-  for (const [link, lane, next, nextLane, light, index] of turns) {
+  for (const [link, lane, next, nextLane, light, index, kind] of turns) {
     const [from, to] = [links.get(link), links.get(next)];
     if (from.end !== node) continue;
-    const key = `${from.name} ${to.name}`, own = found.get(key) ?? { street: from, next: to, kind: turnKind(from, to), turns: [] };
+    const key = `${from.name} ${to.name}`, own = found.get(key) ?? { street: from, next: to, kind, turns: [] };
     found.set(key, own);
     own.turns.push({ key: [link, lane, next], index: light === signal ? index : null, path: pathAcross(from, lane, to, nextLane), into: `${next} ${nextLane}` });
   }

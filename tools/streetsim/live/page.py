@@ -1,44 +1,55 @@
-"""What a live page is made of: its data, its scripts, and where it is one file also the engine."""
+"""What a live page is made of: its data and its scripts."""
 import base64
 import gzip
 import json
 from pathlib import Path
 
-from streetsim.actuated.lights import NONE_DRIVEN, driven_lights
 from streetsim.base.files import Fault, FilePath, Json
-from streetsim.live.facts import departures_and_ends, streets_and_areas
-from streetsim.model.mapping import Map
-from streetsim.model.names import Names
+from streetsim.live.facts import streets_and_areas
+from streetsim.live.words import claim_of
+from streetsim.live.world import PageRun
+from streetsim.model.mapping import Map, MapTurn
+from streetsim.model.names import Names, wind
 from streetsim.model.runs import Run
+from streetsim.observe.junction_layout import turn_name
 
 PLACE = Path(__file__).parent
-PICTURES = PLACE.parent / "pictures"
+PICTURES = PLACE.parent / "report"
 # In the order in which they stand in the page.
 SCRIPT_NAMES = (
-    "engines", "merging", "ledger", "session", "movements", "bars", "colours", "elements", "world", "view",
-    "plan_editor", "charts", "tables", "works", "chosen", "wave", "controls", "live",
+    "bridge", "movements", "bars", "colours", "elements", "world", "view", "plan_editor", "charts", "tables", "works",
+    "chosen", "wave", "controls", "live",
 )
-SCRIPTS = (PICTURES / "drawing.js", *(PLACE / f"{name}.js" for name in SCRIPT_NAMES))
+SCRIPTS = (PICTURES / "drawing.js", PICTURES / "charts.js", *(PLACE / f"{name}.js" for name in SCRIPT_NAMES))
+KINDS = {"L": "left", "T": "straight", "R": "right", "U": "back"}  # by the names of junction tables
+INNER = ("", "second", "third", "fourth", "fifth")
 MOST_BYTES = 100_000_000  # of the packed data; browsers are slow with more
 
 
-def own_lines(run: Run) -> list[bytes]:
-    """The run's lines before the first step, as bytes with LF: the load, the first lines, and all vehicles."""
-    return [line.text.encode() + b"\n" for line in (run.load, *run.first, *run.enters)]
-
-
 def page_links(run: Run, mapping: Map, streets: dict[str, str]) -> list[Json]:
-    """The links as the page reads them: number, name (of its edge), street, lanes (how many), names (their indexes in
-    SUMO), cells, metres, limit (cells a step), begin and end (nodes), points. streets: names by edge."""
+    """The links as the page reads them: number, name (of its edge), street, from (where one comes from, a wind), lanes
+    (how many), words (which of its street's lanes each is), cells, metres, limit (cells a step), begin and end (nodes),
+    points. streets: names by edge."""
     sent = run.load.command["links"]
+    most = {edge: max(max(mapping.links[at].lanes) for at in links) for edge, links in mapping.links_of.items()}
     return [
         {
-            "number": number, "name": link.edge, "street": streets.get(link.edge, ""), "lanes": lanes,
-            "names": list(link.lanes), "cells": cells, "metres": link.metres, "limit": limit, "begin": begin,
-            "end": end, "points": link.shape,
+            "number": number, "name": link.edge, "street": streets.get(link.edge, ""),
+            "from": wind(link.shape[-1], link.shape[-2]), "lanes": lanes,
+            "words": [lane_word(index, most[link.edge]) for index in link.lanes], "cells": cells,
+            "metres": link.metres, "limit": limit, "begin": begin, "end": end, "points": link.shape,
         }
         for link, (number, begin, end, lanes, cells, limit) in zip(mapping.links, sent, strict=True)
     ]
+
+
+def lane_word(index: int, most: int) -> str:
+    """Which lane of its street one is, by its index in SUMO, 0 to most from the right; empty where there is one."""
+    if not most:
+        return ""
+    if index in (0, most):
+        return "left lane" if index else "right lane"
+    return "middle lane" if most == 2 else f"{INNER[index] if index < len(INNER) else 'inner'} lane from the right"
 
 
 def page_nodes(run: Run, mapping: Map, areas: dict[str, list]) -> list[Json]:
@@ -59,36 +70,29 @@ def page_nodes(run: Run, mapping: Map, areas: dict[str, list]) -> list[Json]:
     ]
 
 
-def nodes_giving_way(run: Run, mapping: Map) -> list[int]:
-    """The nodes without a light at which the run has signal lines by which vehicles give way, sorted."""
-    lit, known = {node for _, node in mapping.signals}, {one.node for one in mapping.yields}
-    return sorted({command["node"] for _, command in run.signals()} & known - lit)
+def turn_kind(mapping: Map, turn: MapTurn) -> str:
+    """Which way a turn leads, of KINDS."""
+    return KINDS[turn_name(mapping.links[turn.link].shape, mapping.links[turn.next].shape)]
 
 
-def page_data(
-    run: Run, mapping: Map, single: bool = False, map_path: FilePath = "", proved: bool = False, kept: bool = False,
-    driven: bool = False,
-) -> Json:
-    """What the page knows of a run beside the replies: links, nodes, turns (a list each), cars (names), departs and
-    free (as of departures_and_ends), start, dawdle (0 to 1), signals and works (commands before the first step), timed
-    ([clock, text]), yields (how many), giving (nodes), single, proved, kept (as given), driven and listed (lights that
-    detectors drive, and that they drive in SUMO alone). single: it is one file, with its engine; map_path: to find the
-    imported network, empty: not looked for; proved: its program is one that ./build or ./build --page made and proved;
-    kept: the bridge keeps its session; driven: the bridge drives lights by detectors."""
-    lights = driven_lights(run, mapping) if driven and mapping.programs else NONE_DRIVEN
+def page_data(of: PageRun, map_path: FilePath = "", proved: bool = False) -> Json:
+    """What the page knows of a run beside what it is told: links, nodes, turns (a list each), cars (names), sizes
+    (cells, by the numbers of vehicles with more than one), start, dawdle (0 to 1), signals (the commands of its own for
+    lights), yields (how many), giving (nodes) and claim (a text). map_path: to find the imported network, empty: not
+    looked for; proved: its program is the one that ./build made and proved."""
+    run, mapping = of.run, of.mapping
     streets, areas = streets_and_areas(mapping, map_path) if map_path else ({}, {})
-    departs, free = departures_and_ends(run, mapping)
+    sizes = {number: line.command.get("size", 1) for number, line in enumerate(run.enters)}
     return {
         "links": page_links(run, mapping, streets), "nodes": page_nodes(run, mapping, areas),
-        "turns": [[one.link, one.lane, one.next, one.next_lane, one.light, one.index] for one in mapping.turns],
-        "cars": mapping.cars, "departs": departs, "free": free,
+        "turns": [
+            [one.link, one.lane, one.next, one.next_lane, one.light, one.index, turn_kind(mapping, one)]
+            for one in mapping.turns
+        ],
+        "cars": mapping.cars, "sizes": {number: size for number, size in sizes.items() if size > 1},
         "start": run.start(), "dawdle": run.load.command.get("dawdle", 0) / 1000,
-        "signals": [line.command for line in run.first if line.command["cmd"] == "signal"],
-        "timed": [[clock, line.text] for clock, line in run.timed],
-        "works": [line.command for line in run.first if line.command["cmd"] in ("close", "reopen")],
-        "yields": len(mapping.yields), "giving": nodes_giving_way(run, mapping),
-        "single": single, "proved": proved, "kept": kept,
-        "driven": [one.name for one in lights.driven], "listed": lights.listed_lights(mapping),
+        "signals": [command for _, command in run.signals() if command["node"] not in of.givers],
+        "yields": len(mapping.yields), "giving": sorted(of.givers), "claim": claim_of(of, proved),
     }
 
 
@@ -97,22 +101,16 @@ def packed(value: bytes) -> str:
     return base64.b64encode(gzip.compress(value, mtime=0)).decode()
 
 
-def live_page(
-    run: Run, mapping: Map, engine: bytes | None = None, map_path: FilePath = "", proved: bool = False,
-    kept: bool = False, driven: bool = False,
-) -> bytes:
-    """The page as bytes: with an engine one file that runs by itself, without (None) one that asks the bridge. Other
-    arguments: as of page_data. Fault where it is larger than MOST_BYTES."""
-    known = page_data(run, mapping, engine is not None, map_path, proved, kept, driven)
+def live_page(of: PageRun, map_path: FilePath = "", proved: bool = False) -> bytes:
+    """The page as bytes, which asks the bridge; arguments as of page_data. Fault where it is larger than MOST_BYTES."""
+    known = json.dumps(page_data(of, map_path, proved), separators=(",", ":")).encode()
     parts = {
-        "@DATA@": packed(json.dumps(known, separators=(",", ":")).encode()),
-        "@LINES@": packed(b"".join(own_lines(run))),
-        "@ENGINE@": packed(engine) if engine else "",
+        "@DATA@": packed(known),
         "/*SCRIPTS*/": "\n".join(path.read_text(encoding="utf-8") for path in SCRIPTS),
     }
     text = (PLACE / "live.html").read_text(encoding="utf-8")
     for mark, part in parts.items():
         text = text.replace(mark, part)
     if len(text) > MOST_BYTES:
-        raise Fault(f"{run.path}: {len(text):,} bytes are too much for a page")
+        raise Fault(f"{of.run.path}: {len(text):,} bytes are too much for a page")
     return text.encode()

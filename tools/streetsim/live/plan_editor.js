@@ -26,6 +26,7 @@ class PlanEditor {
     this.svg.onkeydown = event => this.key(event);
     this.tools = element("div", { className: "tools" });
     this.element = element("div", {}, this.svg, this.tools);
+    this.makeTools();
     this.show();
   }
 
@@ -94,27 +95,44 @@ class PlanEditor {
 
   // ---- boxes and buttons below
 
-  showTools() {
-    const { bars } = this, stages = bars.stages();
-    this.stage = Math.min(this.stage, stages.length - 1);
-    const box = (id, value, least, most, take) => { const made = numberBox(id, value, least, most); made.onchange = () => { take(Math.round(+made.value) || 0); this.changed(); }; return made; };
+  // They are made once: a box that changes must not take the button away that a pointer is on.
+  makeTools() {
     const act = (text, what) => element("button", { textContent: text, onclick: () => { what(); this.changed(); } });
     const live = element("input", { type: "checkbox", id: "dragging", checked: this.isSetting, onchange: () => { this.isSetting = live.checked; } });
-    const stage = element("div", {}, `phase ${this.stage + 1} of ${stages.length}: `, box("seconds", stages[this.stage].seconds, 1, 600, value => bars.setSeconds(this.stage, value)), " s ",
-      act("Split", () => bars.split(this.stage)), act("Add", () => { bars.addStage(this.stage); this.stage++; }), act("Remove", () => bars.removeStage(this.stage)));
-    const whole = element("div", {}, `cycle ${bars.cycle} s, offset `, box("offset", bars.offset, 0, bars.cycle - 1, value => { bars.offset = round(value, bars.cycle); }), " s", ...this.greenBoxes(box));
+    this.told = { stage: element("span"), cycle: element("span"), greens: element("span"), fault: element("div", { className: "fault", id: "planFault" }) };
+    this.boxes = { seconds: this.box("seconds", value => this.bars.setSeconds(this.stage, value)), offset: this.box("offset", value => { this.bars.offset = round(value, this.bars.cycle); }) };
+    const stage = element("div", {}, this.told.stage, this.boxes.seconds, " s ", act("Split", () => this.bars.split(this.stage)), act("Add", () => { this.bars.addStage(this.stage); this.stage++; }), act("Remove", () => this.bars.removeStage(this.stage)));
+    const whole = element("div", {}, this.told.cycle, this.boxes.offset, " s", this.told.greens);
     const ends = element("div", {}, button("Set the plan", () => this.send()), element("label", {}, live, " set while dragging "), act("As it is set", () => { this.bars = this.made(); this.chosen = null; }));
-    if (this.light) ends.append(button("Save for SUMO", async () => this.save(this.light.name, bars.additional(this.light.name, this.light.size))));
-    const faults = bars.lacking() || (bars.hasFaults() ? "Red: movements that cross are green together." : "");
-    this.tools.replaceChildren(stage, whole, ends, element("div", { className: "fault", id: "planFault" }, faults), element("div", { className: "hint" }, "Green: passing. Hatched: shown green, lost to slow starts or to those who go first. Click a row's empty place for a green."));
+    if (this.light) ends.append(button("Save for SUMO", async () => this.save(this.light.name, this.bars.additional(this.light.name, this.light.size))));
+    this.tools.append(stage, whole, ends, this.told.fault, element("div", { className: "hint" }, "Green: passing. Hatched: shown green, lost to slow starts or to those who go first. Click a row's empty place for a green."));
+  }
+
+  // A box for a number, which `take` gets.
+  box(id, take, values = {}) {
+    const made = Object.assign(numberBox(id), values);
+    made.onchange = () => { take(Math.round(+made.value) || 0); this.changed(); };
+    return made;
+  }
+
+  showTools() {
+    const { bars, told, boxes } = this, stages = bars.stages();
+    this.stage = Math.min(this.stage, stages.length - 1);
+    told.stage.textContent = `phase ${this.stage + 1} of ${stages.length}: `; told.cycle.textContent = `cycle ${bars.cycle} s, offset `;
+    Object.assign(boxes.seconds, { min: 1, max: 600, value: stages[this.stage].seconds });
+    Object.assign(boxes.offset, { min: 0, max: bars.cycle - 1, value: bars.offset });
+    told.greens.replaceChildren(...this.greenBoxes());
+    told.fault.textContent = bars.lacking() || (bars.hasFaults() ? "Red: movements that cross are green together." : "");
   }
 
   // The seconds of the chosen green as boxes.
-  greenBoxes(box) {
+  greenBoxes() {
     if (!this.chosen?.green) return [];
     const row = this.bars.rows[this.chosen.row], { begin, length } = this.chosen.green, { cycle } = this.bars;
     const shift = (part, by) => { this.chosen.green = this.bars[part](row, this.chosen.green, by); };
-    return ["; green from ", box("from", begin, 0, cycle - 1, value => shift("dragBegin", shortWay(value - begin, cycle))), " to ", box("to", round(begin + length, cycle), 0, cycle, value => shift("dragEnd", shortWay(value - begin - length, cycle)))];
+    const from = this.box("from", value => shift("dragBegin", shortWay(value - begin, cycle)), { min: 0, max: cycle - 1, value: begin });
+    const to = this.box("to", value => shift("dragEnd", shortWay(value - begin - length, cycle)), { min: 0, max: cycle, value: round(begin + length, cycle) });
+    return ["; green from ", from, " to ", to];
   }
 
   changed() { this.show(); }

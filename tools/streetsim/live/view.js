@@ -1,5 +1,6 @@
 // A map of one traffic: streets, junctions, vehicles, stop lines, what is closed and what is chosen.
 
+const MOST_LANES = 700, ROUND = 10; // lanes in view with which vehicles are drawn, and seconds between colours of streets beyond them
 const MARKS = 2.2, DIRECTIONS = 1; // pixels a metre from which on lane marks and directions are drawn
 const LEAST_NAME = 60, NAME_AWAY = 9; // pixels of a street that bears its name, and from its edge to the name's middle
 
@@ -16,7 +17,6 @@ class View {
   }
 
   isInView(link) { return this.links.has(link); }
-  get isShown() { return !this.canvas.parentElement.hidden; }
 
   resize(wide, high) { this.scene.resize(wide, high); this.kept = null; }
 
@@ -24,7 +24,7 @@ class View {
   lookAs({ scene }) { Object.assign(this.scene, { x: scene.x, y: scene.y, scale: scene.scale, moved: true }); }
 
   draw(part, isPlaying) {
-    const { scene } = this, shown = [...this.links], lanes = shown.reduce((sum, link) => sum + link.lanes, 0), far = lanes > MOST_LOOKS;
+    const { scene } = this, shown = [...this.links], lanes = shown.reduce((sum, link) => sum + link.lanes, 0), far = lanes > MOST_LANES;
     scene.colours = colours();
     this.drawStreets(shown, far, isPlaying);
     if (!far) {
@@ -39,7 +39,7 @@ class View {
 
   // The streets, from a kept picture while nothing but vehicles moves; in a far view they are coloured anew once in a round.
   drawStreets(shown, far, isPlaying) {
-    const { scene } = this, { x, y, scale, pen, canvas: { width, height } } = scene, key = [x, y, scale, width, height, theme, far ? Math.floor(this.world.session.clock / ROUND) : "near"].join();
+    const { scene } = this, { x, y, scale, pen, canvas: { width, height } } = scene, key = [x, y, scale, width, height, theme, far ? Math.floor(this.world.clock / ROUND) : "near"].join();
     if (!isPlaying || this.kept?.key !== key) {
       this.kept = { key, canvas: this.kept?.canvas ?? element("canvas") };
       Object.assign(this.kept.canvas, { width, height });
@@ -111,24 +111,18 @@ class View {
   }
 
   drawClosed() {
-    for (const { link, lane, state } of this.world.session.closed) if (this.isInView(link)) for (const [first, last] of state.closed) this.scene.drawCells(link, lane, first, last, colours().closed);
+    for (const [slot, first, last] of this.world.closed) { const link = links.get(slot >> 1); if (this.isInView(link)) this.scene.drawCells(link, slot & 1, first, last, colours().closed); }
   }
 
-  // A red stop line is whole, and a green one has gaps.
   drawStopLines(shown) {
-    const { scene } = this;
     for (const link of shown) {
       const now = this.world.greensAt(link.end);
-      if (!now) continue;
-      const isGreen = now.has(link.number);
-      scene.pen.setLineDash(isGreen ? [Math.max(2, scene.scale), Math.max(2, scene.scale)] : []);
-      scene.drawStopLine(link, isGreen);
+      if (now) this.scene.drawStopLine(link, now.has(link.number));
     }
-    scene.pen.setLineDash([]);
   }
 
   drawDetectors() {
-    for (const { link, lane, cell } of this.world.session.detectors) { const on = links.get(link); if (this.isInView(on)) this.scene.drawCells(on, lane, cell, cell, colours().detector, 3); }
+    for (const { link, lane, cell } of this.world.detectors) { const on = links.get(link); if (this.isInView(on)) this.scene.drawCells(on, lane, cell, cell, colours().detector, 3); }
   }
 
   // A stretch of some lanes, in metres.

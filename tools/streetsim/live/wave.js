@@ -35,11 +35,9 @@ class Wave {
 
   clear() { this.nodes = []; this.path = []; this.lines = new Map(); }
 
-  has(link) { return this.path.some(part => part.link.name === link.name); }
-
   // Notes where the vehicles of the path are.
   note(world) {
-    const { clock } = world.session, parts = new Map(this.path.map(part => [part.link.name, part]));
+    const { clock } = world, parts = new Map(this.path.map(part => [part.link.name, part]));
     for (const [car, [link, , , front]] of world.cars) {
       const part = parts.get(link.name);
       if (!part) continue;

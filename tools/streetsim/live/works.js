@@ -22,19 +22,13 @@ function metresAlong(link, lane, [x, y]) {
   return found;
 }
 
-// The commands of works: lanes closed from one second, and opened again at another where one is given.
-function worksCommands({ link, lanes, begin, end }, from, until) {
-  const [first, last] = closedBetween(link, begin, end), one = (cmd, clock) => lanes.map(lane => ({ clock, command: { cmd, link: link.number, lane, first, last } }));
-  return [...one("close", from), ...(until === null ? [] : one("reopen", until))];
-}
-
-// The panel of a stretch. tools: session, tell(text, commands, told), redraw(), detector(lane, cell, period).
-function stretchPanel(what, { session, tell, redraw, put }) {
+// The panel of a stretch. tools: session, redraw(), put(lane, cell, period) for a detector.
+function stretchPanel(what, { session, redraw, put }) {
   const { link } = what, clock = (id, value) => element("input", { id, className: "clock", value });
   const [begin, end] = [numberBox("first", what.begin, 0, Math.ceil(link.metres)), numberBox("last", what.end, 0, Math.ceil(link.metres))];
   for (const [box, key] of [[begin, "begin"], [end, "end"]]) box.oninput = () => { what[key] = Math.max(0, Math.min(Math.ceil(link.metres), +box.value)); redraw(); };
   const lanes = Array.from({ length: link.lanes }, (_, lane) => laneBox(what, lane, redraw)), from = clock("from", clockText(session.clock)), until = clock("until", "");
-  const work = cmd => () => closeOrOpen(cmd, what, { session, tell, from: from.value, until: until.value });
+  const work = cmd => () => closeOrOpen(cmd, what, { session, from: from.value, until: until.value });
   const place = numberBox("cell", Math.round((what.begin + what.end) / 2), 0, Math.ceil(link.metres)), period = numberBox("period", 60, 1, 3600);
   return [
     element("div", {}, "from ", begin, " to ", end, ` m of ${Math.round(link.metres)} m`), element("div", {}, ...lanes),
@@ -47,27 +41,28 @@ function stretchPanel(what, { session, tell, redraw, put }) {
 function laneBox(what, lane, redraw) {
   const box = element("input", { type: "checkbox", id: `lane${lane}`, checked: what.lanes.includes(lane) });
   box.oninput = () => { what.lanes = box.checked ? [...what.lanes, lane].sort() : what.lanes.filter(other => other !== lane); redraw(); };
-  return element("label", {}, box, ` ${laneWord(what.link, lane) || "its lane"} `);
+  return element("label", {}, box, ` ${what.link.words[lane] || "its lane"} `);
 }
 
-async function closeOrOpen(cmd, what, { session, tell, from, until }) {
-  const { link, lanes, begin, end } = what, why = cmd === "close" ? session.whyParallel(link) : "", first = secondsOf(from), last = until.trim() ? secondsOf(until) : null;
-  if (why) { offerJoining(session, `${link.name}_${link.names[0]}`); throw new Error(why); }
+async function closeOrOpen(cmd, what, { session, from, until }) {
+  const { link, lanes, begin, end } = what, first = secondsOf(from), last = until.trim() ? secondsOf(until) : null;
   if (!lanes.length) throw new Error("choose a lane");
   if (begin >= end) throw new Error("works end behind their begin");
   if (first === null || until.trim() && last === null) throw new Error("a clock is hours:minutes:seconds, as 0:12:30");
   if (last !== null && last <= Math.max(first, session.clock)) throw new Error("works end behind their begin, and after now");
-  const commands = worksCommands(what, first, last).map(one => cmd === "close" ? one : { ...one, command: { ...one.command, cmd } });
-  const place = `${wayText(link)}, ${begin} to ${end} m, ${lanes.length === link.lanes ? "all lanes" : lanes.map(lane => laneWord(link, lane)).join(" and ")}`;
+  const place = `${wayText(link)}, ${begin} to ${end} m, ${lanes.length === link.lanes ? "all lanes" : lanes.map(lane => link.words[lane]).join(" and ")}`;
   const turns = cmd === "close" && link.lanes === 2 && lanes.length === 1 ? "; before them the lanes take turns" : "";
   const when = first > session.clock ? ` at ${clockText(first)}` : "", back = last === null ? "" : ` until ${clockText(last)}`;
-  await tell(`${cmd === "close" ? "works" : "reopened"}: ${place}${when}${back}`, cmd === "close" ? commands : commands.slice(0, lanes.length), `${cmd === "close" ? "closed" : "open"}${when}${back}${turns}`);
+  const text = `${cmd === "close" ? "works" : "reopened"}: ${place}${when}${back}`;
+  const { refused, joint } = await session.works({ cmd, link: link.number, lanes, begin, end, from: first, until: last, text });
+  if (joint) offerJoining(joint);
+  changed(refused, `${cmd === "close" ? "closed" : "open"}${when}${back}${turns}`);
 }
 
 // A bridge can import anew by itself; the page then begins again.
-function offerJoining({ engine }, name) {
-  if (!engine.join || document.getElementById("join")) return;
-  const press = button("Import anew with its lanes joint: the page begins again", async () => { await engine.join(name); location.reload(); });
+function offerJoining(name) {
+  if (document.getElementById("join")) return;
+  const press = button("Import anew with its lanes joint: the page begins again", async () => { await answered("join", name); location.reload(); });
   press.id = "join";
   at("chosen").append(press);
 }

@@ -6,12 +6,16 @@ from collections.abc import Iterator, Sequence
 from dataclasses import dataclass, field
 
 from streetsim.base.files import Fault, Json, open_text, read_json, reading
+from streetsim.base.unpacking import LINE, STREAMED, lines_of, refuse_crowded
 from streetsim.model import tables
 from streetsim.model.mapping import Map, map_from
+from streetsim.model.rows import NAME as ROWS
+from streetsim.model.rows import frames_in
 from streetsim.model.runs import Sent
 
 NAME = "setting.json"
 LIGHTS = "lights.json"  # what its lights show at the road, of a run with --junctions, as model.timing has it
+POLLS = "lanes.jsonl.gz"  # what stood on the lanes at polls, as text
 KEPT = "run.jsonl.gz"  # the lines of the run, beside the folders of its seeds where there are several
 Frame = Json  # what stood on lanes at a clock: {"clock", "lanes"}, as `polls` says
 
@@ -30,6 +34,16 @@ class Folder:
     # Of what the folder was made: run, seed, start, until, rescue, program.
     made: Json = field(default_factory=dict)
     doubts: list[str] = field(default_factory=list)  # why the run is not to be trusted
+
+    @property
+    def unproved(self) -> str:
+        """What is to be said of a run of a program without proofs; empty of any other."""
+        return str(self.made.get("unproved", ""))
+
+    @property
+    def notes(self) -> list[str]:
+        """What each page of the run has at its head: that its program is without proofs, its demand invented."""
+        return [text for text in (self.unproved, self.mapping.invented) if text]
 
     def trips(self) -> list[dict[str, str]]:
         """The rows of trips.csv (tables.TRIPS), in the order of the vehicles' numbers."""
@@ -70,10 +84,15 @@ class Folder:
         """What stood on the lanes at each poll, rising: {"clock", "lanes": [[link, lane, [[car, cell, speed], ..], [car
         in the buffer, ..], [[first, last cell closed], ..]], ..]}; car: its number in the run file; the size of a car
         stands after its speed where it is above 1. Lanes with nothing on them, behind them and closed are left out, as
-        are those that were not polled. Fault where the file is not there."""
-        path = f"{self.path}/lanes.jsonl.gz"
-        with reading(path), open_text(path) as file:
-            yield from map(json.loads, file)
+        are those that were not polled. Nothing where nothing was; Fault where the file is not there."""
+        path, rows = f"{self.path}/{POLLS}", f"{self.path}/{ROWS}"
+        if self.every and os.path.exists(rows) and not os.path.exists(path):
+            yield from frames_in(rows, self.every)
+        elif self.every or os.path.exists(path):
+            with reading(path), open_text(path, ratio=STREAMED) as file:
+                for line in lines_of(file, LINE):
+                    refuse_crowded(line)
+                    yield json.loads(line)
 
     def links_along(self, edges: Sequence[str]) -> list[list[int]]:
         """For each edge of a path, in its order, the numbers of its links; Fault where the map has no such edge."""

@@ -1,17 +1,29 @@
-"""The map file: which SUMO names the numbers of a run stand for."""
+"""The map file: which SUMO names the numbers of a run stand for.
+
+A file of version 2, which is written, tells its version, and has each table as an object of columns by name; a column
+that is not there has its usual values. Files of version 1 tell none, and have rows as lists in the order of the fields;
+they are read as well.
+"""
 from collections.abc import Iterable, Sequence
 from dataclasses import asdict, dataclass, field
+from typing import NamedTuple
 
 from streetsim.base import limits
 from streetsim.base.files import Fault, FilePath, Json, read_json
 from streetsim.model.detectors import Detector
+from streetsim.model.fullness import Fullness, fullness_of
+from streetsim.model.named import columns, columns_of, one_of, rows_of
+from streetsim.model.starting import SlowStarts
 from streetsim.model.stops import Visit
 from streetsim.model.waiting import GivingWay, giving_way_of
 
+VERSION = 2
 Place = tuple[int, int]  # a link and a lane of it
 Shape = Sequence[Sequence[float]]  # of (x, y)
 KEYS = ("nodes", "links", "turns", "signals", "cars", "options", "warnings")
-WHERE_ANY = ("rings", "programs", "names", "fixed", "switches")  # keys that a map's file has where there are any
+INVENTED = "invented."  # with which the names of vehicles begin that nobody counted
+TOLD_INVENTED = "The demand is invented: vehicles that nobody counted drive from border to border of the network"
+WHERE_ANY = ("rings", "programs", "names", "fixed", "end")  # keys that a map's file has where there are any
 
 
 @dataclass(slots=True, frozen=True)
@@ -63,16 +75,41 @@ class MapTurn:
     added: bool  # it is none of SUMO's connections, but the import's
     speed: float = 13.9  # metres a second, inside the junction if that is known
     limit: int = 2  # of its link, cells a step
+    accel: float = 2.6  # metres a second and second, of those who start there, in the mean
+
+
+class MapNode(NamedTuple):
+    """A node of a run: the junction that it is of, its point in metres, and the seconds that a vehicle stays in it."""
+
+    junction: str
+    x: float
+    y: float
+    residence: int
+
+
+class MapSignal(NamedTuple):
+    """A light, and a node at which it is."""
+
+    light: str
+    node: int
+
+
+class Switch(NamedTuple):
+    """A change of a light by time of day."""
+
+    clock: int
+    light: str
+    program: str
 
 
 @dataclass(slots=True)
 class Map:
     """The names behind the numbers of a run: nodes, links and cars are lists by those numbers."""
 
-    nodes: list[tuple[str, float, float, int]]  # junction, x, y, residence
+    nodes: Sequence[tuple[str, float, float, int]]  # as MapNode
     links: list[MapLink]
     turns: list[MapTurn]
-    signals: list[tuple[str, int]]  # light, node
+    signals: Sequence[tuple[str, int]]  # as MapSignal
     cars: list[str]  # SUMO's vehicle names, by number
     options: Json
     warnings: list[str]  # as the import said them
@@ -90,13 +127,21 @@ class Map:
     names: Json = field(default_factory=dict)
     fixed: list[Json] = field(default_factory=list)  # of other lights that buses and others pass, in the same form
     visits: list[Visit] = field(default_factory=list)  # stops that vehicles are to make
-    # Changes of lights by time of day: (clock, light, program), rising; the first of each is at the run's begin.
-    switches: list[tuple[int, str, str]] = field(default_factory=list)
+    # Changes of lights by time of day, as Switch, rising; the first of each is at the run's begin.
+    switches: Sequence[tuple[int, str, str]] = field(default_factory=list)
+    full: Fullness = field(default_factory=Fullness)  # lanes that are nearly full by the demand
+    starts: SlowStarts | None = None  # at lights
+    end: int = 0  # the clock at which SUMO's configuration ends a run, 0 where none does
 
     def __post_init__(self) -> None:
         """Finds the links of each edge."""
         for number, link in enumerate(self.links):
             self.links_of.setdefault(link.edge, []).append(number)
+
+    @property
+    def invented(self) -> str:
+        """What is to be said where vehicles are invented; empty where none is."""
+        return TOLD_INVENTED if any(name.startswith(INVENTED) for name in self.cars) else ""
 
     def lane_name(self, link: int, lane: int) -> str:
         """SUMO's id of a lane, EDGE_INDEX, by the numbers of the run."""
@@ -118,22 +163,26 @@ class Map:
     def written(self) -> Json:
         """The content of the map's file, a dict to be dumped as JSON, which `map_from` reads."""
         return {
-            "nodes": self.nodes,
-            "links": [list(asdict(link).values()) for link in self.links],
-            "turns": [list(asdict(turn).values()) for turn in self.turns],
-            "signals": self.signals,
+            "version": VERSION,
+            "nodes": columns(MapNode._fields, self.nodes),
+            "links": columns_of(MapLink, self.links),
+            "turns": columns_of(MapTurn, self.turns),
+            "signals": columns(MapSignal._fields, self.signals),
             "cars": self.cars,
             "options": self.options,
             "warnings": self.warnings,
             "told": self.told,
-            "yields": [one.written() for one in self.yields],
-            "detectors": [list(asdict(detector).values()) for detector in self.detectors],
+            "yields": [*map(asdict, self.yields)],
+            "detectors": columns_of(Detector, self.detectors),
             "sources": self.sources,
             "vehicles": self.kinds,
             "location": self.location,
             "actuated": self.actuated,
             **{name: value for name in WHERE_ANY if (value := getattr(self, name))},
-            **({"visits": [list(asdict(visit).values()) for visit in self.visits]} if self.visits else {}),
+            **({"full": asdict(self.full)} if self.full else {}),
+            **({"starts": asdict(self.starts)} if self.starts else {}),
+            **({"visits": columns_of(Visit, self.visits)} if self.visits else {}),
+            **({"switches": columns(Switch._fields, self.switches)} if self.switches else {}),
         }
 
 
@@ -142,17 +191,34 @@ def read_map(path: FilePath) -> Map:
     return map_from(path, read_json(path, KEYS))
 
 
+def refuse_outside(nodes: Sequence[Sequence[object]], links: Sequence[MapLink], turns: Sequence[MapTurn]) -> None:
+    """ValueError where a node is none, or a link or turn names a node or link that is not there."""
+    if any(len(node) != 4 for node in nodes):
+        raise ValueError("a node has other than four values")
+    if not all(0 <= node < len(nodes) for link in links for node in (link.begin, link.end)):
+        raise ValueError("a link has a node that is not there")
+    if not all(0 <= link < len(links) for turn in turns for link in (turn.link, turn.next)):
+        raise ValueError("a turn has a link that is not there")
+
+
 def map_from(path: FilePath, value: Json) -> Map:
-    """The map of the content of its file, as `Map.written` gives it; path: for the Fault where it is no map."""
+    """The map of the content of its file, as `Map.written` gives it; path: for the Fault where it is no map, or one of
+    a later version."""
+    if (version := value.get("version", 1)) not in (1, VERSION):
+        raise Fault(f"{path}: a map of version {version}, and these tools read 1 and {VERSION}: import the run anew")
     try:
-        links, turns = [MapLink(*link) for link in value["links"]], [MapTurn(*turn) for turn in value["turns"]]
-        more: Json = {key: value[key] for key in KEYS if key not in ("links", "turns")}
+        more: Json = {key: value[key] for key in ("cars", "options", "warnings")}
+        more["nodes"], more["signals"] = rows_of(MapNode, value["nodes"]), rows_of(MapSignal, value["signals"])
+        more["links"], more["turns"] = rows_of(MapLink, value["links"]), rows_of(MapTurn, value["turns"])
         more |= {name: value.get(name, []) for name in ("told", "actuated", "rings", "programs", "fixed")}
         more |= {name: value.get(name, {}) for name in ("location", "names", "sources")}
         more |= {"kinds": value.get("vehicles", {}), "yields": giving_way_of(value.get("yields", ()))}
-        more["detectors"] = [Detector(*detector) for detector in value.get("detectors", ())]
-        more["visits"] = [Visit(*visit) for visit in value.get("visits", ())]
-        more["switches"] = [(clock, light, program) for clock, light, program in value.get("switches", ())]
-        return Map(links=links, turns=turns, **more)
-    except (KeyError, TypeError, ValueError) as fault:
+        more["full"] = fullness_of(value.get("full", {}))
+        more["end"] = value.get("end", 0)
+        more["starts"] = one_of(SlowStarts, value["starts"]) if "starts" in value else None
+        for name, kind in (("detectors", Detector), ("visits", Visit), ("switches", Switch)):
+            more[name] = rows_of(kind, value.get(name, ()))
+        refuse_outside(more["nodes"], more["links"], more["turns"])
+        return Map(**more)
+    except (AttributeError, KeyError, TypeError, ValueError) as fault:
         raise Fault(f"{path}: not a map that streetsim-import wrote: {fault}") from None

@@ -1,12 +1,14 @@
 """The names that people know of streets, junctions and movements; a direction where a street has no name."""
+import contextlib
 import csv
 from collections import Counter
-from collections.abc import Callable, Container, Iterable, Mapping, Sequence
+from collections.abc import Callable, Container, Iterable, Iterator, Mapping, Sequence
 from math import atan2, pi
 
 from streetsim.base.files import Fault, FilePath, open_text, reading
+from streetsim.base.unpacking import lines_of
 from streetsim.model.mapping import Map
-from streetsim.model.tables import Entry, write_table
+from streetsim.model.tables import Entry, Write, open_table, unguarded
 
 WINDS = ("east", "north-east", "north", "north-west", "west", "south-west", "south", "south-east")
 MOST_STREETS = 3  # in a junction's name
@@ -87,7 +89,8 @@ class Names:
 
     def columns(self) -> dict[str, Callable[[str], str]]:
         """For each column of edges or junctions in tables, what gives the name of an id, empty where it has none."""
-        return {"edge": self.street, "approach": self.street, "to": self.street, "junction": self.junction}
+        streets = dict.fromkeys(("edge", "approach", "from", "to"), self.street)
+        return {**streets, "junction": self.junction}
 
 
 def wind(begin: Sequence[float], end: Sequence[float]) -> str:
@@ -96,16 +99,26 @@ def wind(begin: Sequence[float], end: Sequence[float]) -> str:
     return WINDS[round(turn * len(WINDS)) % len(WINDS)]
 
 
-def write_named(path: FilePath, header: Sequence[str], rows: Iterable[Entry], names: Names) -> None:
-    """Writes a table as CSV; where the map has names, beside each column of `Names.columns` stands one of names, with
-    _name at its end. Fault where it cannot be written."""
+@contextlib.contextmanager
+def open_named(path: FilePath, header: Sequence[str], names: Names) -> Iterator[Write]:
+    """As `open_table`; where the map has names, beside each column of `Names.columns` stands one of names, with _name
+    at its end."""
     columns = {at: names.columns()[name] for at, name in enumerate(header) if name in names.columns() and names}
     head = [text for at, name in enumerate(header) for text in ([name, name + SUFFIX] if at in columns else [name])]
-    named = (
-        [one for at, cell in enumerate(row) for one in ([cell, columns[at](str(cell))] if at in columns else [cell])]
-        for row in rows
-    )
-    write_table(path, head, named)
+
+    def named(row: Iterable[object]) -> list[object]:
+        """A row with its names."""
+        cells = ([cell, columns[at](str(cell))] if at in columns else [cell] for at, cell in enumerate(row))
+        return [one for those in cells for one in those]
+
+    with open_table(path, head) as write:
+        yield (lambda rows: write(map(named, rows))) if columns else write
+
+
+def write_named(path: FilePath, header: Sequence[str], rows: Iterable[Entry], names: Names) -> None:
+    """Writes a table as `open_named` does."""
+    with open_named(path, header, names) as write:
+        write(rows)
 
 
 def read_own(path: FilePath, mapping: Map) -> None:
@@ -135,13 +148,14 @@ def own_rows(path: FilePath, known: Container[str]) -> dict[str, str]:
     """{id: name, without blanks around it} of a file of one's own names; Faults as read_own has them. known: ids."""
     found: dict[str, str] = {}
     with reading(path), open_text(path) as file:
-        rows = csv.DictReader(file)
+        rows = csv.DictReader(lines_of(file))
         if tuple(rows.fieldnames or ()) != COLUMNS:
             raise Fault(f"{path}: expected the columns {', '.join(COLUMNS)}")
         for row in rows:
             own, name = row["id"], row["name"]
-            if name is None or None in row:
+            if own is None or name is None or None in row:
                 raise Fault(f"{path}: line {rows.line_num}: expected the columns {', '.join(COLUMNS)}")
+            own, name = unguarded(own), unguarded(name)
             if own in found:
                 raise Fault(f"{path}: line {rows.line_num}: {own!r} twice")
             if own not in known:

@@ -4,9 +4,12 @@ import json
 from collections.abc import Iterable, Iterator, Sequence
 from dataclasses import dataclass, field, replace
 from itertools import accumulate
+from sys import intern
 from typing import Any
 
+from streetsim.base import limits
 from streetsim.base.files import Fault, FilePath, open_text, reading
+from streetsim.base.unpacking import LINE, lines_of, refuse_crowded
 from streetsim.model.mapping import Map, read_map
 from streetsim.model.sources import sum_of_lines
 
@@ -14,6 +17,7 @@ MARK = "works"  # a field of lines that a tool made of --close, where they are k
 SPAN = ("link", "lane", "first", "last")
 NEEDED = {"enter": ("depart",), "close": SPAN, "reopen": SPAN, "signal": ("node",)}  # whole numbers, by command
 MAY_HAVE = ("at", "start", "dawdle")  # whole numbers too
+SHARED = {number: number for number in range(limits.LINKS)}  # one object for each link, for the plans of all vehicles
 Command = dict[str, Any]
 Sent = tuple[int, Command]  # the clock at which a command is sent
 
@@ -51,7 +55,7 @@ class Run:
 def read_run(path: FilePath) -> Run:
     """The run of a file; Fault where it cannot be read, or as of `run_of_texts`."""
     with reading(path), open_text(path) as file:
-        return run_of_texts(path, file)
+        return run_of_texts(path, lines_of(file, LINE))
 
 
 def read_with_map(run_path: FilePath, map_path: FilePath) -> tuple[Run, Map]:
@@ -136,7 +140,8 @@ def line_of(path: FilePath, number: int, text: str) -> Line:
     """The line of a text; number: in the file, from 1; a line that is marked as one of works gets 0. Fault where it
     names no command, lacks whole numbers that the tools read of it, or is one that streetsim-run sends itself."""
     try:
-        command = json.loads(text)
+        refuse_crowded(text)
+        command = {intern(name): value for name, value in json.loads(text).items()}  # one object for each name
         kind = command["cmd"]
         if kind in ("advance", "takeout", "meter", "read"):
             raise ValueError(f"{kind} is sent by streetsim-run itself")
@@ -144,8 +149,10 @@ def line_of(path: FilePath, number: int, text: str) -> Line:
         wrong += [name for name in MAY_HAVE if type(command.get(name, 0)) is not int]
         if wrong:
             raise ValueError(f"{wrong[0]} is no whole number")
-        if kind == "enter" and {*map(type, command["plan"])} != {int}:
-            raise ValueError("plan is no list of whole numbers")
-    except (ValueError, KeyError, TypeError, AttributeError) as fault:
+        if kind == "enter":
+            if {*map(type, command["plan"])} != {int}:
+                raise ValueError("plan is no list of whole numbers")
+            command.update(cmd="enter", plan=[SHARED.get(link, link) for link in command["plan"]])
+    except (ValueError, KeyError, TypeError, AttributeError, RecursionError) as fault:
         raise Fault(f"{path}: line {number} is no command of a run: {fault}") from None
     return Line(0 if command.get(MARK) else number, text.strip(), command)

@@ -45,7 +45,7 @@ def sources_of(kept: dict, map_path: FilePath, run_path: FilePath) -> Sources:
     lists = (list(map(beside, kept.get(name, ()))) for name in ("additional", "routes", "trips"))
     sources = Sources(beside(kept["net"]), *lists)
     for path, known in zip(sources.paths(), kept["sums"], strict=True):
-        if sum_of(path) != known:
+        if not os.path.isfile(path) or sum_of(path) != known:
             raise Fault(f"{path}: has changed since it was imported")
     with reading(run_path), open_text(run_path) as file:
         if sum_of_lines(line.rstrip("\n") for line in file) != kept["run"]:

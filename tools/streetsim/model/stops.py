@@ -28,13 +28,6 @@ class Visit:
     starting: float  # and after, beyond what one loses here
 
 
-def unmade_stops_told(visits: int) -> str:
-    """What a tool that makes no stops says of them; visits: how many there are. Empty where there are none."""
-    if not visits:
-        return ""
-    return f"{visits:,} stops of vehicles are not made: streetsim-run and streetsim-study make them"
-
-
 def bus_lines_of(kinds: Json, count: int) -> Sequence[str]:
     """The bus line, or an empty text, of each of so many vehicles of a map, by its number. kinds: of the map."""
     found: Sequence[str] = kinds.get("line") or ()

@@ -1,12 +1,19 @@
 """The columns of a run's tables, and how tables are written and read, as CSV."""
+import contextlib
 import csv
-from collections.abc import Iterable, Sequence
+import re
+from collections.abc import Callable, Iterable, Iterator, Sequence
 from math import isfinite
 from typing import Any
 
 from streetsim.base.files import Fault, FilePath, open_text, reading, whole_file
+from streetsim.base.unpacking import lines_of
 
 Entry = tuple[Any, ...]  # a row of a table
+Write = Callable[[Iterable[Iterable[object]]], object]  # writes rows
+# Texts that a spreadsheet may run: =, +, @, a tab or a line feed at the begin, or - before what is neither a number nor
+# plain names, as -12345#0 of OpenStreetMap; and those that would be taken for guarded ones.
+RUN = re.compile(r"'*(?:[=@\t\n]|\+(?![\d.]+$)|-(?![\w#.: -]*$))")
 COUNTS = (
     *("begin", "end", "edge", "link", "lane"),
     *("vehicles", "vehicles_per_hour", "mean_speed_kmh", "occupancy_percent"),
@@ -29,11 +36,15 @@ WORKS = (
     *("begin", "end", "edge", "lane", "from_m", "to_m", "vehicles", "capacity_per_hour", "mean_delay_s"),
     *("greatest_delay_s", "queue_50_m", "queue_95_m", "queue_max_m", "longest_stand_s"),
 )
+SECONDS = ("vehicles", "mean_s", "sd_s", "p15_s", "p50_s", "p85_s", "p95_s")
+SEGMENTS = ("begin", "end", "from", "to", *SECONDS)
+ROUTES_FILE = "routes.csv"
+ROUTES = ("begin", "end", "route", *SECONDS)
 SUMMARY = ("time", "entered", "waiting", "on_cells", "in_buffers", "arrived", "taken_out")
 SEEDS = ("seed", "vehicles", "arrived", "mean_trip_s", "rescues")
 # All else is numbers.
 TEXTS = {"id", "edge", "state", "junction", "control", "approach", "to", "movement", "los", "before", "light", "ended"}
-TEXTS |= {"line", "stop"}
+TEXTS |= {"line", "stop", "from", "route"}
 LOST = ("vehicles", "vehicles_per_hour", "control_delay_s", "error_s", "stopped_delay_s", "stops_per_vehicle")
 QUEUED = ("queue_50_m", "queue_95_m", "queue_max_m", "storage_m")
 MOVEMENTS = (
@@ -41,15 +52,35 @@ MOVEMENTS = (
     *("saturation_flow", "capacity_per_hour", "v_c", "los"),
 )
 APPROACHES = ("begin", "end", "junction", "control", "approach", *LOST, *QUEUED, "v_c", "los")
-JUNCTIONS = ("begin", "end", "junction", "control", *LOST, "queue_max_m", "v_c", "los")
+JUNCTIONS = ("begin", "end", "junction", "control", *LOST, "queue_max_m", "v_c", "los", "nearly_full")
 
 
-def write_table(path: FilePath, header: Sequence[str], rows: Iterable[Iterable[object]]) -> None:
-    """Writes a table as CSV. Fault, and the file as it was, where it cannot be written."""
+@contextlib.contextmanager
+def open_table(path: FilePath, header: Sequence[str]) -> Iterator[Write]:
+    """A function that writes rows of a table, as CSV, which is whole when the block ends. Fault, and the file as it
+    was, where it cannot be written."""
     with whole_file(path) as file:
         writer = csv.writer(file, lineterminator="\n")
         writer.writerow(header)
-        writer.writerows(rows)
+        yield lambda rows: writer.writerows(map(guarded_row, rows))
+
+
+def guarded_row(row: Iterable[object]) -> list[object]:
+    """A row whose texts no spreadsheet runs: those that it might (RUN) have an apostrophe before them. A carriage
+    return, which would end the row for some readers, becomes a blank."""
+    texts = [cell.replace("\r", " ") if type(cell) is str else cell for cell in row]
+    return [f"'{cell}" if type(cell) is str and RUN.match(cell) else cell for cell in texts]
+
+
+def unguarded(text: str) -> str:
+    """What a text of a table was before `guarded_row`."""
+    return text[1:] if text[:1] == "'" and RUN.match(text[1:]) else text
+
+
+def write_table(path: FilePath, header: Sequence[str], rows: Iterable[Iterable[object]]) -> None:
+    """Writes a table as `open_table` does."""
+    with open_table(path, header) as write:
+        write(rows)
 
 
 def read_table(path: FilePath, header: Sequence[str]) -> list[dict[str, str]]:
@@ -57,7 +88,7 @@ def read_table(path: FilePath, header: Sequence[str]) -> list[dict[str, str]]:
     (columns of names, which end in _name, may stand among them), a row that is shorter or longer, or a text where a
     number belongs."""
     with reading(path), open_text(path) as file:
-        rows = csv.DictReader(file)
+        rows = csv.DictReader(lines_of(file))
         if [name for name in rows.fieldnames or () if name in header or not name.endswith("_name")] != [*header]:
             raise Fault(f"{path}: expected the columns {', '.join(header)}")
         found = []
@@ -66,7 +97,7 @@ def read_table(path: FilePath, header: Sequence[str]) -> list[dict[str, str]]:
                 raise Fault(f"{path}: line {rows.line_num}: expected {len(rows.fieldnames or ())} cells")
             if wrong := next((name for name in header if name not in TEXTS and not is_number(row[name])), None):
                 raise Fault(f"{path}: line {rows.line_num}: {wrong} = {row[wrong]!r} is no number")
-            found.append(row)
+            found.append({name: unguarded(text) for name, text in row.items()})
         return found
 
 

@@ -1,4 +1,5 @@
 """The programs of lights as they stand at the road: states over the cycle, movements, and which of these conflict."""
+import re
 from collections.abc import Iterable, Iterator, Sequence
 from dataclasses import dataclass
 from itertools import combinations, product
@@ -11,7 +12,7 @@ RANK = "rsoOuyYgG"  # signs, those that let most go last
 
 
 @dataclass(slots=True, frozen=True)
-class Movement:
+class SignalMovement:
     """From an edge to the next one at a light; indexes: in the light's states, of its lanes, rising."""
 
     edge: str
@@ -28,28 +29,30 @@ class Timing:
     offset: float  # seconds
     phases: Sequence[tuple[float, str]]  # seconds and state
     kind: str  # static, actuated, ..
-    movements: list[Movement]
+    movements: list[SignalMovement]
     conflicts: set[frozenset[int]]  # pairs of indexes in the states whose ways cross or join
+    # What each phase must keep: least, most and pedestrians' seconds, None: not written; empty: nothing is.
+    kept: Sequence[Sequence[int | None]] = ()
 
     def states(self) -> list[str]:
         """The state in each second of the cycle, as `states_of` gives it."""
         return states_of(self.phases)
 
-    def signs(self, movement: Movement) -> str:
+    def signs(self, movement: SignalMovement) -> str:
         """What a movement is shown in each second of the cycle, a letter; of its lanes the one that lets most go."""
         return "".join(max((state[index] for index in movement.indexes), key=RANK.find) for state in self.states())
 
-    def pairs(self) -> Iterator[tuple[Movement, Movement]]:
+    def pairs(self) -> Iterator[tuple[SignalMovement, SignalMovement]]:
         """The pairs (movement, other) that come from different edges and whose ways cross or join, each once."""
         for one, other in combinations(self.movements, 2):
             if one.edge != other.edge and self.crossings(one, other):
                 yield one, other
 
-    def crossings(self, one: Movement, other: Movement) -> list[tuple[int, int]]:
+    def crossings(self, one: SignalMovement, other: SignalMovement) -> list[tuple[int, int]]:
         """The pairs of indexes, of one movement and another, whose ways cross or join."""
         return [pair for pair in product(one.indexes, other.indexes) if frozenset(pair) in self.conflicts]
 
-    def clashes(self) -> Iterator[tuple[Movement, Movement, int]]:
+    def clashes(self) -> Iterator[tuple[SignalMovement, SignalMovement, int]]:
         """(movement, other, seconds) for those of `pairs` that have main greens (G) on conflicting indexes together."""
         states = self.states()
         for one, other in self.pairs():
@@ -64,6 +67,7 @@ class Timing:
             "phases": [[*phase] for phase in self.phases],
             "kind": self.kind, "movements": [[one.edge, one.to, list(one.indexes)] for one in self.movements],
             "conflicts": sorted(sorted(pair) for pair in self.conflicts),
+            **({"kept": [[*one] for one in self.kept]} if self.kept else {}),
         }
 
 
@@ -71,8 +75,8 @@ def timing_of(value: Json) -> Timing:
     """The program of the dict that `Timing.written` gave."""
     return Timing(
         value["light"], value["junction"], value["offset"], [(seconds, state) for seconds, state in value["phases"]],
-        value["kind"], [Movement(edge, to, tuple(indexes)) for edge, to, indexes in value["movements"]],
-        {frozenset(pair) for pair in value["conflicts"]},
+        value["kind"], [SignalMovement(edge, to, tuple(indexes)) for edge, to, indexes in value["movements"]],
+        {frozenset(pair) for pair in value["conflicts"]}, value.get("kept", ()),
     )
 
 
@@ -90,13 +94,11 @@ def states_of(phases: Iterable[tuple[float, str]]) -> list[str]:
 def spans_of(signs: str, those: str) -> list[tuple[int, int]]:
     """The (begin, seconds) of each run of letters that are in `those`; signs: a letter for each second of a cycle. A
     run may go on over the cycle's end."""
-    count = len(signs)
-    if all(sign in those for sign in signs):
-        return [(0, count)] if count else []
-    begins = [at for at in range(count) if signs[at] in those and signs[at - 1] not in those]
-    return [
-        (at, next(length for length in range(1, count) if signs[(at + length) % count] not in those)) for at in begins
-    ]
+    runs = [(found.start(), len(found[0])) for found in re.finditer(f"[{those}]+", signs)]
+    if len(runs) > 1 and runs[0][0] == 0 and sum(runs[-1]) == len(signs):
+        (_, further), *runs, (begin, seconds) = runs
+        runs.append((begin, seconds + further))
+    return runs
 
 
 def intergreen(first: str, second: str) -> int | None:
@@ -111,9 +113,9 @@ def intergreen(first: str, second: str) -> int | None:
     return min(gaps, default=None)
 
 
-def movements_by_edges(movements: Iterable[tuple[str, str, int]]) -> list[Movement]:
+def movements_by_edges(movements: Iterable[tuple[str, str, int]]) -> list[SignalMovement]:
     """The movements, sorted, of (edge, next edge, index in the state): one for each pair of edges."""
     found: dict[tuple[str, str], list[int]] = {}
     for edge, to, index in movements:
         found.setdefault((edge, to), []).append(index)
-    return [Movement(edge, to, tuple(sorted(set(indexes)))) for (edge, to), indexes in sorted(found.items())]
+    return [SignalMovement(edge, to, tuple(sorted(set(indexes)))) for (edge, to), indexes in sorted(found.items())]

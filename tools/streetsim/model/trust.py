@@ -10,6 +10,7 @@ from itertools import pairwise
 from statistics import fmean
 
 from streetsim.base.files import whole_file
+from streetsim.base.program import proof_note
 from streetsim.model.folder import NAME
 from streetsim.model.freeflow import FreeFlow
 from streetsim.model.mapping import Map
@@ -21,12 +22,15 @@ MOST_WAITING = 0.05  # of the vehicles that wait to enter, at the worst minute
 STILL = 600  # seconds without an arrival
 OTHER_LENGTH = 0.1  # of the metres that are driven
 MOST_ACTUATED = 0.1  # of the vehicles, that pass lights which SUMO times by detectors
+MOST_FULL = 0.2  # of the vehicles, that pass lanes which are nearly full by the demand
+MOST_SLOW = 0.15  # of the vehicles, that start slowly at lights
 MOST_CROWDED = 0.1  # of the vehicles, that pass nearly full streets which give way
 NAMED = 3  # edges, or lights
+SLOW_OFF = "4 to 15 %"  # of mean trips in SUMO where many start slowly (tools/CLOSENESS.md)
 
 
 @dataclass(slots=True)
-class Trips:
+class TripsAtEnd:
     """The trips of a run at its last clock; seconds of each are from the departure that was wished for."""
 
     clock: int
@@ -52,14 +56,14 @@ class Trips:
         return f"{told}{of_these}, {fmean(self.to_date):.1f} s to date of {len(self.to_date):,} under way"
 
 
-def trips_at(clock: int, start: int, rows: Sequence[tuple]) -> Trips:
+def trips_at(clock: int, start: int, rows: Sequence[tuple]) -> TripsAtEnd:
     """The trips of a run at a clock, from rows for trips.csv: (id, depart, arrival or "", duration, free flow, ..).
     start: the clock at the run's begin."""
     arrived = [row for row in rows if row[2] != ""]
     under_way = [row for row in rows if row[2] == "" and row[1] < clock]
     ends = [row[1] + float(row[4]) for row in under_way]
     late = sum(end <= clock for end in ends)
-    return Trips(
+    return TripsAtEnd(
         clock=clock,
         vehicles=len(rows),
         durations=[row[3] for row in arrived],
@@ -85,22 +89,26 @@ def missing_doubts(arrived: Mapping[str, float], due: float) -> list[str]:
     return [f"{name} {missing:,.0f} of {due:,.0f} {told}".strip() for name, missing in late.items()]
 
 
-def doubts(trips: Trips, rescues: int, censuses: Sequence, run: Run, mapping: Map, listed: Sequence[str]) -> list[str]:
-    """What speaks against a run by its rescues, arrivals, entries, works, lengths and lights, a text each. rescues: how
-    many; censuses: of each minute; listed: lights that SUMO times by detectors and that show their listed seconds."""
+def doubts(
+    trips: TripsAtEnd, rescues: int, censuses: Sequence, run: Run, mapping: Map, listed: Sequence[str]
+) -> list[str]:
+    """What speaks against a run by rescues, arrivals, entries, works, full lanes, starts, lengths and lights, a text
+    each. rescues: how many; censuses: of each minute; listed: lights that SUMO times by detectors and that show their
+    listed seconds."""
     found = [*rescue_doubts(trips, rescues), *arrival_doubts(trips), *entry_doubts(trips, censuses)]
     found += works_doubts(works_in(run, mapping), [(trips.clock, trips.all_arrived())])
+    found += [*full_doubts(mapping), *start_doubts(mapping)]
     return [*found, *length_doubts(trips.clock, run, mapping), *actuated_doubts(trips.clock, run, mapping, listed)]
 
 
-def rescue_doubts(trips: Trips, rescues: int) -> Iterator[str]:
+def rescue_doubts(trips: TripsAtEnd, rescues: int) -> Iterator[str]:
     """A doubt where there were more rescues than a hundredth of the vehicles, and more than one. rescues: how many in
     all, so that a vehicle that was rescued twice counts twice."""
     if rescues > max(1, MOST_RESCUES * trips.vehicles):
         yield f"{rescues:,} rescues of {count_told(trips.vehicles, 'vehicle')}"
 
 
-def arrival_doubts(trips: Trips) -> Iterator[str]:
+def arrival_doubts(trips: TripsAtEnd) -> Iterator[str]:
     """A doubt where the network is locked (nobody has arrived for 600 s who should have), or more than a tenth of those
     that had the time to arrive has not."""
     if trips.long_due and trips.clock - trips.last >= STILL:
@@ -113,7 +121,7 @@ def arrival_doubts(trips: Trips) -> Iterator[str]:
         yield f"{trips.late:,} of {count_told(trips.due, 'vehicle')} that had the time to arrive {has} not"
 
 
-def entry_doubts(trips: Trips, censuses: Sequence) -> Iterator[str]:
+def entry_doubts(trips: TripsAtEnd, censuses: Sequence) -> Iterator[str]:
     """A doubt where more than a twentieth of the vehicles waits to enter at the worst census."""
     worst = max(censuses, key=lambda census: census.waiting, default=None)
     if worst is not None and worst.waiting > MOST_WAITING * trips.vehicles:
@@ -184,6 +192,25 @@ def crowding_doubts(vehicles: int, crowded: Mapping[str, int]) -> Iterator[str]:
         )
 
 
+def full_doubts(mapping: Map) -> Iterator[str]:
+    """A doubt where more than a fifth of the vehicles pass lanes that are nearly full by the demand."""
+    full = mapping.full
+    if full.share > MOST_FULL:
+        first = "; ".join(one.told() for one in full.lanes[:NAMED])
+        most = f", most of all {first}" if len(full.lanes) > NAMED else f": {first}"
+        yield (
+            f"{full.vehicles:,} of {count_told(full.of, 'vehicle')} pass lanes that are nearly full by the demand, and "
+            f"their queues may be other than in SUMO{most}"
+        )
+
+
+def start_doubts(mapping: Map) -> Iterator[str]:
+    """A doubt where more than 0.15 of the vehicles start slowly at lights."""
+    starts = mapping.starts
+    if starts and starts.vehicles > MOST_SLOW * starts.of:
+        yield f"{starts.told()}; mean trips of such drawn rows were {SLOW_OFF} too short"
+
+
 def length_doubts(clock: int, run: Run, mapping: Map) -> Iterator[str]:
     """A doubt where the routes of those that wish to depart before a clock are, together, by more than a tenth longer
     or shorter than in SUMO, as edges are whole cells."""
@@ -205,11 +232,11 @@ def count_told(count: int, thing: str) -> str:
     return f"{count:,} {thing}{'' if count == 1 else 's'}"
 
 
-def write_doubts(folder: str, found: Sequence[str]) -> None:
+def write_doubts(folder: str, found: Sequence[str], program: str) -> None:
     """Writes to a folder why a study or a search is not to be trusted (found, empty where it is), in a setting.json
-    with nothing else. Fault where it cannot be written."""
+    with nothing else but that its program is without proofs. program: its path. Fault where it cannot be written."""
     with whole_file(f"{folder}/{NAME}") as file:
-        json.dump({"not_trusted": list(found)}, file, separators=(",", ":"))
+        json.dump({"not_trusted": list(found), **proof_note(program)}, file, separators=(",", ":"))
 
 
 def verdict(found: Sequence[str]) -> str:

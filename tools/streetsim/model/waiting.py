@@ -1,11 +1,12 @@
 """Who gives way to whom where there is no light, as the map has it: the turns, those that go first there, and the gaps
 that the others need."""
 from collections.abc import Iterable
-from dataclasses import astuple, dataclass, replace
-from typing import Any, Self
+from dataclasses import dataclass, replace
+from typing import Self
+
+from streetsim.model.named import one_of
 
 TurnKey = tuple[int, int, int]  # link, lane, next link
-Written = list[Any]  # as it stands in the map
 WIDER = 0.3  # seconds more for each further lane of a street that is crossed
 
 
@@ -19,6 +20,7 @@ class Gap:
     beside: float = 1.0  # weight, 0 to 1, of those on further lanes of the foe's street
     others: float = 1.0  # weight, 0 to 1, of those on other streets
     after: float = 1.0  # seconds after a foe passed its stop line, until it is out of the way
+    rolling: float = 3.5  # seconds that have to be free for one who comes while nobody stands there, at any flow
 
     def before(self, lane: float, street: float, every: float) -> float:
         """Seconds that have to be free, by vehicles an hour of the foe's lane, its street, and all who go first."""
@@ -62,10 +64,6 @@ class Foe:
     slow: bool  # whether those that use one gap follow each other more slowly than from a queue
     street: int = 0  # a number that all links of one edge have in common
 
-    def written(self) -> Written:
-        """A list, as it stands in the map: link, lane, next link, the numbers of the gap in a list, slow, street."""
-        return [self.link, self.lane, self.next, list(astuple(self.gap)), self.slow, self.street]
-
 
 @dataclass(slots=True, frozen=True)
 class GivingWay:
@@ -76,26 +74,20 @@ class GivingWay:
     foes: tuple[Foe, ...]
     pace: Pace | None = None  # of those who have to stop
 
-    def written(self) -> Written:
-        """A list, as it stands in the map: node, turns, foes as they are written, and the numbers of the pace in a
-        list, empty where nobody has to stop."""
-        pace = [] if self.pace is None else list(astuple(self.pace))
-        return [self.node, [list(turn) for turn in self.turns], [foe.written() for foe in self.foes], pace]
 
-    @property
-    def is_slow(self) -> bool:
-        """Whether those who give way follow more slowly than from a queue, so that their own passing counts."""
-        return self.pace is not None or any(foe.slow for foe in self.foes)
-
-
-def giving_way_of(value: Iterable[Written]) -> list[GivingWay]:
-    """Those who give way, from what `GivingWay.written` gave for each."""
+def giving_way_of(value: Iterable[object]) -> list[GivingWay]:
+    """Those who give way, of a map's file."""
+    found = (one_of(GivingWay, one) for one in value)
     return [
-        GivingWay(
-            node,
-            tuple((link, lane, following) for link, lane, following in turns),
-            tuple(Foe(link, lane, following, Gap(*gap), *more) for link, lane, following, gap, *more in foes),
-            Pace(*pace) if pace else None,
+        replace(
+            one, turns=tuple((link, lane, following) for link, lane, following in one.turns),
+            foes=tuple(map(foe_of, one.foes)), pace=one_of(Pace, one.pace) if one.pace else None,
         )
-        for node, turns, foes, pace in value
+        for one in found
     ]
+
+
+def foe_of(value: object) -> Foe:
+    """A turn that goes first, of a map's file."""
+    found = one_of(Foe, value)
+    return replace(found, gap=one_of(Gap, found.gap))

@@ -12,7 +12,7 @@ METRES, GAP = limits.CELL_METRES, limits.GAP_METRES
 Simulated = TypeVar("Simulated", bound=Simulation)
 
 
-class Calls(Generic[Simulated]):
+class CallGroup(Generic[Simulated]):
     """A domain of calls, as TraCI groups them. One that is not here raises NotHere, which says what to do instead."""
 
     name = ""
@@ -36,7 +36,7 @@ class Calls(Generic[Simulated]):
         """Refuses a name that is not one of names, where a domain does so; here every name may be."""
 
 
-class SimulationCalls(Calls[Simulated]):
+class SimulationCalls(CallGroup[Simulated]):
     """Calls on the run itself."""
     def getTime(self) -> float:
         """The clock, in seconds."""
@@ -47,7 +47,7 @@ class SimulationCalls(Calls[Simulated]):
         return self.now().count_not_ended()
 
 
-class VehicleCalls(Calls[Simulated]):
+class VehicleCalls(CallGroup[Simulated]):
     """Calls on a vehicle. Of one that is not on the road those on its lane, edge, place and speed give NOWHERE, TraCI's
     value for "nowhere", and empty texts; in scenarios those on the lane of one in a junction too."""
 
@@ -98,13 +98,14 @@ class VehicleCalls(Calls[Simulated]):
         return (where.cell + 1) * link.metres / link.cells if where.cell is not None else link.metres
 
     def getSpeed(self, name: str) -> float:
-        """Metres a second, in whole cells of 7.5 m."""
+        """Metres a second, in whole cells of its link."""
         where = self.on_road(name)
-        return NOWHERE if where is None else where.speed * METRES
+        return NOWHERE if where is None else where.metres_a_second(self.now().map.links)
 
     def getLength(self, name: str) -> float:
-        """Metres of its cells without the gap ahead: 5 for one cell, and before the program knows it, 12.5 for two."""
-        return self.simulation_with(name).fleet.sizes.get(name, 1) * METRES - GAP
+        """Metres of its cells without the gap ahead: 5 for one cell, 12.5 for two."""
+        fleet = self.simulation_with(name).fleet
+        return fleet.size(fleet.numbers[name]) * METRES - GAP
 
     def getMinGap(self, name: str) -> float:
         """Metres of the gap ahead of a vehicle that stands, which is part of its cells."""
@@ -117,15 +118,15 @@ class VehicleCalls(Calls[Simulated]):
         return simulation.edge_names(simulation.plan(name))
 
 
-class TrafficCalls(Calls[Simulated]):
+class TrafficCalls(CallGroup[Simulated]):
     """Calls on lanes, edges or detectors, by the vehicles that are there."""
 
-    def cars(self, name: str) -> list[int]:
+    def numbers(self, name: str) -> list[int]:
         """The numbers of the vehicles there. Each class below gives its own, and says in which order."""
         raise NotImplementedError
 
     def speeds(self, name: str) -> list[float]:
-        """Metres a second of each vehicle of `cars`, in their order. Each class below gives its own."""
+        """Metres a second of each of `numbers`, in their order. Each class below gives its own."""
         raise NotImplementedError
 
     def speed_of_nobody(self, _name: str) -> float:
@@ -133,13 +134,12 @@ class TrafficCalls(Calls[Simulated]):
         return -1.0
 
     def getLastStepVehicleIDs(self, name: str) -> tuple[str, ...]:
-        """Names of the vehicles there, in the order of `cars`."""
-        names = self.now().fleet.names
-        return tuple(names[car] for car in self.cars(name))
+        """Names of the vehicles there, in the order of `numbers`."""
+        return self.now().names_of(self.numbers(name))
 
     def getLastStepVehicleNumber(self, name: str) -> int:
         """How many vehicles are there."""
-        return len(self.cars(name))
+        return len(self.numbers(name))
 
     def getLastStepMeanSpeed(self, name: str) -> float:
         """The mean of `speeds`, metres a second; speed_of_nobody where there are none."""

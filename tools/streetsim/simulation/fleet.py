@@ -1,14 +1,18 @@
-"""The vehicles of a simulation by SUMO's names, and where one is."""
+"""The vehicles of a simulation by SUMO's names."""
 from collections.abc import Sequence
-from dataclasses import dataclass, field
+from typing import NamedTuple
 
-from streetsim.model.runs import Command
+from streetsim.base import limits
+from streetsim.base.arrays import numpy as np
+from streetsim.kernel.seconds import Vehicles
+from streetsim.model.mapping import Map, MapLink
+from streetsim.model.runs import Command, Run
+from streetsim.observe.trips import vehicle_names
 
 NOWHERE = -1073741824.0  # TraCI's value for a place that is not known
 
 
-@dataclass(slots=True)
-class OnRoad:
+class OnRoad(NamedTuple):
     """Where a vehicle on the road is, and how fast; cell is None in the junction behind its link."""
 
     link: int
@@ -22,21 +26,43 @@ class OnRoad:
         assert self.cell is not None
         return self.cell
 
+    def metres_a_second(self, links: Sequence[MapLink]) -> float:
+        """Its speed in metres of SUMO's, of which each link has so many in a cell; links: of the map."""
+        return self.speed * links[self.link].cell_metres
 
-@dataclass(slots=True)
+
 class Fleet:
-    """What the program was told of vehicles. One that was taken out and entered anew has the last of its numbers."""
+    """The vehicles of a simulation, by numbers that they keep: those of the file first, then those of a script."""
 
-    cars: dict[str, int] = field(default_factory=dict)  # by name: number
-    names: dict[int, str] = field(default_factory=dict)  # by number
-    plans: dict[str, tuple[int, ...]] = field(default_factory=dict)  # by name: links, those that are driven included
-    sizes: dict[str, int] = field(default_factory=dict)  # by name: cells
-    starts: dict[int, tuple[int, int]] = field(default_factory=dict)  # by number: (link, lane) on which it departs
-    departs: dict[int, int] = field(default_factory=dict)  # by number: clock at which it wishes to
+    def __init__(self, run: Run, mapping: Map, vehicles: Vehicles) -> None:
+        """vehicles: of the run's kernel, which the program was told of."""
+        self.vehicles = vehicles
+        self.names = vehicle_names(run, mapping)
+        self.numbers = {name: number for number, name in enumerate(self.names)}  # where a name came again the last
+        self.enters = [line.command for line in run.enters]  # by which each entered last, or is to enter
+        self.plans: list[Sequence[int]] = [command["plan"] for command in self.enters]  # with the links before that
+        self.departs: list[int] = [command["depart"] for command in self.enters]  # the clocks that they wished first
+        self.sizes = np.ones(limits.VEHICLES, np.int32)  # cells
+        self.sizes[: len(self.enters)] = [command.get("size", 1) for command in self.enters]
 
-    def note(self, name: str, car: int, command: Command, driven: Sequence[int] = ()) -> None:
-        """Notes a vehicle that entered by a command as number car; driven: links, before it was taken out."""
-        plan = command["plan"]
-        self.cars[name], self.names[car], self.starts[car] = car, name, (plan[0], command["lane"])
-        self.departs[car] = command["depart"]
-        self.plans[name], self.sizes[name] = (*driven, *plan), command.get("size", 1)
+    def add(self, name: str, command: Command) -> None:
+        """Adds a vehicle of a script by its enter command; it has the next number."""
+        self.numbers[name] = len(self.names)
+        self.sizes[len(self.names)] = command.get("size", 1)
+        self.names.append(name)
+        self.enters.append(command)
+        self.plans.append(command["plan"])
+        self.departs.append(command["depart"])
+
+    def car(self, name: str) -> int | None:
+        """The number of a vehicle in the program; None before the program is told of it. KeyError for an unknown
+        name."""
+        return self.vehicles.car.get(self.numbers[name])
+
+    def size(self, number: int) -> int:
+        """The cells of a vehicle."""
+        return self.enters[number].get("size", 1)
+
+    def begun(self, number: int) -> int:
+        """How many links of its plan a vehicle had driven when it entered last."""
+        return len(self.plans[number]) - len(self.enters[number]["plan"])

@@ -4,9 +4,12 @@ from collections.abc import Mapping
 from dataclasses import dataclass, field
 from math import inf
 
-from streetsim.actuated.driver import Controller
-from streetsim.actuated.logic import Actuated
 from streetsim.base.files import Fault
+from streetsim.control.actuated_driver import DrivenProgram as Driven
+from streetsim.control.actuated_logic import Actuated
+from streetsim.kernel.loop import NEVER, Controller, Kernel
+from streetsim.kernel.seconds import Block
+from streetsim.simulation.deeds import Deeds, Doer, deed
 from streetsim.simulation.errors import TraCIException
 from streetsim.simulation.shown import CONSTANT
 from streetsim.simulation.simulation import Simulation
@@ -19,7 +22,7 @@ Link = tuple[str, str, str] | None  # lane, next lane, lane inside the junction
 
 
 @dataclass(slots=True)
-class Light:
+class LightShow:
     """What a light shows: phases of (seconds, state), over and over, of which the first began at the clock begin;
     since: the clock at which a script set what it shows, or the run began."""
 
@@ -46,48 +49,65 @@ class Light:
         return 0, self.phases[0][0]
 
 
-class Control:
+class Control(Controller, Doer):
     """What each light shows, and when phases end that a script has given another end; clocks are in seconds.
     TraCIException for a light that is not known."""
 
+    part = "control"
+
     def __init__(
-        self, simulation: Simulation, lights: dict[str, Light], offsets: Mapping[tuple[str, str], float]
+        self, simulation: Simulation, lights: dict[str, LightShow], offsets: Mapping[tuple[str, str], float],
+        deeds: Deeds,
     ) -> None:
-        """lights: by name, as the files have them; offsets: seconds, by light and program."""
-        self.simulation, self.lights = simulation, lights
+        """lights: by name, as the files have them; offsets: seconds, by light and program; deeds: where those of a
+        script are noted."""
+        self.simulation, self.lights, self.deeds = simulation, lights, deeds
         self.begins = dict(offsets)  # by light and program: a clock at which its cycle begins, as it goes on unseen
-        self.timers: list[tuple[int, str, int]] = []  # (clock, light, index): the phase that begins then
+        self.timers: dict[str, tuple[int, int]] = {}  # by light (clock, index): the phase that begins then
         self.changes = deque(simulation.map.switches)  # by time of day, that the lights are still to be told of
-        for light in lights.values():
-            light.since = simulation.clock
-        self.note_switches(simulation.clock)
+
+    @property
+    def clock(self) -> int:
+        """The clock of the run."""
+        return self.simulation.clock
+
+    def begin(self, kernel: Kernel) -> None:
+        """Notes the run's begin."""
+        for light in self.lights.values():
+            light.since = kernel.clock
+        self.note_switches(kernel.clock)
+
+    def next_clock(self) -> int:
+        """That at which the next phase ends that a script has set to."""
+        return min((clock for clock, _ in self.timers.values()), default=NEVER)
 
     def note_switches(self, clock: int) -> None:
         """Notes for the lights the programs that they have by time of day up to a clock, for which the run has lines;
         those that a script has set keep what it set."""
         while self.changes and self.changes[0][0] <= clock:
             _, name, program = self.changes.popleft()
-            if name in self.lights and not self.simulation.shown.forgotten & {*self.simulation.shown.nodes(name)}:
+            if name in self.lights and self.simulation.shown.forgotten.isdisjoint(self.simulation.shown.nodes(name)):
                 light = self.lights[name]
                 light.phases, light.names = light.programs[program]
                 light.program, light.begin = program, self.begins.get((name, program), 0.0)
 
-    def light(self, name: str) -> Light:
+    def light(self, name: str) -> LightShow:
         """A light by its name, with the program that it has by time of day."""
         self.note_switches(self.simulation.clock - 1)
         if name not in self.lights:
             raise TraCIException(f"Traffic light '{name}' is not known")
         return self.lights[name]
 
-    def driven(self, name: str) -> Controller | None:
+    def driven(self, name: str) -> Driven | None:
         """What drives a light by detectors now; None where it has a program of seconds, or one of the script."""
-        return self.simulation.driving.driver.controller_of(name)
+        return self.simulation.driver.controller_of(name)
 
+    @deed
     def run_program(self, name: str, program: str) -> None:
         """Runs one of a light's programs, from the second of its cycle that it has come to unseen, as a script has left
         it; one that detectors drive, from where they have brought it meanwhile. Nothing where it runs already.
         TraCIException where the light has none of this name."""
-        light, driver = self.light(name), self.simulation.driving.driver
+        light, driver = self.light(name), self.simulation.driver
         if program not in light.programs:
             raise TraCIException(f"Traffic light '{name}' has no program {program!r}")
         if program == light.program:
@@ -99,7 +119,7 @@ class Control:
         self.leave_program(name)
         self.simulation.shown.forget(name)
         driver.release(name, self.simulation.clock)
-        self.simulation.show(found.resumes(self.simulation.clock))
+        self.simulation.kernel.send(found.resumes(self.simulation.clock))
         light.phases, light.program, light.names = phases, program, names
 
     def state(self, name: str) -> str:
@@ -113,16 +133,16 @@ class Control:
         """(index of a light's phase in the last step, or since a script has set it at this clock; seconds left of it),
         by its program and the end that a script has set; not of a light that detectors drive."""
         light, clock = self.light(name), self.simulation.clock
-        for end, one, index in self.timers:
-            if one == name:
-                return (index - 1) % len(light.phases), end - clock
+        if name in self.timers:
+            end, index = self.timers[name]
+            return (index - 1) % len(light.phases), end - clock
         return light.phase_at(clock)
 
-    def show_due(self) -> None:
+    def act(self, clock: int, _now: Block) -> None:
         """Ends the phases that a script has set to end by this clock, and shows the next ones."""
-        for clock, light, index in [timer for timer in self.timers if timer[0] <= self.simulation.clock]:
-            self.timers.remove((clock, light, index))
-            self.show_phase(light, index)
+        for name, (_, index) in [timer for timer in self.timers.items() if timer[1][0] <= clock]:
+            del self.timers[name]
+            self.show_phase(name, index)
 
     def show_phase(self, name: str, index: int) -> None:
         """Shows the phase of an index of the light's program from now on, from its begin."""
@@ -142,12 +162,14 @@ class Control:
         light.phases, light.program, light.names, light.begin = phases, program, names, begin
         light.since = self.simulation.clock
 
+    @deed
     def set_program(self, name: str, program: str, phases: Phases, names: list[str], begin: float) -> None:
         """As show_program; the program may be chosen again by its name, also in place of one that detectors drive."""
         self.show_program(name, program, phases, names, begin)
         self.lights[name].programs[program] = phases, names
         self.lights[name].scripted.add(program)
 
+    @deed
     def go_to(self, name: str, index: int) -> None:
         """Shows the phase of an index for its seconds from now on, whatever end was set for the present one. Where that
         is the present one it goes on, with its end set as by end_phase; but where detectors drive the light, which
@@ -156,26 +178,28 @@ class Control:
         check_index(name, phases, index)
         if (driven := self.driven(name)) is not None:
             if actuated_of(name, driven).go_to(index, clock):
-                self.simulation.show(driven.begins(clock))
+                self.simulation.kernel.send(driven.begins(clock))
         elif index == self.present_phase(name)[0]:
             self.end_phase(name, clock + max(1, round(phases[index][0])))
         else:
             self.show_phase(name, index)
-            self.end_timers(name)
+            self.timers.pop(name, None)
             self.lights[name].since = clock
+
+    @deed
+    def name_phase(self, name: str, index: int, text: str) -> None:
+        """Names a phase of the program that runs."""
+        light = self.light(name)
+        light.names = [*light.names[:index], text, *light.names[index + 1 :]]
 
     def leave_program(self, name: str) -> None:
         """Notes where the cycle of a light's program is, with the end that a script has set for a phase, so that it
         goes on unseen from there."""
         light = self.lights[name]
-        ends = (end - seconds_of(light.phases[:index]) for end, one, index in self.timers if one == name)
-        self.begins[name, light.program] = next(ends, light.begin)
-        self.end_timers(name)
+        end, index = self.timers.pop(name, (light.begin, 0))
+        self.begins[name, light.program] = end - seconds_of(light.phases[:index])
 
-    def end_timers(self, name: str) -> None:
-        """Forgets when a phase of a light was to end."""
-        self.timers = [timer for timer in self.timers if timer[1] != name]
-
+    @deed
     def end_phase(self, name: str, clock: int) -> None:
         """Shows the present phase until a clock, with permissive greens as full greens, and then the next one; a light
         that detectors drive stays driven, its greens as they are. TraCIException for a NEMA light that they drive."""
@@ -184,20 +208,15 @@ class Control:
             actuated_of(name, driven).end_at(clock)
             return
         index, _ = self.present_phase(name)
-        self.end_timers(name)
-        self.timers.append((clock, name, (index + 1) % len(light.phases)))
-        self.show(name, [(CONSTANT, light.phases[index][1])], 0)
+        if name not in self.timers:  # else it is shown so already
+            self.show(name, [(CONSTANT, light.phases[index][1])], 0)
+        self.timers[name] = clock, (index + 1) % len(light.phases)
 
+    @deed
     def hold(self, name: str, state: str) -> None:
         """Shows a state, each g as G, until another call sets the light, whose phases it replaces by this one, as the
         program "online"; detectors drive it no more. TraCIException for a wrong state."""
         self.show_program(name, "online", [(CONSTANT, state)], [""], self.simulation.clock)
-
-    def resume(self, name: str, node: int) -> None:
-        """Goes on at a node, after a state was loaded, with a program that is sent phase by phase."""
-        light = self.light(name)
-        offset = light.begin % seconds_of(light.phases)
-        self.simulation.shown.resume(name, as_sent(light.phases), offset, self.simulation.clock, node)
 
     def show(self, name: str, phases: Phases, begin: float) -> None:
         """Sends a cycle of phases of which the first began at the clock begin. TraCIException, before anything is sent,
@@ -222,7 +241,7 @@ def as_sent(phases: Phases) -> Phases:
     return [(phases[0][0], phases[0][1].replace("g", "G"))] if len(phases) == 1 else phases
 
 
-def actuated_of(name: str, driven: Controller) -> Actuated:
+def actuated_of(name: str, driven: Driven) -> Actuated:
     """The logic of a light whose phases a script may choose; TraCIException for a NEMA light."""
     if not isinstance(driven.logic, Actuated):
         why = "is of type NEMA, whose rings choose its phases: set another program, or a state"

@@ -8,20 +8,22 @@ from pathlib import Path
 from tempfile import TemporaryDirectory
 
 from streetsim.base.files import whole_file
-from streetsim.base.words import ROUNDS
+from streetsim.base.words import ROUNDS, names_in
 from streetsim.cli import import_ as importing
-from streetsim.model.stops import unmade_stops_told
+from streetsim.model.replications import DRAWN
+from streetsim.simulation.asked import ScriptSettings
 from streetsim.simulation.errors import FatalTraCIError
 from streetsim.simulation.options import IMPORTED, LOGS, NO_FILE, options_of, warnings_of
-from streetsim.simulation.session import Session
+from streetsim.simulation.session import TraciSession
 from streetsim.simulation.street_facts import Facts, read_facts
 from streetsim.simulation.writing import SERVED
+from streetsim.sumo.demand import Unrouted
 
 Options = Mapping[str, str]
 PERIOD = 900  # seconds of the rows of edgeData without a period
 
 
-def open_session(words: Sequence[str]) -> Session:
+def open_session(words: Sequence[str]) -> TraciSession:
     """A session, by the words of SUMO's command line without SUMO's name; tells on standard error what differs from
     SUMO. FatalTraCIError or Fault where it cannot be imported or started."""
     options = options_of([*words])
@@ -29,7 +31,7 @@ def open_session(words: Sequence[str]) -> Session:
         return imported_session(Path(folder), options)
 
 
-def imported_session(folder: Path, options: Options) -> Session:
+def imported_session(folder: Path, options: Options) -> TraciSession:
     """The session of some options (long names), imported into a folder; tells warnings as write_warnings does. Output
     files are written that are asked for, edgeData by its period in whole seconds, PERIOD where that is below 1.
     FatalTraCIError where they name no network, Fault where the import or the run cannot be made."""
@@ -38,14 +40,13 @@ def imported_session(folder: Path, options: Options) -> Session:
     if not options.get("net-file"):
         raise FatalTraCIError("no network: give -n NET or -c CONFIGURATION")
     words = [options["net-file"], *additional, "-o", f"{folder}/run.jsonl", "--map", f"{folder}/map.json"]
-    words += ["--routes", *routes] if routes else []
     words += [word for name in sorted(IMPORTED & options.keys()) for word in (f"--{name}", options[name])]
     words += ["--ignore-route-errors"] if is_on(options.get("ignore-route-errors", "false")) else []
     with redirect_stderr(StringIO()) as said:
-        importing.main(words)
+        import_files(words, routes)
     try:
         facts = read_facts(options["net-file"], additional, routes)
-        session = Session(folder, facts, options, int(options.get("rounds", ROUNDS)))
+        session = TraciSession(folder, facts, options, asked_by(options))
     except Exception:
         write_warnings(said.getvalue(), options)
         raise
@@ -59,7 +60,33 @@ def imported_session(folder: Path, options: Options) -> Session:
     return session
 
 
-def notes_of(session: Session) -> str:
+def import_files(words: Sequence[str], routes: Sequence[str]) -> None:
+    """Imports by the words of streetsim-import and the files of routes; trips, and vehicles and flows without a route,
+    get ways, which is told on standard error. Fault where the import cannot be made."""
+    try:
+        importing.main([*words, *(["--routes", *routes] if routes else [])])
+    except Unrouted:
+        how = "shortest by free speed, signals and volumes, as of streetsim-import --trips"
+        print(f"warning: trips have the ways that are {how} (better ways: streetsim-route)", file=sys.stderr)
+        importing.main([*words, "--trips", *routes])
+
+
+def asked_by(options: Options) -> ScriptSettings:
+    """What the words of streetsim-run among some options ask of a run."""
+    return ScriptSettings(
+        rounds=int(options.get("rounds", ROUNDS)),
+        merging=options.get("merge") != "none",
+        driven=options.get("lights") != "listed",
+        stops=options.get("stops") != "none",
+        rescue=int(options.get("rescue", 0)),
+        priority=names_in(options.get("priority", "")),
+        drawn=options.get("departures") == DRAWN,
+        seen=int(options["seen"]) if "seen" in options else None,
+        choosing=True,
+    )
+
+
+def notes_of(session: TraciSession) -> str:
     """Lines on who gives way without a light, and on what a session does otherwise than SUMO; empty without any."""
     told = []
     if session.yielding.lines:
@@ -69,8 +96,7 @@ def notes_of(session: Session) -> str:
         names = ", ".join(dict.fromkeys(session.facts.unwritten))
         instead = "streetsim-run --sumo-output e1,e2,edgedata writes such files"
         told.append(f"warning: additional files ask for {names}, not written here: {instead}")
-    stops = unmade_stops_told(len(session.map.visits))
-    told += [f"warning: {text}" for text in (*session.driving.lights.notes(), stops) if text]
+    told += [*session.told, *(f"warning: {text}" for text in session.notes)]
     return "".join(f"{line}\n" for line in told)
 
 

@@ -1,12 +1,15 @@
 """The words of SUMO's command line: which are done here, which have no effect here, and which are refused."""
 import re
 from collections.abc import Callable, Mapping
+from difflib import get_close_matches
 
 from streetsim.base.files import Fault, seconds
 from streetsim.base.words import FALSE, MOST_ROUNDS
-from streetsim.sumo.configuration import NOWHERE as NO_FILE, OUTPUT, SILENT, SYNONYMS, is_one, read_configuration
+from streetsim.control.bus_planned import MOST_SEEN
+from streetsim.model.replications import DRAWN, LISTED
 from streetsim.simulation.errors import FatalTraCIError
 from streetsim.simulation.writing import SERVED
+from streetsim.sumo.configuration import NOWHERE as NO_FILE, OUTPUT, SILENT, SYNONYMS, is_one, read_configuration
 
 SHORT = {
     "-c": "configuration-file", "-n": "net-file", "-r": "route-files", "-a": "additional-files", "-b": "begin",
@@ -17,12 +20,13 @@ SHORT = {
 }
 INPUTS = {
     "configuration-file", "net-file", "route-files", "additional-files", "step-length", "time-to-teleport",
-    "output-prefix", "rounds", "ignore-route-errors", "merge", "lights",
+    "output-prefix", "rounds", "ignore-route-errors", "merge", "lights", "stops", "rescue", "priority", "seen",
+    "close", "departures",
 }
 LOGS = ("log", "message-log", "error-log")  # files that get what the import says
 IMPORTED = {
     "seed", "begin", "classes", "joint", "turns", "sizes", "dawdle", "change", "zone", "residence", "buffer",
-    "permissive",
+    "permissive", "speed-factor", "cut", "drivers",
 }
 # What would change the demand or the run, and what to do instead.
 REFUSED = {
@@ -31,6 +35,22 @@ REFUSED = {
     "mesosim": "there are no queues of the mesoscopic model here",
     "random": "give a --seed",
 }
+# SUMO's options that have no effect: what is otherwise here.
+CHANGES = {
+    "collision.action": ": vehicles do not collide",
+    "no-internal-links": ": nobody drives inside a junction, whose seconds and metres count",
+    "waiting-time-memory": ": accumulated waiting times are of the whole trip",
+    "lateral-resolution": ": vehicles fill their lane, and nobody overtakes in it",
+    "step-method.ballistic": ": vehicles go whole cells in a second",
+    "device.rerouting.probability": ": nobody looks for another way but by vehicle.changeTarget and the like",
+    "max-depart-delay": ": who finds no room waits until there is some",
+    "ignore-junction-blocker": ": who stands in a junction blocks those alone who leave the same lane",
+    "default.carfollowmodel": ": all vehicles drive by the machine's rules; --dawdle changes these",
+    "default.speeddev": ": all vehicles wish the limit; --dawdle changes how they drive",
+    "num-clients": "", "remote-port": "", "verbose": "", "no-step-log": "", "step-log.period": "",
+}
+TOLD = ("waiting-time-memory",)  # what scripts are told, and no run
+DONE = ("duration-log.statistics",)  # by streetsim-sumo
 # SUMO's further options and their families.
 KNOWN = re.compile(
     r"weight.*|load-state\..*|junction-taz|(netstate-dump|save-state|[\w-]+-output)\..*|step-method\.ballistic"
@@ -58,6 +78,10 @@ VALUES: dict[str, tuple[Callable[[str], bool], str]] = {
     "rounds": (lambda value: value.isdecimal() and int(value) <= MOST_ROUNDS, f"is not 0 to {MOST_ROUNDS}"),
     "merge": (("turns", "none").__contains__, "is not turns or none"),
     "lights": (("actuated", "listed").__contains__, "is not actuated or listed"),
+    "stops": (("made", "none").__contains__, "is not made or none"),
+    "departures": ((DRAWN, LISTED).__contains__, f"is not {DRAWN} or {LISTED}"),
+    "rescue": (str.isdecimal, "is no whole number of seconds"),
+    "seen": (lambda value: value.isdecimal() and 1 <= int(value) <= MOST_SEEN, f"is not 1 to {MOST_SEEN}"),
 }
 
 
@@ -115,16 +139,22 @@ def check_option(name: str, value: str) -> None:
         raise FatalTraCIError(f"--{name} {value}: {told}; leave it out, or give --{name} /dev/null")
     known = name in INPUTS or name in IMPORTED or name in REFUSED or name in LOGS
     if not (known or OUTPUT.fullmatch(name) or SILENT.fullmatch(name) or KNOWN.fullmatch(name)):
-        raise FatalTraCIError(f"No option with the name '{name}' exists.")
+        near = get_close_matches(name, (*INPUTS, *IMPORTED, *REFUSED, *LOGS, *SERVED, *SHORT.values(), *CHANGES), 1)
+        nearest = f" The nearest is --{near[0]}." if near else ""
+        raise FatalTraCIError(f"No option with the name '{name}' exists.{nearest}")
 
 
 def warnings_of(options: Mapping[str, str]) -> list[str]:
     """Texts on SUMO's options that were given and have no effect here, but for those that change no run in SUMO."""
     lacking = [
-        name for name in options if KNOWN.fullmatch(name) and not SILENT.fullmatch(name) and not OUTPUT.fullmatch(name)
+        name for name in options
+        if name in TOLD or KNOWN.fullmatch(name) and not SILENT.fullmatch(name) and not OUTPUT.fullmatch(name)
     ]
-    told = [f"--{name} {options[name]}".rstrip() + " has no effect here" for name in lacking if name not in IMPORTED]
+    told = [
+        f"--{name} {options[name]}".rstrip() + f" has no effect here{CHANGES.get(name, '')}" for name in lacking
+        if name not in IMPORTED and name not in DONE
+    ]  # fmt: skip
     if not options.get("time-to-teleport", "-1").startswith("-") and options["time-to-teleport"] != "0":
         time = options["time-to-teleport"]
-        told.append(f"--time-to-teleport {time} has no effect here: nobody teleports under a script")
+        told.append(f"--time-to-teleport {time} has no effect here: nobody teleports; --rescue {time} rescues")
     return told

@@ -3,10 +3,10 @@ from collections.abc import Sequence
 
 from streetsim.simulation.errors import TraCIException
 from streetsim.simulation.fleet import OnRoad
-from streetsim.simulation.session import Session
+from streetsim.simulation.session import TraciSession
 
 
-def other_way(session: Session, name: str, where: OnRoad | None, edges: Sequence[str]) -> None:
+def other_way(session: TraciSession, name: str, where: OnRoad | None, edges: Sequence[str]) -> None:
     """Has a vehicle go on along other edges, as a route without a name; nothing where these are its edges already.
     TraCIException where they have no connection, or do not begin where it is (where) or, where None, will depart."""
     plan = session.plan(name)
@@ -17,11 +17,11 @@ def other_way(session: Session, name: str, where: OnRoad | None, edges: Sequence
     if session.edge_names(plan if where is None else session.plan_ahead(name)) == tuple(edges):
         return
     links = links_along(session, name, None if where is None else here, edges)
-    session.types.route_of[name] = f"!{name}"
+    session.note_route(name, f"!{name}")
     session.replan(name, links)
 
 
-def links_along(session: Session, name: str, first: int | None, edges: Sequence[str]) -> tuple[int, ...]:
+def links_along(session: TraciSession, name: str, first: int | None, edges: Sequence[str]) -> tuple[int, ...]:
     """The links along a vehicle's edges; first: where it is, from which no turn needs to lead to the next one, as it
     enters anew there. TraCIException where the edges have no connection."""
     plan = session.connections.plan_along

@@ -1,12 +1,15 @@
 """What is shown at the nodes of lights: programs as one plan, and long ones phase by phase."""
-from collections.abc import Iterable, Iterator, Sequence
+from collections.abc import Collection, Iterable, Iterator, Sequence
 
 from streetsim.base import limits
 from streetsim.base.report import Report
+from streetsim.kernel.loop import NEVER, Controller, Kernel
+from streetsim.kernel.seconds import Block
 from streetsim.model.mapping import Map, MapTurn
-from streetsim.simulation.fleet import Command
+from streetsim.model.runs import Command
 from streetsim.sumo.crossing import GREEN
-from streetsim.sumo.net import Program
+from streetsim.sumo.driver_words import measured_of
+from streetsim.sumo.net import LightProgram
 from streetsim.sumo.signals import LitNode, TooLong, cycle_told, phase_lines, signal_command
 
 NOTHING: Command = {}
@@ -29,16 +32,41 @@ class LongProgram:
             self.clock, self.command = next(self.lines, (limits.CLOCK + 1, NOTHING))
 
 
-class Shown:
-    """The signals in force at the nodes of a map's lights, and those of long programs that are still to be sent."""
+MOST_MADE = 1 << 12  # programs whose commands are kept
+
+
+def with_offset(command: Command, offset: float) -> Command:
+    """A signal command with another offset, as in a tlLogic, seconds."""
+    cycle = sum(duration for duration, _ in command["phases"])
+    return {**command, "offset": round(-offset) % cycle}
+
+
+class SignalsInForce(Controller):
+    """The signals in force at the nodes of a map's lights, and those of long programs that are still to be sent, which
+    it sends."""
 
     def __init__(self, mapping: Map, first: Iterable[Command]) -> None:
         """first: the first commands of the file, of which the signals are taken."""
         self.map = mapping
         self.signals = {command["node"]: command for command in first if command["cmd"] == "signal"}  # by node
-        self.forgotten: frozenset[int] = frozenset()  # nodes for which lines of the file are no longer sent
+        self.forgotten: set[int] = set()  # nodes for which lines of the file are no longer sent
         self.coming: dict[int, LongProgram] = {}  # by node, of the programs that are sent phase by phase
         self.turns_by_node: dict[int, list[MapTurn]] = {}  # what turns_at gave
+        # By light and phases what program_commands gave, where it fits in one plan.
+        self.made: dict[tuple[str, tuple[tuple[float, str], ...]], tuple[list[Command], tuple[str, ...]]] = {}
+
+    def begin(self, kernel: Kernel) -> None:
+        """Nothing is to be sent yet."""
+        self.kernel = kernel
+
+    def act(self, clock: int, _now: Block) -> None:
+        """Sends the phases that have begun."""
+        self.kernel.send(self.commands_due(clock))
+
+    def in_force(self) -> Collection[Command]:
+        """The signal commands in force."""
+        sent = (one.line.command for one in self.kernel.sent if one.line.command["cmd"] == "signal")
+        return {**self.signals, **{command["node"]: command for command in sent}}.values()
 
     def nodes(self, light: str) -> list[int]:
         """The nodes of a light; empty for an unknown one."""
@@ -55,6 +83,10 @@ class Shown:
         to be sent for the light. offset: as in a tlLogic, seconds. Of permissive greens the usual share is
         shown, as flows are not known here. Fault, before anything is forgotten, where a state is shorter than the
         light's signals, or the cycle rounds to 0 s or is longer than 200,000 s."""
+        key = light, tuple((seconds, state) for seconds, state in phases)
+        if (made := self.made.get(key)) is not None:
+            self.forget(light)
+            return [with_offset(command, offset) for command in made[0]], list(made[1])
         report, commands, coming = Report(), [], {}
         for node in self.nodes(light):
             own = self.lit_node(light, node, phases, offset, report)
@@ -66,14 +98,20 @@ class Shown:
                 commands += coming[node].commands_due(clock)
         self.forget(light)
         self.coming |= coming
+        if not coming:
+            if len(self.made) >= MOST_MADE:
+                self.made.clear()
+            self.made[key] = commands, tuple(report.warnings)
         return commands, report.warnings
 
     def lit_node(self, light: str, node: int, phases: Cycle, offset: float, report: Report) -> LitNode:
         """A light's program at one of its nodes, in the form of which signal lines are made; report: gets warnings."""
         turns = [(turn.link, turn.lane, turn.next, turn) for turn in self.turns_at(node)]
         edges = {link: self.map.links[link].edge for link, *_ in turns}
-        program = Program(offset, list(phases), "static")
-        return LitNode(node, turns, edges, light, program, self.map.options["permissive"], report)
+        program = LightProgram(offset, list(phases), "static")
+        cut, shares = measured_of(self.map)
+        permissive = self.map.options["permissive"]
+        return LitNode(node, turns, edges, light, program, permissive, report, cut=cut, shares=shares)
 
     def constant_commands(self, light: str, state: str, begin: float) -> list[Command]:
         """The commands that show a state without permissive greens from the clock begin on; forgets what was to
@@ -87,21 +125,16 @@ class Shown:
             commands.append({"cmd": "signal", "node": node, "offset": offset, "phases": [[CONSTANT, green]]})
         return commands
 
-    def resume(self, light: str, phases: Cycle, offset: float, clock: int, node: int) -> None:
-        """Goes on, at a node, with a program that is sent phase by phase, of which the present phase was sent."""
-        self.coming[node] = LongProgram(self.lit_node(light, node, phases, offset, Report()), clock)
-        list(self.coming[node].commands_due(clock))
-
     def forget(self, light: str) -> None:
         """Has nothing more sent of what the file, or a long program, has for a light."""
-        own = frozenset(self.nodes(light))
-        self.forgotten = self.forgotten | own
+        own = self.nodes(light)
+        self.forgotten.update(own)
         self.coming = {node: phases for node, phases in self.coming.items() if node not in own}
 
     def commands_due(self, clock: int) -> list[Command]:
         """The commands of the phases of long programs that have begun by a clock; each is given once."""
         return [command for phases in self.coming.values() for command in phases.commands_due(clock)]
 
-    def next_clock(self, target: int) -> int:
+    def next_clock(self, target: int = NEVER) -> int:
         """The clock at which the next phase of a long program begins; target at most."""
         return min([target, *(phases.clock for phases in self.coming.values())])

@@ -5,9 +5,9 @@ from dataclasses import dataclass, field
 from xml.etree.ElementTree import Element
 
 from streetsim.base.files import at_least_zero, attribute, elements, number, optional, seconds
+from streetsim.simulation.lights import LightShow
 from streetsim.sumo.configuration import NOWHERE as NO_FILE
 from streetsim.sumo.net import OFF
-from streetsim.simulation.lights import Light
 
 Point = tuple[float, float]
 WIDTH = 3.2  # metres of a lane, where a file has none
@@ -19,7 +19,7 @@ WRITING = (
 
 
 @dataclass(slots=True)
-class Connection:
+class ConnectionFacts:
     """A way from a lane to a next one, as SUMO's lane.getLinks has it; direction and state are SUMO's letters. light,
     index: of its signal; empty and -1 where it has none."""
 
@@ -40,11 +40,11 @@ class LaneFacts:
     allowed: tuple[str, ...]
     disallowed: tuple[str, ...]
     shape: tuple[Point, ...]
-    links: list[Connection] = field(default_factory=list)
+    links: list[ConnectionFacts] = field(default_factory=list)
 
 
 @dataclass(slots=True)
-class Junction:
+class JunctionFacts:
     """What a network's file says of a junction, in metres."""
     point: Point
     shape: tuple[Point, ...]  # closed
@@ -59,11 +59,12 @@ class Facts:
     inside: dict[str, float] = field(default_factory=dict)  # metres of the lanes inside junctions
     onward: dict[str, str] = field(default_factory=dict)  # by lane inside a junction the next one there
     streets: dict[str, str] = field(default_factory=dict)  # by edge
-    junctions: dict[str, Junction] = field(default_factory=dict)
-    lights: dict[str, Light] = field(default_factory=dict)
+    junctions: dict[str, JunctionFacts] = field(default_factory=dict)
+    lights: dict[str, LightShow] = field(default_factory=dict)
     offsets: dict[tuple[str, str], float] = field(default_factory=dict)  # by light and program
     boundary: tuple[Point, Point] = ((0.0, 0.0), (0.0, 0.0))
     routes: dict[str, tuple[str, ...]] = field(default_factory=dict)
+    types: dict[str, dict[str, str]] = field(default_factory=dict)  # by vehicle type its attributes
     edgedata: list[tuple[str, float]] = field(default_factory=list)  # file and period, as additional files ask for them
     unwritten: list[str] = field(default_factory=list)  # files of detectors and of further edgeData
 
@@ -90,7 +91,7 @@ class Facts:
             self.onward[source] = via
         if source in self.lanes:
             index = optional(path, element, "linkIndex", int, -1)
-            self.lanes[source].links.append(Connection(target, via, direction, state, light, index))
+            self.lanes[source].links.append(ConnectionFacts(target, via, direction, state, light, index))
 
     def metres_inside(self, via: str) -> float:
         """Metres of the way through a junction that begins with a lane inside it; 0 for an unknown lane."""
@@ -111,11 +112,11 @@ class Facts:
             return
         phases = [(attribute(path, one, "duration", seconds), attribute(path, one, "state")) for one in found]
         names = [one.get("name") or "" for one in found]
-        light = Light(phases, begin, program, names=names)
+        light = LightShow(phases, begin, program, names=names)
         light.programs = {**(self.lights[name].programs if name in self.lights else {}), program: (phases, names)}
         self.lights[name] = light
 
-    def lights_at(self, names: Container[str]) -> dict[str, Light]:
+    def lights_at(self, names: Container[str]) -> dict[str, LightShow]:
         """{name: light} of the lights among names; puts into each its connections by index, and how many letters its
         states have. All connections must have been read before."""
         links: dict[str, dict[int, tuple[str, str, str]]] = {}
@@ -152,6 +153,8 @@ def read_facts(net: str, additional: Sequence[str], routes: Sequence[str]) -> Fa
             name = element.get("id")
             if element.tag == "route" and name:
                 facts.routes[name] = tuple((element.get("edges") or "").split())
+            elif element.tag == "vType" and name:
+                facts.types[name] = dict(element.items())
     return facts
 
 
@@ -165,7 +168,7 @@ def read_element(facts: Facts, path: str, element: Element) -> None:
         point = attribute(path, element, "x", number), attribute(path, element, "y", number)
         shape = optional(path, element, "shape", points, ())
         closed = shape if shape[:1] == shape[-1:] else (*shape, shape[0])
-        facts.junctions[attribute(path, element, "id")] = Junction(point, closed)
+        facts.junctions[attribute(path, element, "id")] = JunctionFacts(point, closed)
     elif element.tag == "tlLogic":
         facts.read_light(path, element)
     elif element.tag == "location":

@@ -4,7 +4,7 @@ from streetsim.model.mapping import Map
 from streetsim.sumo.types import DEFAULT, Kind
 
 
-class Types:
+class TypesByVehicle:
     """The type and the route of each vehicle, and what each type is."""
 
     def __init__(self, mapping: Map) -> None:

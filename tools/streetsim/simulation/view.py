@@ -1,111 +1,162 @@
-"""What stands where in a simulation, by polls of all its lanes."""
-from collections.abc import Iterable
+"""Who is where in a simulation, by the record of its run."""
+from functools import cached_property
+from typing import NamedTuple
 
-from streetsim.base.client import Entries, Lane, line_of, read_reply
-from streetsim.model.mapping import Place
-from streetsim.run.desk import EMPTY
-from streetsim.simulation.errors import FatalTraCIError
+from streetsim.base import limits
+from streetsim.base.arrays import Array
+from streetsim.base.arrays import numpy as np
+from streetsim.model.mapping import Map, Place
 from streetsim.simulation.fleet import OnRoad
-from streetsim.simulation.simulation import Simulation
+
+IN_JUNCTION = -1  # in place of a cell
 
 
-class View:
-    """The vehicles on the road at the clock of a look, and what has changed since the one before. Its user puts into
-    `before` who was on the road a step earlier (empty: not known), and calls clear when the clock has gone on."""
+class FleetSecond(NamedTuple):
+    """A second of a run, as columns; vehicles are by the numbers of the fleet."""
 
-    def __init__(self, simulation: Simulation) -> None:
-        """simulation: whose lanes are polled."""
-        self.simulation = simulation
-        places = simulation.map.lanes()
-        self.polls = [(place, line_of({"cmd": "lane", "link": place[0], "lane": place[1]})) for place in places]
-        self.on_road: dict[int, OnRoad] = {}  # by number, at the clock
-        self.asked = False  # whether on_road is that of the clock
-        self.on_lane: dict[Place, list[int]] = {}  # numbers, from the stop line
-        self.in_buffer: dict[Place, list[int]] = {}  # those in the junction behind it, first who leaves first
-        self.frame: list[tuple[int, int, Entries, list[int]]] = []  # by lane with somebody: cells, who is in the buffer
-        self.before: dict[int, OnRoad] = {}  # on_road a step earlier
-        self.held: dict[int, OnRoad] = {}  # by number, of those who enter anew there
-        self.seen: set[int] = set()
-        self.departed: list[int] = []  # in the last step
+    clock: int  # at its end
+    number: Array
+    slot: Array  # twice the link, and the lane
+    cell: Array  # of its front; below 0 in the junction behind the lane
+    speed: Array  # cells a step
+    gone: Array  # vehicles that arrived
+    left: Array  # the slots that they left
+
+
+class Looker:
+    """What looks at each second of a run, one after the other."""
+
+    def see(self, now: FleetSecond) -> None:
+        """Takes the next second."""
+        raise NotImplementedError
+
+
+class View(Looker):
+    """The vehicles on the road at the clock as columns of rows, and what has changed since `clear`. Vehicles are by the
+    numbers of the fleet. Rows are lane by lane, from the stop line, and behind each lane's those in the junction behind
+    it, first who leaves first; then those that enter anew at a junction, and are in it until they are seen again."""
+
+    def __init__(self, mapping: Map) -> None:
+        """mapping: of the run."""
+        self.slots = 2 * len(mapping.links)
+        self.keys = np.arange(2 * self.slots + 1)
+        self.seen, self.ended = (np.zeros(limits.VEHICLES, bool) for _ in range(2))
+        self.arrival = np.zeros(limits.VEHICLES, np.int64)  # clock; 0: it has not arrived
+        self.departure = np.zeros(limits.VEHICLES, np.int64)  # clock at the begin of the second in which it departed
+        self.count = 0  # of those who have ended
+        self.held: dict[int, int] = {}  # lanes, as twice the link and the lane, of those who enter anew
+        self.departed: list[int] = []
         self.arrived: list[int] = []
-        self.leaving: list[int] = []  # taken out at the end of their way since: they arrive in the step to come
-        self.gone: dict[str, int | None] = {}  # by name the step of its end
-        self.first = True  # whether no look was made
+        self.leaving: list[int] = []  # taken out at the end of their way: they arrive in the step to come
+        self.look(*np.zeros((4, 0), int))
+        self.before = self.number, self.slot, self.cell, self.speed  # a second ago
 
     def clear(self) -> None:
-        """Forgets who is on the road, as the clock has gone on."""
-        self.on_road, self.asked = {}, False
+        """Forgets who has departed and arrived."""
+        self.departed, self.arrived = [], []
 
-    def look_at_lanes(self) -> None:
-        """Polls all lanes; notes who is where, and who departed or ended since. FatalTraCIError for a refused poll."""
-        self.on_road, self.asked, self.on_lane, self.in_buffer, self.frame = {}, True, {}, {}, []
-        texts = self.simulation.client.exchange(line for _, line in self.polls)
-        for (place, _), text in zip(self.polls, texts, strict=True):
-            if text != EMPTY:
-                reply = read_reply(text)
-                if not isinstance(reply, Lane):
-                    raise FatalTraCIError(f"streetsim refused a poll of a lane: {reply}")
-                self.note_lane(place, reply)
-        # Vehicles that were taken out to go another way count as there until they are seen on their next link.
-        self.held = {car: where for car, where in self.held.items() if car not in self.on_road}
-        self.on_road.update(self.held)
-        self.departed = [car for car in self.on_road if car not in self.seen]
-        self.seen.update(self.departed)
-        self.note_gone([car for car in self.before if car not in self.on_road])
-        if self.first:
-            self.first = False
-            self.note_missed()
+    def see(self, now: FleetSecond) -> None:
+        """Takes the next second."""
+        if self.leaving or len(now.gone):
+            self.arrival[now.gone], self.ended[now.gone] = now.clock, True
+            self.count += len(now.gone)
+            self.arrived += [*self.leaving, *now.gone.tolist()]
+            self.leaving = []
+        new = now.number[~self.seen[now.number]]
+        if len(new):
+            self.departed += new.tolist()
+            self.seen[new], self.departure[new] = True, now.clock - 1
+        self.before = self.number, self.slot, self.cell, self.speed
+        self.look(now.number, now.slot, now.cell, now.speed)
 
-    def note_lane(self, place: Place, reply: Lane) -> None:
-        """Notes where the vehicles are that the reply on one lane (link, lane) tells of."""
-        self.on_road.update({car: OnRoad(*place, cell, speed) for car, cell, speed, *_ in reply.cells})
-        self.on_road.update({car: OnRoad(*place, None, speed) for car, speed, *_ in reply.buffer})
-        self.on_lane[place] = [entry[0] for entry in reply.cells]
-        self.in_buffer[place] = [entry[0] for entry in reply.buffer]
-        self.frame.append((*place, reply.cells, self.in_buffer[place]))
+    def look(self, number: Array, slot: Array, cell: Array, speed: Array) -> None:
+        """Shows the rows of a second of the record, and those who enter anew and are not seen there."""
+        columns, self.recorded = (number, slot, np.maximum(cell, IN_JUNCTION), speed), len(number)
+        if self.held:
+            there = set(number.tolist())
+            self.held = {one: lane for one, lane in self.held.items() if one not in there}
+            more = [[one, lane, IN_JUNCTION, 0] for one, lane in self.held.items()]
+            columns = np.append(np.array(columns), np.array(more, int).reshape(-1, 4).T, axis=1)
+        self.show(*columns)
 
-    def note_gone(self, cars: Iterable[int]) -> None:
-        """Asks what became of vehicles that are no longer seen, by number; notes when each ended, and who arrived."""
-        self.arrived, self.leaving = self.leaving, []
-        for reply in self.simulation.vehicles(cars):
-            self.gone[self.simulation.fleet.names[reply.car]] = reply.step
-            if reply.state == "arrived":
-                self.arrived.append(reply.car)
+    def show(self, number: Array, slot: Array, cell: Array, speed: Array) -> None:
+        """Sets the rows."""
+        self.number, self.slot, self.cell, self.speed = number, slot, cell, speed
+        for known in ("there", "there_before", "numbers", "bounds", "rows", "row_bounds", "speeds"):
+            self.__dict__.pop(known, None)
 
-    def note_missed(self) -> None:
-        """Asks what became of the vehicles that ended before the first look."""
-        fleet = self.simulation.fleet
-        for reply in self.simulation.vehicles(car for car in fleet.cars.values() if car not in self.seen):
-            if reply.state != "waiting":
-                self.gone[fleet.names[reply.car]] = reply.step
+    @cached_property
+    def numbers(self) -> list[int]:
+        """By row the vehicle."""
+        return self.number.tolist()
 
-    def has_just_departed(self, car: int) -> bool:
-        """Whether a vehicle stands in the first cell of its plan, as one that has just departed does."""
-        fleet, where = self.simulation.fleet, self.on_road[car]
-        return where.cell == 0 and not where.speed and where.link == fleet.plans[fleet.names[car]][0]
+    @cached_property
+    def rows(self) -> dict[int, int]:
+        """By vehicle on the road its row."""
+        return {number: row for row, number in enumerate(self.numbers)}
 
-    def to_depart(self) -> list[int]:
-        """The numbers of the vehicles that the program was told of and that had not departed at the last look."""
-        cars = self.simulation.fleet.cars
-        return [car for name, car in cars.items() if car not in self.seen and name not in self.gone]
+    @cached_property
+    def speeds(self) -> list[int]:
+        """By row cells a step."""
+        return self.speed.tolist()
 
-    def waiting_to_depart(self) -> list[int]:
-        """Those of to_depart whose second has passed, and who found no room."""
-        departs, clock = self.simulation.fleet.departs, self.simulation.clock
-        return [car for car in self.to_depart() if departs[car] < clock]
+    @cached_property
+    def there(self) -> dict[int, OnRoad]:
+        """Where each vehicle on the road is, by rows."""
+        return places_of(self.number, self.slot, self.cell, self.speed)
 
-    def rename(self, car: int, new: int, where: OnRoad) -> None:
-        """Notes that a vehicle at a node (where) goes on as number new, and stands there until it is seen again."""
-        self.seen.add(new)
-        self.on_road.pop(car)
-        self.held.pop(car, None)
-        self.on_road[new] = self.held[new] = OnRoad(where.link, where.lane, None, 0)
+    @cached_property
+    def row_bounds(self) -> Array:
+        """The first row of each lane, and, between two of them, of the junction behind it; one more at the end."""
+        keys = 2 * self.slot[: self.recorded] + (self.cell[: self.recorded] < 0)
+        return np.searchsorted(keys, self.keys)
 
-    def remove(self, name: str, car: int) -> None:
+    @cached_property
+    def bounds(self) -> list[int]:
+        """What row_bounds has."""
+        return self.row_bounds.tolist()
+
+    @cached_property
+    def there_before(self) -> dict[int, OnRoad]:
+        """Where each vehicle was that was on the road a second ago."""
+        return places_of(*self.before)
+
+    def on_lane(self, place: Place) -> list[int]:
+        """The vehicles on the cells of a lane, from the stop line."""
+        key = 4 * place[0] + 2 * place[1]
+        return self.numbers[self.bounds[key] : self.bounds[key + 1]]
+
+    def speeds_on(self, place: Place) -> list[int]:
+        """Cells a step of the vehicles of on_lane, in their order."""
+        key = 4 * place[0] + 2 * place[1]
+        return self.speeds[self.bounds[key] : self.bounds[key + 1]]
+
+    def in_buffer(self, place: Place) -> list[int]:
+        """Those in the junction behind a lane, first who leaves first."""
+        key = 4 * place[0] + 2 * place[1] + 1
+        return self.numbers[self.bounds[key] : self.bounds[key + 1]]
+
+    def remove(self, number: int) -> None:
         """Notes that a vehicle was taken out: it is on no lane and in no junction."""
-        if (where := self.on_road.pop(car, None)) is not None:
-            for lanes in (self.on_lane, self.in_buffer):
-                if car in (cars := lanes.get((where.link, where.lane), [])):
-                    cars.remove(car)
-        self.gone[name] = self.simulation.clock
-        self.held.pop(car, None)
+        self.ended[number], self.count = True, self.count + 1
+        self.held.pop(number, None)
+        self.drop(number)
+
+    def drop(self, number: int) -> None:
+        """Leaves out the row of a vehicle, where it has one."""
+        keep = self.number != number
+        self.recorded = int(np.count_nonzero(keep[: self.recorded]))
+        self.show(*(one[keep] for one in (self.number, self.slot, self.cell, self.speed)))
+
+    def hold(self, number: int, slot: int) -> None:
+        """Notes that a vehicle in the junction behind a lane (slot) enters anew there."""
+        self.held[number] = slot
+        self.drop(number)
+        recorded = slice(self.recorded)
+        self.look(*(one[recorded] for one in (self.number, self.slot, self.cell, self.speed)))
+
+
+def places_of(number: Array, slot: Array, cell: Array, speed: Array) -> dict[int, OnRoad]:
+    """Where each vehicle is, by rows."""
+    columns = zip(*(one.tolist() for one in (number, slot >> 1, slot & 1, cell, speed)))
+    return {one: OnRoad(link, lane, None if cell < 0 else cell, speed) for one, link, lane, cell, speed in columns}

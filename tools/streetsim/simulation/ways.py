@@ -3,14 +3,13 @@ from functools import cached_property
 from math import inf
 from operator import itemgetter
 
-from streetsim.base import limits
 from streetsim.simulation.errors import TraCIException
 from streetsim.simulation.inside import Inside
 from streetsim.simulation.simulation import Simulation
 from streetsim.simulation.view import View
-from streetsim.ways.costs import Costs, flat_costs
-from streetsim.ways.graph import END, Graph
-from streetsim.ways.router import Router
+from streetsim.sumo.router import Router
+from streetsim.sumo.way_costs import Costs, flat_costs
+from streetsim.sumo.way_graph import END, Graph
 
 SLOWEST = 0.1  # metres a second that an edge counts with where all stand
 
@@ -20,7 +19,7 @@ class Ways:
     edge has parallel links, a way may begin and end on any of them."""
 
     def __init__(self, simulation: Simulation, inside: Inside, view: View) -> None:
-        """inside: metres inside junctions; view: whose speeds give the seconds, after it has looked at the clock."""
+        """inside: metres inside junctions; view: whose speeds give the seconds."""
         self.simulation, self.map, self.inside, self.view = simulation, simulation.map, inside, view
         self.adapted: dict[str, float] = {}  # seconds that a script has set, by edge
         self.at_clock: tuple[int, Router] | None = None  # a clock, and the search by its travel times
@@ -82,7 +81,8 @@ class Ways:
         if edge in self.adapted:
             return self.adapted[edge]
         view, lanes = self.view, self.simulation.lanes_on(edge)
-        speeds = [view.on_road[car].speed * limits.CELL_METRES for lane in lanes for car in view.on_lane.get(lane, ())]
+        there = [view.there[one] for lane in lanes for one in view.on_lane(lane)]
+        speeds = [one.metres_a_second(self.map.links) for one in there]
         limit = self.inside.facts.lanes[self.map.lane_name(*lanes[0])].speed
         mean = sum(speeds) / len(speeds) if speeds else limit
         return self.map.links[lanes[0][0]].metres / max(SLOWEST, mean)

@@ -1,1 +1,2 @@
-"""What is read of SUMO's files, and the import that makes a run of it."""
+"""What is read of SUMO's files; ways through a network (way_, router, trips); and the import that makes a run of it
+(import_)."""

@@ -3,14 +3,17 @@
 The seconds were measured in SUMO 1.15 at lone junctions, under a queue that does not end (bench/junctions): how many
 leave in each gap between two that they give way to, then chosen so that as many leave here against 200 to 1,000
 vehicles an hour. They fall with the flow, as the traffic of SUMO, whose vehicles differ in speed, is more bunched
-and leaves more long gaps. Lanes side by side are bunched each for itself, and who goes across them needs longer.
+and leaves more long gaps. Lanes side by side are bunched each for itself, and who goes across them needs longer. Who
+comes while nobody stands at the line needs a shorter gap: in SUMO it loses time where one who goes first passes up to
+3.5 s later, whatever the street's speed and lanes, and 4.3 s right before left (one alone, meeting one). Where several
+come in a row, who joins them loses more: these seconds are chosen of two each by bench/light_waits.py.
 """
 from collections import defaultdict
 from collections.abc import Iterable, Mapping
 
 from streetsim.model.waiting import Foe, Gap, GivingWay, Pace, TurnKey
-from streetsim.sumo.losses import EdgePair, Flows
-from streetsim.sumo.net import MINOR, STOPS, Connection, SumoNet, connections_of
+from streetsim.sumo.crossing import EdgePair, Flows
+from streetsim.sumo.net import MINOR, STOPS, ZIPPER, NetConnection, SumoNet, connections_of
 from streetsim.sumo.network import Network
 
 FAST = 10.0  # metres a second before the junction, in a roundabout inside it: a stream like that is a fast one
@@ -20,13 +23,18 @@ STANDING = {MINOR: 1.0}
 # Seconds more before one who is crossed and gives way too: in which gaps these go changes from run to run.
 FACING = {STOPS: 6.0}
 # To cross a stream, to join a slow and a fast one.
-CROSSING, ENTERING, JOINING = Gap(7.0, 3.6, 3.5, 0.0, 0.4), Gap(7.2, 2.0, 3.5), Gap(8.4, 3.0, 5.0, 1.0, 0.4)
+CROSSING, ENTERING = Gap(7.0, 3.6, 3.5, 0.0, 0.4), Gap(7.2, 2.0, 3.5)
+JOINING = Gap(8.4, 3.0, 5.0, 1.0, 0.4, rolling=5.5)
+EQUAL, EQUAL_JOINING = 4.3, 6.5  # Gap.rolling where nobody has a main street, to cross and to join fast ones
 NONE = Gap(0.0, 0.0, 0.0)  # where all stop they go in turn
-AFTER_STOP = Gap(26.0, 32.0, 9.0, 1.0, 0.4)  # to join any stream
+AFTER_STOP = Gap(18.5, 17.0, 5.0, 1.0, 0.3)  # to join any stream
 # The same where nobody has a main street, and at a stop sign.
 OTHERS = {
-    EQUALS: {CROSSING: Gap(7.8, 2.8, 3.5, 0.0, 0.4), ENTERING: Gap(8.0, 2.0, 3.5), JOINING: Gap(9.2, 3.0, 5.0)},
-    STOPS: {CROSSING: Gap(3.0, 1.0, 2.0, 0.0, 0.4), ENTERING: AFTER_STOP, JOINING: AFTER_STOP},
+    EQUALS: {
+        CROSSING: Gap(7.8, 2.8, 3.5, 0.0, 0.4, rolling=EQUAL), ENTERING: Gap(8.0, 2.0, 3.5, rolling=EQUAL),
+        JOINING: Gap(9.2, 3.0, 5.0, rolling=EQUAL_JOINING),
+    },
+    STOPS: {CROSSING: Gap(3.0, 0.0, 3.0, 0.0, 0.4), ENTERING: AFTER_STOP, JOINING: AFTER_STOP},
 }
 PACES = {STOPS: Pace(2, 4.15), ALL_STOP: Pace(2, 4.15, 0.7)}
 
@@ -50,11 +58,12 @@ def conflicts_of(net: SumoNet, network: Network, flows: Flows) -> list[GivingWay
 
 
 def foes_by_movement(
-    connections: Iterable[Connection], yields: Mapping[int, Iterable[int]], network: Network, flows: Flows
+    connections: Iterable[NetConnection], yields: Mapping[int, Iterable[int]], network: Network, flows: Flows
 ) -> dict[EdgePair, dict[TurnKey, Foe]]:
     """Who goes before each used movement of a junction, as foes gives them, {(edge, next edge): {(link, lane, next
     link): foe}}, empty where nobody does. connections: of the junction; yields: the requests that each request gives
-    way to. Where all have to stop, these are all who come from other edges. flows: as in conflicts_of."""
+    way to. Where all have to stop, these are all who come from other edges; those of zippers go by turns (merges).
+    flows: as in conflicts_of."""
     used = (one for one in connections if flows.get((one.source, one.target)))
     of_request = {one.request: one for one in used if one.request is not None}
     found: dict[EdgePair, dict[TurnKey, Foe]] = {(one.source, one.target): {} for one in of_request.values()}
@@ -62,13 +71,14 @@ def foes_by_movement(
         if one.state == ALL_STOP:
             before = [at for at, other in of_request.items() if other.source != one.source]
         else:
-            before = [foe for foe in sorted(yields.get(request, ())) if foe in of_request]
+            asked = (foe for foe in sorted(yields.get(request, ())) if foe in of_request)
+            before = [foe for foe in asked if not one.state == of_request[foe].state == ZIPPER]
         for foe in before:
             found[one.source, one.target].update(foes(one, of_request[foe], network))
     return found
 
 
-def foes(one: Connection, other: Connection, network: Network) -> dict[TurnKey, Foe]:
+def foes(one: NetConnection, other: NetConnection, network: Network) -> dict[TurnKey, Foe]:
     """A connection (other) as foes of one that gives way to it, one for each link of its next edge, by (link, lane,
     next link), whether or not the network has such a turn."""
     link, lane = network.place_of[other.source, other.source_lane]
@@ -88,14 +98,14 @@ def foes(one: Connection, other: Connection, network: Network) -> dict[TurnKey, 
     }
 
 
-def joins_fast(one: Connection, other: Connection, speed: float, in_ring: bool) -> bool:
+def joins_fast(one: NetConnection, other: NetConnection, speed: float, in_ring: bool) -> bool:
     """Whether a connection joins the stream of a fast one (FAST). speed: of the other's street, metres a second;
     in_ring: the other is in a roundabout, where its speed inside the junction counts."""
     own = other.speed if in_ring and other.speed is not None else speed
     return one.target == other.target and own > FAST
 
 
-def gap_of(one: Connection, other: Connection, fast: bool) -> Gap:
+def gap_of(one: NetConnection, other: NetConnection, fast: bool) -> Gap:
     """The gap that one who gives way needs before each vehicle of another connection, as for a street of one lane;
     fast: as joins_fast says. Zero where all stop."""
     gap = JOINING if fast else ENTERING if one.target == other.target else CROSSING

@@ -9,15 +9,20 @@ from streetsim.base.report import Report
 from streetsim.model.mapping import Map, MapLink, MapTurn
 from streetsim.model.runs import Command
 from streetsim.sumo.conflicts import conflicts_of
+from streetsim.sumo.constraints import warn_of_broken
 from streetsim.sumo.crossing import hourly_flows
-from streetsim.sumo.demand import Vehicle, enters, kinds_of
+from streetsim.sumo.demand import DemandVehicle, enters, kinds_of
 from streetsim.sumo.detectors import detectors_on_cells
+from streetsim.sumo.full import fullness
+from streetsim.sumo.merges import merges_of
 from streetsim.sumo.net import STATIC, SumoNet, lights_not_static
 from streetsim.sumo.network import Network, Options
+from streetsim.sumo.paces import Paces
 from streetsim.sumo.programs import fixed_programs, kept_programs, lights_of_riders
 from streetsim.sumo.rules import warn_of_rules
 from streetsim.sumo.signals import AFTER, movements, signal_commands
 from streetsim.sumo.slowing import with_lower_limits
+from streetsim.sumo.starting import slow_starts
 from streetsim.sumo.timings import warn_of_clashes
 from streetsim.sumo.types import Types
 from streetsim.sumo.wauts import day_lines, days_of, programs_shown
@@ -39,25 +44,33 @@ def run_and_map(made: Made, report: Report) -> tuple[list[str], Map]:
     return lines, mapping
 
 
-def converted(net: SumoNet, types: Types, vehicles: Sequence[Vehicle], options: Options, report: Report) -> Made:
+def converted(
+    net: SumoNet, types: Types, vehicles: Sequence[DemandVehicle], options: Options, report: Report,
+    doubted: bool = True,
+) -> Made:
     """(the network, the lights with their nodes, the commands, the names of the vehicles that drive) of a run;
     vehicles: in order of departure. What is left out or made otherwise than in SUMO is reported. Fault for what cannot
-    be made, as a route without a connection. In net, programs may become those of the run's begin (wauts.days_of)."""
+    be made, as a route without a connection. In net, programs may become those of the run's begin (wauts.days_of).
+    doubted: whether what may mislead is looked for, as nearly full lanes and programs that clash."""
     if options.slow:
         net, vehicles = with_lower_limits(net, vehicles, options.slow, report)
     flows = hourly_flows(vehicles)
     driving = (round(vehicle.depart) for vehicle in vehicles if vehicle.depart <= limits.CLOCK)
     last = max(driving, default=options.begin) + AFTER
     days = days_of(net, options.begin, last, report)
-    network = Network(net, options, report, flows)
+    paces = Paces(vehicles, types.drivings, lambda name: types.class_kept(name, options.classes))
+    network = Network(net, options, report, flows, paces)
     found = movements(net, network, flows)
     network.equivalents = equivalents(one for junction in found.values() for one in junction.values())
     entered, driven = enters(vehicles, net, network, types, report)
     network.kinds = kinds_of(driven, types)
+    network.starts = slow_starts(net, driven, types.drivings)
     network.last = max((command["depart"] for command in entered), default=options.begin)
     network.open_beside_works()
-    warn_of_rules(net, network, programs_shown(net, days), report)
-    warn_of_clashes(net, report)
+    if doubted:
+        warn_of_rules(net, network, programs_shown(net, days), report)
+        warn_of_clashes(net, report)
+        warn_of_broken(net, report)
     ends = {light: day[1][0] - 1 for light, day in days.items() if len(day) > 1}
     made = signal_commands(net, network, found, report, ends) + day_lines(net, network, days, flows, report)
     lights = [(light, command["node"]) for light, command in made if "at" not in command]
@@ -67,7 +80,12 @@ def converted(net: SumoNet, types: Types, vehicles: Sequence[Vehicle], options: 
     network.switches = sorted((clock, light, program) for light, day in days.items() for clock, program in day)
     network.programs = kept_programs(net, network, lights, flows)
     network.fixed = fixed_programs(net, network, lights, flows, lights_of_riders(entered, driven, types, network))
-    commands = [network.load_command(), *(command for _, command in made), *entered]
+    giving_way = {one.node for one in network.yields}
+    merges = [one for one in merges_of(net, network, flows) if one.command["node"] not in giving_way]
+    if doubted and flows and options.permissive is None:
+        network.full = fullness(net, network, vehicles, merges, found)
+    turns = [command for _, command in made] + [one.command for one in merges]
+    commands = [network.load_command(), *turns, *entered]
     return network, lights, commands, [vehicle.name for vehicle in driven]
 
 
@@ -94,8 +112,8 @@ def map_of(network: Network, lights: list[tuple[str, int]], names: list[str], re
             for link in network.links
         ],
         turns=[
-            MapTurn(link, lane, following, turn.next_lane, turn.light, turn.index, turn.added, turn.speed, turn.limit)
-            for (link, lane, following), turn in network.turns.items()
+            MapTurn(*key, turn.next_lane, turn.light, turn.index, turn.added, turn.speed, turn.limit, turn.accel)
+            for key, turn in network.turns.items()
         ],
         signals=lights,
         cars=names,
@@ -111,6 +129,8 @@ def map_of(network: Network, lights: list[tuple[str, int]], names: list[str], re
         visits=network.visits,
         fixed=network.fixed,
         switches=network.switches,
+        full=network.full,
+        starts=network.starts,
     )
 
 

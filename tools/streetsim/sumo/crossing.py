@@ -13,10 +13,12 @@ from typing import Any
 from streetsim.model.timing import spans_of
 from streetsim.sumo.greens import USUAL_SPEED, headway
 from streetsim.sumo.heads import Heads
-from streetsim.sumo.net import Connection
+from streetsim.sumo.net import NetConnection
 
 EdgePair = tuple[str, str]  # an edge and the next one
-Meeting = tuple[int, tuple["Movement", ...]]  # seconds, and the foes that are green in them
+Flows = Mapping[EdgePair, float]  # vehicles an hour
+Meeting = tuple[int, tuple["CrossingMovement", ...]]  # seconds, and the foes that are green in them
+MERGING = 2.0  # in whose place one counts who turns into the lane of one who waits for it
 LEAST_SHARE = 0.02  # of a lane's vehicles wait, also where routes have fewer
 GREEN, OPEN, STOPPED = "GO", "go", "s"  # goes first; when there is a gap; the same after a stop, as right on red
 PERMISSIVE, SHOWN = OPEN + STOPPED, GREEN + OPEN
@@ -32,11 +34,12 @@ def hourly_flows(vehicles: Collection[Any]) -> dict[EdgePair, float]:
 
 
 @dataclass(slots=True, eq=False)
-class Movement:
+class CrossingMovement:
     """A connection over one cycle of its light: when it has green, to whom it gives way, and how many vehicles pass."""
 
     pair: EdgePair
     lane: tuple[str, int]  # edge, lane
+    target: tuple[str, int]  # the next edge, lane
     index: int | None  # in the light's state
     cycle: int  # seconds
     sure: int  # the seconds in which it goes first
@@ -49,17 +52,23 @@ class Movement:
     runs: dict[int, int]  # first second of a permissive green: its length
     # First second of a red in which one may go after a stop: its length.
     stops: dict[int, int] = field(default_factory=dict)
-    foes: list[Movement] = field(default_factory=list)  # that it gives way to
+    foes: list[CrossingMovement] = field(default_factory=list)  # that it gives way to
     meets: dict[int, list[Meeting]] = field(default_factory=dict)  # by first second of one of runs or stops
     # By first second of one of runs or stops: how many seconds of it are shown.
     shown: dict[int, int] = field(default_factory=dict)
     parts: int = 1  # in which those of one of runs are shown
-    sharing: list[Movement] = field(default_factory=list)  # its lane, with it
+    # By first second of one of runs: how many of its seconds pass before it is shown, of a lane that is far from full.
+    leads: dict[int, int] = field(default_factory=dict)
+    sharing: list[CrossingMovement] = field(default_factory=list)  # its lane, with it
     lanes: int = 1  # of its edge
     share: float = 1.0  # of the vehicles on its lane that wait for gaps
     beside: float = 0.0  # seconds between vehicles of a queue of those on its lane that do not
     heads: Heads | None = None  # its lane and the one that faces it, where some wait on both
     opposite: tuple[str, int] | None = None  # the lane that faces it
+
+    def against(self, foes: Iterable[CrossingMovement]) -> float:
+        """Vehicles an hour of some foes that it gives way to; those who turn into its own lane count MERGING times."""
+        return sum(foe.passing * (MERGING if foe.target == self.target else 1.0) for foe in foes)
 
     @property
     def waits(self) -> bool:
@@ -73,18 +82,24 @@ class Movement:
 
 
 def movements_of(
-    connections: Sequence[Connection], states: Sequence[str], yields: Mapping[int, Iterable[int]],
+    connections: Sequence[NetConnection], states: Sequence[str], yields: Mapping[int, Iterable[int]],
     flows: Mapping[EdgePair, float], limits_of: Mapping[str, int],
-) -> dict[int, Movement]:  # fmt: skip
+) -> dict[int, CrossingMovement]:  # fmt: skip
     """The movements of a junction, by the connections' requests, of which none is None; their shown is set by settle.
-    Connections of the same edges share their flow equally; of those that one gives way to, foes are those with a flow
-    that do not wait together with it. states: of its light, one for each second; yields: by request those that it gives
-    way to; flows: vehicles an hour by (edge, next edge); limits_of: cells a step, by edge."""
-    sharing = Counter((connection.source, connection.target) for connection in connections)
+    Connections of the same edges share their flow equally, but reserved ones have none beside others; of those that one
+    gives way to, foes are those with a flow that do not wait together with it. states: of its light, one for each
+    second; yields: by request those that it gives way to; flows: vehicles an hour by (edge, next edge); limits_of:
+    cells a step, by edge."""
+    least_reserved: defaultdict[EdgePair, list[NetConnection]] = defaultdict(list)
+    for connection in sorted(connections, key=lambda one: one.reserved):
+        own = least_reserved[connection.source, connection.target]
+        if not own or own[0].reserved == connection.reserved:
+            own.append(connection)
     found = {}
     for connection in connections:
         pair = connection.source, connection.target
-        flow = flows.get(pair, 0.0) / sharing[pair]
+        own = least_reserved[pair]
+        flow = flows.get(pair, 0.0) / len(own) if connection in own else 0.0
         assert connection.request is not None
         found[connection.request] = movement_of(connection, states, flow, limits_of[connection.source])
     for request, movement in found.items():
@@ -99,7 +114,9 @@ def movements_of(
     return found
 
 
-def wait_together(one: int, other: int, found: Mapping[int, Movement], yields: Mapping[int, Iterable[int]]) -> bool:
+def wait_together(
+    one: int, other: int, found: Mapping[int, CrossingMovement], yields: Mapping[int, Iterable[int]]
+) -> bool:
     """Whether two requests have permissive greens and each gives way to others of the other's edge, as left turns that
     face each other do: they stand inside the junction and wait for those, not for each other."""
     return all(
@@ -109,7 +126,7 @@ def wait_together(one: int, other: int, found: Mapping[int, Movement], yields: M
     )
 
 
-def set_heads(movement: Movement) -> None:
+def set_heads(movement: CrossingMovement) -> None:
     """Sets opposite and heads of a movement where, in a permissive green, some on its lane and some on one other alone
     wait for each other, both the only lanes of their edges. set_lane goes before, for all movements."""
     lanes = {foe.lane: foe for one in movement.sharing for foe in one.foes if foe.green & one.green & ~one.sure}
@@ -119,7 +136,7 @@ def set_heads(movement: Movement) -> None:
         movement.heads = heads_of(movement.sharing, facing[0].sharing)
 
 
-def heads_of(own: Sequence[Movement], other: Sequence[Movement]) -> Heads | None:
+def heads_of(own: Sequence[CrossingMovement], other: Sequence[CrossingMovement]) -> Heads | None:
     """The heads of two lanes, by the movements of each; None where on one of them nobody waits for the other."""
     sides = (own, other), (other, own)
     first, second = (waiting_share(*side) for side in sides)
@@ -135,7 +152,7 @@ def heads_of(own: Sequence[Movement], other: Sequence[Movement]) -> Heads | None
     return Heads((own_waits, other_waits), (1 - own_waits / first, 1 - other_waits / second), each)
 
 
-def waiting_share(own: Sequence[Movement], other: Sequence[Movement]) -> float:
+def waiting_share(own: Sequence[CrossingMovement], other: Sequence[CrossingMovement]) -> float:
     """The share, 0 to 1, of the vehicles of a lane that wait for some of another one in a permissive green, by the
     movements of both; 0 where it has no vehicles."""
     whole = sum(one.flow for one in own)
@@ -143,7 +160,7 @@ def waiting_share(own: Sequence[Movement], other: Sequence[Movement]) -> float:
     return waiting / whole if whole else 0.0
 
 
-def set_lane(movement: Movement, movements: Collection[Movement]) -> None:
+def set_lane(movement: CrossingMovement, movements: Collection[CrossingMovement]) -> None:
     """Sets what a movement knows of its lane, of all movements of the junction: sharing, lanes, parts (two where some
     on its lane have no permissive green, at an edge of several lanes), share (LEAST_SHARE at least; 1 where the lane
     has no vehicles) and beside (its own headway where all wait)."""
@@ -156,14 +173,15 @@ def set_lane(movement: Movement, movements: Collection[Movement]) -> None:
     movement.beside = sum(one.flow * one.headway for one in going) / free if free else movement.headway
 
 
-def movement_of(connection: Connection, states: Sequence[str], flow: float, limit: int) -> Movement:
+def movement_of(connection: NetConnection, states: Sequence[str], flow: float, limit: int) -> CrossingMovement:
     """The movement of one connection, still without others; one without a light is green throughout. states: of its
     light, one for each second; flow: vehicles an hour; limit: of its link, cells a step."""
     lit, cycle = connection.light is not None, len(states)
     own = "".join(state[connection.index] for state in states) if lit else "G" * cycle
-    return Movement(
+    return CrossingMovement(
         pair=(connection.source, connection.target),
         lane=(connection.source, connection.source_lane),
+        target=(connection.target, connection.target_lane),
         index=connection.index if lit else None,
         cycle=cycle,
         sure=bits_of_states(own, GREEN),
@@ -188,10 +206,10 @@ def red_before(states: str, start: int) -> int:
     return next(steps for steps in range(len(states)) if states[start - steps - 1] in SHOWN)
 
 
-def meetings(movement: Movement, start: int, length: int) -> list[Meeting]:
+def meetings(movement: CrossingMovement, start: int, length: int) -> list[Meeting]:
     """The seconds of a permissive green, or of a red in which one may go after a stop, of length seconds from start, by
     which of the movement's foes have green in them."""
-    found: defaultdict[tuple[Movement, ...], int] = defaultdict(int)
+    found: defaultdict[tuple[CrossingMovement, ...], int] = defaultdict(int)
     for second in range(start, start + length):
         place = second % movement.cycle
         found[tuple(foe for foe in movement.foes if foe.green >> place & 1)] |= 1 << place

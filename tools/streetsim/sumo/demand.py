@@ -17,13 +17,15 @@ from streetsim.model.runs import Command
 from streetsim.model.sources import sum_of_lines
 from streetsim.sumo.flows import departs, route_elements
 from streetsim.sumo.net import SumoNet
-from streetsim.sumo.network import LaneKey, Network
+from streetsim.sumo.bundles import LaneKey
+from streetsim.sumo.network import Network
 from streetsim.sumo.stops import FoundStops, Stop, Stops, stops_in
 from streetsim.sumo.types import DEFAULT, Mix, Sizes, Types, named_in, weight_of
 
 READ = {"id", "type", "depart", "route", "edges", "begin", "end"}
 READ |= {"number", "period", "probability", "vehsPerHour", "perHour", "repeat", "line"}
 READ_INSIDE = {"route", "routeDistribution", "stop"}  # elements in a vehicle, flow or trip
+KEPT = {"departSpeed"}  # of the further attributes, those that count
 ENDS = {"from", "to", "fromTaz", "toTaz", "via"}
 DEPARTS = {"vehicle": "depart", "trip": "depart", "flow": "begin"}  # by element, the attribute by which SUMO sorts
 NO_TIMES = ("triggered", "containerTriggered", "now", "split", "begin")  # in place of a depart
@@ -42,7 +44,7 @@ class Unrouted(Fault):
 
 
 @dataclass(slots=True)
-class Vehicle:
+class DemandVehicle:
     """A vehicle as files tell it; its edges, type and stops are final once completed_vehicles has set them."""
 
     name: str
@@ -52,7 +54,7 @@ class Vehicle:
     route: str = ""  # the name of its route, as SUMO has it; none where the route stands in the vehicle
     stops: tuple[Stop, ...] = ()
     line: str = ""  # of public transport
-    more: tuple[tuple[str, str], ...] = ()  # further attributes, as departSpeed, which have no effect here
+    more: tuple[tuple[str, str], ...] = ()  # further attributes; those of KEPT count, others have no effect here
 
 
 class Demand:
@@ -66,9 +68,10 @@ class Demand:
         self.draws, self.choices = random.Random(seed), random.Random(f"routes {seed}")
         self.routes: dict[str, tuple[str, ...]] = {}  # name: edges
         self.mixes: dict[str, Mix] = {}  # by distribution of routes
-        self.vehicles: list[Vehicle] = []
+        self.vehicles: list[DemandVehicle] = []
         self.route_stops: dict[str, tuple[Stop, ...]] = {}  # by route, seconds from the departure on
-        self.later: list[tuple[Vehicle, str]] = []  # (vehicle, file and element): routes may be told after the vehicles
+        # (vehicle, file and element): routes may be told after the vehicles.
+        self.later: list[tuple[DemandVehicle, str]] = []
         self.unsorted: list[str] = []  # vehicles and flows behind later ones in a file of routes
 
     def read_file(self, path: FilePath) -> None:
@@ -178,7 +181,7 @@ class Demand:
 
     def vehicle_of(
         self, path: FilePath, element: Element, departure: tuple[str, float], edges: tuple[str, ...], route: str = ""
-    ) -> Vehicle:
+    ) -> DemandVehicle:
         """A vehicle of an element, of a (name, departure in seconds), with the stops that stand in it and its own
         route, not in one that it names; of a flow these are told for a departure at its begin, and are moved. edges: ()
         for completed_vehicles; route: its route's name. Fault where its type is empty, or by stops_in."""
@@ -187,7 +190,8 @@ class Demand:
         kind, inner = optional(path, element, "type", filled, DEFAULT), element.find("route")
         own = stops_in(path, inner, self.net) if inner is not None and element.get("route") is None else ()
         stops = tuple(one.later(depart - begin) for one in (*own, *stops_in(path, element, self.net)))
-        return Vehicle(name, depart, edges, kind, route, stops, element.get("line", ""), further_attributes(element))
+        line, more = element.get("line", ""), further_attributes(element)
+        return DemandVehicle(name, depart, edges, kind, route, stops, line, more)
 
     def inner_route(self, path: FilePath, element: Element) -> tuple[Element | None, Element | None]:
         """(route, distribution) that stand in an element, each None where it has no such element inside, or names a
@@ -203,7 +207,8 @@ class Demand:
     def note_ignored(self, element: Element, read: Set[str] = READ) -> None:
         """Reports all attributes of an element that are not among those that are read, and all elements in it that are
         not in READ_INSIDE, as ignored."""
-        for name in [*(set(element.keys()) - read), *(f"<{one.tag}>" for one in element if one.tag not in READ_INSIDE)]:
+        inside = (f"<{one.tag}>" for one in element if one.tag not in READ_INSIDE)
+        for name in [*(set(element.keys()) - read - KEPT), *inside]:
             self.report.ignored[f"{name} of {element.tag}s"] += 1
 
     def read_vehicle(self, path: FilePath, element: Element) -> None:
@@ -220,7 +225,7 @@ class Demand:
         name, found = attribute(path, element, "id", filled), departs(path, element, self.draws, self.end)
         self.add_vehicles(path, element, [(f"{name}.{at}", depart) for at, depart in enumerate(found)])
 
-    def completed_vehicles(self) -> list[Vehicle]:
+    def completed_vehicles(self) -> list[DemandVehicle]:
         """All vehicles that depart before the end of the run, with routes and types, which are drawn, in order of
         departure and then of the files; how many are left out is noted. Called once, after all files, as it changes the
         vehicles. Fault where two have one name, or a route is named that no file has."""
@@ -253,19 +258,20 @@ def further_attributes(element: Element) -> tuple[tuple[str, str], ...]:
 
 
 def enters(
-    vehicles: Iterable[Vehicle], net: SumoNet, network: Network, types: Types, report: Report
-) -> tuple[list[Command], list[Vehicle]]:
+    vehicles: Iterable[DemandVehicle], net: SumoNet, network: Network, types: Types, report: Report
+) -> tuple[list[Command], list[DemandVehicle]]:
     """(the enter commands, with departures rounded up to whole seconds; the vehicles that they are of), in one order.
     Vehicles that cannot drive, and stops that cannot be made, are left out and reported by reason, and sizes are
     reported; the network gets the other stops (visits), and what assign_route adds. Fault where why_no_way or
     Stops.bus_stop_of raises one. vehicles: in order of departure."""
     sizes, stops = Sizes(types), Stops(net, types, report)
     commands: list[Command] = []
-    driven: list[Vehicle] = []
+    driven: list[DemandVehicle] = []
     used: Counter[int] = Counter()
     for vehicle in vehicles:
         found = stops.on_route(vehicle.name, vehicle.edges, vehicle.stops)
-        plan, why = plan_or_reason(vehicle, net, network, found.first_lanes())
+        vclass = types.class_kept(vehicle.type, network.options.classes)
+        plan, why = plan_or_reason(vehicle, net, network, found.first_lanes(), vclass)
         if plan is None:
             report.skipped[why] += 1
             continue
@@ -295,7 +301,7 @@ def entry_lane(plan: Sequence[int], network: Network, used: Counter[int], found:
     return lanes[(used[plan[0]] - 1) % len(lanes)]
 
 
-def kinds_of(driven: Sequence[Vehicle], types: Types) -> Json:
+def kinds_of(driven: Sequence[DemandVehicle], types: Types) -> Json:
     """What a map keeps of vehicles: {"types": [[name, vclass, length, gap, speed]] as in Kind, "type": by vehicle its
     position in types (0, the usual type, where it is not among them), "route": by vehicle its route's name (empty where
     none has one), "line": the same, but no key where none has one, "ends": a sum over where all begin and end, by which
@@ -312,10 +318,11 @@ def kinds_of(driven: Sequence[Vehicle], types: Types) -> Json:
 
 
 def plan_or_reason(
-    vehicle: Vehicle, net: SumoNet, network: Network, stops: Mapping[int, LaneKey]
+    vehicle: DemandVehicle, net: SumoNet, network: Network, stops: Mapping[int, LaneKey], vclass: str
 ) -> tuple[tuple[int, ...] | None, str]:
     """(links of a vehicle, empty text), as Network.assign_route gives and counts them, or (None, why it cannot drive);
-    Fault where why_no_way raises one. stops: the lane at which it stops, by the edge's position in its route."""
+    Fault where why_no_way raises one. stops: the lane at which it stops, by the edge's position in its route; vclass:
+    its class, of those that are kept."""
     if any(edge in net.dropped for edge in vehicle.edges):
         return None, "an edge of the route has no lane for the classes"
     if len(vehicle.edges) > limits.PLAN:
@@ -324,11 +331,13 @@ def plan_or_reason(
         return None, "departs before the begin"
     if vehicle.depart > limits.CLOCK:
         return None, f"departs after {limits.CLOCK:,} s"
-    plan = network.assign_route(vehicle.edges, stops)
+    plan = network.assign_route(vehicle.edges, stops, vclass)
+    if plan is None and all(pair in network.connections_between for pair in pairwise(vehicle.edges)):
+        return None, "an edge of the route has no lane for its class"
     return plan, "" if plan else why_no_way(vehicle, net, network)
 
 
-def why_no_way(vehicle: Vehicle, net: SumoNet, network: Network) -> str:
+def why_no_way(vehicle: DemandVehicle, net: SumoNet, network: Network) -> str:
     """Why a route has no way here, where the network has one that is not for the classes, or --ignore-route-errors was
     given; else a Fault, as in SUMO."""
     pairs = pairwise(vehicle.edges)

@@ -7,6 +7,7 @@ BEHIND, ROOM = 1.42, 7.5  # in SUMO (g - start) / (BEHIND + ROOM / speed) pass i
 EARLY, ACCELERATION = 1.87, 2.6  # start is what a vehicle loses that speeds up, speed / (2 * ACCELERATION), less EARLY
 HEADWAYS, AHEAD = (3.0, 2.07, 1.89, 1.83, 1.83), 1.35  # here (g + AHEAD) / HEADWAYS, by the link's limit;
 SHORT = (0.8, 0.97, 1.68, 2.45, 2.82, 3.37)  # in 1 to 6 seconds so many
+LEAST_PAUSE = 2  # seconds, below which a green is not shown in two halves
 TWO_PARTS = 9  # seconds of green, from which on seconds in its middle hold a queue up as wanted
 USUAL_SPEED = 13.9  # metres a second, where a junction's is not known
 START = USUAL_SPEED / (2 * ACCELERATION) - EARLY  # seconds until a queue moves that drives straight on, in SUMO
@@ -17,9 +18,9 @@ def headway(speed: float) -> float:
     return BEHIND + ROOM / speed
 
 
-def leaving(green: float, speed: float) -> float:
+def leaving(green: float, speed: float, accel: float = ACCELERATION) -> float:
     """How many vehicles, one at least, leave a queue in SUMO in some seconds of green; speed: metres a second."""
-    return max(1.0, (green - speed / (2 * ACCELERATION) + EARLY) / headway(speed))
+    return max(1.0, (green - speed / (2 * accel) + EARLY) / headway(speed))
 
 
 def green_here(vehicles: float, limit: int) -> int:
@@ -33,20 +34,20 @@ def passing_here(seconds: int, limit: int) -> float:
     return SHORT[seconds - 1] if seconds <= len(SHORT) else (seconds + AHEAD) / HEADWAYS[limit - 1]
 
 
-def hidden_start(length: int, speed: float, limit: int) -> int:
+def hidden_start(length: int, speed: float, limit: int, accel: float = ACCELERATION) -> int:
     """How many seconds at the begin of a green of length seconds are not shown, so that as many pass here as in SUMO.
     speed: metres a second; limit: cells a step."""
-    return max(0, length - green_here(leaving(length, speed), limit))
+    return max(0, length - green_here(leaving(length, speed, accel), limit))
 
 
 @cache
-def hidden_middle(length: int, speed: float, limit: int) -> tuple[int, int]:
+def hidden_middle(length: int, speed: float, limit: int, accel: float = ACCELERATION) -> tuple[int, int]:
     """The seconds that are not shown in a green of length seconds, (begin, end) counted from its begin, the end not
     included: from its half on, so that about as many pass here as in SUMO, and who has waited alone for its begin goes
     at once, as there. A green below TWO_PARTS has them at its begin. speed: metres a second; limit: cells a step."""
     if length < TWO_PARTS:
-        return 0, hidden_start(length, speed, limit)
-    half, vehicles = length // 2, leaving(length, speed)
+        return 0, hidden_start(length, speed, limit, accel)
+    half, vehicles = length // 2, leaving(length, speed, accel)
 
     def off(pause: int) -> float:
         """How far, 0 or more, the vehicles that pass here, but for pause seconds in the middle, are from SUMO's."""
@@ -58,11 +59,14 @@ def hidden_middle(length: int, speed: float, limit: int) -> tuple[int, int]:
     return half, half + min((0, *range(2, length - half)), key=off)
 
 
-def parts_shown(length: int, seconds: int, parts: int) -> list[tuple[int, int]]:
+def parts_shown(length: int, seconds: int, parts: int, lead: int | None = None) -> list[tuple[int, int]]:
     """Where seconds of a permissive green of length seconds are shown, (begin, end) from its begin, the end not
     included: at its end, as those who are given way to go first; or in parts with equal waits before them, so that a
     vehicle that waits holds its lane up for less long, unless a part would have less than two seconds, or more than 0.9
-    of the green is shown."""
+    of the green is shown. lead: in two halves, of which the first begins after so many seconds, but for LEAST_PAUSE."""
+    if lead is not None and length - seconds - lead >= LEAST_PAUSE and seconds >= 2:
+        first = seconds // 2
+        return [(lead, lead + first), (length - seconds + first, length)]
     parts = parts if 2 * parts <= seconds <= 0.9 * length else 1
     wait, shown = (length - seconds) / parts, seconds / parts
     return [(round((at + 1) * wait + at * shown), round((at + 1) * (wait + shown))) for at in range(parts)]

@@ -2,7 +2,7 @@
 and element, where an attribute that it needs is absent, or one cannot be read."""
 from collections import defaultdict
 from collections.abc import Collection, Iterable, Sequence
-from dataclasses import dataclass, field
+from dataclasses import dataclass, field, replace
 from xml.etree.ElementTree import Element
 
 from streetsim.base.files import (
@@ -17,36 +17,39 @@ OFF = "off"  # the program by which SUMO has a light blink
 # What phases may have without more effect on actuated lights: type and targetLanes are of other kinds.
 PHASE = ("duration", "state", "minDur", "maxDur", "next", "name", "vehext", "yellow", "red", "type", "targetLanes")
 Point = tuple[float, float]
+FREE = "ignoring"  # the class that may use every lane
 INNER = ("internal", "walkingarea", "crossing")
-MAJOR, MINOR, STOPS = "M", "m", "s"  # SUMO's states of connections: goes first, gives way, gives way after a stop
+# SUMO's states of connections: goes first, gives way, gives way after a stop, by turns.
+MAJOR, MINOR, STOPS, ZIPPER = "M", "m", "s", "Z"
 
 
 @dataclass(slots=True)
-class Lane:
+class NetLane:
     """A lane of an edge that one of the classes may use; index is SUMO's."""
 
     index: int
     speed: float  # metres a second
     metres: float
     shape: list[Point]  # metres
+    closed: frozenset[str] = frozenset()  # those of the classes that may not use it
 
 
 @dataclass(slots=True)
-class Edge:
+class NetEdge:
     """A street in one direction, between two junctions."""
 
     name: str
     begin: str
     end: str
     priority: int
-    lanes: list[Lane]  # those that one of the classes may use, from the right
+    lanes: list[NetLane]  # those that one of the classes may use, from the right
     street: str = ""  # its name, or that of its first lane with one
     is_cut: bool = False  # whether it is a part, and the next one begins where it ends
     is_slow: bool = False  # whether it is a part with a lower limit
 
 
 @dataclass(slots=True)
-class Connection:
+class NetConnection:
     """From a lane of an edge to a lane of the next, by SUMO's names and indexes; light: None where it has none, and its
     index is 0 then."""
 
@@ -60,10 +63,13 @@ class Connection:
     request: int | None = None  # its position among the requests of its junction
     speed: float | None = None  # metres a second inside the junction
     direction: str = ""  # s: straight on, l: to the left, ..
+    metres: float = 0.0  # inside the junction
+    inner: str = ""  # its lane there
+    reserved: bool = False  # whether its lane is closed to the first of the classes
 
 
 @dataclass(slots=True)
-class Program:
+class LightProgram:
     """A light's program; offset in seconds."""
 
     offset: float
@@ -95,37 +101,42 @@ class SumoNet:
     """What was read of a network and of additional files, by SUMO's names."""
 
     junctions: dict[str, Point] = field(default_factory=dict)
-    edges: dict[str, Edge] = field(default_factory=dict)  # by name
+    edges: dict[str, NetEdge] = field(default_factory=dict)  # by name
     dropped: set[str] = field(default_factory=set)  # edges without a lane for the classes
     closed_lanes: set[str] = field(default_factory=set)  # names of lanes that are not for the classes
-    connections: list[Connection] = field(default_factory=list)  # between kept lanes
+    connections: list[NetConnection] = field(default_factory=list)  # between kept lanes
     # (edge, next edge) of connections that are not for the classes.
     closed_movements: set[tuple[str, str]] = field(default_factory=set)
     roundabouts: set[str] = field(default_factory=set)  # edges
     types: dict[str, str] = field(default_factory=dict)  # by junction
-    programs: dict[str, Program] = field(default_factory=dict)  # by light: the one in force, mostly the last loaded
+    # By light: the one in force, mostly the last loaded.
+    programs: dict[str, LightProgram] = field(default_factory=dict)
     # By light its others, in the order in which they were loaded: scripts may choose them, or a WAUT.
-    earlier: dict[str, list[Program]] = field(default_factory=dict)
+    earlier: dict[str, list[LightProgram]] = field(default_factory=dict)
     wauts: dict[str, Waut] = field(default_factory=dict)  # by name
-    changing: dict[str, list[Program]] = field(default_factory=dict)  # by light: to which it changes in the run
+    changing: dict[str, list[LightProgram]] = field(default_factory=dict)  # by light: to which it changes in the run
     detectors: list[SumoDetector] = field(default_factory=list)  # of additional files
     bus_stops: dict[str, BusStop] = field(default_factory=dict)  # of these, by name
     # By junction: for each request those that it gives way to.
     yields: dict[str, dict[int, set[int]]] = field(default_factory=dict)
     foes: dict[str, dict[int, set[int]]] = field(default_factory=dict)  # by junction: for each request those it meets
+    # By junction: for each request whose vehicles wait inside it, the requests that they wait for there.
+    waits_inside: dict[str, dict[int, set[int]]] = field(default_factory=dict)
     inner_speeds: dict[str, float] = field(default_factory=dict)  # lane inside a junction: metres a second
+    inner_metres: dict[str, float] = field(default_factory=dict)  # the same lanes: metres
+    inner_next: dict[str, str] = field(default_factory=dict)  # the same: the one that goes on inside, where one does
     location: Json = field(default_factory=dict)  # where it lies on Earth, as read_location keeps it
     called: dict[str, str] = field(default_factory=dict)  # names of junctions that have one
 
-    def programs_of(self, light: str) -> list[Program]:
+    def programs_of(self, light: str) -> list[LightProgram]:
         """The programs of a light that has one: its others, as they were loaded, then the one in force."""
         return [*self.earlier.get(light, ()), self.programs[light]]
 
-    def programs_in_run(self, light: str) -> list[Program]:
+    def programs_in_run(self, light: str) -> list[LightProgram]:
         """The programs that a light shows in the run, its first one first; days_of goes before. Empty without one."""
         return [self.programs[light], *self.changing.get(light, ())] if light in self.programs else []
 
-    def yields_of(self, connection: Connection) -> set[int]:
+    def yields_of(self, connection: NetConnection) -> set[int]:
         """The requests of its junction that a connection gives way to; empty where its own request is not known."""
         at_junction = self.yields.get(self.edges[connection.source].end, {})
         return at_junction.get(connection.request, set()) if connection.request is not None else set()
@@ -175,7 +186,38 @@ def read_net(path: FilePath, classes: Sequence[str], report: Report) -> SumoNet:
         opened = ", ".join(sorted(named)) or "none by name"
         raise Fault(f"{path}: no lane is open to {', '.join(classes)}; lanes are opened to: {opened}")
     spare_main_streets(net)
+    wait_inside(net)
+    measure_inside(net)
     return net
+
+
+def measure_inside(net: SumoNet) -> None:
+    """Sets the metres of connections inside their junctions, over all of their lanes there, in a row."""
+    for one in net.connections:
+        inner = one.inner
+        while inner:
+            one.metres += net.inner_metres.get(inner, 0.0)
+            inner = net.inner_next.get(inner, "")
+
+
+def wait_inside(net: SumoNet) -> None:
+    """At lights, lets who turns across oncoming traffic give way to those of it who turn into the same street too,
+    where SUMO has vehicles wait for them inside the junction, and neither gives way to the other: with exits of two
+    lanes netconvert writes no request for it, but SUMO's vehicles wait."""
+    for junction, connections in connections_of(net).items():
+        inside, yields = net.waits_inside.get(junction, {}), net.yields.get(junction, {})
+        of_request = {one.request: one for one in connections if one.light and one.request is not None}
+        for request in sorted(inside.keys() & of_request.keys()):
+            for foe in sorted(inside[request] & of_request.keys()):
+                free = foe not in yields.get(request, ()) and request not in yields.get(foe, ())
+                if free and turn_into_one(of_request[request], of_request[foe]):
+                    yields.setdefault(request, set()).add(foe)
+
+
+def turn_into_one(one: NetConnection, other: NetConnection) -> bool:
+    """Whether two connections turn into one street from two others, one to the left and one to the right."""
+    turns = {one.direction.lower(), other.direction.lower()} == {"l", "r"}
+    return turns and one.source != other.source and one.target == other.target
 
 
 def spare_main_streets(net: SumoNet) -> None:
@@ -196,16 +238,18 @@ def read_edge(path: FilePath, element: Element, net: SumoNet, classes: Collectio
     if element.get("function") in INNER:
         for lane in element.iter("lane"):
             net.inner_speeds[attribute(path, lane, "id")] = attribute(path, lane, "speed", at_least_zero(number))
+            net.inner_metres[attribute(path, lane, "id")] = optional(path, lane, "length", at_least_zero(number), 0.0)
         return
     name = attribute(path, element, "id")
     if name in net.edges or name in net.dropped:
         raise Fault(f"{element_told(path, element)}: a second edge of this name")
     lanes = [
-        Lane(
+        NetLane(
             attribute(path, lane, "index", at_least_zero(int)),
             attribute(path, lane, "speed", at_least_zero(number)),
             attribute(path, lane, "length", at_least_zero(number)),
             attribute(path, lane, "shape", shape),
+            frozenset(name for name in classes if not allows(lane, [name])),
         )
         for lane in element.iter("lane")
         if allows(lane, classes)
@@ -218,7 +262,7 @@ def read_edge(path: FilePath, element: Element, net: SumoNet, classes: Collectio
         return
     begin, end = attribute(path, element, "from"), attribute(path, element, "to")
     priority = optional(path, element, "priority", int, -1)
-    net.edges[name] = Edge(name, begin, end, priority, lanes, street_of(element))
+    net.edges[name] = NetEdge(name, begin, end, priority, lanes, street_of(element))
 
 
 def street_of(element: Element) -> str:
@@ -242,8 +286,14 @@ def plane_point(text: str) -> Point:
 
 def read_junction(path: FilePath, element: Element, net: SumoNet, _classes: Collection[str]) -> None:
     """Adds a junction: its point, type, name, and for each of its requests those that it gives way to and those that it
-    meets; junctions inside others are passed over."""
-    if element.get("type") != "internal":
+    meets; of those inside others it notes alone for whom one waits there, in waits_inside."""
+    if element.get("type") == "internal":
+        own, *_ = (element.get("incLanes") or "").split() or [""]
+        waited = (request_of(lane) for lane in (element.get("intLanes") or "").split())
+        if (request := request_of(own)) is not None:
+            inside = net.waits_inside.setdefault(own.rsplit("_", 2)[0][1:], {})
+            inside.setdefault(request, set()).update(foe for foe in waited if foe is not None)
+    else:
         name = attribute(path, element, "id")
         net.junctions[name] = attribute(path, element, "x", number), attribute(path, element, "y", number)
         net.types[name] = element.get("type", "priority")
@@ -266,6 +316,8 @@ def read_connection(path: FilePath, element: Element, net: SumoNet, classes: Col
     for edge in (source, target):
         if edge not in net.edges and edge not in net.dropped and not edge.startswith(":"):
             raise Fault(f"{element_told(path, element)}: the network has no edge {edge!r}")
+    if source.startswith(":") and element.get("via"):
+        net.inner_next[f"{source}_{element.get('fromLane')}"] = element.get("via", "")
     if source not in net.edges or target not in net.edges or not allows(element, classes):
         net.closed_movements.add((source, target))
         return
@@ -279,7 +331,9 @@ def read_connection(path: FilePath, element: Element, net: SumoNet, classes: Col
     index = attribute(path, element, "linkIndex", at_least_zero(int)) if light else 0
     shown = light, index, element.get("state", MAJOR)
     inside = request_of(inner), net.inner_speeds.get(inner), element.get("dir", "")
-    net.connections.append(Connection(source, target, source_lane, target_lane, *shown, *inside))
+    made = NetConnection(source, target, source_lane, target_lane, *shown, *inside, inner=inner)
+    closed = next(lane.closed for lane in net.edges[source].lanes if lane.index == source_lane)
+    net.connections.append(replace(made, reserved=next(iter(classes)) in closed))
 
 
 def request_of(inner: str) -> int | None:
@@ -289,7 +343,7 @@ def request_of(inner: str) -> int | None:
     return int(parts[1]) + int(parts[2]) if len(parts) == 3 and all(map(str.isdecimal, parts[1:])) else None
 
 
-def has_lane(edge: Edge, index: int) -> bool:
+def has_lane(edge: NetEdge, index: int) -> bool:
     """Whether an edge has a kept lane of SUMO's index."""
     return any(lane.index == index for lane in edge.lanes)
 
@@ -316,7 +370,7 @@ def read_program(path: FilePath, element: Element, net: SumoNet, _classes: Colle
         same[-1].offset = offset
         return
     span = at_least_zero(seconds)
-    program = Program(
+    program = LightProgram(
         offset,
         [(attribute(path, phase, "duration", span), attribute(path, phase, "state")) for phase in phases],
         element.get("type", STATIC),
@@ -357,7 +411,7 @@ def lights_not_static(net: SumoNet, lights: Iterable[str]) -> list[str]:
     return [light for light in dict.fromkeys(lights) if net.programs[light].kind != STATIC]
 
 
-def connections_of(net: SumoNet) -> dict[str, list[Connection]]:
+def connections_of(net: SumoNet) -> dict[str, list[NetConnection]]:
     """The connections of each junction, by its name: those of edges that end there (others have an empty list)."""
     found = defaultdict(list)
     for connection in net.connections:

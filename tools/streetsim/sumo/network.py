@@ -1,32 +1,29 @@
 """Makes streetsim's nodes, links and turns of a SUMO network."""
 from collections import Counter, defaultdict
-from collections.abc import Collection, Iterable, Iterator, Mapping, Sequence
+from collections.abc import Iterable, Iterator, Mapping, Sequence
 from dataclasses import dataclass, replace
 from itertools import pairwise
-from math import log
 from types import MappingProxyType
-from typing import Any
 
 from streetsim.base import limits
 from streetsim.base.files import Fault, Json
 from streetsim.base.report import Report, first_few
-from streetsim.model.freeflow import SLOWEST
+from streetsim.model.fullness import Fullness
 from streetsim.model.runs import Command
+from streetsim.model.starting import SlowStarts
 from streetsim.model.stops import Visit
 from streetsim.model.waiting import GivingWay, TurnKey
-from streetsim.sumo.losses import Flows, vehicles_and_seconds_lost
-from streetsim.sumo.net import MAJOR, Connection, Edge, Lane, Point, SumoNet, connections_of
+from streetsim.sumo.bundles import LaneKey, bundles_of, closing_lanes, next_edges
+from streetsim.sumo.crossing import Flows
+from streetsim.sumo.driver_words import Pairs, factor_of, refuse_unknown_edges, refuse_unknown_streets
+from streetsim.sumo.links import Link, link_of
+from streetsim.sumo.net import FREE, MAJOR, NetConnection, NetEdge, SumoNet
+from streetsim.sumo.paces import Drivers, Paces
+from streetsim.sumo.pacing import Pacing, residences
 
-LaneKey = tuple[str, int]  # an edge and SUMO's index of a lane of it
-Targets = Mapping[LaneKey, set[str]]  # the next edges to which a lane leads
-
-OTHER_SPEED = 0.1  # of a lane's speed, by which a limit may be off
-FREE_LIMITS = range(1, limits.LIMIT + 1)  # cells a step
-# Of slow parts and of rings: where all go on by one cell a step a lane passes 1,050 an hour.
-SLOW_LIMITS = FREE_LIMITS[1:]
 MISSING_TURN = 0.5  # what a change between parallel links costs that SUMO has no connection for
 WRONG_LANE = 100.0  # the same from lanes that do not lead to an edge to which others wait for a gap
-AT_CUT = 1.5  # seconds that a vehicle alone loses between two parts of an edge; the first has fewer cells for it
+OTHERS_LANE = 0.3  # the same of lanes that are open to more classes than others of the edge, where one may use both
 CROWDING = 0.2  # what a link costs each of whose lanes carries as much as its edge's links do on average
 CROWDING_BESIDE = 2.0  # the same where links of an edge lead to a common one and on some of them vehicles wait for gaps
 
@@ -34,7 +31,8 @@ CROWDING_BESIDE = 2.0  # the same where links of an edge lead to a common one an
 @dataclass(frozen=True, slots=True)
 class Options:
     """What an import can be told; the values are explained in tools/CLOSENESS.md. dawdle and change: of 1,000; zone:
-    cells; residence: steps; buffer: vehicles; permissive: a share, 0 to 1; begin, end: clocks in seconds."""
+    cells; residence: steps, None: by the seconds of SUMO; buffer: vehicles; permissive: a share, 0 to 1; begin, end:
+    clocks in seconds."""
 
     classes: tuple[str, ...] = ("passenger",)
     strict_turns: bool = False
@@ -42,7 +40,7 @@ class Options:
     change: int = 1000
     zone: int = 1000
     seed: int = 1
-    residence: int = 2
+    residence: int | None = None
     buffer: int = 4
     permissive: float | None = None  # by the flows
     begin: int = 0
@@ -53,21 +51,10 @@ class Options:
     joint: tuple[str, ...] = ()
     led: tuple[str, ...] = ()  # lanes that are to be closed, whose turns the links beside them get
     slow: tuple[str, ...] = ()  # lower limits on stretches of edges, as slowing.slow_of reads them
-
-
-@dataclass(slots=True)
-class Link:
-    """A link in the making, and what it is in SUMO."""
-
-    edge: str
-    lanes: tuple[int, ...]  # indexes of SUMO lanes; one or two
-    begin: int  # nodes
-    end: int
-    cells: int
-    limit: int  # cells a step
-    metres: float
-    speed: float  # metres a second, in SUMO
-    shape: list[Point]
+    # Of drivers that were measured, as driver_words reads them.
+    speeds: Pairs = ()  # factors of free speeds, by class of street
+    cut: float = 0.0  # seconds of each green
+    shares: Pairs = ()  # of permissive greens, by edge
 
 
 @dataclass(slots=True)
@@ -80,15 +67,22 @@ class Turn:
     added: bool
     speed: float  # metres a second, inside the junction if that is known
     limit: int  # of its link, cells a step
+    accel: float = 2.6  # metres a second and second, with which its vehicles start, in the mean
 
 
 class Network:
     """Nodes, links and turns in the making; links and nodes go by number, their position in the load."""
 
-    def __init__(self, net: SumoNet, options: Options, report: Report, flows: Flows) -> None:
+    def __init__(
+        self, net: SumoNet, options: Options, report: Report, flows: Flows, paces: Paces | None = None
+    ) -> None:
         """flows: vehicles an hour by (edge, next edge); empty where no route is known. What is made otherwise than in
         SUMO is reported; Fault where a junction is absent, or closing_lanes raises one."""
+        self.paces = paces or Paces()
         self.options, self.detectors, self.closed_lanes = options, net.detectors, net.closed_lanes
+        dawdle = options.dawdle / 1000
+        refuse_unknown_streets(options.speeds, (lane.speed for edge in net.edges.values() for lane in edge.lanes))
+        refuse_unknown_edges(options.shares, net.edges)
         edges = edges_by_priority(net)
         ends = {name for edge in edges for name in (edge.begin, edge.end)}
         self.nodes = [name for name in net.junctions if name in ends]
@@ -108,18 +102,23 @@ class Network:
             self.links_of[edge.name] = list(range(len(self.links), len(self.links) + len(bundles[edge.name])))
             for lanes in bundles[edge.name]:
                 self.place_of.update({(edge.name, lane.index): (len(self.links), at) for at, lane in enumerate(lanes)})
-                self.links.append(link_of(edge, lanes, number, options, edge.name in net.roundabouts))
+                self.links.append(link_of(edge, lanes, number, dawdle, edge.name in net.roundabouts))
+        self.users = [self.users_of(link) for link in range(len(self.links))]
         self.turns: dict[TurnKey, Turn] = {}
         # (edge, next edge) to which a signal lets go only when there is a gap.
         self.waiting = {(edge, target) for (edge, _), targets in waiting.items() for target in targets}
         # By (edge, next edge).
-        self.connections_between: defaultdict[tuple[str, str], list[Connection]] = defaultdict(list)
+        self.connections_between: defaultdict[tuple[str, str], list[NetConnection]] = defaultdict(list)
         self.add_connections(net, report)
         if not options.strict_turns:
             self.open_both_lanes(report)
         self.leads = {(link, self.links[following].edge) for link, _, following in self.turns}
         self.unlike = self.edges_with_shared_targets() & {edge for edge, _ in self.waiting}
-        self.residences = residences(edges, net, self.links, self.nodes, options, flows)
+        self.residences = residences(net, self.nodes, self.links, options.residence, dawdle, self.paces, flows)
+        pacing = Pacing(net, self.links, flows, self.paces, self.residences, dawdle)
+        for link, users in zip(self.links, self.users, strict=True):
+            pacing.set_cells(link, users)
+            link.cells = max(1, round(link.cells / factor_of(options.speeds, link.speed)))
         self.buffers = buffer_sizes(self.links, len(self.nodes), options)
         self.use: Counter[int] = Counter()
         # (edge, next edge): in how many others' place a vehicle counts that waits for a gap
@@ -133,7 +132,23 @@ class Network:
         self.fixed: list[Json] = []  # programs of lights without detectors, that buses and others pass
         self.actuated: list[str] = []  # lights that SUMO times by detectors
         self.programs: list[Json] = []  # of these, as programs.kept_programs has them
+        self.full = Fullness()  # lanes that are nearly full by the demand
+        self.starts: SlowStarts | None = None  # at lights
         self.rings = sorted(net.roundabouts & net.edges.keys())
+
+    def users_of(self, link: int) -> frozenset[str] | None:
+        """The classes whose vehicles take a link rather than others of its edge: where they may use several, those
+        closed to most classes. None where all are open to the same classes, as nobody chooses by class."""
+        beside = [self.links[other].closed for other in self.links_of[self.links[link].edge]]
+        own = self.links[link].closed
+        if len(set(beside)) == 1:
+            return None
+        usable = {one: [closed for closed in beside if one not in closed] for one in (*self.options.classes, FREE)}
+        return frozenset(one for one, some in usable.items() if own in some and len(own) == max(map(len, some)))
+
+    def drivers_on(self, link: int) -> Drivers:
+        """Who drives on a link, by the demand."""
+        return self.paces.on(self.links[link].edge, self.users[link])
 
     def add_connections(self, net: SumoNet, report: Report) -> None:
         """Adds the turns of all connections, and notes these in connections_between. Of several from one lane to one
@@ -154,11 +169,13 @@ class Network:
             told = "several connections from one lane to one next edge, of which one is kept: edges "
             report.warn(told + first_few(sorted(doubled)), sorted(doubled))
 
-    def turn(self, link: int, next_lane: int, connection: Connection, added: bool) -> Turn:
+    def turn(self, link: int, next_lane: int, connection: NetConnection, added: bool) -> Turn:
         """The turn of a connection from a link to the lane next_lane of the next link; added: SUMO has no connection
         from this lane or link."""
-        speed = connection.speed or self.links[link].speed
-        return Turn(next_lane, connection.light, connection.index, added, speed, self.links[link].limit)
+        own, drivers = self.links[link], self.drivers_on(link)
+        speed = min(connection.speed or own.speed, drivers.most)
+        accel = round(drivers.accel, 2)
+        return Turn(next_lane, connection.light, connection.index, added, speed, own.limit, accel)
 
     def open_both_lanes(self, report: Report) -> None:
         """Where one lane of two has a turn to a next link, the other gets it too, which is reported: else two vehicles
@@ -203,33 +220,43 @@ class Network:
                 self.connect_links(link, following)
 
     def assign_route(
-        self, edges: Sequence[str], stops: Mapping[int, LaneKey] = MappingProxyType({})
+        self, edges: Sequence[str], stops: Mapping[int, LaneKey] = MappingProxyType({}), vclass: str = ""
     ) -> tuple[int, ...] | None:
         """The links of a route, by least cost over parallel links, and counts that they carry it; turns that are
         missing between them are added. None, and nothing is counted, where two edges that follow each other have no
-        connection. edges: kept ones, one at least; stops: the lane that it must go over, by the edge's position."""
+        connection, or one has no link for its class. edges: kept ones, one at least; stops: the lane that it must go
+        over, by the edge's position; vclass: its class, of the options' ones, FREE or empty: any."""
         if any(pair not in self.connections_between for pair in pairwise(edges)):
             return None
         links = [self.links_of[edge] for edge in edges]
         for at, key in stops.items():
             links[at] = [self.place_of[key][0]]
-        best: dict[int, tuple[float, tuple[int, ...]]]
-        best = {link: (self.crowding(link), (link,)) for link in links[0]}
-        for some in links[1:]:
-            best = {
-                link: min(
-                    (cost + self.crowding(link) + self.change_cost(path[-1], link), (*path, link))
-                    for cost, path in best.values()
-                )
-                for link in some
-            }
-        plan = min(best.values())[1]
+        links = [[link for link in some if vclass not in self.links[link].closed] for some in links]
+        if not all(links):
+            return None
+        plan = tuple(some[0] for some in links)
+        if any(len(some) > 1 for some in links):
+            plan = self.cheapest(links, vclass)
         self.use[plan[-1]] += 1
         for link, following in pairwise(plan):
             more = self.equivalents.get((self.links[link].edge, self.links[following].edge), 1)
             self.use[link] += more  # type: ignore[assignment]  # the stubs have whole counts alone
             self.connect_links(link, following)
         return plan
+
+    def cheapest(self, links: Sequence[Sequence[int]], vclass: str) -> tuple[int, ...]:
+        """The plan of least cost of a vehicle of a class, by one of some links for each of its edges."""
+        best: dict[int, tuple[float, tuple[int, ...]]]
+        best = {link: (self.cost(link, vclass), (link,)) for link in links[0]}
+        for some in links[1:]:
+            best = {
+                link: min(
+                    (cost + self.cost(link, vclass) + self.change_cost(path[-1], link), (*path, link))
+                    for cost, path in best.values()
+                )
+                for link in some
+            }
+        return min(best.values())[1]
 
     def edges_with_shared_targets(self) -> set[str]:
         """The edges of which two links or more lead to one next edge."""
@@ -243,6 +270,11 @@ class Network:
         edge, target = self.links[link].edge, self.links[following].edge
         wrong = (edge, target) in self.waiting and (link, target) not in self.leads
         return WRONG_LANE if wrong else MISSING_TURN
+
+    def cost(self, link: int, vclass: str) -> float:
+        """The cost of a link to a vehicle of a class."""
+        users = self.users[link]
+        return self.crowding(link) + (OTHERS_LANE if users is not None and vclass not in users else 0.0)
 
     def crowding(self, link: int) -> float:
         """The cost of a link for what each of its lanes carries so far, against the mean of its edge's links."""
@@ -282,14 +314,14 @@ class Network:
             yield f"{len(long)} links above {limits.CELLS:,} cells of {limits.CELL_METRES} m: edges {first_few(long)}"
 
 
-def edges_by_priority(net: SumoNet) -> list[Edge]:
+def edges_by_priority(net: SumoNet) -> list[NetEdge]:
     """Edges in the order of the load, which is the only priority at a node: roundabouts first, then those with the
     greatest share of main connections, of equal ones those of higher priority, then faster ones (by their first lane),
     then in the order of the net."""
     all_of = Counter(one.source for one in net.connections)
     major = Counter(one.source for one in net.connections if one.state == MAJOR)
 
-    def key(edge: Edge) -> tuple[bool, float, int, float]:
+    def key(edge: NetEdge) -> tuple[bool, float, int, float]:
         """By what edges are sorted: not of a roundabout, less its share of main connections, priority and speed."""
         share = major[edge.name] / max(1, all_of[edge.name])
         return edge.name not in net.roundabouts, -share, -edge.priority, -edge.lanes[0].speed
@@ -297,123 +329,12 @@ def edges_by_priority(net: SumoNet) -> list[Edge]:
     return sorted(net.edges.values(), key=key)
 
 
-def next_edges(net: SumoNet, flows: Flows) -> tuple[Targets, Targets]:
-    """(the next edges that each lane leads to; those of them to which a signal, in some green, lets it go only when
-    there is a gap), by lane. Of a lane from which routes go anywhere, only the edges to which routes go."""
-    used = {(one.source, one.source_lane) for one in net.connections if has_route(one, flows)}
-    following, waiting = defaultdict(set), defaultdict(set)
-    for connection in net.connections:
-        lane = connection.source, connection.source_lane
-        if lane not in used or has_route(connection, flows):
-            following[lane].add(connection.target)
-            if may_wait(connection, net):
-                waiting[lane].add(connection.target)
-    return following, waiting
-
-
-def has_route(connection: Connection, flows: Flows) -> bool:
-    """Whether a route goes from a connection's edge to its next edge."""
-    return bool(flows.get((connection.source, connection.target)))
-
-
-def may_wait(connection: Connection, net: SumoNet) -> bool:
-    """Whether a connection's light shows it, in any program of the run, a green in which it gives way to others."""
-    states = (state for one in net.programs_in_run(connection.light or "") for _, state in one.phases)
-    shown = {state[connection.index : connection.index + 1] for state in states}
-    return bool(net.yields_of(connection)) and not shown.isdisjoint("go")
-
-
-def closing_lanes(net: SumoNet, names: Iterable[str]) -> dict[str, set[int]]:
-    """The lanes that are named, or all lanes of an edge that is named, {edge: SUMO's indexes}. Fault where the import
-    has no such name, or the edge has one lane."""
-    found = defaultdict(set)
-    for name in names:
-        edge = name if name in net.edges else name.rpartition("_")[0]
-        lanes = [lane.index for lane in net.edges[edge].lanes] if edge in net.edges else []
-        named = [lane for lane in lanes if name in (edge, f"{edge}_{lane}")]
-        if not named:
-            raise Fault(f"--joint: the import has no edge or lane {name!r}")
-        if len(lanes) == 1:
-            raise Fault(f"--joint: edge {edge!r} has one lane, and none beside it")
-        found[edge].update(named)
-    return found
-
-
-def bundles_of(
-    edges: Sequence[Edge], following: Targets, waiting: Targets, closing: Mapping[str, Collection[int]], report: Report
-) -> dict[str, list[list[Lane]]]:
-    """By edge its lanes in groups of one or two, which become links. Where turn lanes as links of their own would make
-    too many, they are joined with the lanes beside them, which is reported. following, waiting: as next_edges gives
-    them; closing: as closing_lanes does."""
-    bundles = {edge.name: bundles_of_edge(edge, following, waiting, closing.get(edge.name, ())) for edge in edges}
-    if sum(map(len, bundles.values())) <= limits.LINKS:
-        return bundles
-    report.warn(f"turn lanes are joined with the lanes beside them, as there may be {limits.LINKS:,} links at most")
-    return {edge.name: bundles_of_edge(edge, following, None, closing.get(edge.name, ())) for edge in edges}
-
-
-def bundles_of_edge(
-    edge: Edge, following: Targets, waiting: Targets | None, closing: Collection[int]
-) -> list[list[Lane]]:
-    """The lanes of one edge in groups of one or two, from the right: first with as few closing lanes as possible that
-    have no open one beside them, then as few groups, then those whose lanes share most next edges. closing: SUMO's
-    indexes of lanes to be closed; waiting: None: any two may be a group."""
-    places = [(edge.name, lane.index) for lane in edge.lanes]
-    # For the first lanes: those without an open one, groups, less their shared edges.
-    best: list[tuple[int, int, int, list[list[Lane]]]] = [(0, 0, 0, [])]
-    for end in range(1, len(places) + 1):
-        found = []
-        for size in (1, 2):
-            lanes = [index for _, index in places[end - size : end]]
-            shut = [index for index in lanes if index in closing]
-            if size <= end and (size == 1 or shut or may_share(places[end - 2], places[end - 1], following, waiting)):
-                alone, groups, shared, made = best[end - size]
-                alone += len(shut) if len(shut) == size else 0
-                own = len(following[places[end - 1]] & following[places[end - 2]]) if size == 2 else 0
-                found.append((alone, groups + 1, shared - own, [*made, edge.lanes[end - size : end]]))
-        best.append(min(found, key=lambda way: way[:3]))
-    return best[-1][3]
-
-
-def may_share(right: LaneKey, left: LaneKey, following: Targets, waiting: Targets | None) -> bool:
-    """Whether two lanes side by side may be one link: not where they lead to no common edge, or where they wait for
-    gaps to different edges. Always where one of them leads nowhere, or waiting is None."""
-    if waiting is None or not following[right] or not following[left]:
-        return True
-    return bool(following[right] & following[left]) and waiting[right] == waiting[left]
-
-
-def names_of(net: SumoNet, edges: Iterable[Edge], nodes: Iterable[str]) -> Json:
+def names_of(net: SumoNet, edges: Iterable[NetEdge], nodes: Iterable[str]) -> Json:
     """The names that the network tells, as a map keeps them, {"edges": streets by edge, "junctions": names by
     junction}; each is left out where it is empty."""
     streets = {edge.name: edge.street for edge in edges if edge.street}
     junctions = {name: net.called[name] for name in nodes if name in net.called}
     return {kind: names for kind, names in (("edges", streets), ("junctions", junctions)) if names}
-
-
-def link_of(edge: Edge, lanes: Sequence[Lane], number: Mapping[str, int], options: Options, in_ring: bool) -> Link:
-    """The link of some lanes of an edge, with the speed and length of the first of them; number: of each junction's
-    node; in_ring: the edge is in a roundabout."""
-    free_limits = SLOW_LIMITS if edge.is_slow or in_ring else FREE_LIMITS
-    limit, cells = limit_and_cells(lanes[0], options.dawdle / 1000, in_ring, free_limits)
-    if edge.is_cut:
-        cells = max(1, cells - round(AT_CUT * (limit - options.dawdle / 1000)))
-    indexes, ends = tuple(lane.index for lane in lanes), (number[edge.begin], number[edge.end])
-    return Link(edge.name, indexes, *ends, cells, limit, lanes[0].metres, lanes[0].speed, middle_line(lanes))
-
-
-def limit_and_cells(lane: Lane, dawdle: float, in_ring: bool, free_limits: range) -> tuple[int, int]:
-    """(limit of a lane in cells a step, one of free_limits; its number of cells). dawdle: the chance, 0 to 1, to go on
-    by a cell less. Where no limit is near its speed it has so many cells that one vehicle alone takes as long as in
-    SUMO; in a ring it keeps its length, and the seconds are made up for at its junctions; a lane of speed 0 keeps its
-    length too."""
-    wished = lane.speed / limits.CELL_METRES + dawdle
-    limit = min(free_limits, key=lambda cells: abs(cells - wished))
-    free = (limit - dawdle) * limits.CELL_METRES
-    if in_ring or not lane.speed or abs(free - lane.speed) <= OTHER_SPEED * lane.speed:
-        return limit, limits.cells_of_length(lane.metres)
-    limit = min(free_limits, key=lambda one: abs(log(max(SLOWEST, one - dawdle) * limits.CELL_METRES / lane.speed)))
-    return limit, max(1, round(lane.metres / lane.speed * (limit - dawdle)))
 
 
 def buffer_sizes(links: Sequence[Link], nodes: int, options: Options) -> list[int]:
@@ -425,49 +346,3 @@ def buffer_sizes(links: Sequence[Link], nodes: int, options: Options) -> list[in
         lacking[link.begin] += max(0, limits.cells_of_length(link.metres) - link.cells) * len(link.lanes)
     more = (round(lacking[node] / lanes[node]) if lanes[node] else 0 for node in range(nodes))
     return [min(limits.BUFFER, options.buffer + extra) for extra in more]
-
-
-def middle_line(lanes: Sequence[Lane]) -> list[Point]:
-    """The line halfway between the lanes of a link; the last lane's own where they have unequal numbers of points."""
-    if len({len(lane.shape) for lane in lanes}) > 1:
-        return lanes[-1].shape
-    line: list[Any] = [
-        tuple(sum(part) / len(lanes) for part in zip(*points, strict=True))
-        for points in zip(*(lane.shape for lane in lanes), strict=True)
-    ]
-    return line
-
-
-def residences(
-    edges: Sequence[Edge], net: SumoNet, links: Sequence[Link], nodes: Sequence[str], options: Options, flows: Flows
-) -> list[int]:
-    """The steps that a vehicle takes in each node, in the order of nodes (names of junctions), limits.RESIDENCE at
-    most: those of the options at signals and real junctions (two edges in and two out at least, five in all), 1
-    elsewhere; at real junctions without a light, and where streets meet a roundabout, what vehicles lose there too."""
-    into, out = Counter(edge.end for edge in edges), Counter(edge.begin for edge in edges)
-    real = {name for name in nodes if into[name] >= 2 and out[name] >= 2 and into[name] + out[name] >= 5}
-    ring = {name for edge in edges if edge.name in net.roundabouts for name in (edge.begin, edge.end)}
-    lit = {net.edges[connection.source].end for connection in net.connections if connection.light}
-    longer = {link.edge: longer_here(link, options) for link in links if link.edge in net.roundabouts}
-    more = whole_seconds_lost(net, [name for name in nodes if name in (real | ring) - lit], flows, longer)
-    usual = {name: options.residence for name in real | lit}
-    return [min(limits.RESIDENCE, usual.get(name, 1) + more.get(name, 0)) for name in nodes]
-
-
-def longer_here(link: Link, options: Options) -> float:
-    """The seconds that a vehicle alone takes longer on a link than in SUMO, below 0 where it is faster; 0 where it
-    would not move at all here or there."""
-    free = link.limit - options.dawdle / 1000
-    return link.cells / free - link.metres / link.speed if free and link.speed else 0.0
-
-
-def whole_seconds_lost(net: SumoNet, names: Sequence[str], flows: Flows, longer: Mapping[str, float]) -> dict[str, int]:
-    """Whole seconds, 0 or more, that vehicles lose on average at junctions, by name; what rounding leaves is carried on
-    to the next junction. longer: as in vehicles_and_seconds_lost."""
-    connections, found, owed = connections_of(net), {}, 0.0
-    for name in names:
-        total, seconds = vehicles_and_seconds_lost(connections[name], net, flows, longer)
-        own = seconds / total if total else 0.0
-        found[name] = max(0, min((int(own), int(own) + 1), key=lambda steps: abs(owed + (own - steps) * total)))
-        owed += (own - found[name]) * total
-    return found

@@ -8,9 +8,9 @@ from typing import Any
 
 from streetsim.base.files import Json
 from streetsim.model.runs import Command
-from streetsim.sumo.demand import Vehicle
-from streetsim.sumo.losses import Flows
-from streetsim.sumo.net import STATIC, Connection, SumoNet, connections_of
+from streetsim.sumo.crossing import Flows
+from streetsim.sumo.demand import DemandVehicle
+from streetsim.sumo.net import STATIC, NetConnection, SumoNet, connections_of
 from streetsim.sumo.network import Network
 from streetsim.sumo.signals import light_of
 from streetsim.sumo.types import Kind, Types
@@ -21,8 +21,9 @@ MOST_BEFORE = 4  # lanes before one, on which its detector may lie
 def kept_programs(net: SumoNet, network: Network, lights: Iterable[tuple[str, int]], flows: Flows) -> list[Json]:
     """What a map keeps of each program that is not static: {"light", "program": its name, "idle": True where it is not
     in force (these come last), "kind", "offset": seconds, "phases": [[seconds, state, minDur, maxDur, [next phases]]],
-    "parameters" and "more": as in Program, "ways", "lanes" and "nodes" (of the light): lists of what connection_fields,
-    lane_fields and node_fields give, "timing": as in Program, of NEMA lights alone}. lights: (light, node)."""
+    "parameters" and "more": as in LightProgram, "ways", "lanes" and "nodes" (of the light): lists of what
+    connection_fields, lane_fields and node_fields give, "timing": as in LightProgram, of NEMA lights alone}. lights:
+    (light, node)."""
     nodes = nodes_by_light(lights)
     programs = [
         (one is not net.programs[light], light, one)
@@ -83,7 +84,9 @@ def nodes_by_light(lights: Iterable[tuple[str, int]]) -> dict[str, list[int]]:
     return nodes
 
 
-def lights_of_riders(entered: Iterable[Command], driven: Iterable[Vehicle], types: Types, network: Network) -> set[str]:
+def lights_of_riders(
+    entered: Iterable[Command], driven: Iterable[DemandVehicle], types: Types, network: Network
+) -> set[str]:
     """The names of lights that vehicles pass which have a line of public transport, or another class than passenger.
     entered: the enter commands of the vehicles driven, in one order."""
     light_at = {(link, following): turn.light for (link, _, following), turn in network.turns.items() if turn.light}
@@ -94,13 +97,13 @@ def lights_of_riders(entered: Iterable[Command], driven: Iterable[Vehicle], type
     return found
 
 
-def connection_fields(one: Connection, net: SumoNet) -> list[Any]:
+def connection_fields(one: NetConnection, net: SumoNet) -> list[Any]:
     """[position in the light's state, lane, next lane, whether it turns back, SUMO's direction] of a connection."""
     back = net.edges[one.source].begin == net.edges[one.target].end
     return [one.index, f"{one.source}_{one.source_lane}", f"{one.target}_{one.target_lane}", back, one.direction]
 
 
-def connections_to_lanes(net: SumoNet) -> dict[tuple[str, int], list[Connection]]:
+def connections_to_lanes(net: SumoNet) -> dict[tuple[str, int], list[NetConnection]]:
     """By lane, (edge, index), the connections that lead to it."""
     found = defaultdict(list)
     for one in net.connections:
@@ -108,7 +111,7 @@ def connections_to_lanes(net: SumoNet) -> dict[tuple[str, int], list[Connection]
     return dict(found)
 
 
-def lane_fields(edge: str, index: int, net: SumoNet, before: dict[tuple[str, int], list[Connection]]) -> list[Any]:
+def lane_fields(edge: str, index: int, net: SumoNet, before: dict[tuple[str, int], list[NetConnection]]) -> list[Any]:
     """[name, speed in metres a second, whether it is its edge's only lane, [[name, metres] of it and of those before
     it]] of a lane at a light; a lane before counts where it alone leads there, without a light, and MOST_BEFORE of them
     at most. before: as connections_to_lanes gives it."""
@@ -123,7 +126,7 @@ def lane_fields(edge: str, index: int, net: SumoNet, before: dict[tuple[str, int
 
 
 def node_fields(
-    number: int, name: str, net: SumoNet, flows: Flows, at_junction: Mapping[str, Sequence[Connection]]
+    number: int, name: str, net: SumoNet, flows: Flows, at_junction: Mapping[str, Sequence[NetConnection]]
 ) -> Json:
     """What says who gives way at a node: {"node": its number, "connections": the fields, in a list, of each that its
     light controls or that has no light, "yields": [[request, [those that it gives way to]]], "flows": [[edge, next

@@ -4,28 +4,35 @@ from collections.abc import Iterable
 
 from streetsim.base import limits
 from streetsim.base.report import Report, first_few
-from streetsim.sumo.net import Program, SumoNet
-from streetsim.sumo.network import OTHER_SPEED, Network
+from streetsim.sumo.driving import Driving
+from streetsim.sumo.links import OTHER_SPEED
+from streetsim.sumo.net import LightProgram, SumoNet
+from streetsim.sumo.network import Network
 
 MUCH = 1.1  # times as long as in SUMO
+LONGER = 2.0  # seconds more than in SUMO, from which on an edge is told
+OTHER_PACE = 0.02  # of the seconds of a type on empty streets, by which they may be off
 FAST = 22.0  # metres a second: from here on a road with a merge is told
 # What junctions without a light, and states of connections and of lights, are made of here: those of SUMO that are left
-# are zippers, and what is of railways.
+# are of railways.
 TYPES = {
     *("priority", "priority_stop", "allway_stop", "right_before_left", "left_before_right", "dead_end", "unregulated"),
     *("traffic_light", "traffic_light_unregulated", "traffic_light_right_on_red", "unknown", "internal", "district"),
+    "zipper",
 }
+Key = tuple[Driving, str]  # how vehicles drive, and their class
 RING_EDGES, RING_METRES = 12, 400.0  # of a ring, at most
-STATES, SHOWN_STATES = set("Mm=sw-"), set("GgrRyYuUoOs")
+STATES, SHOWN_STATES = set("Mm=swZ-"), set("GgrRyYuUoOs")
 
 
-def warn_of_rules(net: SumoNet, network: Network, programs: Iterable[tuple[str, Program]], report: Report) -> None:
+def warn_of_rules(net: SumoNet, network: Network, programs: Iterable[tuple[str, LightProgram]], report: Report) -> None:
     """Reports what of a network itself is otherwise here than in SUMO, by the functions of this module; called after
     the vehicles have their plans (enters), as these add turns (network.joined). Lights, stops and types report their
     own. programs: with the name of its light each that is shown at any time."""
     warn_of_classes(net, network, report)
     warn_of_lengths(network, report)
     warn_of_speeds(network, report)
+    warn_of_types(network, report)
     warn_of_merges(net, report)
     warn_of_lanes(net, network, report)
     warn_of_unknown(net, programs, report)
@@ -59,8 +66,8 @@ def warn_of_lengths(network: Network, report: Report) -> None:
 
 
 def warn_of_speeds(network: Network, report: Report) -> None:
-    """Reports speeds near which there is no limit in cells a step, and how many more or fewer cells their links have
-    for it."""
+    """Reports speeds near which there is no limit in cells a step, and how many more or fewer cells their links have;
+    and the edges that are too short for the seconds of SUMO."""
     links_of = defaultdict(list)
     for link in network.links:
         links_of[link.speed, link.limit].append(link)
@@ -69,12 +76,35 @@ def warn_of_speeds(network: Network, report: Report) -> None:
         if abs(free - speed) > OTHER_SPEED * speed:
             usual = sum(limits.cells_of_length(link.metres) for link in links)
             share = round(100 * (sum(link.cells for link in links) / usual - 1))
-            how = f"{abs(share)} % {'fewer' if share < 0 else 'more'} cells, so that it takes as long as in SUMO"
+            how = f"{abs(share)} % {'fewer' if share < 0 else 'more'} cells, so that one alone takes as long as in SUMO"
             told = (
                 f"{speed * 3.6:.0f} km/h becomes {limit} cells a step, {free * 3.6:.0f} km/h when free"
                 f"{f', on {how}' if share else ''}: {len(links)} links"
             )
             report.warn(told, dict.fromkeys(link.edge for link in links), light=share != 0)
+    if longer := {link.edge: link.longer for link in network.links if link.longer > LONGER}:
+        names = sorted(longer, key=lambda edge: (-longer[edge], edge))
+        most = f"one alone takes {LONGER:g} to {max(longer.values()):.1f} s longer than in SUMO"
+        report.warn(f"{len(names)} edges are so short that {most}: {first_few(names)}", names)
+
+
+def warn_of_types(network: Network, report: Report) -> None:
+    """Reports the vehicle types that drive slower or faster on an empty street than in SUMO, as all on a street have
+    its mean pace."""
+    own, mean = defaultdict[Key, float](float), defaultdict[Key, float](float)
+    for link, users in zip(network.links, network.users, strict=True):
+        drivers = network.paces.on(link.edge, users)
+        for (driving, vclass), count in network.paces.passing.get(link.edge, {}).items():
+            if link.speed and (users is None or vclass in users):
+                own[driving, vclass] += count * link.metres * driving.slowness(link.speed)
+                mean[driving, vclass] += count * link.metres * drivers.slowness(link.speed)
+    off = {key: mean[key] / own[key] - 1 for key in own if abs(mean[key] / own[key] - 1) > OTHER_PACE}
+    if off:
+        order = sorted(off, key=lambda key: -abs(off[key]))
+        names = [name for key in order for name in sorted(network.paces.types_of[key])]
+        share_of = {name: off[key] for key in order for name in network.paces.types_of[key]}
+        told = first_few(f"{name} {share_of[name]:+.0%}" for name in names)
+        report.warn(f"all on a street have its mean pace, so on empty streets types take other seconds: {told}", names)
 
 
 def warn_of_merges(net: SumoNet, report: Report) -> None:
@@ -112,7 +142,7 @@ def warn_of_lanes(net: SumoNet, network: Network, report: Report) -> None:
         report.warn(f"lanes are joint that lead to different edges, as --joint asks: edges {names}", light=True)
 
 
-def warn_of_unknown(net: SumoNet, programs: Iterable[tuple[str, Program]], report: Report) -> None:
+def warn_of_unknown(net: SumoNet, programs: Iterable[tuple[str, LightProgram]], report: Report) -> None:
     """Reports types of junctions where edges end, states of connections without a light, states of lights (programs as
     of warn_of_rules), and rings, for which nothing is done here."""
     ends = {edge.end for edge in net.edges.values()}

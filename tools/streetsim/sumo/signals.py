@@ -3,6 +3,7 @@ from collections import defaultdict
 from collections.abc import Iterable, Iterator, Mapping, Sequence
 from dataclasses import dataclass, field
 from itertools import chain, cycle as cycle_of, groupby, islice, product, takewhile
+from operator import itemgetter
 
 from streetsim.base import limits
 from streetsim.base.files import Fault
@@ -11,17 +12,20 @@ from streetsim.model.mapping import MapTurn
 from streetsim.model.runs import Command
 from streetsim.model.timing import spans_of, states_of
 from streetsim.model.waiting import TurnKey
-from streetsim.sumo.crossing import GREEN, OPEN, STOPPED, Movement, movements_of
+from streetsim.sumo.crossing import GREEN, OPEN, STOPPED, CrossingMovement, Flows, movements_of
+from streetsim.sumo.driver_words import Pairs, cut_at, with_cut
 from streetsim.sumo.greens import TWO_PARTS, hidden_middle, hidden_start, parts_shown, parts_shown_in_red
-from streetsim.sumo.losses import Flows
-from streetsim.sumo.net import NEMA, STATIC, Connection, Program, SumoNet, connections_of
+from streetsim.sumo.net import NEMA, STATIC, LightProgram, NetConnection, SumoNet, connections_of
 from streetsim.sumo.network import Network, Turn
 from streetsim.sumo.yielding import settle
 
 Green = frozenset[TurnKey]
 AtLight = tuple[int, int, int, Turn | MapTurn]  # link, lane, next link
-# By index in a light's state, and by first second, of greens or of reds in which one may go: seconds and parts shown.
-ShownSeconds = Mapping[int | None, Mapping[int, tuple[int, int]]]
+# How much of a green, or of a red in which one may go, is shown: seconds, parts, and the lead of greens.parts_shown.
+Piece = tuple[int, int, int | None]
+ShownSeconds = Mapping[int | None, Mapping[int, Piece]]  # by index in a light's state, and by first second
+NOTHING: Piece = (0, 1, None)
+AS_MAIN = 0  # the parts of a permissive green against which nobody comes
 DEFAULT_SHARE = 0.7  # of a permissive green that is shown, where nothing is known of who gives way
 LONGEST = 200_000  # seconds of a cycle that are read
 AFTER = 86_400  # seconds after the last departure for which a program is told that does not fit in one plan
@@ -42,10 +46,12 @@ class LitNode:
     turns: Sequence[AtLight]
     edges: Mapping[int, str]  # of the turns' links
     light: str
-    program: Program
+    program: LightProgram
     permissive: float | None  # the share, of each permissive green its last part; None: DEFAULT_SHARE
     report: Report
-    found: Mapping[int, Movement] = field(default_factory=dict)  # by request: who gives way there
+    found: Mapping[int, CrossingMovement] = field(default_factory=dict)  # by request: who gives way there
+    cut: float = 0.0  # seconds that are cut from greens, in the mean over nodes
+    shares: Pairs = ()  # of permissive greens that were surveyed: (edge, share)
 
     def states(self) -> list[str]:
         """The light's state, SUMO's letters, in each second of its cycle. Fault where each_second raises one."""
@@ -54,11 +60,17 @@ class LitNode:
     def shown_seconds(self, states: Sequence[str]) -> ShownSeconds:
         """What is shown, by first second, as shown_by_gaps or shown_by_share has it; states: as states gives them."""
         if self.found:
-            return shown_by_gaps(self.found)
-        return shown_by_share(self.light, self.turns, states, self.permissive)
+            made = shown_by_gaps(self.found)
+        else:
+            made = shown_by_share(self.light, self.turns, states, self.permissive)
+        known = {edge: share for edge, share in self.shares}
+        for edge in known.keys() & {*self.edges.values()}:
+            own = [one for one in self.turns if self.edges[one[0]] == edge]
+            made = {**made, **shown_by_share(self.light, own, states, known[edge])}
+        return made
 
 
-def movements(net: SumoNet, network: Network, flows: Flows) -> dict[str, dict[int, Movement]]:
+def movements(net: SumoNet, network: Network, flows: Flows) -> dict[str, dict[int, CrossingMovement]]:
     """The connections of each junction with a light over its cycle, {junction: {request: movement}}, with the seconds
     that are shown (settle); empty without flows, and without the junctions for which movements_of_junction gives none.
     flows: vehicles an hour by (edge, next edge). Fault where each_second or check_states raises one."""
@@ -68,8 +80,8 @@ def movements(net: SumoNet, network: Network, flows: Flows) -> dict[str, dict[in
 
 
 def movements_of_junction(
-    junction: str, connections: Sequence[Connection], net: SumoNet, flows: Flows, limits_of: Mapping[str, int]
-) -> dict[int, Movement]:
+    junction: str, connections: Sequence[NetConnection], net: SumoNet, flows: Flows, limits_of: Mapping[str, int]
+) -> dict[int, CrossingMovement]:
     """The movements of one junction, {request: movement}, with the seconds that are shown (settle); of several lights
     one alone counts (light_of), and connections of others are left out. Empty where no light of it has a program, or it
     is not known who gives way to whom. connections: all of the junction; flows: vehicles an hour by (edge, next edge);
@@ -85,7 +97,7 @@ def movements_of_junction(
     return found
 
 
-def light_of(turns: Iterable[Connection | Turn | MapTurn], net: SumoNet) -> str | None:
+def light_of(turns: Iterable[NetConnection | Turn | MapTurn], net: SumoNet) -> str | None:
     """The name of the light that counts at a node, of those of its turns or connections: the first by name that has a
     program; None where no light there has one."""
     return min((turn.light for turn in turns if turn.light in net.programs), default=None)
@@ -105,18 +117,19 @@ def lit_node(
     node: int,
     turns: Sequence[AtLight],
     light: str,
-    found: Mapping[int, Movement],
+    found: Mapping[int, CrossingMovement],
     report: Report,
 ) -> LitNode:
     """A node with a light and its program in the network; found: as in LitNode."""
     edges = {link: network.links[link].edge for link, *_ in turns}
-    return LitNode(node, turns, edges, light, net.programs[light], network.options.permissive, report, found)
+    measured = network.options.cut, network.options.shares
+    return LitNode(node, turns, edges, light, net.programs[light], network.options.permissive, report, found, *measured)
 
 
 def signal_commands(
     net: SumoNet,
     network: Network,
-    movements_at: Mapping[str, Mapping[int, Movement]],
+    movements_at: Mapping[str, Mapping[int, CrossingMovement]],
     report: Report,
     ends: Mapping[str, int],
 ) -> list[tuple[str, Command]]:
@@ -143,7 +156,7 @@ def signal_commands(
     return made
 
 
-def warn_of_kind(light: str, program: Program, report: Report) -> None:
+def warn_of_kind(light: str, program: LightProgram, report: Report) -> None:
     """Reports that a light's program, where it is not static, goes by its listed seconds here, and that a static one
     shows its phases in their order, where one names another than the one behind it as its next."""
     count = len(program.phases)
@@ -241,7 +254,7 @@ def signal_command(own: LitNode) -> Command:
     }
 
 
-def each_second(light: str, program: Program) -> list[str]:
+def each_second(light: str, program: LightProgram) -> list[str]:
     """The program's state in each second of its cycle, as timing.states_of gives it. Fault, with the light's name,
     where the cycle is half a second or less, or longer than LONGEST."""
     if (cycle := sum(duration for duration, _ in program.phases)) > LONGEST:
@@ -252,21 +265,23 @@ def each_second(light: str, program: Program) -> list[str]:
     return states
 
 
-def check_states(light: str, states: Sequence[str], turns: Iterable[Turn | MapTurn | Connection]) -> None:
+def check_states(light: str, states: Sequence[str], turns: Iterable[Turn | MapTurn | NetConnection]) -> None:
     """Fault where a state of a program has no place for the index of one of some turns of this light."""
+    shortest = min(map(len, states))
     for turn in turns:
-        if turn.light == light and any(turn.index >= len(state) for state in states):
+        if turn.light == light and turn.index >= shortest:
             raise Fault(f"light {light!r}: a state is shorter than link index {turn.index}")
 
 
-def shown_by_gaps(found: Mapping[int, Movement]) -> ShownSeconds:
+def shown_by_gaps(found: Mapping[int, CrossingMovement]) -> ShownSeconds:
     """What is shown of permissive greens, and of reds in which one may go after a stop, by what was found of who gives
-    way; of movements that share an index the most."""
-    made: defaultdict[int | None, dict[int, tuple[int, int]]] = defaultdict(dict)
+    way; of movements that share an index the most. One against which nobody comes goes as if first (AS_MAIN parts)."""
+    made: defaultdict[int | None, dict[int, Piece]] = defaultdict(dict)
     for movement in found.values():
         own = made[movement.index]
         for start, seconds in movement.shown.items():
-            own[start] = max((seconds, movement.parts), own.get(start, (0, 1)))
+            parts = movement.parts if movement.foes or start in movement.stops else AS_MAIN
+            own[start] = max((seconds, parts, movement.leads.get(start)), own.get(start, NOTHING), key=itemgetter(0, 1))
     return made
 
 
@@ -276,10 +291,10 @@ def shown_by_share(
     """What is shown of permissive greens, where it is the last share of each. states: of the light, one for each
     second; permissive: the share, 0 to 1; None: DEFAULT_SHARE."""
     hidden_share = 1 - (DEFAULT_SHARE if permissive is None else permissive)
-    made: dict[int | None, dict[int, tuple[int, int]]] = {}
+    made: dict[int | None, dict[int, Piece]] = {}
     for index in {turn.index for *_, turn in turns if turn.light == light}:
         runs = spans_of("".join(state[index] for state in states), OPEN)
-        made[index] = {start: (length - round(length * hidden_share), 1) for start, length in runs}
+        made[index] = {start: (length - round(length * hidden_share), 1, None) for start, length in runs}
     return made
 
 
@@ -289,31 +304,46 @@ def green_seconds(
     """The green turns in each second of the cycle; turns that the light does not control are always green. grain,
     middle: as in shown_green."""
     greens: list[set[TurnKey]] = [set() for _ in states]
+    signs = ["".join(each) for each in zip(*states, strict=False)]  # by index
     for link, lane, following, turn in own.turns:
         shown = [True] * len(states)
         if turn.light == own.light:
-            letters = "".join(state[turn.index] for state in states)
-            shown = shown_green(letters, seconds.get(turn.index, {}), turn, grain, middle)
+            own_seconds = seconds.get(turn.index, {})
+            letters = with_main_greens(signs[turn.index], own_seconds)
+            shown = shown_green(letters, own_seconds, turn, grain, middle)
+            if cut := cut_at(own.cut, own.node):
+                shown = with_cut(shown, spans_of(letters, GREEN + OPEN), letters, cut)
         for green, on in zip(greens, shown, strict=True):
             if on:
                 green.add((link, lane, following))
     return [frozenset(green) for green in greens]
 
 
+def with_main_greens(states: str, seconds: Mapping[int, Piece]) -> str:
+    """The letters of a turn in each second, with those of a green that goes first in place of those of the permissive
+    greens whose parts are AS_MAIN; seconds: as in shown_green."""
+    letters = list(states)
+    for start, length in spans_of(states, OPEN):
+        if seconds.get(start, NOTHING)[1] == AS_MAIN:
+            for second in range(start, start + length):
+                letters[second % len(states)] = GREEN[0]
+    return "".join(letters)
+
+
 def shown_green(
-    states: str, seconds: Mapping[int, tuple[int, int]], turn: Turn | MapTurn, grain: int, middle: bool
+    states: str, seconds: Mapping[int, Piece], turn: Turn | MapTurn, grain: int, middle: bool
 ) -> list[bool]:
     """For each second whether a turn shows green; states: the letter of this turn in each second. Of each permissive
     green, and each red in which one may go after a stop, so many are shown as seconds says, in so many parts ({first
-    second: (seconds, parts)}; where it says nothing, the whole green and nothing of the red); their begins and ends are
+    second: (seconds, parts, lead)}; where it says nothing, the whole green and nothing of the red); begins and ends are
     rounded down to grain seconds, a part lasts grain at least. Of each other green that follows a red or yellow some
     seconds are left out, as SUMO's queues start later and turn slower: those of hidden_seconds, of a green above
     PHASE_STEPS those of one of QUEUED."""
     count = len(states)
     shown = [state in GREEN for state in states]
     greens, reds = spans_of(states, OPEN), spans_of(states, STOPPED)
-    pieces = [(start, length, parts_shown(length, *seconds.get(start, (length, 1)))) for start, length in greens]
-    pieces += [(start, length, parts_shown_in_red(length, seconds.get(start, (0, 1))[0])) for start, length in reds]
+    pieces = [(start, length, parts_shown(length, *seconds.get(start, (length, 1, None)))) for start, length in greens]
+    pieces += [(start, length, parts_shown_in_red(length, seconds.get(start, NOTHING)[0])) for start, length in reds]
     for start, length, found in pieces:
         for begin, end in found:
             begin = begin // grain * grain
@@ -332,7 +362,7 @@ def hidden_seconds(length: int, turn: Turn | MapTurn, grain: int, middle: bool) 
     at its begin; of a green below TWO_PARTS always at its begin. Begin and number are rounded down to grain seconds,
     the number of a green below TWO_PARTS to the nearest: of seven, one hidden second fewer lets a quarter more pass,
     and a search for plans would prefer such greens."""
-    own = length, turn.speed, turn.limit
+    own = length, turn.speed, turn.limit, turn.accel
     begin, end = hidden_middle(*own) if middle else (0, hidden_start(*own))
     nearest = grain // 2 if length < TWO_PARTS else 0
     begin, seconds = begin // grain * grain, (end - begin + nearest) // grain * grain

@@ -9,22 +9,22 @@ from dataclasses import dataclass, replace
 from itertools import accumulate, pairwise
 from math import dist
 
+from streetsim.base import limits
 from streetsim.base.files import Fault
 from streetsim.base.report import Report
 from streetsim.model.detectors import E2
 from streetsim.sumo.bus_stops import BusStop, begin_and_end_on_lane
-from streetsim.sumo.demand import Vehicle
+from streetsim.sumo.demand import DemandVehicle
 from streetsim.sumo.detectors import SumoDetector, tell_beyond
-from streetsim.sumo.net import Connection, Edge, Lane, Point, SumoNet
+from streetsim.sumo.net import NetConnection, NetEdge, NetLane, Point, SumoNet
 
 FORM = re.compile(r"(.+):(\d+)-(\d+):(\d+)")
 KMH = 3.6  # of one metre a second
-LIMITS = range(5, 131)  # km/h that may be asked for
 LEAST = 30  # metres, below which an edge has no part of its own before or behind the stretch
 
 
 @dataclass(slots=True, frozen=True)
-class Slow:
+class SlowStretch:
     """A lower limit on a stretch of an edge, from begin to end in metres."""
 
     edge: str
@@ -38,7 +38,7 @@ class Slow:
 
 
 @dataclass(slots=True, frozen=True)
-class Part:
+class EdgePart:
     """A part of an edge, as it is cut for a lower limit."""
 
     name: str
@@ -47,32 +47,32 @@ class Part:
     slow: bool
 
 
-def slow_of(text: str) -> Slow:
+def slow_of(text: str) -> SlowStretch:
     """The limit that a text EDGE:METRES-METRES:KMH asks for; Fault where it has another form, the metres do not rise,
-    or the limit is not in LIMITS."""
+    or the limit is not in limits.KMH."""
     found = FORM.fullmatch(text)
-    if not found or int(found[2]) >= int(found[3]) or int(found[4]) not in LIMITS:
-        many = f"{LIMITS[0]} to {LIMITS[-1]}"
+    if not found or int(found[2]) >= int(found[3]) or int(found[4]) not in limits.KMH:
+        many = f"{limits.KMH[0]} to {limits.KMH[-1]}"
         raise Fault(f"--slow {text!r}: expected EDGE:METRES-METRES:KMH, metres that rise and {many} km/h")
-    return Slow(found[1], *map(int, found.groups()[1:]))
+    return SlowStretch(found[1], *map(int, found.groups()[1:]))
 
 
-def parts_of(slow: Slow, metres: float) -> list[Part]:
+def parts_of(slow: SlowStretch, metres: float) -> list[EdgePart]:
     """The parts of an edge of some metres, on which the stretch begins; one before or behind the slow part that would
     be shorter than LEAST belongs to it."""
     begin = slow.begin if slow.begin >= LEAST else 0
     end = slow.end if metres - slow.end >= LEAST else metres
     places = list(dict.fromkeys((0, begin, end, metres)))
-    return [Part(f"{slow.edge}.{at}" if at else slow.edge, at, to, at == begin) for at, to in pairwise(places)]
+    return [EdgePart(f"{slow.edge}.{at}" if at else slow.edge, at, to, at == begin) for at, to in pairwise(places)]
 
 
 def with_lower_limits(
-    net: SumoNet, vehicles: Sequence[Vehicle], texts: Iterable[str], report: Report
-) -> tuple[SumoNet, list[Vehicle]]:
+    net: SumoNet, vehicles: Sequence[DemandVehicle], texts: Iterable[str], report: Report
+) -> tuple[SumoNet, list[DemandVehicle]]:
     """(a new network with edges in parts, the vehicles with these parts in their routes); net and vehicles stay as they
     are. texts: EDGE:METRES-METRES:KMH; Fault where slow_of or refuse_limit raises it. Detectors that are cut are
     reported."""
-    made, parts = net, dict[str, list[Part]]()
+    made, parts = net, dict[str, list[EdgePart]]()
     for slow in map(slow_of, texts):
         refuse_limit(slow, net, parts)
         parts[slow.edge] = parts_of(slow, net.edges[slow.edge].lanes[0].metres)
@@ -81,7 +81,7 @@ def with_lower_limits(
     return replace(made, bus_stops=stops), [vehicle_over_parts(one, parts) for one in vehicles]
 
 
-def refuse_limit(slow: Slow, net: SumoNet, known: Iterable[str]) -> None:
+def refuse_limit(slow: SlowStretch, net: SumoNet, known: Iterable[str]) -> None:
     """Fault where a network cannot have a limit: no such edge, a stretch that does not begin on it or ends over 1 m
     beyond, a limit above its own, a second limit (known: edges that have one), or a name of a part that is taken."""
     where = f"{slow.kmh} km/h on {slow.edge}"
@@ -98,7 +98,7 @@ def refuse_limit(slow: Slow, net: SumoNet, known: Iterable[str]) -> None:
         raise Fault(f"{where}: the network has a {taken[0]!r} already")
 
 
-def vehicle_over_parts(vehicle: Vehicle, parts: Mapping[str, Sequence[Part]]) -> Vehicle:
+def vehicle_over_parts(vehicle: DemandVehicle, parts: Mapping[str, Sequence[EdgePart]]) -> DemandVehicle:
     """The vehicle with the parts of edges, by edge, in place of these in its route, and with its stops on these."""
     if parts.keys().isdisjoint(vehicle.edges):
         return vehicle
@@ -108,7 +108,7 @@ def vehicle_over_parts(vehicle: Vehicle, parts: Mapping[str, Sequence[Part]]) ->
     return replace(vehicle, edges=edges, stops=tuple(stops))
 
 
-def stop_on_part(bus_stop: BusStop, parts: Mapping[str, Sequence[Part]]) -> BusStop:
+def stop_on_part(bus_stop: BusStop, parts: Mapping[str, Sequence[EdgePart]]) -> BusStop:
     """A bus stop put on the part on which it ends, where its edge has parts (by edge); it begins with
     that part at the earliest."""
     edge, _, index = bus_stop.lane.rpartition("_")
@@ -119,16 +119,16 @@ def stop_on_part(bus_stop: BusStop, parts: Mapping[str, Sequence[Part]]) -> BusS
     return BusStop(f"{part.name}_{index}", max(0.0, begin - part.begin), end - part.begin)
 
 
-def with_parts(net: SumoNet, slow: Slow, parts: Sequence[Part], report: Report) -> SumoNet:
+def with_parts(net: SumoNet, slow: SlowStretch, parts: Sequence[EdgePart], report: Report) -> SumoNet:
     """A new network with one edge (slow.edge) in parts, which are joined by connections. Detectors that are cut are
     reported."""
     whole, last = net.edges[slow.edge], parts[-1].name
     made = {part.name: part_edge(part, parts, whole, slow) for part in parts}
-    edges: dict[str, Edge] = {}
+    edges: dict[str, NetEdge] = {}
     for name, edge in net.edges.items():
         edges |= made if name == slow.edge else {name: edge}
     between = [
-        Connection(one.name, other.name, lane.index, lane.index, None, 0, "M", speed=lane.speed)
+        NetConnection(one.name, other.name, lane.index, lane.index, None, 0, "M", speed=lane.speed)
         for one, other in pairwise(parts)
         for lane in whole.lanes
     ]
@@ -150,19 +150,19 @@ def with_parts(net: SumoNet, slow: Slow, parts: Sequence[Part], report: Report) 
     )
 
 
-def part_edge(part: Part, parts: Sequence[Part], whole: Edge, slow: Slow) -> Edge:
+def part_edge(part: EdgePart, parts: Sequence[EdgePart], whole: NetEdge, slow: SlowStretch) -> NetEdge:
     """A part as an edge of its own; parts: all of the edge, in order; whole: the edge before it was cut."""
     begin = whole.begin if part == parts[0] else part.name
     end = whole.end if part == parts[-1] else parts[parts.index(part) + 1].name
     lanes = [part_lane(lane, part, parts[-1].end, slow) for lane in whole.lanes]
-    return Edge(part.name, begin, end, whole.priority, lanes, whole.street, part != parts[-1], part.slow)
+    return NetEdge(part.name, begin, end, whole.priority, lanes, whole.street, part != parts[-1], part.slow)
 
 
-def part_lane(lane: Lane, part: Part, metres: float, slow: Slow) -> Lane:
+def part_lane(lane: NetLane, part: EdgePart, metres: float, slow: SlowStretch) -> NetLane:
     """The lane of a part, of a lane of the whole edge; metres: of the whole edge."""
     speed = min(lane.speed, slow.kmh / KMH) if part.slow else lane.speed
     begin, end = part.begin / metres, part.end / metres
-    return Lane(lane.index, speed, (end - begin) * lane.metres, piece_of_line(lane.shape, begin, end))
+    return NetLane(lane.index, speed, (end - begin) * lane.metres, piece_of_line(lane.shape, begin, end), lane.closed)
 
 
 def piece_of_line(shape: Sequence[Point], begin: float, end: float) -> list[Point]:
@@ -181,7 +181,7 @@ def point_at(shape: Sequence[Point], ways: Sequence[float], way: float) -> Point
     return x + share * (other_x - x), y + share * (other_y - y)
 
 
-def detector_on_part(one: SumoDetector, edge: str, parts: Sequence[Part], report: Report) -> SumoDetector:
+def detector_on_part(one: SumoDetector, edge: str, parts: Sequence[EdgePart], report: Report) -> SumoDetector:
     """A detector, put on the part on which it begins where it lies on the edge; one that reaches beyond that part is
     cut, which is reported."""
     name, _, index = one.lane.rpartition("_")

@@ -15,7 +15,8 @@ from streetsim.model.stops import Visit
 from streetsim.sumo.bus_stops import BusStop, begin_and_end_on_lane
 from streetsim.sumo.detectors import TRUE
 from streetsim.sumo.net import SumoNet
-from streetsim.sumo.network import Link, Network
+from streetsim.sumo.links import Link
+from streetsim.sumo.network import Network
 from streetsim.sumo.types import PACE, Kind, Types
 
 BUS_STOPS = ("busStop", "trainStop")
@@ -54,7 +55,7 @@ class Stop:
 
 
 @dataclass(slots=True, frozen=True)
-class Spot:
+class StopSpot:
     """Where a stop lies; begin and end in metres from the lane's begin."""
 
     at: int  # the edge's position in a route
@@ -68,7 +69,7 @@ class Spot:
 class FoundStops:
     """The stops of a vehicle that lie on its way, each with its spot there."""
 
-    stops: list[tuple[Stop, Spot]] = field(default_factory=list)
+    stops: list[tuple[Stop, StopSpot]] = field(default_factory=list)
 
     def first_lanes(self) -> dict[int, tuple[str, int]]:
         """The lane, (edge, index), of the first stop on each edge with one, by the edge's position in the route."""
@@ -202,7 +203,7 @@ class Stops:
                     why = NOT_ON_WAY
                 else:
                     at, before = further, end
-                    spot = Spot(at, edge, int(bus_stop.lane.rpartition("_")[2]), begin, end)
+                    spot = StopSpot(at, edge, int(bus_stop.lane.rpartition("_")[2]), begin, end)
                     found.stops.append((stop, spot))
             if why:
                 self.unmade[why].append(f"{name} at {called(stop)}")
@@ -239,7 +240,7 @@ class Stops:
     def report_stops(self) -> None:
         """Reports, after all vehicles, how many stops are made, by reason those that are not, and accelerations that
         had no effect."""
-        self.types.note_paces(self.kinds, self.report)
+        self.types.note_braking(self.kinds, self.report)
         for why, names in self.unmade.items():
             text = f"{len(names):,} stops of vehicles are not made, {why}: {first_few(names)}"
             self.report.warn(text, names, advice_on(why))
@@ -262,7 +263,7 @@ def called(stop: Stop) -> str:
     return f"{stop.bus_stop.lane}:{stop.bus_stop.end:g}"
 
 
-def stopping_cells(link: Link, spot: Spot) -> tuple[int, int] | None:
+def stopping_cells(link: Link, spot: StopSpot) -> tuple[int, int] | None:
     """The (first, last) cell, from 0, both included, in which the front of a vehicle stands at a stop, short of the
     link's last one. None where the link has fewer than two cells."""
     size = link.metres / link.cells

@@ -6,8 +6,9 @@ from itertools import combinations
 
 from streetsim.base.files import elements
 from streetsim.base.report import Report, first_few
-from streetsim.model.timing import Movement, Timing, movements_by_edges
-from streetsim.sumo.net import Connection, SumoNet, read_net, read_program
+from streetsim.model.timing import SignalMovement, Timing, movements_by_edges
+from streetsim.sumo.constraints import kept_values
+from streetsim.sumo.net import NetConnection, SumoNet, read_net, read_program
 
 
 def timings_of(net: SumoNet, in_run: bool = False) -> Iterator[Timing]:
@@ -30,7 +31,9 @@ def timings_of(net: SumoNet, in_run: bool = False) -> Iterator[Timing]:
         }
         junction = net.edges[connections[0].source].end
         movements = movements_by_edges((one.source, one.target, one.index) for one in connections)
-        yield from (Timing(light, junction, one.offset, one.phases, one.kind, movements, conflicts) for one in whole)
+        for one in whole:
+            kept = kept_values(light, one)
+            yield Timing(light, junction, one.offset, one.phases, one.kind, movements, conflicts, kept)
 
 
 def timings_of_files(net_path: str, additional: Iterable[str], classes: Sequence[str]) -> list[Timing]:
@@ -44,7 +47,7 @@ def timings_of_files(net_path: str, additional: Iterable[str], classes: Sequence
     return list(timings_of(net))
 
 
-def do_conflict(net: SumoNet, one: Connection, other: Connection) -> bool:
+def do_conflict(net: SumoNet, one: NetConnection, other: NetConnection) -> bool:
     """Whether two connections meet at one junction, as the network's foes say. False where a request is not known."""
     junction = net.edges[one.source].end
     if net.edges[other.source].end != junction or one.request is None or other.request is None:
@@ -69,7 +72,7 @@ def warn_of_clashes(net: SumoNet, report: Report) -> None:
             )
 
 
-def movement_named(net: SumoNet, movement: Movement) -> str:
+def movement_named(net: SumoNet, movement: SignalMovement) -> str:
     """How a movement is named to the user: by its streets, and where these have names by its edges too."""
     streets = [net.edges[edge].street or edge for edge in (movement.edge, movement.to)]
     ids = f" ({movement.edge} to {movement.to})"

@@ -2,7 +2,7 @@
 with file and element, where an attribute that it needs is absent, or one cannot be read."""
 import random
 from collections import Counter, defaultdict
-from collections.abc import Collection
+from collections.abc import Collection, Sequence
 from dataclasses import dataclass
 from xml.etree.ElementTree import Element
 
@@ -11,6 +11,8 @@ from streetsim.base.files import (
     Fault, FilePath, above_zero, at_least_zero, attribute, element_told, filled, number, optional,
 )
 from streetsim.base.report import Report, first_few
+from streetsim.sumo.driving import Driving, driving_of
+from streetsim.sumo.net import FREE
 
 # SUMO's vehicle classes.
 CLASSES = (
@@ -29,7 +31,6 @@ FORMER = {  # names that SUMO still takes for them
     "cityrail": "rail_urban",
     "rail_slow": "rail",
 }
-FREE = "ignoring"  # the class that may use every lane
 DEFAULT = "DEFAULT_VEHTYPE"
 USUAL = 5.0, 2.5  # metres of a vehicle, and of the gap to the one ahead of it when both stand
 BY_CLASS = {  # where SUMO's defaults are other ones
@@ -65,7 +66,8 @@ PACE_BY_CLASS = {  # where SUMO's defaults are other ones
     "rail_fast": (0.5, 1.3),
 }
 READ = {"id", "length", "minGap", "vClass", "probability", "probabilities", "vTypes"}
-PACES = {"accel", "decel", "maxSpeed"}  # which count for vehicles that stop, as buses do
+READ |= {"accel", "maxSpeed", "sigma", "speedFactor", "speedDev", "carFollowModel"}  # in the mean of a street
+BRAKING = "decel"  # counts for vehicles that stop, as buses do
 TAGS = ("vType", "vTypeDistribution")
 Mix = tuple[list[str], list[float]]  # names, of types or of routes, and their weights
 
@@ -120,7 +122,8 @@ class Types:
         self.metres["DEFAULT_BIKETYPE"] = sum(BY_CLASS["bicycle"])
         self.kinds = {DEFAULT: Kind()}  # by name; those that files tell, and the usual one
         self.pace = {DEFAULT: PACE}  # by name
-        self.paced: dict[str, set[str]] = {}  # by name, those of PACES that its type tells
+        self.braking: set[str] = set()  # names of those that tell a BRAKING
+        self.drivings: dict[str, Driving] = {}  # by name; those that files tell
         self.mixes: dict[str, Mix] = {}  # by distribution
         self.draws = random.Random(f"types {seed}")
         self.named: set[str] = set()  # types and distributions of the files
@@ -134,7 +137,7 @@ class Types:
             self.read_mix(path, element)
 
     def read_type(self, path: FilePath, element: Element) -> None:
-        """Adds a type; what it does not tell is as SUMO's defaults for its class. Attributes beside READ and PACES,
+        """Adds a type; what it does not tell is as SUMO's defaults for its class. Attributes beside READ and BRAKING,
         and elements in it, are reported as ignored. Fault where another one has its name, or SUMO has no such class."""
         vclass = class_of(path, element)
         length, gap = BY_CLASS.get(vclass, USUAL)
@@ -147,17 +150,21 @@ class Types:
         starting, braking = PACE_BY_CLASS.get(vclass, PACE)
         starting = optional(path, element, "accel", above_zero(number), starting)
         self.pace[name] = starting, optional(path, element, "decel", above_zero(number), braking)
-        self.paced[name] = PACES & set(element.keys())
-        for other in [*(set(element.keys()) - READ - PACES), *(f"<{one.tag}>" for one in element)]:
+        self.braking |= {name} if BRAKING in element.keys() else set()
+        self.drivings[name] = driving_of(path, element, starting, vclass)
+        for other in [*(set(element.keys()) - READ - {BRAKING}), *(f"<{one.tag}>" for one in element)]:
             self.report.ignored[f"{other} of vTypes"] += 1
 
-    def note_paces(self, used: Collection[str], report: Report) -> None:
-        """Reports how many types tell one of PACES that has no effect, as none of their vehicles stops; used: the types
-        whose vehicles do, and how many of these tell a maxSpeed, which has an effect at stops alone."""
-        for told in PACES:
-            unused = sum(told in paces for name, paces in self.paced.items() if name not in used)
-            report.ignored[f"{told} of vTypes"] = unused
-        report.ignored["maxSpeed of vTypes, but at stops"] = sum("maxSpeed" in self.paced.get(one, ()) for one in used)
+    def note_braking(self, used: Collection[str], report: Report) -> None:
+        """Reports how many types tell a BRAKING that has no effect, as none of their vehicles stops; used: the types
+        whose vehicles do."""
+        report.ignored[f"{BRAKING} of vTypes"] = len(self.braking - set(used))
+
+    def class_kept(self, name: str, classes: Sequence[str]) -> str:
+        """As which of the classes that an import keeps, one at least, vehicles of a type drive: its own, or the first;
+        FREE where it may use every lane."""
+        own = self.kinds[name].vclass if name in self.kinds else ""
+        return own if own == FREE or own in classes else classes[0]
 
     def new_name(self, path: FilePath, element: Element) -> str:
         """The name of a type or a distribution, which then counts as taken; Fault where another one of the files has

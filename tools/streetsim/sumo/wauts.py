@@ -9,8 +9,8 @@ from xml.etree.ElementTree import Element
 from streetsim.base.files import Fault, FilePath, at_least_zero, attribute, element_told, optional, seconds
 from streetsim.base.report import Report, first_few
 from streetsim.model.runs import Command
-from streetsim.sumo.losses import Flows
-from streetsim.sumo.net import OFF, Program, SumoNet, Waut, connections_of
+from streetsim.sumo.crossing import Flows
+from streetsim.sumo.net import OFF, LightProgram, SumoNet, Waut, connections_of
 from streetsim.sumo.network import Network
 from streetsim.sumo.signals import (
     AFTER, light_of, lit_node, movements_of_junction, signal_lines, turns_at, warn_of_kind,
@@ -99,7 +99,7 @@ def switches_from(waut: Waut, begin: int) -> Iterable[tuple[int, str]]:
     return ((clock + turn * waut.period, program) for turn in count(first) for clock, program in waut.switches)
 
 
-def programs_shown(net: SumoNet, days: Mapping[str, Day]) -> Iterator[tuple[str, Program]]:
+def programs_shown(net: SumoNet, days: Mapping[str, Day]) -> Iterator[tuple[str, LightProgram]]:
     """(light, program) of all programs that lights show from the run's begin on; days: as days_of gives them, of the
     lights that change."""
     for light, program in net.programs.items():

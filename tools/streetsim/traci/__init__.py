@@ -10,16 +10,17 @@ from streetsim.base.client import ProgramEnded, Refused
 from streetsim.base.files import Fault
 from streetsim.simulation.errors import FatalTraCIError, NotHere, TraCIException
 from streetsim.simulation.opening import open_session
-from streetsim.simulation.session import Session
+from streetsim.simulation.session import TraciSession
 from streetsim.traci import constants
 from streetsim.traci.advice import advice_on
 from streetsim.traci.domain import Domain
 from streetsim.traci.listeners import Listeners, StepListener
+from streetsim.traci.persons import PersonDomain
 from streetsim.traci.quiet import GUI, SHAPES, Quiet
-from streetsim.traci.roads import Edge, InductionLoop, Junction, Lane, LaneArea
-from streetsim.traci.simulation import Route, Simulation
-from streetsim.traci.trafficlights import TrafficLight
-from streetsim.traci.vehicles import Vehicle, VehicleType
+from streetsim.traci.roads import EdgeDomain, InductionLoopDomain, JunctionDomain, LaneAreaDomain, LaneDomain
+from streetsim.traci.simulation import RouteDomain, SimulationDomain
+from streetsim.traci.trafficlights import TrafficLightDomain
+from streetsim.traci.vehicles import VehicleDomain, VehicleTypeDomain
 
 __all__ = [
     "FatalTraCIError", "NotHere", "StepListener", "TraCIException", "addStepListener", "close", "constants",
@@ -27,7 +28,7 @@ __all__ = [
     "removeStepListener", "setOrder", "simulationStep", "start", "switch",
 ]
 
-_running: list[Session] = []
+_running: list[TraciSession] = []
 _label = ["default"]
 _listeners = Listeners()
 
@@ -49,7 +50,7 @@ def start(
     return getVersion()
 
 
-def _now() -> Session:
+def _now() -> TraciSession:
     """The session of the run; FatalTraCIError where none is under way."""
     if not _running:
         raise FatalTraCIError("Not connected.")
@@ -138,13 +139,15 @@ def isLibsumo() -> bool:
 
 isLibtraci = isLibsumo
 
-simulation, vehicle, vehicletype, route = Simulation(_now), Vehicle(_now), VehicleType(_now), Route(_now)
-lane, edge, junction, trafficlight = Lane(_now), Edge(_now), Junction(_now), TrafficLight(_now)
-inductionloop, lanearea = InductionLoop(_now), LaneArea(_now)
+simulation, route = SimulationDomain(_now), RouteDomain(_now)
+vehicle, vehicletype = VehicleDomain(_now), VehicleTypeDomain(_now)
+lane, edge, junction, trafficlight = LaneDomain(_now), EdgeDomain(_now), JunctionDomain(_now), TrafficLightDomain(_now)
+inductionloop, lanearea = InductionLoopDomain(_now), LaneAreaDomain(_now)
+person = PersonDomain(_now)
 gui, poi, polygon = Quiet("gui", GUI), Quiet("poi", SHAPES), Quiet("polygon", SHAPES)
 _domains: tuple[Domain | Quiet, ...] = (
-    simulation, vehicle, vehicletype, route, lane, edge, junction, trafficlight, inductionloop, lanearea, gui, poi,
-    polygon,
+    simulation, vehicle, vehicletype, route, lane, edge, junction, trafficlight, inductionloop, lanearea, person,
+    gui, poi, polygon,
 )
 for _domain in (vehicle, lane, edge, junction, inductionloop, lanearea):
     _domain.vehicles = vehicle

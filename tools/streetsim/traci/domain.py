@@ -1,30 +1,39 @@
 """What all domains of TraCI's calls share. What streetsim has nothing for says what to do instead."""
-from collections.abc import Callable, Collection, Container, Iterable, Mapping, Sequence
-from typing import Any
+from collections import defaultdict
+from collections.abc import Callable, Collection, Container, Iterable, Sequence
+from functools import cached_property
 
-from streetsim.base.shapes import Line, distance
-from streetsim.simulation.calls import Calls
+from streetsim.base.arrays import Array, numpy as np
+from streetsim.base.shapes import Line
+from streetsim.simulation.calls import CallGroup
+from streetsim.simulation.columns import Column
 from streetsim.simulation.errors import NotHere, TraCIException
-from streetsim.simulation.session import Session
+from streetsim.simulation.session import TraciSession
 from streetsim.traci import constants as tc
 from streetsim.traci.advice import advice_on
+from streetsim.traci.protocol import Value
+from streetsim.traci.table import told_by
 
-Values = dict[int, Any]  # what is told, by variable
+Values = dict[int, Value]  # what is told, by variable
 
 
-class Domain(Calls[Session]):
+class Domain(CallGroup[TraciSession]):
     """A domain of calls on objects of one kind."""
 
     kind = "Object"
-    variables: Mapping[int, str] = {}  # the calls that tell them
     usual: tuple[int, ...] = ()  # that are subscribed to where none is told
 
-    def __init__(self, now: Callable[[], Session]) -> None:
+    def __init__(self, now: Callable[[], TraciSession]) -> None:
         """now: gives the session; FatalTraCIError where no run is under way."""
         super().__init__(now)
         self.subscribed: dict[str, tuple[int, ...]] = {}  # variables by object
         self.around: dict[str, tuple[float, tuple[int, ...]]] = {}  # by object: metres, and variables of the vehicles
         self.parameters: dict[tuple[str, str], str] = {}  # that scripts keep, by object and key
+
+    @cached_property
+    def variables(self) -> dict[int, str]:
+        """The calls that tell variables, by number."""
+        return told_by(self.name)
 
     def advice(self, called: str) -> str:
         """What is said of a call of this domain that is not here; called: "domain.call"."""
@@ -58,7 +67,7 @@ class Domain(Calls[Session]):
 
     def check_key(self, name: str, key: str) -> None:
         """TraCIException for an unknown object; NotHere for a key of a model of SUMO's that is not here."""
-        self.check_known(name, self.subjects())
+        self.check_subject(name)
         if key.startswith(("device.", "has.", "laneChangeModel.", "carFollowModel.", "junctionModel.", "parking.")):
             raise NotHere(f"{self.name}: parameter {key!r} is of a model of SUMO's that is not here")
 
@@ -69,14 +78,13 @@ class Domain(Calls[Session]):
     ) -> None:
         """Has variables of an object, by number (None: SUMO's usual ones), and no others told from now on. begin and
         end have no effect. TraCIException for an unknown object, NotHere for a variable that cannot be told."""
-        self.check_known(name, self.subjects())
+        self.check_subject(name)
         self.note_subscription(name, varIDs)
 
     def note_subscription(self, name: str, numbers: Sequence[int] | None) -> None:
-        """As subscribe, of an object whose name was checked; from now on the run is looked at after each step."""
+        """As subscribe, of an object whose name was checked."""
         variables = tuple(self.usual if numbers is None else numbers)
         self.check_variables(variables)
-        self.now().follow()
         self.subscribed[name] = variables
 
     def check_variables(self, variables: Sequence[int]) -> None:
@@ -92,9 +100,18 @@ class Domain(Calls[Session]):
         """The names of the objects that can be subscribed to."""
         return self.getIDList()
 
+    def is_subject(self, name: str) -> bool:
+        """Whether `subjects` has a name."""
+        return name in self.subjects()
+
+    def check_subject(self, name: str) -> None:
+        """TraCIException where `subjects` does not have a name."""
+        if not self.is_subject(name):
+            raise TraCIException(f"{self.kind} '{name}' is not known.")
+
     def getSubscriptionResults(self, name: str) -> Values:
         """What was subscribed to, as it is now, by number of the variable; empty where the object is gone."""
-        if name not in self.subscribed or name not in self.subjects():
+        if name not in self.subscribed or not self.is_subject(name):
             return {}
         return self.variable_values(name, self.subscribed[name])
 
@@ -102,10 +119,33 @@ class Domain(Calls[Session]):
         """{number of a variable: what its call gives for an object}; check_variables must let them pass."""
         return {variable: getattr(self, self.variables[variable])(name) for variable in variables}
 
+    def columns(self, variables: Sequence[int], names: Sequence[str]) -> list[Column]:
+        """By variable what its call gives for each of some objects, all of them there."""
+        return [self.column(variable, names) for variable in variables]
+
+    def column(self, variable: int, names: Sequence[str]) -> Column:
+        """What the call of a variable gives for each of some objects, all of them there."""
+        call = getattr(self, self.variables[variable])
+        return [call(name) for name in names]
+
+    def all_values(self, names: Sequence[str], variables: Sequence[int]) -> dict[str, Values]:
+        """By object, of some that are all there, what variable_values gives."""
+        columns = map(plain, self.columns(variables, names))
+        return {name: dict(zip(variables, row)) for name, row in zip(names, zip(*columns))} if variables else {}
+
+    def there(self, names: Iterable[str]) -> list[str]:
+        """Of some objects those that are there, whose subscriptions are told."""
+        return [name for name in names if self.is_subject(name)]
+
     def getAllSubscriptionResults(self) -> dict[str, Values]:
         """By object, of those that are there, what getSubscriptionResults gives."""
-        there = set(self.subjects())
-        return {name: self.variable_values(name, self.subscribed[name]) for name in self.subscribed if name in there}
+        groups: defaultdict[tuple[int, ...], list[str]] = defaultdict(list)
+        for name, variables in self.subscribed.items():
+            groups[variables].append(name)
+        found: dict[str, Values] = {}
+        for variables, names in groups.items():
+            found |= self.all_values(self.there(names), variables)
+        return found
 
     def forget(self) -> None:
         """Forgets subscriptions and what scripts keep, at the end of a run."""
@@ -118,6 +158,7 @@ class Outlined(Domain):
     """Objects with an outline, around which vehicles can be looked for."""
 
     vehicles: Domain  # that are looked for; the package sets it
+    stands = True  # where it is
 
     def outline(self, name: str) -> Line:
         """Points (x, y), one or a line, in metres, from which distances are measured; each class has its own."""
@@ -130,13 +171,16 @@ class Outlined(Domain):
         """Has variables of all vehicles at most dist metres from the object told from now on, and no others. domain:
         that of vehicles (CMD_GET_VEHICLE_VARIABLE); varIDs: numbers, None: edge and metres on the lane; begin and end
         have no effect. TraCIException for an unknown object; NotHere for another domain or variable."""
-        self.check_known(objectID, self.subjects())
+        variables = tuple((tc.VAR_ROAD_ID, tc.VAR_LANEPOSITION) if varIDs is None else varIDs)
+        self.check_context(objectID, domain, variables)
+        self.around[objectID] = float(dist), variables
+
+    def check_context(self, name: str, domain: int, variables: Sequence[int]) -> None:
+        """Raises what subscribeContext does."""
+        self.check_subject(name)
         if domain != tc.CMD_GET_VEHICLE_VARIABLE:
             raise NotHere(f"{self.name}.subscribeContext: of domain {domain:#x} nothing is looked for, but of vehicles")
-        variables = tuple((tc.VAR_ROAD_ID, tc.VAR_LANEPOSITION) if varIDs is None else varIDs)
         self.vehicles.check_variables(variables)
-        self.now().follow()
-        self.around[objectID] = float(dist), variables
 
     def unsubscribeContext(self, objectID: str, domain: int, dist: float) -> None:
         """Ends the context subscription to an object; domain and dist have no effect."""
@@ -144,13 +188,29 @@ class Outlined(Domain):
 
     def getContextSubscriptionResults(self, objectID: str) -> dict[str, Values]:
         """By vehicle near the object what was subscribed to, by number; empty where the object is gone."""
-        if objectID not in self.around or objectID not in self.subjects():
+        if objectID not in self.around or not self.is_subject(objectID):
             return {}
         metres, variables = self.around[objectID]
-        line = self.outline(objectID)
-        near = (name for name in self.vehicles.getIDList() if distance(self.vehicles.getPosition(name), line) <= metres)
-        return {name: self.vehicles.variable_values(name, variables) for name in near}
+        return self.vehicles.all_values(self.names_near(objectID, metres), variables)
+
+    def names_near(self, name: str, metres: float) -> tuple[str, ...]:
+        """The vehicles at most some metres from an object."""
+        rows, _ = self.now().places.rows_in(*self.stretches_near(name, metres))
+        return self.now().names_of(self.now().view.number[rows].tolist())
+
+    def stretches_near(self, name: str, metres: float) -> tuple[Array, Array]:
+        """The stretches of places, as Places has them, at most some metres from an object."""
+        line = tuple((point[0], point[1]) for point in self.outline(name))
+        places = self.now().places
+        return places.stretches_of(line, metres) if self.stands else places.stretches(line, metres)
 
     def getAllContextSubscriptionResults(self) -> dict[str, dict[str, Values]]:
         """By object, of those that are there, what getContextSubscriptionResults gives."""
-        return {name: self.getContextSubscriptionResults(name) for name in self.around if name in self.subjects()}
+        return {name: self.getContextSubscriptionResults(name) for name in self.around if self.is_subject(name)}
+
+
+def plain(column: Column) -> Sequence[object]:
+    """A column as Python's own values: numbers, and points as tuples."""
+    if isinstance(column, list):
+        return column
+    return list(map(tuple, found)) if (found := np.asarray(column).tolist()) and isinstance(found[0], list) else found

@@ -1,38 +1,35 @@
-"""TraCI's lanes, edges, junctions and detectors; traci/vehicles.py says which calls look at vehicles."""
-from collections.abc import Sequence
+"""TraCI's lanes, edges, junctions and detectors."""
+from collections.abc import Collection, Sequence
 from typing import NoReturn
 
 from streetsim.base.shapes import Line, Point, point_along
+from streetsim.control.works_sites import why_parallel
 from streetsim.model.detectors import Detector
 from streetsim.model.mapping import Place
-from streetsim.simulation.calls import GAP, METRES, LaneCalls, TrafficCalls, StretchCalls
+from streetsim.simulation.calls import GAP, METRES, LaneCalls, StretchCalls, TrafficCalls
+from streetsim.simulation.columns import Column
 from streetsim.simulation.errors import NotHere, TraCIException
-from streetsim.simulation.session import Session
+from streetsim.simulation.session import TraciSession
 from streetsim.simulation.street_facts import LaneFacts
 from streetsim.traci import constants as tc
 from streetsim.traci.domain import Outlined
-from streetsim.works.sites import why_parallel
 
 
-class WithTraffic(Outlined, TrafficCalls[Session]):
+class WithTraffic(Outlined, TrafficCalls[TraciSession]):
     """A domain of lanes, edges or detectors, by the vehicles that are there."""
 
-    variables = {
-        tc.LAST_STEP_VEHICLE_NUMBER: "getLastStepVehicleNumber", tc.LAST_STEP_MEAN_SPEED: "getLastStepMeanSpeed",
-        tc.LAST_STEP_VEHICLE_ID_LIST: "getLastStepVehicleIDs", tc.LAST_STEP_OCCUPANCY: "getLastStepOccupancy",
-        tc.LAST_STEP_LENGTH: "getLastStepLength",
-    }
     usual = (tc.LAST_STEP_VEHICLE_NUMBER,)
 
     def speeds(self, name: str) -> list[float]:
-        """Metres a second of the vehicles there, in the order of `cars`."""
-        on_road = self.now().follow().view.on_road
-        return [on_road[car].speed * METRES for car in self.cars(name)]
+        """Metres a second of the vehicles there, in the order of `numbers`."""
+        there, links = self.now().view.there, self.now().map.links
+        return [there[number].metres_a_second(links) for number in self.numbers(name)]
 
     def lengths(self, name: str) -> list[float]:
-        """The metres of each vehicle's cells without the gap ahead, in the order of `cars`; not those of its type."""
-        fleet = self.now().fleet
-        return [fleet.sizes[fleet.names[car]] * METRES - GAP for car in self.cars(name)]
+        """The metres of each vehicle's cells without the gap ahead, in the order of `numbers`; not those of its
+        type."""
+        size = self.now().fleet.size
+        return [size(number) * METRES - GAP for number in self.numbers(name)]
 
     def getLastStepLength(self, name: str) -> float:
         """The mean length of the vehicles there, metres; 0 where there is nobody (in SUMO -1 on an induction loop)."""
@@ -40,10 +37,8 @@ class WithTraffic(Outlined, TrafficCalls[Session]):
         return sum(there) / len(there) if there else 0.0
 
 
-class Stretches(WithTraffic, StretchCalls[Session]):
+class Stretches(WithTraffic, StretchCalls[TraciSession]):
     """A domain of what has a length, on which vehicles can stand."""
-
-    variables = {**WithTraffic.variables, tc.LAST_STEP_VEHICLE_HALTING_NUMBER: "getLastStepHaltingNumber"}
 
     def metres(self, name: str) -> float:
         """The metres of road that vehicles can cover there; each class below gives its own."""
@@ -54,24 +49,53 @@ class Stretches(WithTraffic, StretchCalls[Session]):
         return sum(self.lengths(name)) / self.metres(name)
 
 
-class Lane(LaneCalls[Session], Stretches):
+class LaneDomain(LaneCalls[TraciSession], Stretches):
     """As SUMO's traci.lane: metres, metres a second, seconds. TraCIException for one that is not imported."""
 
     kind, name = "Lane", "lane"
-    variables = {
-        **Stretches.variables, tc.VAR_MAXSPEED: "getMaxSpeed", tc.VAR_LENGTH: "getLength",
-        tc.VAR_CURRENT_TRAVELTIME: "getTraveltime", tc.VAR_WAITING_TIME: "getWaitingTime",
-        tc.VAR_PENDING_VEHICLES: "getPendingVehicles",
-    }
 
     def outline(self, name: str) -> Line:
         """The points (x, y) of its link's line, in metres, which the lanes of a joint link share."""
         return self.now().map.links[self.places(name)[0][0]].shape
 
-    def cars(self, name: str) -> list[int]:
+    def subjects(self) -> Collection[str]:
+        """The names of all."""
+        return self.now().lane_of.keys()
+
+    def numbers(self, name: str) -> list[int]:
         """The numbers of the vehicles on its cells, from the stop line; of an edge, lane after lane."""
-        places, on_lane = self.places(name), self.now().follow().view.on_lane
-        return [car for place in places for car in on_lane.get(place, ())]
+        on_lane = self.now().view.on_lane
+        return [number for place in self.places(name) for number in on_lane(place)]
+
+    def speeds(self, name: str) -> list[float]:
+        """Metres a second of the vehicles there, in the order of `numbers`."""
+        view, links = self.now().view, self.now().map.links
+        return [speed * links[place[0]].cell_metres for place in self.places(name) for speed in view.speeds_on(place)]
+
+    def column(self, variable: int, names: Sequence[str]) -> Column:
+        """As Domain does."""
+        if variable not in COLUMNS:
+            return super().column(variable, names)
+        columns = self.now().lane_columns
+        found: Column = getattr(columns, COLUMNS[variable])(columns.slots_of(tuple(names)))
+        return found
+
+    def getLastStepVehicleNumber(self, name: str) -> int:
+        """How many vehicles are there."""
+        view = self.now().view
+        return sum(len(view.speeds_on(place)) for place in self.places(name))
+
+    def getLastStepHaltingNumber(self, name: str) -> int:
+        """How many vehicles there stand."""
+        view = self.now().view
+        return sum(view.speeds_on(place).count(0) for place in self.places(name))
+
+    def getLastStepMeanSpeed(self, name: str) -> float:
+        """The mean speed of the vehicles there, metres a second; its limit where there are none, as in SUMO."""
+        [place] = self.places(name)
+        speeds = self.now().view.speeds_on(place)
+        metres = self.now().map.links[place[0]].cell_metres
+        return float(metres * sum(speeds) / len(speeds)) if speeds else self.speed_of_nobody(name)
 
     def speed_of_nobody(self, name: str) -> float:
         """The mean speed where nobody is on it: its limit, metres a second, as in SUMO."""
@@ -84,8 +108,7 @@ class Lane(LaneCalls[Session], Stretches):
 
     def getWaitingTime(self, name: str) -> float:
         """Seconds for which the vehicles on it have stood without a break, summed over them."""
-        cars = self.cars(name)
-        return float(sum(self.now().tally.waiting.get(car, 0) for car in cars))
+        return float(self.now().tally.waiting[self.numbers(name)].sum())
 
     def getTraveltime(self, name: str) -> float:
         """Seconds for its length at the mean speed, 0.1 m/s at least (in SUMO 1,000,000 of a lane where all stand)."""
@@ -102,9 +125,11 @@ class Lane(LaneCalls[Session], Stretches):
 
     def getPendingVehicles(self, name: str) -> tuple[str, ...]:
         """The vehicles that should have departed on it before now and wait for room."""
-        session, places = self.now().follow(), set(self.places(name))
-        there = (car for car in session.view.waiting_to_depart() if session.fleet.starts[car] in places)
-        return tuple(session.fleet.names[car] for car in there)
+        session, places, found = self.now(), set(self.places(name)), []
+        for number in session.waiting_to_depart():
+            command = session.fleet.enters[number]
+            found += [number] if (command["plan"][0], command["lane"]) in places else []
+        return session.names_of(found)
 
     def getShape(self, name: str) -> Sequence[Point]:
         """The points of its line in SUMO's file, metres."""
@@ -121,6 +146,11 @@ class Lane(LaneCalls[Session], Stretches):
     def getDisallowed(self, name: str) -> tuple[str, ...]:
         """The vehicle classes that may not drive there by the network's file, closed or not."""
         return self.lane_facts(name).disallowed
+
+    def getFriction(self, name: str) -> float:
+        """1.0: all roads are dry."""
+        self.places(name)
+        return 1.0
 
     def getLinkNumber(self, name: str) -> int:
         """How many connections of SUMO's network lead from it."""
@@ -149,7 +179,13 @@ class Lane(LaneCalls[Session], Stretches):
         super().close(lane)
 
 
-class Edge(Lane):
+COLUMNS = {
+    tc.LAST_STEP_VEHICLE_NUMBER: "count", tc.LAST_STEP_VEHICLE_HALTING_NUMBER: "halting",
+    tc.LAST_STEP_MEAN_SPEED: "mean_speed", tc.LAST_STEP_OCCUPANCY: "occupancy", tc.VAR_WAITING_TIME: "waiting",
+}  # of LaneColumns, by variable
+
+
+class EdgeDomain(LaneDomain):
     """As SUMO's traci.edge, of all lanes of an edge together. TraCIException for an edge that is not imported."""
 
     kind, name = "Edge", "edge"
@@ -158,6 +194,10 @@ class Edge(Lane):
         """The edges that the import kept; those inside junctions are not among them."""
         return tuple(self.now().map.links_of)
 
+    def subjects(self) -> Collection[str]:
+        """The names of all."""
+        return self.now().map.links_of.keys()
+
     def places(self, name: str) -> list[Place]:
         """All its lanes, (link, lane); TraCIException for an unknown edge."""
         self.check_known(name, self.now().map.links_of)
@@ -165,16 +205,20 @@ class Edge(Lane):
 
     def getLastStepVehicleIDs(self, name: str) -> tuple[str, ...]:
         """The names of the vehicles on it, lane after lane, and on each the rearmost first, as in SUMO."""
-        names, on_lane = self.now().fleet.names, self.now().follow().view.on_lane
-        return tuple(names[car] for place in self.places(name) for car in reversed(on_lane.get(place, ())))
+        session, places = self.now(), self.places(name)
+        return session.names_of(number for place in places for number in reversed(session.view.on_lane(place)))
 
     def getLastStepMeanSpeed(self, name: str) -> float:
         """The mean speed of the vehicles on it, metres a second; each empty lane counts as one at its limit, as in
         SUMO."""
-        session, speeds = self.now().follow(), self.speeds(name)
-        empty = [place for place in self.places(name) if not session.view.on_lane.get(place)]
+        session, speeds = self.now(), self.speeds(name)
+        empty = [place for place in self.places(name) if not session.view.on_lane(place)]
         speeds += [session.facts.lanes[session.map.lane_name(*place)].speed for place in empty]
         return sum(speeds) / len(speeds)
+
+    def column(self, variable: int, names: Sequence[str]) -> Column:
+        """As Domain does: of an edge there is no column of its lanes."""
+        return Outlined.column(self, variable, names)
 
     def getLaneNumber(self, name: str) -> int:
         """How many of its lanes the import kept; their indexes need not begin at 0."""
@@ -201,17 +245,18 @@ class Edge(Lane):
         self.check_known(name, self.now().map.links_of)
         if begin is not None or end is not None:
             raise NotHere("edge.adaptTraveltime: times of day are not here; set the seconds when they begin to count")
-        self.now().followed_ways().set_edge_seconds(name, time)
+        self.now().adapt(name, time)
 
     def getAdaptedTraveltime(self, name: str, time: float) -> float:
         """The seconds that adaptTraveltime set; -1 where it set none. time has no effect."""
         self.check_known(name, self.now().map.links_of)
-        return float(self.now().followed_ways().adapted.get(name, -1.0))
+        return float(self.now().ways.adapted.get(name, -1.0))
 
     def not_of_edges(self, name: str) -> NoReturn:
         """NotHere: SUMO tells this of lanes alone."""
         raise NotHere("edge: shape, width, connections and classes are those of its lanes")
 
+    getMeanFriction = LaneDomain.getFriction
     getEdgeID = getShape = getWidth = getAllowed = getDisallowed = getLinkNumber = not_of_edges
     getLinks = not_of_edges  # type: ignore[assignment]
 
@@ -220,7 +265,7 @@ class Edge(Lane):
         self.now().close_lane(lane)
 
 
-class Detectors(WithTraffic):
+class DetectorDomain(WithTraffic):
     """Detectors of additional files. TraCIException for one that is unknown or of another sort."""
 
     sort = ""
@@ -231,8 +276,15 @@ class Detectors(WithTraffic):
 
     def detector(self, name: str) -> Detector:
         """A detector of this sort by its name; TraCIException where there is none."""
-        self.check_known(name, self.getIDList())
-        return self.now().detectors[name]
+        one = self.now().detectors.get(name)
+        if one is None or one.kind != self.sort:
+            raise TraCIException(f"{self.kind} '{name}' is not known.")
+        return one
+
+    def is_subject(self, name: str) -> bool:
+        """Whether a detector of this sort has a name."""
+        one = self.now().detectors.get(name)
+        return one is not None and one.kind == self.sort
 
     def getLaneID(self, name: str) -> str:
         """The name of the lane where it lies."""
@@ -252,52 +304,49 @@ class Detectors(WithTraffic):
         return one.first * link.metres / link.cells
 
     def speeds(self, name: str) -> list[float]:
-        """Metres a second of the vehicles that it saw, in the order of `cars`; of those that have left, the last."""
-        cars = self.cars(name)
-        seen = {**self.now().view.before, **self.now().view.on_road}
-        return [seen[car].speed * METRES for car in cars if car in seen]
+        """Metres a second of the vehicles that it saw, in the order of `numbers`; of those that have left, the last."""
+        seen = {**self.now().view.there_before, **self.now().view.there}
+        metres = self.now().map.links[self.detector(name).link].cell_metres
+        return [seen[one].speed * metres for one in self.numbers(name) if one in seen]
 
 
-class InductionLoop(Detectors):
+class InductionLoopDomain(DetectorDomain):
     """As SUMO's traci.inductionloop (e1): of the last step."""
 
     kind, name, sort = "Induction loop", "inductionloop", "e1"
-    variables = {**WithTraffic.variables, tc.LAST_STEP_TIME_SINCE_DETECTION: "getTimeSinceDetection"}
 
-    def cars(self, name: str) -> list[int]:
+    def numbers(self, name: str) -> list[int]:
         """The numbers of the vehicles that stood on it or drove over it in the last step."""
-        return self.now().follow().loops[self.detector(name).name].passed
+        return self.now().loops.passed[self.detector(name).name]
 
     def getLastStepOccupancy(self, name: str) -> float:
         """The percentage of the last step in which a vehicle covered it: 100 where one stands there, else by the
         lengths and speeds of those who drove over it."""
-        one, on_road = self.detector(name), self.now().view.on_road
-        there = [on_road[car] for car in self.cars(name) if car in on_road]
-        if any((where.link, where.lane, where.cell) == (one.link, one.lane, one.first) for where in there):
+        one, there = self.detector(name), self.now().view.there
+        places = [there[number] for number in self.numbers(name) if number in there]
+        if any((where.link, where.lane, where.cell) == (one.link, one.lane, one.first) for where in places):
             return 100.0
         ways = zip(self.lengths(name), self.speeds(name))
         return min(100.0, sum(100 * metres / max(METRES, speed) for metres, speed in ways))
 
+    getLastStepMeanLength = WithTraffic.getLastStepLength
+
     def getTimeSinceDetection(self, name: str) -> float:
-        """Seconds since a vehicle was on it, as far as steps were looked at; the clock where none was."""
-        last = self.now().follow().loops[self.detector(name).name].last
-        return self.now().clock - last if last >= 0 else float(self.now().clock)
+        """Seconds since a vehicle was on it; the clock where none was."""
+        return float(self.now().clock - self.now().loops.last.get(self.detector(name).name, 0))
 
 
-class LaneArea(Stretches, Detectors):
+class LaneAreaDomain(Stretches, DetectorDomain):
     """As SUMO's traci.lanearea (e2): of the last step."""
 
     kind, name, sort = "Lane area detector", "lanearea", "e2"
-    variables = {
-        **Stretches.variables, tc.JAM_LENGTH_VEHICLE: "getJamLengthVehicle", tc.JAM_LENGTH_METERS: "getJamLengthMeters",
-    }
     usual = (tc.JAM_LENGTH_VEHICLE,)
 
-    def cars(self, name: str) -> list[int]:
+    def numbers(self, name: str) -> list[int]:
         """The numbers of the vehicles whose front is in it, from the stop line."""
-        one, view = self.detector(name), self.now().follow().view
-        there = view.on_lane.get((one.link, one.lane), ())
-        return [car for car in there if one.first <= view.on_road[car].front_cell <= one.last]
+        one, view = self.detector(name), self.now().view
+        there = view.on_lane((one.link, one.lane))
+        return [number for number in there if one.first <= view.there[number].front_cell <= one.last]
 
     def getLength(self, name: str) -> float:
         """Its length on whole cells, metres."""
@@ -314,13 +363,13 @@ class LaneArea(Stretches, Detectors):
     def longest_jam(self, name: str) -> list[int]:
         """The numbers of the vehicles of the longest jam: they stand one behind the other without a gap, and one alone
         is a jam too; of equally many the one nearest to the stop line."""
-        fleet, on_road, rear = self.now().fleet, self.now().view.on_road, -1
+        fleet, there, rear = self.now().fleet, self.now().view.there, -1
         longest: list[int] = []
         here: list[int] = []
-        for car in self.cars(name):
-            where = on_road[car]
-            here = [] if where.speed else [*here, car] if here and rear == where.front_cell + 1 else [car]
-            rear = where.front_cell - fleet.sizes[fleet.names[car]] + 1
+        for number in self.numbers(name):
+            where = there[number]
+            here = [] if where.speed else [*here, number] if here and rear == where.front_cell + 1 else [number]
+            rear = where.front_cell - fleet.size(number) + 1
             longest = max(longest, here, key=len)
         return longest
 
@@ -330,15 +379,13 @@ class LaneArea(Stretches, Detectors):
 
     def getJamLengthMeters(self, name: str) -> float:
         """Metres of the vehicles of the longest jam, with the gaps ahead of them."""
-        fleet = self.now().fleet
-        return sum(fleet.sizes[fleet.names[car]] * METRES for car in self.longest_jam(name))
+        return sum(self.now().fleet.size(number) * METRES for number in self.longest_jam(name))
 
 
-class Junction(Outlined):
+class JunctionDomain(Outlined):
     """As SUMO's traci.junction: names, points and shapes. TraCIException for an unknown junction."""
 
     kind, name = "Junction", "junction"
-    variables = {tc.VAR_POSITION: "getPosition", tc.VAR_SHAPE: "getShape"}
     usual = (tc.VAR_POSITION,)
 
     def getIDList(self) -> tuple[str, ...]:

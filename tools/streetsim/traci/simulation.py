@@ -1,4 +1,4 @@
-"""TraCI's simulation and routes; traci/vehicles.py says which calls look at vehicles."""
+"""TraCI's simulation and routes."""
 import sys
 from collections.abc import Iterable, Sequence
 from dataclasses import dataclass
@@ -9,7 +9,7 @@ from streetsim.base.shapes import Point, lengths, nearest, point_along
 from streetsim.simulation.calls import SimulationCalls
 from streetsim.simulation.errors import NotHere, TraCIException
 from streetsim.simulation.saving import load_state, save_state
-from streetsim.simulation.session import Session
+from streetsim.simulation.session import TraciSession
 from streetsim.simulation.street_facts import LaneFacts
 from streetsim.traci import constants as tc
 from streetsim.traci.domain import Domain, Values
@@ -34,18 +34,10 @@ class Stage:
     description: str = ""
 
 
-class Simulation(Domain, SimulationCalls[Session]):
-    """As SUMO's traci.simulation: seconds, metres; lists and counts are of the steps of the last simulationStep. Who
-    departed and arrived is known from the first call on that looks at vehicles."""
+class SimulationDomain(Domain, SimulationCalls[TraciSession]):
+    """As SUMO's traci.simulation: seconds, metres; lists and counts are of the steps of the last simulationStep."""
 
     kind, name = "Simulation", "simulation"
-    variables = {
-        tc.VAR_TIME: "getTime", tc.VAR_LOADED_VEHICLES_NUMBER: "getLoadedNumber",
-        tc.VAR_LOADED_VEHICLES_IDS: "getLoadedIDList", tc.VAR_DEPARTED_VEHICLES_NUMBER: "getDepartedNumber",
-        tc.VAR_DEPARTED_VEHICLES_IDS: "getDepartedIDList", tc.VAR_ARRIVED_VEHICLES_NUMBER: "getArrivedNumber",
-        tc.VAR_ARRIVED_VEHICLES_IDS: "getArrivedIDList", tc.VAR_MIN_EXPECTED_VEHICLES: "getMinExpectedNumber",
-        tc.VAR_PENDING_VEHICLES: "getPendingVehicles",
-    }
     usual = (tc.VAR_DEPARTED_VEHICLES_IDS,)
 
     def subjects(self) -> tuple[str, ...]:
@@ -85,28 +77,43 @@ class Simulation(Domain, SimulationCalls[Session]):
         return len(self.now().loaded)
 
     def getDepartedIDList(self) -> tuple[str, ...]:
-        """The vehicles that departed; before the first look at vehicles those of the last step alone."""
-        return tuple(self.now().follow().departed)
+        """The vehicles that departed."""
+        return self.now().departed
 
     def getDepartedNumber(self) -> int:
         """How many vehicles getDepartedIDList names."""
-        return len(self.now().follow().departed)
+        return len(self.now().departed)
 
     def getArrivedIDList(self) -> tuple[str, ...]:
-        """The vehicles that arrived, as far as steps were looked at."""
-        return tuple(self.now().follow().arrived)
+        """The vehicles that arrived."""
+        return self.now().arrived
 
     def getArrivedNumber(self) -> int:
         """How many vehicles getArrivedIDList names."""
-        return len(self.now().follow().arrived)
+        return len(self.now().arrived)
 
     def getPendingVehicles(self) -> tuple[str, ...]:
         """The vehicles that should have departed before now and wait for room."""
-        session = self.now().follow()
-        return tuple(session.fleet.names[car] for car in session.view.waiting_to_depart())
+        return self.now().names_of(self.now().waiting_to_depart())
+
+    def getStopStartingVehiclesIDList(self) -> tuple[str, ...]:
+        """The vehicles that came to stand at stops of theirs in the steps of the last simulationStep."""
+        return self.now().names_of(sorted(self.now().began_stops))
+
+    def getStopStartingVehiclesNumber(self) -> int:
+        """How many vehicles getStopStartingVehiclesIDList names."""
+        return len(self.now().began_stops)
+
+    def getStopEndingVehiclesIDList(self) -> tuple[str, ...]:
+        """The vehicles that left such stops in these steps."""
+        return self.now().names_of(sorted(self.now().ended_stops))
+
+    def getStopEndingVehiclesNumber(self) -> int:
+        """How many vehicles getStopEndingVehiclesIDList names."""
+        return len(self.now().ended_stops)
 
     def zero(self) -> int:
-        """0, as nobody is moved away, collides, stops, parks or walks under a script."""
+        """0, as nobody is moved away, collides, parks or walks under a script."""
         return 0
 
     def no_names(self) -> tuple[str, ...]:
@@ -114,12 +121,10 @@ class Simulation(Domain, SimulationCalls[Session]):
         return ()
 
     getStartingTeleportNumber = getEndingTeleportNumber = getCollidingVehiclesNumber = zero
-    getEmergencyStoppingVehiclesNumber = getStopStartingVehiclesNumber = getStopEndingVehiclesNumber = zero
-    getParkingStartingVehiclesNumber = getParkingEndingVehiclesNumber = zero
+    getEmergencyStoppingVehiclesNumber = getParkingStartingVehiclesNumber = getParkingEndingVehiclesNumber = zero
     getDepartedPersonNumber = getArrivedPersonNumber = zero
     getStartingTeleportIDList = getEndingTeleportIDList = getCollidingVehiclesIDList = getCollisions = no_names
-    getEmergencyStoppingVehiclesIDList = getStopStartingVehiclesIDList = getStopEndingVehiclesIDList = no_names
-    getParkingStartingVehiclesIDList = getParkingEndingVehiclesIDList = no_names
+    getEmergencyStoppingVehiclesIDList = getParkingStartingVehiclesIDList = getParkingEndingVehiclesIDList = no_names
     getDepartedPersonIDList = getArrivedPersonIDList = no_names
 
     # Places and ways
@@ -181,7 +186,7 @@ class Simulation(Domain, SimulationCalls[Session]):
         last = self.lane_with(edgeID2, pos2)
         if edgeID1 == edgeID2 and pos1 <= pos2:
             return float(pos2 - pos1)
-        return self.now().followed_ways().shortest_metres(edgeID1, edgeID2) - pos1 - (last.metres - pos2)
+        return self.now().ways.shortest_metres(edgeID1, edgeID2) - pos1 - (last.metres - pos2)
 
     def findRoute(
         self, fromEdge: str, toEdge: str, vType: str = "", depart: float = -1.0, routingMode: int = 0
@@ -189,7 +194,7 @@ class Simulation(Domain, SimulationCalls[Session]):
         """The way between two edges that is quickest now, with the times of edge.adaptTraveltime; TraCIException where
         there is none (in SUMO an empty Stage). vType is only noted in it; depart and routingMode have no effect."""
         session = self.now()
-        links, seconds = session.followed_ways().quickest_path(fromEdge, toEdge)
+        links, seconds = session.ways.quickest_path(fromEdge, toEdge)
         edges = session.edge_names(links)
         metres = sum(session.map.links[link].metres for link in links) + session.inside.metres_along(links)
         return Stage(tc.STAGE_DRIVING, vType, edges=edges, travelTime=seconds, cost=seconds, length=metres)
@@ -198,7 +203,7 @@ class Simulation(Domain, SimulationCalls[Session]):
 
     def saveState(self, fileName: str) -> None:
         """Writes the state to a file, without parameters, colours and subscriptions; Fault (streetsim.files) where that
-        fails. Merging before works begins anew from here, and each step is looked at from now on."""
+        fails. Merging before works begins anew from here."""
         save_state(self.now(), fileName)
 
     def loadState(self, fileName: str) -> None:
@@ -231,11 +236,10 @@ class Simulation(Domain, SimulationCalls[Session]):
         return {"": self.getSubscriptionResults()} if self.subscribed else {}
 
 
-class Route(Domain):
+class RouteDomain(Domain):
     """As SUMO's traci.route: names and edges."""
 
     kind, name = "Route", "route"
-    variables = {tc.VAR_EDGES: "getEdges"}
     usual = (tc.VAR_EDGES,)
 
     def getIDList(self) -> tuple[str, ...]:
@@ -248,7 +252,7 @@ class Route(Domain):
         if name in session.routes or name in session.facts.routes:
             raise TraCIException(f"Route '{name}' exists already.")
         try:
-            session.routes[name] = session.connections.plan_along(list(edges))
+            session.name_route(name, session.connections.plan_along(list(edges)))
         except ValueError as fault:
             raise TraCIException(f"Route '{name}': {fault}") from None
 

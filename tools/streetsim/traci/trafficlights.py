@@ -3,13 +3,14 @@ from collections.abc import Sequence
 from dataclasses import dataclass, field
 from math import inf
 
-from streetsim.actuated.kept import phase_bounds
 from streetsim.base.files import Json
-from streetsim.simulation.errors import TraCIException
-from streetsim.simulation.lights import Light, Phases, check_index, seconds_of
+from streetsim.control.actuated_kept import phase_bounds
+from streetsim.simulation.errors import NotHere, TraCIException
+from streetsim.simulation.lights import LightShow, Phases, check_index, seconds_of
 from streetsim.traci import constants as tc
 from streetsim.traci.domain import Domain
 
+OFF, SWITCHED = "off", "hold states by setRedYellowGreenState, or take the light out of the network"
 TYPES = {"static": 0, "actuated": 3, "NEMA": 4, "delay_based": 5}  # SUMO's numbers of the kinds of programs
 
 
@@ -43,24 +44,19 @@ class Logic:
 Program = Logic  # which the class below has as an attribute of its own name
 
 
-class TrafficLight(Domain):
+class TrafficLightDomain(Domain):
     """As SUMO's traci.trafficlight: seconds; names are of lights. The present phase, and the state now, are those of
     the last step, or what a script has set since. TraCIException for an unknown light."""
 
     kind, name = "Traffic light", "trafficlight"
     Phase, Logic = Phase, Logic
-    variables = {
-        tc.TL_RED_YELLOW_GREEN_STATE: "getRedYellowGreenState", tc.TL_PHASE_DURATION: "getPhaseDuration",
-        tc.TL_CONTROLLED_LANES: "getControlledLanes", tc.TL_CURRENT_PHASE: "getPhase",
-        tc.TL_CURRENT_PROGRAM: "getProgram", tc.TL_NEXT_SWITCH: "getNextSwitch",
-    }
     usual = (tc.TL_CURRENT_PHASE,)
 
     def getIDList(self) -> tuple[str, ...]:
         """The names of the lights that the import kept, sorted."""
         return tuple(sorted(self.now().control.lights))
 
-    def present_phase(self, name: str) -> tuple[Light, int, float]:
+    def present_phase(self, name: str) -> tuple[LightShow, int, float]:
         """(the light, the index of its present phase, the seconds left of it by what is known now)."""
         light, clock = self.now().control.light(name), self.now().clock
         if (driven := self.now().control.driven(name)) is not None:
@@ -88,6 +84,11 @@ class TrafficLight(Domain):
     def getProgram(self, name: str) -> str:
         """The name of the program that runs; "online" while a state is held."""
         return self.now().control.light(name).program
+
+    def getServedPersonCount(self, name: str, index: int) -> int:
+        """0: there are no persons. index: of a phase, without effect."""
+        self.now().control.light(name)
+        return 0
 
     def getControlledLanes(self, name: str) -> tuple[str, ...]:
         """The lane of each signal, by its index; an empty text where a signal has no connection here."""
@@ -117,8 +118,7 @@ class TrafficLight(Domain):
 
     def setPhaseName(self, name: str, text: str) -> None:
         """Names the present phase, for getPhaseName, which tells the own names of a light of type NEMA all the same."""
-        light, index, _ = self.present_phase(name)
-        light.names = [*light.names[:index], str(text), *light.names[index + 1 :]]
+        self.now().control.name_phase(name, self.present_phase(name)[1], str(text))
 
     def setPhase(self, name: str, index: int) -> None:
         """Shows the phase of an index for its seconds from now on; the program goes on from there. The present phase
@@ -152,7 +152,9 @@ class TrafficLight(Domain):
     def setProgram(self, name: str, programID: str) -> None:
         """Runs a program of the files or of setProgramLogic, from where it has come to unseen, as in SUMO: by its
         seconds since the script left it, or by its detectors. Nothing where it runs already. TraCIException for an
-        unknown one."""
+        unknown one, NotHere for SUMO's "off"."""
+        if programID == OFF and programID not in self.now().control.light(name).programs:
+            raise NotHere(f"trafficlight.setProgram: no light is off here; {SWITCHED}")
         self.now().control.run_program(name, programID)
 
     def setProgramLogic(self, name: str, logic: Program) -> None:

@@ -1,48 +1,56 @@
-"""TraCI's vehicles and their types.
-
-A call looks at vehicles where it needs to know who is where, as all calls on a vehicle do, and most on lanes, detectors
-and ways. From the first such call on, the run is looked at after each step; what is counted, as waiting and distance,
-counts from there."""
-from collections.abc import Callable, Collection, Sequence
+"""TraCI's vehicles and their types."""
+from collections.abc import Callable, Collection, Iterable, Mapping, Sequence
+from dataclasses import dataclass
 from itertools import pairwise
 from math import ceil
 
 from streetsim.base import limits
 from streetsim.base.files import only
-from streetsim.base.shapes import Line, heading_at, point_along
+from streetsim.base.shapes import Line
+from streetsim.model.stops import Visit, bus_lines_of
 from streetsim.simulation.calls import METRES, VehicleCalls
+from streetsim.simulation.columns import Column
 from streetsim.simulation.errors import TraCIException
 from streetsim.simulation.fleet import NOWHERE, OnRoad
 from streetsim.simulation.rerouting import other_way
-from streetsim.simulation.session import Session
+from streetsim.simulation.session import TraciSession
 from streetsim.sumo.types import DEFAULT, Kind
 from streetsim.traci import constants as tc
-from streetsim.traci.domain import Domain, Outlined, Values
+from streetsim.traci.domain import Outlined
+from streetsim.traci.looks import Colour, Looking
 
-YELLOW = (255, 255, 0, 255)  # SUMO's colour of a vehicle
+COLUMNS = {
+    tc.VAR_SPEED: "speed", tc.VAR_POSITION: "position", tc.VAR_ANGLE: "angle", tc.VAR_ROAD_ID: "road_name",
+    tc.VAR_LANE_ID: "lane_name", tc.VAR_LANE_INDEX: "lane_index", tc.VAR_LANEPOSITION: "lane_position",
+    tc.VAR_WAITING_TIME: "waiting", tc.VAR_ACCUMULATED_WAITING_TIME: "waited", tc.VAR_TIMELOSS: "lost",
+}  # of VehicleColumns, by variable
 FASTEST = 55.55555555555556  # metres a second of a type that tells no speed, as SUMO has it for cars
+STOPPED, AT_BUS_STOP = 1, 16  # SUMO's flags of one that stops
 BRAKING = 4.5  # metres a second squared, of SUMO's usual vehicle: how far it looks ahead
 
 
-class Vehicle(VehicleCalls[Session], Outlined):
+@dataclass
+class StopData:
+    """A stop to come, as SUMO's scripts read it: metres, seconds, SUMO's flags of what it is; SUMO's value for "none"
+    where there is no `until`."""
+
+    lane: str
+    startPos: float
+    endPos: float
+    stoppingPlaceID: str
+    stopFlags: int
+    duration: float
+    until: float
+
+
+class VehicleDomain(VehicleCalls[TraciSession], Looking, Outlined):
     """As SUMO's traci.vehicle: metres, metres a second, seconds; before it departs places and speeds are SUMO's value
     for "nowhere" (-1073741824). TraCIException for a vehicle that is not known or has ended."""
 
     kind, name = "Vehicle", "vehicle"
-    variables = {
-        tc.VAR_SPEED: "getSpeed", tc.VAR_POSITION: "getPosition", tc.VAR_ANGLE: "getAngle", tc.VAR_LENGTH: "getLength",
-        tc.VAR_MINGAP: "getMinGap", tc.VAR_TYPE: "getTypeID", tc.VAR_VEHICLECLASS: "getVehicleClass",
-        tc.VAR_ROAD_ID: "getRoadID", tc.VAR_LANE_ID: "getLaneID", tc.VAR_LANE_INDEX: "getLaneIndex",
-        tc.VAR_ROUTE_ID: "getRouteID", tc.VAR_ROUTE_INDEX: "getRouteIndex", tc.VAR_EDGES: "getRoute",
-        tc.VAR_LANEPOSITION: "getLanePosition", tc.VAR_DISTANCE: "getDistance", tc.VAR_ALLOWED_SPEED: "getAllowedSpeed",
-        tc.VAR_MAXSPEED: "getMaxSpeed", tc.VAR_ACCELERATION: "getAcceleration", tc.VAR_NEXT_TLS: "getNextTLS",
-        tc.VAR_LEADER: "getLeader", tc.VAR_FOLLOWER: "getFollower", tc.VAR_COLOR: "getColor",
-        tc.VAR_WAITING_TIME: "getWaitingTime", tc.VAR_ACCUMULATED_WAITING_TIME: "getAccumulatedWaitingTime",
-        tc.VAR_TIMELOSS: "getTimeLoss",
-    }
-    usual = (tc.VAR_ROAD_ID, tc.VAR_LANEPOSITION)
+    usual, stands = (tc.VAR_ROAD_ID, tc.VAR_LANEPOSITION), False
 
-    def __init__(self, now: Callable[[], Session]) -> None:
+    def __init__(self, now: Callable[[], TraciSession]) -> None:
         """now: gives the session; FatalTraCIError where no run is under way."""
         super().__init__(now)
         self.colours: dict[str, tuple[int, ...]] = {}  # that scripts keep, by vehicle
@@ -61,42 +69,48 @@ class Vehicle(VehicleCalls[Session], Outlined):
 
     def getIDList(self) -> tuple[str, ...]:
         """The vehicles on lanes and in junctions, in no certain order (in SUMO sorted by name)."""
-        session = self.now().follow()
-        return tuple(session.fleet.names[car] for car in session.view.on_road)
+        return self.now().names_of(self.now().view.numbers)
 
     def subjects(self) -> Collection[str]:
         """The vehicles that have not ended, those that will depart among them."""
-        session = self.now().follow()
-        return {**session.fleet.cars, **session.types.indexes}.keys() - session.view.gone.keys()
+        ended = self.now().view.ended
+        return [name for name, number in self.now().fleet.numbers.items() if not ended[number]]
 
-    def getAllSubscriptionResults(self) -> dict[str, Values]:
-        """By vehicle on the road what was subscribed to, by the variables' numbers."""
-        cars, on_road = self.now().fleet.cars, self.now().follow().view.on_road
-        there = [name for name in self.subscribed if cars.get(name) in on_road]
-        return {name: self.getSubscriptionResults(name) for name in there}
+    def is_subject(self, name: str) -> bool:
+        """Whether a vehicle is known and has not ended."""
+        return name in self.now().fleet.numbers and not self.now().has_ended(name)
 
-    def look_up(self, name: str) -> tuple[int | None, OnRoad | None]:
-        """(number in the program, where it is) of a vehicle: None for the number before the program is told of it,
-        for the other before it departs. TraCIException where it has ended or is not known."""
-        session = self.now().follow()
-        car = session.fleet.cars.get(name)
-        where = None if car is None else session.view.on_road.get(car)
-        if where is None and (name in session.view.gone or (car is None and name not in session.types.indexes)):
+    def there(self, names: Iterable[str]) -> list[str]:
+        """Of some vehicles those on the road, whose subscriptions are told."""
+        numbers, rows = self.now().fleet.numbers, self.now().view.rows
+        return [name for name in names if numbers.get(name) in rows]
+
+    def columns(self, variables: Sequence[int], names: Sequence[str]) -> list[Column]:
+        """As Domain does, of vehicles on the road."""
+        columns, numbers = self.now().vehicle_columns, self.now().fleet.numbers
+        rows = columns.rows_of([numbers[name] for name in names])
+        return [
+            getattr(columns, COLUMNS[one])(rows) if one in COLUMNS else self.column(one, names) for one in variables
+        ]
+
+    def look_up(self, name: str) -> tuple[int, OnRoad | None]:
+        """(number in the fleet, where it is) of a vehicle; None before it departs. TraCIException where it has ended or
+        is not known."""
+        session = self.now()
+        number = session.fleet.numbers.get(name, -1)
+        where = session.view.there.get(number)
+        if where is None and (number < 0 or session.view.ended[number]):
             raise TraCIException(f"Vehicle '{name}' is not known.")
-        return car, where
+        return number, where
 
     def on_road(self, name: str) -> OnRoad | None:
         """Where a vehicle is; None before it departs. TraCIException where it is not known or has ended."""
         return self.look_up(name)[1]
 
-    def simulation_with(self, name: str) -> Session:
+    def simulation_with(self, name: str) -> TraciSession:
         """The session, for a call on a vehicle; TraCIException where that is not known or has ended."""
         self.look_up(name)
         return self.now()
-
-    def number_in_program(self, name: str) -> int:
-        """The number of a vehicle in the program; -1 before the program is told of it."""
-        return -1 if (car := self.look_up(name)[0]) is None else car
 
     def outline(self, name: str) -> Line:
         """A line of one point, that of its front, in metres."""
@@ -109,57 +123,43 @@ class Vehicle(VehicleCalls[Session], Outlined):
         return self.getSpeed(name)
 
     def getAcceleration(self, name: str) -> float:
-        """Metres a second squared in the last step, in whole cells; 0 where the step before was not looked at."""
-        where = self.on_road(name)
+        """Metres a second squared in the last step, in whole cells; 0 in the step in which it departed."""
+        number, where = self.look_up(name)
         if where is None:
             return NOWHERE
-        before = self.now().view.before.get(self.now().fleet.cars[name])
-        return (where.speed - before.speed) * METRES if before is not None else 0.0
+        return (where.speed - self.now().view.there_before.get(number, where).speed) * METRES
 
     def getPosition(self, name: str) -> tuple[float, float]:
         """The point (x, y) of its front on its link's line, which joint lanes share, or of its junction."""
-        where, mapping = self.on_road(name), self.now().map
-        if where is None:
-            return NOWHERE, NOWHERE
-        link = mapping.links[where.link]
-        if where.cell is None:
-            x, y = mapping.nodes[link.end][1:3]
-            return float(x), float(y)
-        return point_along(link.shape, (where.front_cell + 1) / link.cells)
+        where = self.on_road(name)
+        return (NOWHERE, NOWHERE) if where is None else self.now().places.point(where)
 
     def getAngle(self, name: str) -> float:
         """Degrees clockwise from north; in a junction those at the end of the street from which it came."""
         where = self.on_road(name)
-        if where is None:
-            return NOWHERE
-        link = self.now().map.links[where.link]
-        return heading_at(link.shape, (where.cell + 1) / link.cells if where.cell is not None else 1.0)
+        return NOWHERE if where is None else self.now().places.angle(where)
 
     def getDistance(self, name: str) -> float:
-        """Metres driven since it departed, without edges that it left before the first look at vehicles."""
-        where = self.on_road(name)
+        """Metres driven since it departed."""
+        number, where = self.look_up(name)
         if where is None:
             return NOWHERE
-        first = self.now().map.links[self.now().fleet.plans[name][0]]
-        behind = self.now().tally.travelled.get(self.number_in_program(name), 0.0)
-        return behind + self.metres_to_front(where) - first.metres / first.cells
+        first = self.now().map.links[self.now().fleet.plans[number][0]]
+        return float(self.now().tally.travelled[number]) + self.metres_to_front(where) - first.metres / first.cells
 
     # How long it stands, and what it lost
 
     def getWaitingTime(self, name: str) -> float:
-        """Seconds for which it has stood without a break, as far as steps were looked at."""
-        car = self.number_in_program(name)
-        return float(self.now().tally.waiting.get(car, 0))
+        """Seconds for which it has stood without a break."""
+        return float(self.now().tally.waiting[self.look_up(name)[0]])
 
     def getAccumulatedWaitingTime(self, name: str) -> float:
-        """Seconds for which it has stood in all (in SUMO in the last 100 s), as far as steps were looked at."""
-        car = self.number_in_program(name)
-        return float(self.now().tally.waited.get(car, 0))
+        """Seconds for which it has stood in all (in SUMO in the last 100 s)."""
+        return float(self.now().tally.waited[self.look_up(name)[0]])
 
     def getTimeLoss(self, name: str) -> float:
-        """Seconds lost against free driving, 0 at least, as far as steps were looked at."""
-        car = self.number_in_program(name)
-        return max(0.0, self.now().tally.lost.get(car, 0.0))
+        """Seconds lost against free driving, 0 at least."""
+        return max(0.0, float(self.now().tally.lost[self.look_up(name)[0]]))
 
     # Who it is
 
@@ -188,10 +188,48 @@ class Vehicle(VehicleCalls[Session], Outlined):
         limit = self.now().facts.lanes[self.getLaneID(name)].speed if where.cell is not None else FASTEST
         return min(limit, self.getMaxSpeed(name))
 
-    def getColor(self, name: str) -> tuple[int, ...]:
-        """The colour (red, green, blue, opacity; 0 to 255) that a script set; else yellow."""
+    def type_of(self, name: str) -> tuple[Kind, Mapping[str, str]]:
+        """(its type, the attributes that the file of that has)."""
+        kind = self.getTypeID(name)
+        return self.kind_of(name), self.now().facts.types.get(kind, {})
+
+    def getColor(self, name: str) -> Colour:
+        """The colour (red, green, blue, opacity; 0 to 255) that a script set; else that of its type."""
         self.look_up(name)
-        return self.colours.get(name, YELLOW)
+        return self.colours.get(name) or self.colour_of_type(name)
+
+    def getLine(self, name: str) -> str:
+        """The line of public transport that it is of; empty where it is of none."""
+        number, _ = self.look_up(name)
+        lines = bus_lines_of(self.now().map.kinds, len(self.now().map.cars))
+        return lines[number] if number < len(lines) else ""
+
+    def getVia(self, name: str) -> tuple[str, ...]:
+        """Empty: ways are whole."""
+        self.look_up(name)
+        return ()
+
+    def getPersonIDList(self, name: str) -> tuple[str, ...]:
+        """Empty: there are no persons."""
+        self.look_up(name)
+        return ()
+
+    def getPersonNumber(self, name: str) -> int:
+        """0: there are no persons."""
+        self.look_up(name)
+        return 0
+
+    def getRoutingMode(self, name: str) -> int:
+        """0: ways are by the travel times that all know."""
+        self.look_up(name)
+        return 0
+
+    def flat(self, name: str) -> float:
+        """0.0: the plane is flat, and vehicles are in the middle of their lane."""
+        self.look_up(name)
+        return 0.0
+
+    getSlope = getLateralLanePosition = getLateralSpeed = flat
 
     def setColor(self, name: str, color: Sequence[int]) -> None:
         """Keeps a colour, (red, green, blue, opacity; 0 to 255), for getColor; nothing shows it."""
@@ -206,8 +244,8 @@ class Vehicle(VehicleCalls[Session], Outlined):
 
     def getRouteIndex(self, name: str) -> int:
         """The position in its route, from 0, of the edge where it is or, in a junction, was; -1073741824 if none."""
-        car, where = self.look_up(name)
-        return tc.INVALID_INT_VALUE if car is None or where is None else self.now().tally.reached[car]
+        number, where = self.look_up(name)
+        return tc.INVALID_INT_VALUE if where is None else self.now().tally.position(number)
 
     def getRouteID(self, name: str) -> str:
         """The name of its route; '!' and the vehicle's name where the route has none, or was changed."""
@@ -268,9 +306,9 @@ class Vehicle(VehicleCalls[Session], Outlined):
         return self.leader_further_on(name, where, max(dist, reach))
 
     def on_same_lane(self, where: OnRoad) -> list[tuple[int, OnRoad]]:
-        """(number in the program, where it is) of each vehicle on the lane of one (where), from the stop line."""
+        """(number, where it is) of each vehicle on the lane of one (where), from the stop line."""
         view = self.now().view
-        return [(car, view.on_road[car]) for car in view.on_lane.get((where.link, where.lane), ())]
+        return [(number, view.there[number]) for number in view.on_lane((where.link, where.lane))]
 
     def leader_further_on(self, name: str, where: OnRoad, reach: float) -> tuple[str, float] | None:
         """(vehicle, metres between the two) of the next one ahead, on the links of its way behind the one where a
@@ -280,11 +318,11 @@ class Vehicle(VehicleCalls[Session], Outlined):
         for link, following in pairwise(session.plan_ahead(name)):
             if metres > reach:
                 return None
-            if there := session.view.in_buffer.get((link, lane)):
+            if there := session.view.in_buffer((link, lane)):
                 return session.fleet.names[there[-1]], metres
             metres += session.inside.metres(link, lane, following)
             lane = session.connections.next_lane(link, lane, following)
-            if there := session.view.on_lane.get((following, lane)):
+            if there := session.view.on_lane((following, lane)):
                 return session.fleet.names[there[-1]], self.metres_to_rear(there[-1], metres, 0.0)
             metres += session.map.links[following].metres
         return None
@@ -292,41 +330,66 @@ class Vehicle(VehicleCalls[Session], Outlined):
     def metres_to_rear(self, other: int, metres: float, front: float) -> float:
         """Metres, 0 at least, from a front, front metres along a link, to the rear of another vehicle (other: its
         number), whose link begins metres further on."""
-        fleet, where = self.now().fleet, self.now().view.on_road[other]
+        where = self.now().view.there[other]
         link = self.now().map.links[where.link]
-        rear = (where.front_cell + 1 - fleet.sizes[fleet.names[other]]) * link.metres / link.cells
+        rear = (where.front_cell + 1 - self.now().fleet.size(other)) * link.metres / link.cells
         return max(0.0, metres + rear - front)
 
     def getFollower(self, name: str, dist: float = 0.0) -> tuple[str, float]:
         """(vehicle, metres between the two, without the standing gap) of the next one behind it on its lane; ("", -1)
         where there is nobody, before it departs, and in a junction. dist has no effect."""
-        car, where = self.look_up(name)
-        if car is None or where is None or where.cell is None:
+        number, where = self.look_up(name)
+        if where is None or where.cell is None:
             return "", -1.0
         behind = [(other, there) for other, there in self.on_same_lane(where) if there.front_cell < where.cell]
         if not behind:
             return "", -1.0
         other, there = behind[0]
-        return self.now().fleet.names[other], self.metres_to_rear(car, 0.0, self.metres_to_front(there))
+        return self.now().fleet.names[other], self.metres_to_rear(number, 0.0, self.metres_to_front(there))
 
-    # Nobody stops but in traffic
+    # Stops of the files
 
     def isStopped(self, name: str) -> bool:
-        """False: a run under TraCI makes no stops."""
+        """Whether it stands at a stop of its own."""
+        return self.now().stop_of(self.look_up(name)[0]) is not None
+
+    def isAtBusStop(self, name: str) -> bool:
+        """Whether it stands at a busStop or trainStop of its own."""
+        return bool(self.getStopState(name) & AT_BUS_STOP)
+
+    def getStopState(self, name: str) -> int:
+        """SUMO's flags: 0 where it is at no stop of its own, 1 at a place of a lane, 17 at a busStop or trainStop."""
+        stop = self.now().stop_of(self.look_up(name)[0])
+        return 0 if stop is None else STOPPED | self.place_flag(stop)
+
+    def place_flag(self, stop: Visit) -> int:
+        """SUMO's flag of a busStop or trainStop; 0 for a place of a lane."""
+        return 0 if stop.stop.startswith(f"{self.now().map.lane_name(stop.link, stop.lane)}:") else AT_BUS_STOP
+
+    def getStops(self, name: str, limit: int = 0) -> tuple[StopData, ...]:
+        """Its stops to come, the one where it stands among them: so many (limit), 0: all. Empty for a limit below 0, by
+        which SUMO tells those that are over."""
+        visits = self.now().stops_to_come(self.look_up(name)[0])
+        return tuple(map(self.stop_told, visits[: limit or None] if limit >= 0 else ()))
+
+    def getNextStops(self, name: str) -> tuple[StopData, ...]:
+        """All its stops to come (in SUMO six values of each)."""
+        return self.getStops(name)
+
+    def stop_told(self, visit: Visit) -> StopData:
+        """A stop as scripts read it; its place is of whole cells."""
+        link, flag = self.now().map.links[visit.link], self.place_flag(visit)
+        size = link.metres / link.cells
+        until = tc.INVALID_DOUBLE_VALUE if visit.until is None else float(visit.until)
+        place = self.now().map.lane_name(visit.link, visit.lane), visit.first * size, (visit.last + 1) * size
+        return StopData(*place, visit.stop if flag else "", flag, float(visit.duration), until)
+
+    def is_not(self, name: str) -> bool:
+        """False: nobody parks, nor stands at a stop of another kind."""
         self.look_up(name)
         return False
 
-    isStoppedParking = isStoppedTriggered = isAtBusStop = isAtContainerStop = isStopped
-
-    def getStops(self, name: str, limit: int = 0) -> tuple[object, ...]:
-        """Empty: a run under TraCI makes no stops. limit has no effect."""
-        self.look_up(name)
-        return ()
-
-    def getStopState(self, name: str) -> int:
-        """0: it is at no stop."""
-        self.look_up(name)
-        return 0
+    isStoppedParking = isStoppedTriggered = isAtContainerStop = is_not
 
     # In and out, and other ways
 
@@ -345,9 +408,12 @@ class Vehicle(VehicleCalls[Session], Outlined):
         if session.add(vehID, routeID, typeID, session.clock if now else clock_of(vehID, depart)):
             self.forget_one(vehID)
 
+    addFull = add
+
     def remove(self, name: str, reason: object = None) -> None:
         """Takes a vehicle out; TraCIException before the program was told of it. reason has no effect."""
-        if self.look_up(name)[0] is None:
+        self.look_up(name)
+        if self.now().fleet.car(name) is None:
             raise TraCIException(f"Vehicle '{name}' has not departed yet.")
         self.now().remove(name)
 
@@ -364,28 +430,24 @@ class Vehicle(VehicleCalls[Session], Outlined):
         here = self.getRoadID(name)
         ahead = edges[edges.index(here) :] if here in edges else edges
         other_way(session, name, self.on_road(name), ahead)
-        session.types.route_of[name] = routeID
+        session.note_route(name, routeID)
 
     def changeTarget(self, name: str, edgeID: str) -> None:
         """As setRoute, with the way to another edge that is quickest now, as findRoute has it."""
         session, where = self.now(), self.on_road(name)
         edges = self.getRoute(name)
         here = edges[0] if where is None else session.map.links[where.link].edge
-        other_way(session, name, where, session.edge_names(session.followed_ways().quickest_path(here, edgeID)[0]))
+        other_way(session, name, where, session.edge_names(session.ways.quickest_path(here, edgeID)[0]))
 
     def rerouteTraveltime(self, name: str, currentTravelTimes: bool = True) -> None:
         """As changeTarget, to its last edge; currentTravelTimes has no effect."""
         self.changeTarget(name, self.getRoute(name)[-1])
 
 
-class VehicleType(Domain):
+class VehicleTypeDomain(Looking):
     """As SUMO's traci.vehicletype, of the files' types: metres, metres a second. TraCIException for an unknown one."""
 
     kind, name = "Vehicle type", "vehicletype"
-    variables = {
-        tc.VAR_LENGTH: "getLength", tc.VAR_MAXSPEED: "getMaxSpeed", tc.VAR_VEHICLECLASS: "getVehicleClass",
-        tc.VAR_MINGAP: "getMinGap",
-    }
     usual = (tc.VAR_MAXSPEED,)
 
     def getIDList(self) -> tuple[str, ...]:
@@ -396,6 +458,14 @@ class VehicleType(Domain):
         """A type by its name; TraCIException where there is none."""
         self.check_known(name, self.now().types.kinds)
         return self.now().types.kinds[name]
+
+    def type_of(self, name: str) -> tuple[Kind, Mapping[str, str]]:
+        """(the type, the attributes that its file has)."""
+        return self.kind_named(name), self.now().facts.types.get(name, {})
+
+    def getColor(self, name: str) -> Colour:
+        """Its colour in the file, where that has numbers; else SUMO's yellow."""
+        return self.colour_of_type(name)
 
     def getLength(self, name: str) -> float:
         """Its length in SUMO's files, metres; vehicles take whole cells here."""

@@ -1,6 +1,6 @@
 use Rattle.std.proofs.Common.{[], refl, sym, append-nil}
+use Rattle.std.proofs.lemmas.Result.{IfOk-weaker}
 use Rattle.street_line.proofs.Said.{refused}
-use Rattle.street_line.specs.Runs.{served_line}
 use Rattle.street_text.specs.LineCommands.{reading}
 use Rattle.street_line.proofs.kept.answer.Goals as goal
 
@@ -12,7 +12,6 @@ returns-in-Err g c =
 
 pub returns : goal.returns
 returns g c =
-    let served = c.serve-served.result in
     let noted = c.in_ok-note.ensures in
-    rw c.in-Ok.ensures
-    (served_line served, noted.0, (served, c.serve-served.ensures, refl, noted.1), record { is_call = c.replied.ensures.call; text = c.replied.ensures.text }, noted.2)
+    rw c.in-Ok.ensures (IfOk-weaker c.answer_to.result _ _
+    (λ answer told. (told.0, noted.0, (c.serve-served.result, c.serve-served.ensures, told.1, noted.1), told.2, noted.2)) c.answer_to.ensures.answered)

@@ -1,4 +1,4 @@
-use Rattle.std.proofs.Common.{rules, ◌≡◌, ℕ, List, ap, Vec, Global}
+use Rattle.std.proofs.Common.{rules, ◌≡◌, ℕ, ap, Vec, Global}
 use Rattle.street_base.specs.declared.reply.Starved.{Starved}
 use Rattle.street_stream.proofs.HandlerReferences.{handles_part}
 use Rattle.street_line.proofs.KeptLines.{KeepsAt, owed_goes}

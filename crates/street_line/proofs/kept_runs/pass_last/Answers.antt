@@ -4,4 +4,4 @@ use Rattle.street_line.proofs.kept_runs.pass_last.Goals as goal
 pub returns-clause-stops : goal.returns-clause-stops
 returns-clause-stops g c = λ line is.
     let stops = rw (c.as_slice.ensures.value, c.as_slice-2.ensures.value) at c.in-Err-keep_first.ensures.stops in
-    stops_kept g.S.Service.serves g.L.Log.held g.L.Log.synced g.L.Log.has_failed g.W.Write.contents _ _ _ _ _ _ _ _ _ c.in-Err-keep_first.fault (c.in-Ok.ensures line is) stops
+    rw c.fault_of.ensures (stops_kept g.S.Service.serves g.L.WriteAheadLog.held g.L.WriteAheadLog.synced g.L.WriteAheadLog.has_failed g.W.Write.contents _ _ _ _ _ _ _ _ _ c.in-Err-keep_first.fault (c.in-Ok.ensures line is) stops)

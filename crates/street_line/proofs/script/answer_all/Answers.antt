@@ -1,5 +1,5 @@
 use Rattle.street_stream.specs.Lines.{lines_of}
-use Rattle.street_line.proofs.Alone.{goes_desk}
+use Rattle.street_line.proofs.Alone.{goes_desk, went}
 use Rattle.street_line.proofs.script.answer_all.Goals as goal
 
 pub returns-in-Ok-clause-desk : goal.returns-in-Ok-clause-desk
@@ -9,5 +9,5 @@ returns-in-Ok-clause-desk g c =
 
 pub returns-in-Err-clause-desk : goal.returns-in-Err-clause-desk
 returns-in-Err-clause-desk g c =
-    let breaks = c.in-Err.ensures.runs.broken.breaks in
-    goes_desk c.args.session.now breaks.done breaks.out c.run_lines.new.service breaks.served
+    let run = c.in-Err.ensures.runs.broken in
+    goes_desk c.args.session.now run.breaks.done run.breaks.out c.run_lines.new.service (went c.args.session.now _ run.text c.run_lines.new.service _ _ _ run.breaks)

@@ -1,11 +1,11 @@
-use Rattle.std.proofs.Common.{refl, sym, ap, Some}
-use Rattle.street_stream.specs.HandledLines.{GivesText}
-use Rattle.street_line.proofs.Said.{refused, served_some}
-use Rattle.street_line.specs.Runs.{faulty, calls, served_line}
+use Rattle.std.proofs.Common.{refl, inr, subst}
+use Rattle.std.proofs.lemmas.Result.{IfOk-weaker, on_err_weaker}
+use Rattle.street_line.proofs.Said.{refused}
+use Rattle.street_line.specs.Runs.{faulty, calls}
 use Rattle.street_line.specs.ServedLine.{effect_of}
+use Rattle.street_line.specs.declared.service.Served.{Served}
 use Rattle.street_text.specs.LineCommands.{reading}
 use Rattle.street_line.proofs.server.answer.Goals as goal
-use Rattle.street_line.proofs.server.answer.Goals.{in-Ok-served_text, in-Err-served_text}
 
 pub returns-in-Err-clause-answered : goal.returns-in-Err-clause-answered
 returns-in-Err-clause-answered g c =
@@ -15,10 +15,11 @@ returns-in-Err-clause-answered g c =
 
 pub returns-clause-answered : goal.returns-clause-answered
 returns-clause-answered g c =
-    let served = c.serve-served.result in
-    let gives : GivesText c.match-served_text.reply (Some (served_line served)) = elim c.match-served_text.branch [
-      | in-Ok-served_text w ↦ rw w.reply-is (ap Some (sym w.in-Ok-served_text.ensures))
-      | in-Err-served_text w ↦ rw w.reply-is (served_line served, served_some served, refl)
-    ] in
-    rw c.in-Ok.ensures
-    (effect_of (calls c.in-Ok.command) (served_line served), (served_line served, (served, c.serve-served.ensures, refl), refl), record { is_call = refl; text = gives })
+    rw c.in-Ok.ensures (IfOk-weaker c.answer_to.result _ _
+    (λ answer told. (effect_of (calls c.in-Ok.command) told.0, (told.0, (c.serve-served.result, c.serve-served.ensures, told.1), refl), told.2)) c.answer_to.ensures.answered)
+
+pub returns-clause-starved : goal.returns-clause-starved
+returns-clause-starved g c =
+    rw c.in-Ok.ensures (on_err_weaker c.answer_to.result
+    (λ unanswered. inr (c.in-Ok.command, refl, subst (λ (served : Served). g.S.Service.serves c.args.service.now c.in-Ok.command served c.serve-served.new.self) unanswered c.serve-served.ensures))
+    c.answer_to.ensures.unanswered)

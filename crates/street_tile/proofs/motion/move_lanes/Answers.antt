@@ -1,14 +1,18 @@
-use Rattle.std.proofs.Common.{◌≡◌, ◌+◌, ◌-◌, ◌*◌, ◌<◌, ◌≤◌, List, ◌++◌, false, length, map, take, filter_map, set, get_or, inl, inr, vec_len, vec_capacity, arith, refl, sym, ap, subst, ◌∙◌, Some, None}
+use Rattle.std.proofs.Common.{◌≡◌, ℕ, ◌+◌, ◌-◌, ◌*◌, ◌<◌, ◌≤◌, List, [], ◌∷◌, ◌++◌, Option, option_map, false, length, map, take, filter_map, set, get_or, inl, inr, vec_len, vec_capacity, arith, refl, sym, ap, subst, ◌∙◌, Some, None}
 use Rattle.std.proofs.lemmas.List.{append-nil, length-set, set-get_or}
 use Rattle.std.proofs.lemmas.Bool.{cases_lt}
 use Rattle.std.proofs.lemmas.Option.{slice_get_within}
 use Rattle.street_base.specs.declared.names.Place.{Place}
 use Rattle.street_base.specs.Prelude.{Traffic, lane_at, driven, driven_lane, arrival, leaver_of}
-use Rattle.street_lanes.specs.Prelude.{LaneStands, lane_of, place_at, LanesStand, cells_on, Detectors, watch_of}
+use Rattle.street_base.specs.declared.record.RecordRow.{RecordRow}
+use Rattle.street_lanes.specs.declared.motion.ArrivedCar.{ArrivedCar}
+use Rattle.street_record.specs.Rows.{arrival_row, arrival_at}
+use Rattle.street_tile.specs.Record.{arrived_from}
+use Rattle.street_lanes.specs.Prelude.{arrived_car, LaneStands, lane_of, place_at, LanesStand, cells_on, Detectors, watch_of}
 use Rattle.street_net.specs.Prelude.{slot_of}
 use Rattle.street_tile.specs.Prelude.{AreBare, IsOfStep, detectors_at}
 use Rattle.street_tile.proofs.SameLanes.{LanesDone, same-none, same-then, same-long, of-same, even-of, lanes-start, lanes-here, lanes-next, lanes-all, place-is}
-use Rattle.street_tile.proofs.TileMotion.{lane_at-driven, arrivals-more, arrivals-all}
+use Rattle.street_tile.proofs.TileMotion.{lane_at-driven, arrival-number, arrived-row, arrivals-more, arrivals-all}
 use Rattle.street_tile.proofs.HeldMouths.{slot-inside}
 use Rattle.street_tile.proofs.ShownLanes.{free-after, free-over, free-all}
 use Rattle.street_tile.proofs.DrivenLanes.{driven-over, arrived-over, watched-bare}
@@ -46,8 +50,14 @@ module _ (c : After-next_to_move-n-in-loop-n) (m : Traffic) (of : IsOfStep c.arg
   next_stands : LaneStands (lane_of c.move_lane.new.own c.loop-n.n) (driven_lane m (place_at c.args.own.now c.loop-n.n) (lane_at m (place_at c.args.own.now c.loop-n.n)))
   next_stands = subst (λ (p : Place). LaneStands (lane_of c.move_lane.new.own c.loop-n.n) (driven_lane m p (lane_at m p))) same_place (c.move_lane.ensures.drives.stands m of here)
 
-  gone : c.move_lane.result ≡ arrival (leaver_of m (place_at c.args.own.now c.loop-n.n))
-  gone = c.move_lane.ensures.drives.arrived m of here ∙ ap (λ (p : Place). arrival (leaver_of m p)) same_place
+  gone : c.move_lane.result ≡ arrived_car (leaver_of m (place_at c.args.own.now c.loop-n.n))
+  gone = c.move_lane.ensures.drives.arrived m of here ∙ ap (λ (p : Place). arrived_car (leaver_of m p)) same_place
+
+  number_gone : (told : Option ArrivedCar) → c.move_lane.result ≡ told → option_map (λ (a : ArrivedCar). a.number) told ≡ arrival (leaver_of m (place_at c.args.own.now c.loop-n.n))
+  number_gone told is = ap (option_map (λ (a : ArrivedCar). a.number)) (sym is ∙ gone) ∙ arrival-number (leaver_of m (place_at c.args.own.now c.loop-n.n))
+
+  row_gone : (told : Option ArrivedCar) → c.move_lane.result ≡ told → option_map (arrived_from (slot_of (place_at c.args.own.now c.loop-n.n))) told ≡ arrival_at m (place_at c.args.own.now c.loop-n.n)
+  row_gone told is = ap (option_map (arrived_from (slot_of (place_at c.args.own.now c.loop-n.n)))) (sym is ∙ gone) ∙ arrived-row (place_at c.args.own.now c.loop-n.n) (leaver_of m (place_at c.args.own.now c.loop-n.n))
 
   saw : c.move_lane.new.detectors.watches ≡ map (watch_of m (place_at c.args.own.now c.loop-n.n)) (get_or c.loop-n.detectors c.loop-n.n c.index-detectors-n.result).meters
   saw = c.move_lane.ensures.watches.watched m of here ∙ ap (λ (p : Place). map (watch_of m p) (get_or c.loop-n.detectors c.loop-n.n c.index-detectors-n.result).meters) same_place
@@ -63,26 +73,49 @@ Arrived c = record {
   capacity : vec_capacity c.args.arrived.now ≤ vec_capacity c.match-move_lane.arrived;
   arrived : (m : Traffic) → IsOfStep c.args.step.now m → LanesStand c.args.own.now.places c.args.own.now.lanes m
       → c.match-move_lane.arrived.items ≡ c.args.arrived.now.items ++ filter_map (λ p. arrival (leaver_of m p)) (take (c.loop-n.n + 1) c.args.own.now.places);
+  rows_room : vec_len c.match-move_lane.left + (length c.args.own.now.places - (c.loop-n.n + 1)) ≤ vec_capacity c.match-move_lane.left;
+  rows_capacity : vec_capacity c.args.left.now ≤ vec_capacity c.match-move_lane.left;
+  rows : (m : Traffic) → IsOfStep c.args.step.now m → LanesStand c.args.own.now.places c.args.own.now.lanes m
+      → c.match-move_lane.left.items ≡ c.args.left.now.items ++ filter_map (arrival_at m) (take (c.loop-n.n + 1) c.args.own.now.places);
 }
+
+at-is : (c : After-next_to_move-n-in-loop-n) → c.at-at.result ≡ place_at c.args.own.now c.loop-n.n
+at-is c = c.at-at.ensures ∙ rw c.loop-n.invariant.same.places refl
+
+slot-is : (c : After-next_to_move-n-in-loop-n) → c.slot-slot.result ≡ slot_of (place_at c.args.own.now c.loop-n.n)
+slot-is c = c.slot-slot.ensures ∙ ap (λ (q : Place). slot_of q) (at-is c)
 
 -- who arrived from lane n is told
 lane-told : (c : After-next_to_move-n-in-loop-n) → Arrived c
 lane-told c =
     let ps = c.args.own.now.places in
+    let p = place_at c.args.own.now c.loop-n.n in
+    let there = place-is c.args.own.now c.loop-n.n (inside c) in
     elim c.match-move_lane.branch [
       | in-Some w ↦ (
           let e = w.push_reserved.ensures in
-          rw w.arrived-is (record {
+          let f = w.push_reserved-in-Some.ensures in
+          let row : w.row_from.result ≡ arrived_from (slot_of p) w.in-Some.car = w.row_from.ensures ∙ ap (λ (k : ℕ). arrived_from k w.in-Some.car) (slot-is c) in
+          rw (w.arrived-is, w.left-is) (record {
             left = omega (arith, inside c, c.loop-n.invariant.left, e.len, e.capacity);
             capacity = omega (arith, c.loop-n.invariant.capacity, e.capacity);
             arrived = λ m of stand.
-                arrivals-more m ps c.loop-n.n (place_at c.args.own.now c.loop-n.n) (place-is c.args.own.now c.loop-n.n (inside c)) c.args.arrived.now.items c.loop-n.arrived.items w.push_reserved.new.self.items (Some w.in-Some.number) (c.loop-n.invariant.arrived m of stand) (sym w.in-Some.is ∙ gone c m of stand) w.push_reserved.ensures.items;
+                arrivals-more (λ q. arrival (leaver_of m q)) ps c.loop-n.n p there c.args.arrived.now.items c.loop-n.arrived.items w.push_reserved.new.self.items (Some w.in-Some.car.number) (c.loop-n.invariant.arrived m of stand) (number_gone c m of stand (Some w.in-Some.car) w.in-Some.is) e.items;
+            rows_room = omega (arith, inside c, c.loop-n.invariant.rows_room, f.len, f.capacity);
+            rows_capacity = omega (arith, c.loop-n.invariant.rows_capacity, f.capacity);
+            rows = λ m of stand.
+                arrivals-more (arrival_at m) ps c.loop-n.n p there c.args.left.now.items c.loop-n.left.items w.push_reserved-in-Some.new.self.items (Some (arrived_from (slot_of p) w.in-Some.car)) (c.loop-n.invariant.rows m of stand) (row_gone c m of stand (Some w.in-Some.car) w.in-Some.is)
+                (f.items ∙ ap (λ (r : RecordRow). c.loop-n.left.items ++ r ∷ []) row);
           }))
-      | in_default w ↦ rw w.arrived-is (record {
+      | in_default w ↦ rw (w.arrived-is, w.left-is) (record {
         left = omega (arith, inside c, c.loop-n.invariant.left);
         capacity = c.loop-n.invariant.capacity;
         arrived = λ m of stand.
-            arrivals-more m ps c.loop-n.n (place_at c.args.own.now c.loop-n.n) (place-is c.args.own.now c.loop-n.n (inside c)) c.args.arrived.now.items c.loop-n.arrived.items c.loop-n.arrived.items None (c.loop-n.invariant.arrived m of stand) (sym w.in_default.is ∙ gone c m of stand) (sym (append-nil c.loop-n.arrived.items));
+            arrivals-more (λ q. arrival (leaver_of m q)) ps c.loop-n.n p there c.args.arrived.now.items c.loop-n.arrived.items c.loop-n.arrived.items None (c.loop-n.invariant.arrived m of stand) (number_gone c m of stand None w.in_default.is) (sym (append-nil c.loop-n.arrived.items));
+        rows_room = omega (arith, inside c, c.loop-n.invariant.rows_room);
+        rows_capacity = c.loop-n.invariant.rows_capacity;
+        rows = λ m of stand.
+            arrivals-more (arrival_at m) ps c.loop-n.n p there c.args.left.now.items c.loop-n.left.items c.loop-n.left.items None (c.loop-n.invariant.rows m of stand) (row_gone c m of stand None w.in_default.is) (sym (append-nil c.loop-n.left.items));
       })
     ]
 
@@ -100,7 +133,11 @@ loop-n-init c =
       capacity = omega arith;
       done = λ m of stand. driven-over m own own stand even 0 c.next_to_move-n.result next.not_before next.within (lanes-start (driven_lane m) m own) (λ i above below. (next.passed i above below).1);
       arrived = λ m of stand.
-          arrived-over m own own stand even 0 c.next_to_move-n.result next.not_before next.within (lanes-start (driven_lane m) m own) (λ i above below. (next.passed i above below).1) c.args.arrived.now.items c.args.arrived.now.items (sym (append-nil c.args.arrived.now.items));
+          arrived-over m own own stand even 0 c.next_to_move-n.result next.not_before next.within (lanes-start (driven_lane m) m own) (λ i above below. (next.passed i above below).1) (λ p. arrival) (λ p. refl) c.args.arrived.now.items c.args.arrived.now.items (sym (append-nil c.args.arrived.now.items));
+      rows_room = omega (arith, c.requires.rows);
+      rows_capacity = omega arith;
+      rows = λ m of stand.
+          arrived-over m own own stand even 0 c.next_to_move-n.result next.not_before next.within (lanes-start (driven_lane m) m own) (λ i above below. (next.passed i above below).1) arrival_row (λ p. refl) c.args.left.now.items c.args.left.now.items (sym (append-nil c.args.left.now.items));
       wide = c.show_closed.ensures.wide;
       shown = free-over own.places own 0 c.next_to_move-n.result c.show_closed.new.mouths (λ i above below. (next.passed i above below).1) next.not_before
           (λ j p at. record { free = λ below. absurd (omega arith); unclosed = λ above. c.show_closed.ensures.shown j p at });
@@ -108,9 +145,6 @@ loop-n-init c =
       bare = λ none. refl;
       watched = λ m of stand k p below at. watched-bare c.args.detectors.now (c.requires.ready.bare (next.passed k (omega arith) below).0) m p k (let h = slice_get_within own.places k p at in omega (arith, h, long));
     }
-
-at-is : (c : After-next_to_move-n-in-loop-n) → c.at-at.result ≡ place_at c.args.own.now c.loop-n.n
-at-is c = c.at-at.ensures ∙ rw c.loop-n.invariant.same.places refl
 
 pub loop-n-preserved : goal.loop-n-preserved
 loop-n-preserved c =
@@ -135,12 +169,16 @@ loop-n-preserved c =
       capacity = told.capacity;
       done = λ m of stand. driven-over m old now stand even (c.loop-n.n + 1) c.next_to_move-n-in-loop-n.result next.not_before within (done m of stand) (λ i above below. (next.passed i above below).1);
       arrived = λ m of stand.
-          arrived-over m old now stand even (c.loop-n.n + 1) c.next_to_move-n-in-loop-n.result next.not_before within (done m of stand) (λ i above below. (next.passed i above below).1) c.args.arrived.now.items c.match-move_lane.arrived.items (told.arrived m of stand);
-      wide = length-set c.loop-n.mouths c.slot.result c.is_open.result ∙ c.loop-n.invariant.wide;
+          arrived-over m old now stand even (c.loop-n.n + 1) c.next_to_move-n-in-loop-n.result next.not_before within (done m of stand) (λ i above below. (next.passed i above below).1) (λ p. arrival) (λ p. refl) c.args.arrived.now.items c.match-move_lane.arrived.items (told.arrived m of stand);
+      rows_room = omega (arith, told.rows_room, next.not_before);
+      rows_capacity = told.rows_capacity;
+      rows = λ m of stand.
+          arrived-over m old now stand even (c.loop-n.n + 1) c.next_to_move-n-in-loop-n.result next.not_before within (done m of stand) (λ i above below. (next.passed i above below).1) arrival_row (λ p. refl) c.args.left.now.items c.match-move_lane.left.items (told.rows m of stand);
+      wide = length-set c.loop-n.mouths c.slot-slot.result c.is_open.result ∙ c.loop-n.invariant.wide;
       shown =
           let p = place_at old c.loop-n.n in
-          let slot : c.slot.result ≡ slot_of p = c.slot.ensures ∙ ap (λ (q : Place). slot_of q) (at-is c) in
-          free-over old.places now (c.loop-n.n + 1) c.next_to_move-n-in-loop-n.result (set c.loop-n.mouths c.slot.result c.is_open.result) (λ i above below. (next.passed i above below).1) next.not_before
+          let slot : c.slot-slot.result ≡ slot_of p = slot-is c in
+          free-over old.places now (c.loop-n.n + 1) c.next_to_move-n-in-loop-n.result (set c.loop-n.mouths c.slot-slot.result c.is_open.result) (λ i above below. (next.passed i above below).1) next.not_before
           (rw slot
           (free-after c.args.step.now.net.now c.requires.ready.roads old.places c.requires.ready.of.own c.requires.once c.loop-n.own now c.loop-n.n p c.loop-n.mouths c.is_open.result (place-is old c.loop-n.n (inside c)) (c.loop-n.invariant.wide ∙ c.requires.wide) c.loop-n.invariant.shown c.move_lane.ensures.drives.others c.is_open.ensures));
       detectors = keep-next c.args.detectors.now c.loop-n.detectors c.loop-n.invariant.detectors c.loop-n.n (there c) c.move_lane.new.detectors c.index-detectors-n.result c.move_lane.ensures.watches.meters;
@@ -156,8 +194,8 @@ loop-n-preserved c =
           ];
     }
 
-pub slot-requires : goal.slot-requires
-slot-requires c =
+pub slot-slot-requires : goal.slot-slot-requires
+slot-slot-requires c =
     let places = ap length c.loop-n.invariant.same.places in
     let small : slot_of c.at-at.result < 65536 = subst (λ (p : Place). slot_of p < 65536) (sym (c.at-at.ensures ∙ rw c.loop-n.invariant.same.places refl)) (slot-inside c.args.step.now.net.now c.requires.ready.roads c.args.own.now c.requires.ready.of.own c.loop-n.n (omega (arith, places))).0 in
     omega arith
@@ -169,7 +207,7 @@ bounds-mouths-slot c =
     subst (λ (p : Place). slot_of p < 2 * length c.args.step.now.net.now.links) (sym (c.at-at.ensures ∙ rw c.loop-n.invariant.same.places refl)) (slot-inside c.args.step.now.net.now c.requires.ready.roads c.args.own.now c.requires.ready.of.own c.loop-n.n (omega (arith, places))).1 in
     let wide = c.loop-n.invariant.wide in
     let asked = c.requires.wide in
-    let is = c.slot.ensures in
+    let is = c.slot-slot.ensures in
     omega arith
 
 pub returns-clause-shown : goal.returns-clause-shown
@@ -188,7 +226,8 @@ returns-clause-drives c = record {
   stand = λ m of stand.
       lanes-all (driven_lane m) m c.args.own.now c.loop-n.n c.loop-n.own (c.loop-n.invariant.done m of stand) (let places = ap length c.loop-n.invariant.same.places in omega (arith, places)) (driven m)
       (λ j p at. lane_at-driven c.args.step.now.net.now m of.on p (c.requires.ready.of.own j p at));
-  arrived = λ m of stand. arrivals-all m c.args.own.now.places c.loop-n.n c.args.arrived.now.items c.loop-n.arrived.items (c.loop-n.invariant.arrived m of stand) (let places = ap length c.loop-n.invariant.same.places in omega (arith, places));
+  arrived = λ m of stand. arrivals-all (λ p. arrival (leaver_of m p)) c.args.own.now.places c.loop-n.n c.args.arrived.now.items c.loop-n.arrived.items (c.loop-n.invariant.arrived m of stand) (let places = ap length c.loop-n.invariant.same.places in omega (arith, places));
+  rows = λ m of stand. arrivals-all (arrival_at m) c.args.own.now.places c.loop-n.n c.args.left.now.items c.loop-n.left.items (c.loop-n.invariant.rows m of stand) (let places = ap length c.loop-n.invariant.same.places in omega (arith, places));
 }
 
 pub returns-clause-watches : goal.returns-clause-watches

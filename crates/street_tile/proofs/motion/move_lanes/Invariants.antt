@@ -2,6 +2,7 @@ use Rattle.std.proofs.Common.{◌≡◌, ℕ, ◌+◌, ◌-◌, ◌<◌, ◌≤�
 use Rattle.street_base.specs.declared.names.Place.{Place}
 use Rattle.street_base.specs.Prelude.{Traffic, driven_lane, arrival, leaver_of}
 use Rattle.street_lanes.specs.Prelude.{Same, LanesStand, watch_of}
+use Rattle.street_record.specs.Rows.{arrival_at}
 use Rattle.street_tile.specs.Prelude.{IsOfStep, KeepMeters, detectors_at}
 use Rattle.street_tile.proofs.SameLanes.{LanesDone}
 use Rattle.street_tile.proofs.ShownLanes.{EachMouth, IsFreeTo}
@@ -16,6 +17,9 @@ invariant-loop-n l = record {
   capacity : vec_capacity l.fn.arrived ≤ vec_capacity l.arrived;
   done : (m : Traffic) → IsOfStep l.step m → LanesStand l.fn.own.places l.fn.own.lanes m → LanesDone (driven_lane m) m l.fn.own l.n l.own;
   arrived : (m : Traffic) → IsOfStep l.step m → LanesStand l.fn.own.places l.fn.own.lanes m → l.arrived.items ≡ l.fn.arrived.items ++ filter_map (λ p. arrival (leaver_of m p)) (take l.n l.fn.own.places);
+  rows_room : vec_len l.left + (length l.fn.own.places - l.n) ≤ vec_capacity l.left;
+  rows_capacity : vec_capacity l.fn.left ≤ vec_capacity l.left;
+  rows : (m : Traffic) → IsOfStep l.step m → LanesStand l.fn.own.places l.fn.own.lanes m → l.left.items ≡ l.fn.left.items ++ filter_map (arrival_at m) (take l.n l.fn.own.places);
   wide : length l.mouths ≡ length l.fn.mouths;
   shown : EachMouth l.fn.own.places (IsFreeTo l.own l.n) l.mouths;
   detectors : KeepMeters l.fn.detectors l.detectors;

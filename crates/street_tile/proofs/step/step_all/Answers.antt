@@ -1,4 +1,4 @@
-use Rattle.std.proofs.Common.{◌≡◌, arith, ap, length, ◌∙◌, sym, subst, List, Bool}
+use Rattle.std.proofs.Common.{arith, ap, length, ◌∙◌, sym, subst, List, Bool}
 use Rattle.street_base.specs.Prelude.{Traffic}
 use Rattle.street_tile.specs.Prelude.{AllStand, Shows}
 use Rattle.street_tile.proofs.BetweenPhases.{tiles-each, tiles-lanes, tiles-motion, tiles-release, tiles-move, tiles-enter, idle-handed, prepared-motion, prepared-release, prepared-move, in-time-lanes, shown-motion, stand-motion, release-lanes, in-time, whole-step}

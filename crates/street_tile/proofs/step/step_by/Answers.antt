@@ -1,4 +1,4 @@
-use Rattle.std.proofs.Common.{◌≡◌, arith, ap, length, ◌∙◌, sym, subst, List, Bool}
+use Rattle.std.proofs.Common.{arith, ap, length, ◌∙◌, sym, subst, List, Bool}
 use Rattle.street_base.specs.Prelude.{Traffic}
 use Rattle.street_tile.specs.Prelude.{AllStand, Shows}
 use Rattle.street_tile.proofs.BetweenPhases.{tiles-each}

@@ -1,4 +1,4 @@
-use Rattle.std.proofs.Common.{◌≡◌, ℕ, ◌∙◌, subst, arith}
+use Rattle.std.proofs.Common.{ℕ, ◌∙◌, subst, arith}
 use Rattle.street_tile.specs.Prelude.{MayWork}
 use Rattle.street_tile.proofs.SameTile.{tile-of-same}
 use Rattle.street_tile.proofs.step.work.Goals as goal

@@ -20,7 +20,7 @@ returns c = λ m stands.
     let t = traffic-of c.self.view_is stands in
     census-is m _ _ _ _ _ _ _
     (c.from-admitted.ensures ∙ c.len.ensures.count ∙ ap length t.ends)
-    (c.from.ensures ∙ c.arrived.ensures ∙ ap (count_by has_arrived) t.ends)
+    (c.from.ensures ∙ c.arrived.ensures.count ∙ ap (count_by has_arrived) t.ends)
     (c.totals-totals.ensures.buffers m t.tiles)
     (c.totals-totals.ensures.cells m t.tiles)
     (c.from-2.ensures ∙ t.clock)

@@ -1,7 +1,7 @@
 use Rattle.std.proofs.Common.{refl}
 use Rattle.street_base.specs.Prelude.{step}
 use Rattle.street_tile.proofs.Together.{always-err}
-use Rattle.street_engine.proofs.StreetsStandFor.{kept-still, goes-still, prepared, may-step, step-coming, step-kept, step-stands, goes-with}
+use Rattle.street_engine.proofs.StreetsStandFor.{kept-still, goes-still, prepared, may-step, step-coming, step-kept, step-stands, step-rows, goes-with, stands-seen, traffic-of}
 use Rattle.street_engine.proofs.streets.Streets.step.Goals as goal
 
 pub invariant_of-self : goal.invariant_of-self
@@ -32,3 +32,28 @@ returns-clause-step g c =
     let went = c.step.ensures in
     let noted = c.note_arrivals.ensures in
     goes-with step c.self.view_is (step-stands c.self.invariant c.prepare.ensures.kept went.cut went.network went.len went.steps noted.network noted.long noted.tiles noted.ends)
+
+-- the streets after the step, told of by the traffic before it
+pub note-requires : goal.note-requires
+note-requires g c =
+    let went = c.step.ensures in
+    let noted = c.note_arrivals.ensures in
+    let some = c.self.invariant.some in (
+      some.0,
+      record {
+        stands = goes-with step c.self.view_is (step-stands c.self.invariant c.prepare.ensures.kept went.cut went.network went.len went.steps noted.network noted.long noted.tiles noted.ends) some.0 (stands-seen c.self.view_is some.1);
+        tiles = step-rows c.self.invariant c.prepare.ensures.kept went.cut went.network went.len went.steps noted.network noted.long noted.tiles noted.ends went.stepped some.0 some.1;
+        sound = some.1.sound;
+      },
+    )
+
+pub returns-clause-noted : goal.returns-clause-noted
+returns-clause-noted g c m s =
+    let went = c.step.ensures in
+    let noted = c.note_arrivals.ensures in
+    let before = traffic-of c.self.view_is s in
+    c.note.ensures m (record {
+      stands = returns-clause-step g c m s;
+      tiles = step-rows c.self.invariant c.prepare.ensures.kept went.cut went.network went.len went.steps noted.network noted.long noted.tiles noted.ends went.stepped m before;
+      sound = before.sound;
+    })

@@ -1,8 +1,8 @@
-use Rattle.std.proofs.Common.{◌∙◌, ◌++◌, ◌∷◌, [], refl, sym, subst, append-nil}
+use Rattle.std.proofs.Common.{◌∙◌, [], refl, sym, append-nil}
 use Rattle.std.proofs.lemmas.Result.{IfOk-weaker}
 use Rattle.street_line.proofs.KeptLines.{answers_whole}
-use Rattle.street_line.proofs.Said.{said_blank, said_kept}
-use Rattle.street_line.specs.Runs.{Said, silent}
+use Rattle.street_line.proofs.Said.{said_blank}
+use Rattle.street_line.specs.Runs.{silent}
 use Rattle.street_line.specs.ServedLine.{effect_of}
 use Rattle.street_line.proofs.kept.KeptServerLineHandler.take.Goals as goal
 

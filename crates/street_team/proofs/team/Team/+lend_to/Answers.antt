@@ -7,7 +7,7 @@ returns-in-Some-sent-clause-does g t c = λ i d h.
     let s = c.send-sent in
     let was = c.in-Some-sent.was.value.value in
     let b = vec_len was.items in
-    both_done (g.W.Work.does c.args.part) c.args.shown.now was.shown.items c.args.items.now.items s.new.items.items c.lend_to.new.items.items c.empty_into.new.items.items was.items.items
+    both_done (g.W.TeamWork.does c.args.part) c.args.shown.now was.shown.items c.args.items.now.items s.new.items.items c.lend_to.new.items.items c.empty_into.new.items.items was.items.items
     c.receive-block.result.items.items (vec_len s.new.items) b c.in-Some-sent.first c.in-Some-sent.ensures.shown c.in-Some-sent.ensures.first
     s.ensures.rest
     (λ i d h. c.lend_to.ensures.does i d (omega arith))

@@ -3,14 +3,14 @@ use Rattle.std.proofs.lemmas.Option.{slice_get_read}
 use Rattle.street_team.proofs.Moved.{moved_again}
 use Rattle.street_team.proofs.team.Team.send.Goals as goal
 
-pub new-errand-requires-clause-may : goal.new-errand-requires-clause-may
-new-errand-requires-clause-may g c = λ j k d at.
+pub new-task-requires-clause-may : goal.new-task-requires-clause-may
+new-task-requires-clause-may g c = λ j k d at.
     let n = vec_len c.fill.new.items in
     let x = get_or c.fill.new.self.items.items j d in
     let there = c.requires.may (n + k) d (omega arith) in
-    let here = subst (λ y. g.W.Work.may c.args.part (n + k) c.args.shown.now y) (sym (c.fill.ensures.back j k d (omega arith))) there in
-    let shown = subst (λ bs. g.W.Work.may c.args.part (n + k) bs x) (sym (c.fill.ensures.shown c.if-not-fill.false)) here in
-    subst (λ m. g.W.Work.may c.args.part (m + k) c.fill.new.self.shown.items x) (sym c.len-first.ensures) shown
+    let here = subst (λ y. g.W.TeamWork.may c.args.part (n + k) c.args.shown.now y) (sym (c.fill.ensures.back j k d (omega arith))) there in
+    let shown = subst (λ bs. g.W.TeamWork.may c.args.part (n + k) bs x) (sym (c.fill.ensures.shown c.if-not-fill.false)) here in
+    subst (λ m. g.W.TeamWork.may c.args.part (m + k) c.fill.new.self.shown.items x) (sym c.len-first.ensures) shown
 
 pub returns-in-Ok-clause-lock : goal.returns-in-Ok-clause-lock
 returns-in-Ok-clause-lock g c =

@@ -99,6 +99,7 @@ invariant_of-result c =
     let order = c.requires.order in
     let handed = c.in_ok-tables.ensures.handed.1 in
     let arrived = c.in_ok-tables.ensures.arrived.1 in
+    let left = c.in_ok-tables.ensures.left in
     record {
       wide = record {
         nodes = omega arith;
@@ -107,6 +108,7 @@ invariant_of-result c =
         coming = slots ∙ long;
         handed = omega arith;
         arrived = omega arith;
+        left = omega arith;
       };
       noted = record {
         bare = λ none. subst AreBare (sym c.in_ok-own.ensures.detectors) (bare-all net c.deref.result.now);

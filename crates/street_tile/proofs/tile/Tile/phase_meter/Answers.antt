@@ -29,6 +29,7 @@ ticks-of : (net : NetSpec) (x : TileView) (detectors : List Detectors) → IsTil
 unfolding ticked noted_by
 ticks-of net x detectors tile noted = record {
   arrived = refl;
+  left = refl;
   goes = record {
     same = record { low = refl; high = refl; links = refl; own = same-none x.own; sized = noted-sizes x.own x.detectors detectors noted };
     handed = refl;
@@ -69,6 +70,7 @@ invariant_of-self c =
         coming = subst (λ (own : Lanes). length s.coming ≡ length own.places) (sym c.pack.ensures) inv.wide.coming;
         handed = subst (λ (own : Lanes). length own.places ≤ vec_capacity s.handed) (sym c.pack.ensures) inv.wide.handed;
         arrived = subst (λ (own : Lanes). length own.places ≤ vec_capacity s.arrived) (sym c.pack.ensures) inv.wide.arrived;
+        left = subst (λ (own : Lanes). length own.places ≤ vec_capacity s.left) (sym c.pack.ensures) inv.wide.left;
       };
       noted = record {
         bare = λ none. subst AreBare (sym items) (noted-bare s.own s.detectors.items c.note_lanes.new.detectors noted (inv.noted.bare none));

@@ -54,6 +54,7 @@ invariant_of-self c =
         coming = rw places inv.wide.coming;
         handed = rw places inv.wide.handed;
         arrived = (let le = inv.wide.arrived in let cap = c.move_lanes.ensures.capacity in rw places (omega arith));
+        left = (let le = inv.wide.left in let kept = c.clear.ensures.capacity in let cap = c.move_lanes.ensures.rows in rw places (omega arith));
       };
       noted = record {
         bare = λ none. subst AreBare (sym (items ∙ c.move_lanes.ensures.watches.bare none ∙ c.deref_mut.ensures.value)) (inv.noted.bare none);
@@ -71,9 +72,10 @@ returns c =
     let items : (with_items s.detectors c.move_lanes.new.detectors).items ≡ c.move_lanes.new.detectors = with_items_is s.detectors c.move_lanes.new.detectors (let e = c.move_lanes.auto.detectors in let f = c.deref_mut.ensures.len in let ok = s.detectors.ok in omega arith) in
     let keep : KeepMeters s.detectors.items c.move_lanes.new.detectors = subst (λ gs. KeepMeters gs c.move_lanes.new.detectors) c.deref_mut.ensures.value c.move_lanes.ensures.watches.meters in
     let mouths : (with_items s.mouths c.move_lanes.new.mouths).items ≡ c.move_lanes.new.mouths = with_items_is s.mouths c.move_lanes.new.mouths (let e = c.move_lanes.auto.mouths in let f = c.deref_mut-2.ensures.len in let ok = s.mouths.ok in omega arith) in
-    let moves = moves-of c.args.net.now (seen c.self.inside) tile c.move_lanes.new.own (with_items s.mouths c.move_lanes.new.mouths).items c.move_lanes.new.arrived.items (with_items s.detectors c.move_lanes.new.detectors).items c.move_lanes.ensures.drives.same c.move_lanes.ensures.drives.room
+    let moves = moves-of c.args.net.now (seen c.self.inside) tile c.move_lanes.new.own (with_items s.mouths c.move_lanes.new.mouths).items c.move_lanes.new.arrived.items c.move_lanes.new.left.items (with_items s.detectors c.move_lanes.new.detectors).items c.move_lanes.ensures.drives.same c.move_lanes.ensures.drives.room
     (λ m on clock signals stand. c.move_lanes.ensures.drives.stand m (record { on = on; in_time = clock; signals = shows m signals }) stand)
     (λ m on clock signals stand. rw none at (c.move_lanes.ensures.drives.arrived m (record { on = on; in_time = clock; signals = shows m signals }) stand))
+    (λ m on clock signals stand. rw c.clear.ensures.items at (c.move_lanes.ensures.drives.rows m (record { on = on; in_time = clock; signals = shows m signals }) stand))
     (subst (KeepMeters s.detectors.items) (sym items) keep)
     (λ m on clock signals stand. subst (HaveWatched m s.own.places) (sym items) (c.move_lanes.ensures.watches.watched m (record { on = on; in_time = clock; signals = shows m signals }) stand))
     (λ m stand j p at. ap (λ (ms : List Bool). mouth ms p) mouths ∙ c.move_lanes.ensures.shown m stand j p at) in

@@ -48,6 +48,7 @@ invariant_of-self c =
         coming = inv.wide.coming;
         handed = inv.wide.handed;
         arrived = inv.wide.arrived;
+        left = inv.wide.left;
       };
       noted = record {
         bare = λ none. cc;

@@ -1,0 +1,95 @@
+-- The record of a run: for each step a block, with a head and a row for each vehicle that stands on a lane after the step, or that arrived in it.
+use Rattle.std.specs.Prelude.{ℕ, zero, suc, ◌+◌, ◌*◌, List, [], ◌∷◌, ◌++◌, length, map, flat_map, filter_map, reverse, Option, Some, None, option_map, option_to_list, if◌then◌else◌}
+use Rattle.std.specs.Int.{w32, to_le_bytes}
+use Rattle.std.specs.List.{enumerate_from}
+use Rattle.street_base.specs.declared.names.Place.{Place}
+use Rattle.street_base.specs.declared.record.RecordHead.{RecordHead}
+use Rattle.street_base.specs.declared.record.RecordRow.{RecordRow}
+use Rattle.street_base.specs.declared.reply.BufferEntry.{BufferEntry}
+use Rattle.street_base.specs.declared.reply.CellEntry.{CellEntry}
+use Rattle.street_base.specs.Network.{places}
+use Rattle.street_base.specs.Vehicle.{Vehicle, is_on_last}
+use Rattle.street_base.specs.State.{LaneState, Traffic, lane_at}
+use Rattle.street_base.specs.Step.{changed, leaver_of, step}
+use Rattle.street_base.specs.Shown.{buffer_entry, cell_entry, have_arrived, were_taken}
+
+-- ---- rows
+
+-- the slot of a lane: twice the position of its link, and its number on the link
+abbrev pub slot_of : Place → ℕ
+slot_of place = 2 * place.link + place.lane
+
+-- where a row says that a vehicle in a buffer is: 2^31 and the step from which it may go on
+abbrev pub buffer_spot : ℕ → ℕ
+buffer_spot ready = 2147483648 + ready
+
+-- where a row says that a vehicle is that arrived: 2^32 - 1
+abbrev pub arrived_spot : ℕ
+arrived_spot = 4294967295
+
+-- the row of a vehicle that a lane shows in its cells
+abbrev pub cell_row : ℕ → CellEntry → RecordRow
+cell_row slot e = record { car = e.car; slot = slot; spot = e.cell; speed = e.speed }
+
+-- the row of a vehicle that a lane shows in its buffer
+abbrev pub buffer_row : ℕ → BufferEntry → RecordRow
+buffer_row slot e = record { car = e.car; slot = slot; spot = buffer_spot e.ready; speed = e.speed }
+
+-- the row of a vehicle that arrived, with the speed at which it left
+abbrev pub arrived_row : ℕ → Vehicle → RecordRow
+arrived_row slot v = record { car = v.number; slot = slot; spot = arrived_spot; speed = v.speed }
+
+-- the rows of a lane: the vehicles in its cells from the greatest front on, then the buffer from its front
+abbrev pub lane_rows : ℕ → LaneState → List RecordRow
+lane_rows slot lane =
+    map (cell_row slot) (reverse (filter_map cell_entry (enumerate_from 0 lane.track.cells)))
+    ++ map (buffer_row slot) (map buffer_entry lane.queue)
+
+-- a leaver that is on its last link arrives, and no other
+abbrev pub arriving : Option Vehicle → Option Vehicle
+arriving None = None
+arriving (Some v) = if is_on_last v then Some v else None
+
+-- the row of who arrives from a lane, if somebody does
+abbrev pub arrival_rows : ℕ → Option Vehicle → List RecordRow
+arrival_rows slot leaver = option_to_list (option_map (arrived_row slot) (arriving leaver))
+
+-- the rows of all lanes, in the order of the network: those after the step, and who arrived in it by the state behind the lane changes
+abbrev pub rows_between : Traffic → Traffic → List RecordRow
+rows_between before after =
+    flat_map (λ place. lane_rows (slot_of place) (lane_at after place) ++ arrival_rows (slot_of place) (leaver_of before place)) (places after.network)
+
+-- the rows of the step that a state makes
+abbrev pub rows_of_step : Traffic → List RecordRow
+rows_of_step m = rows_between (changed m) (step m)
+
+-- ---- the block of a step, and the record of steps
+
+-- the head of a block with so many rows, by the state after the step
+abbrev pub head_after : Traffic → ℕ → RecordHead
+head_after after rows = record { clock = after.clock; rows = rows; arrived = have_arrived after; taken = were_taken after }
+
+-- a head as it is written: four numbers of 32 bits, least byte first
+abbrev pub head_bytes : RecordHead → List ℕ
+head_bytes head = to_le_bytes w32 head.clock ++ to_le_bytes w32 head.rows ++ to_le_bytes w32 head.arrived ++ to_le_bytes w32 head.taken
+
+-- a row as it is written: four numbers of 32 bits, least byte first
+abbrev pub row_bytes : RecordRow → List ℕ
+row_bytes row = to_le_bytes w32 row.car ++ to_le_bytes w32 row.slot ++ to_le_bytes w32 row.spot ++ to_le_bytes w32 row.speed
+
+-- rows as they are written, one after another
+abbrev pub rows_bytes : List RecordRow → List ℕ
+rows_bytes rows = flat_map row_bytes rows
+
+-- a block as it is written, by the state after the step and its rows
+abbrev pub block_after : Traffic → List RecordRow → List ℕ
+block_after after rows = head_bytes (head_after after (length rows)) ++ rows_bytes rows
+
+-- the block of the step that a state makes
+unfoldable pub block : Traffic → List ℕ
+block m = block_after (step m) (rows_of_step m)
+
+-- the record of so many steps: their blocks, one after another
+abbrev pub blocks : ℕ → Traffic → List ℕ
+blocks zero m = []
+blocks (suc n) m = block m ++ blocks n (step m)

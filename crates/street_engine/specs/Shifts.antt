@@ -1,0 +1,26 @@
+-- What contracts see of steps that a team has made, and of calls that make steps.
+use Rattle.std.specs.Prelude.{◌≡◌, ℕ, ◌*◌, ◌+◌, ◌≤◌, Option, Some}
+use Rattle.std.specs.Fn.{Shared}
+use Rattle.street_base.specs.Prelude.{Traffic, last_clock, steps}
+use Rattle.street_engine.specs.Streets.{StreetsView, StreetsStandFor, StreetsGo}
+use Rattle.street_engine.specs.Noted.{ToldOf}
+
+-- the streets after steps, what took note of them, and how many were made
+pub record ShiftResultView (K : Type 0) : Type 0 where
+  pub streets : StreetsView
+  pub sink : K
+  pub made : ℕ
+
+-- so many steps, of at most these, lead from these streets to those, and were noted
+pub record HaveRun {K : Type 0} (notes : K → Traffic → K → Type 0) (begun : StreetsView) (most : ℕ) (start : Option K) (streets : StreetsView) (sink : K) (made : ℕ) : Type 0 where
+  pub within : made ≤ most
+  pub clock : streets.clock ≡ begun.clock + made
+  pub stands : StreetsGo (steps made) begun streets
+  pub noted : (k : K) → start ≡ Some k → ToldOf notes begun made k sink
+
+-- each call of f may be made of up to 16 steps before the last clock, and makes as many as it says
+pub record MakesSteps {F K : Type 0} (notes : K → Traffic → K → Type 0) (g : Shared F (StreetsView × (K × (ℕ × Unit {0}))) (StreetsView × K × ℕ)) (f : F) : Type 0 where
+  pub may : (x : StreetsView) (k : K) (count : ℕ) → count ≤ 16 → x.clock + count ≤ last_clock → g.pre f (x, (k, (count, tt)))
+  pub does : (x : StreetsView) (k : K) (count : ℕ) (r : StreetsView × K × ℕ) → g.post f (x, (k, (count, tt))) r
+      → (r.2 ≤ count) × (r.0.clock ≡ x.clock + r.2) × StreetsGo (steps r.2) x r.0
+      × ToldOf notes x r.2 k r.1

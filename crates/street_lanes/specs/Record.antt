@@ -1,0 +1,8 @@
+-- The row of a car of the yard, as the record of a run has it.
+use Rattle.std.specs.Prelude.{ℕ}
+use Rattle.street_base.specs.declared.car.Car.{Car}
+use Rattle.street_base.specs.declared.record.RecordRow.{RecordRow}
+
+-- the row of a car, with where it is
+abbrev pub car_row : ℕ → (Car → ℕ) → Car → RecordRow
+car_row slot spot car = record { car = car.number; slot = slot; spot = spot car; speed = car.speed }

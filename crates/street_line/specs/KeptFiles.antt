@@ -1,0 +1,90 @@
+-- A file that a session is kept in, and a session that goes on from it.
+use Rattle.std.specs.Prelude.{◌≡◌, ◌⊎◌, ℕ, zero, suc, List, ◌∷◌, [], ◌++◌, length, take, drop, Option, Some, None, option_map, ⊤}
+use Rattle.street_base.specs.declared.command.Command.{Command}
+use Rattle.std.specs.Io.KnownBytes.{Keeps}
+use Rattle.street_stream.specs.Lines.{cut, IsInsideLine}
+use Rattle.street_stream.specs.declared.counted.Counted.{Counted}
+use Rattle.street_stream.specs.Logs.{Extends}
+use Rattle.street_line.specs.Redo.{RedoBroke, Redoes}
+use Rattle.street_line.specs.Kept.{IsKeptCaused, KeptUpTo, KeptWhole}
+use Rattle.street_line.specs.declared.redo.RedoneLines.{RedoneLines}
+use Rattle.street_line.specs.declared.kept_file.BeginFault.{BeginFault}
+use Rattle.street_line.specs.declared.kept_file.BeginFault.TheVariants.{Foreign, Recover, Settle}
+use Rattle.street_line.specs.declared.kept_file.ServeFault.{ServeFault}
+use Rattle.street_line.specs.declared.kept_file.ServeFault.TheVariants.{Begin, Session}
+use Rattle.street_line.specs.declared.service.Served.{Served}
+
+-- what stands from a place on
+abbrev pub left_from : ℕ → Option (List ℕ) → Option (List ℕ)
+left_from at held = option_map (λ text. drop at text) held
+
+-- the first bytes
+abbrev pub first_of : ℕ → Option (List ℕ) → Option (List ℕ)
+first_of size held = option_map (λ text. take size text) held
+
+-- how many bytes stand before the first NUL, or all
+abbrev pub sound_len : List ℕ → ℕ
+sound_len [] = 0
+sound_len (zero ∷ xs) = 0
+sound_len (suc x ∷ xs) = suc (sound_len xs)
+
+-- these bytes: a line that is kept has no NUL
+abbrev pub sound : List ℕ → List ℕ
+sound text = take (sound_len text) text
+
+-- so of what may be known
+abbrev pub sound_of : Option (List ℕ) → Option (List ℕ)
+sound_of held = option_map sound held
+
+-- what was had is this text, where that is known
+abbrev pub IsText : Option (List ℕ) → List ℕ → Type 0
+IsText None text = ⊤
+IsText (Some xs) text = xs ≡ text
+
+module _ {S : Type 0} (serves : S → Command → Served → S → Type 0) where
+  -- a file had these lines that have ended, and behind them what a crash has left: no line that has ended before a NUL; the lines were done
+  pub record Redone (start : S) (had : Option (List ℕ)) (mid : S) (redo : RedoneLines) : Type 0 where
+    pub whole : List ℕ
+    pub torn : List ℕ
+    pub is_text : IsText had (whole ++ torn)
+    pub ended : (cut whole).1 ≡ []
+    pub inside : IsInsideLine (sound torn)
+    pub done : Redoes serves start (cut whole).0 mid
+    pub lines : redo.lines ≡ length (cut whole).0
+    pub bytes : redo.bytes ≡ length whole
+
+  -- and so it was left with these lines alone
+  pub record Recovered (start : S) (had : Option (List ℕ)) (mid : S) (log : Option (List ℕ)) (redo : RedoneLines) : Type 0 where
+    pub redone : Redone start had mid redo
+    pub cut_off : Keeps (first_of redo.bytes had) log
+
+  -- so, and then all lines of the text that was read were served from the state that those led to; what is kept of them is held behind those, and stays
+  pub record ServesOn (start : S) (had unread before : Option (List ℕ)) (redo : RedoneLines) (now : S) (left held synced after : Option (List ℕ)) : Type 0 where
+    pub mid : S
+    pub log : Option (List ℕ)
+    pub recovered : Recovered start had mid log redo
+    pub whole : KeptWhole serves mid unread log before now left held synced after
+
+  -- a fault ended that: at a line of the file, which is as it was, or as it has no line; or as the file was written anew, when of what was synced no line is lost
+  abbrev pub BeginBreaks : S → Option (List ℕ) → Option (List ℕ) → S → Option (List ℕ) → Option (List ℕ) → BeginFault → Type 0
+  BeginBreaks start had stayed now held synced (Recover fault) = ((rest : Option (List ℕ)) × RedoBroke serves start (sound_of had) fault now rest) × (held ≡ had) × (synced ≡ stayed)
+  BeginBreaks start had stayed now held synced Foreign = ((redo : RedoneLines) × Redone start had now redo × (redo.bytes ≡ 0)) × (held ≡ had) × (synced ≡ stayed)
+  BeginBreaks start had stayed now held synced Settle =
+      (redo : RedoneLines) × Redone start had now redo × (Keeps had held ⊎ Keeps (first_of redo.bytes had) held) × Extends (first_of redo.bytes stayed) synced
+
+  -- so before any line was served; or in the session, of which no more is out or held than the fault left
+  module _ (start : S) (had stayed unread before : Option (List ℕ)) (now : S) (left held synced after : Option (List ℕ)) where
+    abbrev pub ServeBreaks : ServeFault → Type 0
+    ServeBreaks (Begin fault) = BeginBreaks start had stayed now held synced fault × (after ≡ before)
+    ServeBreaks (Session fault) = (mid : S) × (log : Option (List ℕ)) × (redo : RedoneLines) × Recovered start had mid log redo × KeptUpTo serves mid unread log before fault left held synced after
+
+-- a fault of writing the file anew comes only where its cause was counted
+abbrev pub IsBeginCaused : {K : Type 0} → (K → Type 0) → BeginFault → K → Type 0
+IsBeginCaused has_failed (Recover fault) file = ⊤
+IsBeginCaused has_failed Foreign file = ⊤
+IsBeginCaused has_failed Settle file = has_failed file
+
+-- so of the session
+abbrev pub IsServeCaused : {K R W : Type 0} → (K → Type 0) → ServeFault → Counted R → K → Counted W → ℕ → Type 0
+IsServeCaused has_failed (Begin fault) reader file writer reads = IsBeginCaused has_failed fault file
+IsServeCaused has_failed (Session fault) reader file writer reads = IsKeptCaused has_failed fault reader file writer reads

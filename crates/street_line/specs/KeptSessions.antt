@@ -1,0 +1,97 @@
+-- A session that is kept, as a function: what it replies and what its file has then, where memory is there and nothing fails.
+use Rattle.std.specs.Prelude.{◌≡◌, ℕ, ◌+◌, ◌-◌, List, [], ◌∷◌, ◌++◌, length, take, if◌then◌else◌, Option, Some, None, Result, Ok, Err}
+use Rattle.street_base.specs.declared.command.Command.{Command}
+use Rattle.street_base.specs.declared.reply.Outcome.TheVariants.{Whole}
+use Rattle.street_base.specs.Prelude.{Answers, State, reply_to, state_after}
+use Rattle.street_stream.specs.Lines.{cut, lines_of}
+use Rattle.street_text.specs.FaultLines.{fault_line}
+use Rattle.street_text.specs.ReplyLines.{reply_line}
+use Rattle.street_line.specs.Redo.{is_done}
+use Rattle.street_line.specs.Kept.{entry_of, is_change}
+use Rattle.street_line.specs.KeptFiles.{ServesOn, sound}
+use Rattle.street_line.specs.Runs.{Said, silent, faulty, calls, said}
+use Rattle.street_line.specs.declared.redo.RedoneLines.{RedoneLines}
+use Rattle.street_line.specs.declared.service.Served.{Served}
+use Rattle.street_line.specs.declared.service.Served.TheVariants.{Answered, Full, Unrecorded}
+
+-- the machine answers each command, whole
+abbrev pub WholeServes : State → Command → Served → State → Type 0
+WholeServes old command (Answered reply) new = Answers old command reply Whole new
+WholeServes old command Full new = ⊥
+WholeServes old command Unrecorded new = ⊥
+
+-- ---- lines that are served
+
+-- a session as far as it has come: the machine, what went out, and what is kept
+pub record Session : Type 0 where
+  pub machine : State
+  pub replies : List ℕ
+  pub kept : List ℕ
+
+-- what goes out for a faulty line
+abbrev pub told : Option (List ℕ) → List ℕ
+told None = []
+told (Some line) = line
+
+-- a line more, which says this
+abbrev pub with_line : Session → Said → List ℕ → Session
+with_line s silent line = s
+with_line s (faulty fault) line = record s { replies = s.replies ++ told (fault_line fault) }
+with_line s (calls c) line = record {
+  machine = state_after s.machine c Whole;
+  replies = s.replies ++ reply_line (reply_to s.machine c Whole);
+  kept = s.kept ++ entry_of (is_change (reply_to s.machine c Whole)) line;
+}
+
+-- the lines, one after another
+abbrev pub with_lines : Session → List (List ℕ) → Session
+with_lines s [] = s
+with_lines s (l ∷ ls) = with_lines (with_line s (said l) l) ls
+
+-- nothing went out yet
+abbrev pub begun_at : State → Session
+begun_at m = record { machine = m; replies = []; kept = [] }
+
+-- ---- lines that are done again
+
+-- the line of this number more, which says this; or that of the first bad line
+abbrev pub redo_line : ℕ → Result State ℕ → Said → Result State ℕ
+redo_line n (Err bad) what = Err bad
+redo_line n (Ok m) silent = Ok m
+redo_line n (Ok m) (faulty fault) = Err n
+redo_line n (Ok m) (calls c) = if is_done (reply_to m c Whole) then Ok (state_after m c Whole) else Err n
+
+-- the lines, one after another, the first of this number
+abbrev pub redo_lines : ℕ → Result State ℕ → List (List ℕ) → Result State ℕ
+redo_lines n at [] = at
+redo_lines n at (l ∷ ls) = redo_lines (n + 1) (redo_line n at (said l)) ls
+
+-- ---- a session that goes on from a file
+
+-- what a session leaves: how many lines were done again, what went out, and what its file has
+pub record Left : Type 0 where
+  pub lines : ℕ
+  pub replies : List ℕ
+  pub file : List ℕ
+
+-- the lines of a file that have ended before its first NUL
+abbrev pub ended : List ℕ → List ℕ
+ended had = take (length (sound had) - length (cut (sound had)).1) (sound had)
+
+abbrev pub left_by : List ℕ → Session → Left
+left_by had s = record { lines = length (cut (sound had)).0; replies = s.replies; file = ended had ++ s.kept }
+
+abbrev pub goes_on : List ℕ → List ℕ → Result State ℕ → Result Left ℕ
+goes_on had text (Err bad) = Err bad
+goes_on had text (Ok m) = Ok (left_by had (with_lines (begun_at m) (lines_of text)))
+
+-- a session whose file had the first text, and which reads the second; or the number of the file's first bad line
+abbrev pub kept_session : List ℕ → List ℕ → Result Left ℕ
+kept_session had text = goes_on had text (redo_lines 1 (Ok None) (cut (sound had)).0)
+
+-- a session that reads this text goes on from a file that had the first one, without a fault, and leaves this
+pub record IsSession (serves : State → Command → Served → State → Type 0) (had text : List ℕ) (left : Left) : Type 0 where
+  pub redo : RedoneLines
+  pub now : State
+  pub lines : redo.lines ≡ left.lines
+  pub serves_on : ServesOn serves None (Some had) (Some text) (Some []) redo now (Some []) (Some left.file) (Some left.file) (Some left.replies)

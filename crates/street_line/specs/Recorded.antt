@@ -1,0 +1,105 @@
+-- A session of which a record is written, and the machine whose record that is.
+use Rattle.std.specs.Prelude.{◌≡◌, ℕ, ◌⊎◌, List, [], ◌++◌, take, true, false, Option, Some, None, IsSome}
+use Rattle.std.specs.Io.KnownBytes.{Appends}
+use Rattle.street_base.specs.declared.command.Command.{Command}
+use Rattle.street_base.specs.declared.reply.Reply.{Reply}
+use Rattle.street_base.specs.Prelude.{State}
+use Rattle.street_engine.specs.Prelude.{EngineView, StandsFor, recorded_in}
+use Rattle.street_record.specs.Given.{HasNoRest, IsFresh, IsGiven, WriterView}
+use Rattle.street_stream.specs.Streams.{HasFailed}
+use Rattle.street_stream.specs.declared.counted.Counted.{Counted}
+use Rattle.street_stream.specs.declared.tally.RunFault.{RunFault}
+use Rattle.street_stream.specs.declared.tally.Tally.{Tally}
+use Rattle.street_line.specs.declared.service.Served.{Served}
+use Rattle.street_line.specs.declared.service.Served.TheVariants.{Answered, Full, Unrecorded}
+use Rattle.street_line.specs.Engines.{EngineServes, MachineServes}
+use Rattle.street_line.specs.Streams.{ServesAll, ServesFirst}
+
+-- ---- the machine
+
+-- a machine, the record of the commands that were answered, and the blocks of one that was not, since they could not be written whole
+pub record RecordedMachine : Type 0 where
+  pub machine : State
+  pub whole : List ℕ
+  pub begun : Option (List ℕ)
+
+-- a command is done, and its blocks go behind the record: it is answered; or it is not, and from then on nothing more is done
+abbrev pub MachineRecords : RecordedMachine → Command → Served → RecordedMachine → Type 0
+MachineRecords old c (Answered reply) new = (old.begun ≡ None) × (new.begun ≡ None) × MachineServes old.machine c (Answered reply) new.machine
+    × (new.whole ≡ old.whole ++ recorded_in old.machine c reply)
+MachineRecords old c Full new = ⊥
+MachineRecords old c Unrecorded new = (IsSome old.begun × (new ≡ old))
+    ⊎ ((reply : Reply) × (old.begun ≡ None) × MachineServes old.machine c (Answered reply) new.machine × (new.whole ≡ old.whole)
+    × (new.begun ≡ Some (recorded_in old.machine c reply)))
+
+-- ---- the session
+
+-- what contracts see of it: its engine, and what writes its record
+pub record RecordedView (W : Type 0) : Type 0 where
+  pub engine : EngineView
+  pub writer : Option (WriterView W)
+
+module _ {W : Type 0} (contents : W → Option (List ℕ)) where
+  -- the reply to steps that the writer was told of: it may go out where all that the writer was given is written
+  abbrev pub IsReplyBehind : WriterView W → Reply → Served → WriterView W → Type 0
+  IsReplyBehind old reply (Answered told) new = (told ≡ reply) × IsFresh new
+      × ((start : Option (List ℕ)) (given : List ℕ) → IsGiven contents start given old → Appends start (contents new.writer.stream) given)
+  IsReplyBehind old reply Full new = ⊥
+  IsReplyBehind old reply Unrecorded new = (new.has_failed ≡ true) × HasFailed new.writer
+      × ((start : Option (List ℕ)) (given : List ℕ) → IsGiven contents start given old → IsGiven contents start given new)
+
+  -- a command is answered where the blocks of its steps are written; else the record had failed, and nothing is done; or the command is done, and of its
+  -- blocks the first bytes are written
+  abbrev pub Records : EngineView → WriterView W → Command → Served → EngineView → WriterView W → Type 0
+  Records old w c (Answered reply) new v = (w.has_failed ≡ false) × (v.has_failed ≡ false) × EngineServes old c (Answered reply) new
+      × ((m : State) → StandsFor old m → Appends (contents w.writer.stream) (contents v.writer.stream) (recorded_in m c reply))
+  Records old w c Full new v = ⊥
+  Records old w c Unrecorded new v = ((w.has_failed ≡ true) × (new ≡ old) × (v ≡ w))
+      ⊎ ((reply : Reply) × (w.has_failed ≡ false) × (v.has_failed ≡ true) × HasFailed v.writer × EngineServes old c (Answered reply) new
+      × ((m : State) → StandsFor old m → (n : ℕ) × Appends (contents w.writer.stream) (contents v.writer.stream) (take n (recorded_in m c reply))))
+
+  -- so of a session where nothing waited
+  abbrev pub RecordServes : RecordedView W → Command → Served → RecordedView W → Type 0
+  RecordServes old c served new = (w : WriterView W) → old.writer ≡ Some w → HasNoRest w
+      → (v : WriterView W) × (new.writer ≡ Some v) × HasNoRest v × Records old.engine w c served new.engine v
+
+  -- since it held `start`, the file has taken the record of all commands that were answered; where a write of it failed, or took no byte, of the blocks of one that was
+  -- not answered the first bytes, too
+  abbrev pub HoldsRecord : Option (List ℕ) → WriterView W → List ℕ → Option (List ℕ) → Type 0
+  HoldsRecord start w whole None = (w.has_failed ≡ false) × Appends start (contents w.writer.stream) whole
+  HoldsRecord start w whole (Some begun) = (w.has_failed ≡ true) × HasFailed w.writer × (n : ℕ) × Appends start (contents w.writer.stream) (whole ++ take n begun)
+
+  -- the engine stands for the machine, and the file holds its record
+  pub record StandsRecorded (start : Option (List ℕ)) (view : RecordedView W) (m : RecordedMachine) : Type 0 where
+    pub engine : StandsFor view.engine m.machine
+    pub writer : WriterView W
+    pub written_by : view.writer ≡ Some writer
+    pub rests : HasNoRest writer
+    pub holds : HoldsRecord start writer m.whole m.begun
+
+-- nothing is loaded, and no step was made
+abbrev pub no_steps : RecordedMachine
+no_steps = record { machine = None; whole = []; begun = None }
+
+-- ---- lines
+
+module _ {W D V : Type 0} (contents : W → Option (List ℕ)) (remaining : D → Option (List ℕ)) (outputs : V → Option (List ℕ)) where
+  -- whatever machine and record the session stood for, the machine serves so from there on, and the session then stands for what this leads to
+  abbrev pub RecordServesAll : RecordedView W → Counted D → Counted V → RecordedView W → Counted D → Counted V → Tally → Type 0
+  RecordServesAll before reader writer after read written tally = (start : Option (List ℕ)) (old : RecordedMachine) → StandsRecorded contents start before old
+      → (new : RecordedMachine) × StandsRecorded contents start after new × ServesAll MachineRecords remaining outputs old reader writer new read written tally
+
+  -- so of the first lines, where a fault ended the run
+  abbrev pub RecordServesFirst : RecordedView W → Counted D → Counted V → RecordedView W → Counted D → Counted V → RunFault → Type 0
+  RecordServesFirst before reader writer after read written fault = (start : Option (List ℕ)) (old : RecordedMachine) → StandsRecorded contents start before old
+      → (new : RecordedMachine) × StandsRecorded contents start after new × ServesFirst MachineRecords remaining outputs old reader writer new read written fault
+
+  -- nothing being loaded at first, the machine serves so, every command is answered, and since it held `start` the file has taken the record
+  abbrev pub MachineRecordsAll : Option (List ℕ) → Counted D → Counted V → Option (WriterView W) → Counted D → Counted V → Tally → Type 0
+  MachineRecordsAll start reader writer file read written tally = (new : RecordedMachine) × (w : WriterView W) × (file ≡ Some w) × (new.begun ≡ None)
+      × HoldsRecord contents start w new.whole None × ServesAll MachineRecords remaining outputs no_steps reader writer new read written tally
+
+  -- so of the first lines, where a fault ended the run
+  abbrev pub MachineRecordsFirst : Option (List ℕ) → Counted D → Counted V → Option (WriterView W) → Counted D → Counted V → RunFault → Type 0
+  MachineRecordsFirst start reader writer file read written fault = (new : RecordedMachine) × (w : WriterView W) × (file ≡ Some w)
+      × HoldsRecord contents start w new.whole new.begun × ServesFirst MachineRecords remaining outputs no_steps reader writer new read written fault

@@ -1,0 +1,138 @@
+-- Lines of a kept text that are done again.
+use Rattle.std.specs.Prelude.{◌≡◌, ℕ, ◌+◌, ◌-◌, ◌^◌, ◌<◌, ◌⊎◌, min, List, [], ◌∷◌, ◌++◌, length, Bool, true, false, Option, None, Ok, ⊤}
+use Rattle.std.specs.Io.KnownBytes.{Consumes, IsAtEnd}
+use Rattle.street_base.specs.declared.command.Command.{Command}
+use Rattle.street_base.specs.declared.reply.Reply.{Reply}
+use Rattle.street_base.specs.declared.reply.Reply.TheVariants.{Refused, Short, Starved}
+use Rattle.street_stream.specs.HandledLines.{Effect}
+use Rattle.street_stream.specs.Lines.{cut, lines_of}
+use Rattle.street_stream.specs.declared.answer.LineAnswer.{LineAnswer}
+use Rattle.street_stream.specs.declared.answer.StopCause.{StopCause}
+use Rattle.street_stream.specs.declared.answer.StopCause.TheVariants as causes
+use Rattle.street_stream.specs.declared.counted.Counted.{Counted}
+use Rattle.street_stream.specs.declared.tally.Tally.{Tally}
+use Rattle.street_stream.specs.declared.tally.FaultKind.TheVariants as kind
+use Rattle.street_line.specs.declared.redo.RedoneLines.{RedoneLines}
+use Rattle.street_line.specs.declared.redo.RedoFault.{RedoFault}
+use Rattle.street_line.specs.declared.redo.RedoFault.TheVariants.{Run, BadLine}
+use Rattle.street_line.specs.declared.redo.RedoStop.{RedoStop}
+use Rattle.street_line.specs.declared.redo.RedoStop.TheVariants as stop
+use Rattle.street_line.specs.declared.service.Served.{Served}
+use Rattle.street_line.specs.declared.service.Served.TheVariants.{Answered, Full, Unrecorded}
+use Rattle.street_line.specs.Runs.{Said, silent, faulty, calls, said}
+
+-- the command was done, whole
+abbrev pub is_done : Reply → Bool
+is_done (Refused refusal) = false
+is_done (Short clock short) = false
+is_done Starved = false
+is_done reply = true
+
+-- the command was refused, or there was no place for it
+abbrev pub is_refused : Served → Bool
+is_refused Full = true
+is_refused Unrecorded = false
+is_refused (Answered (Refused refusal)) = true
+is_refused (Answered reply) = false
+
+-- memory ran out for the command, or for its last steps, or what is to be written of it was not
+abbrev pub is_short : Served → Bool
+is_short Unrecorded = true
+is_short (Answered (Short clock short)) = true
+is_short (Answered Starved) = true
+is_short served = false
+
+-- why a command that was served so is not done
+abbrev pub IsRedoStop : Served → RedoStop → Type 0
+IsRedoStop served stop.Bad = is_refused served ≡ true
+IsRedoStop served stop.Starved = is_short served ≡ true
+
+module _ {S : Type 0} (serves : S → Command → Served → S → Type 0) where
+  -- a blank line does nothing; a command is done, and no other line is there
+  abbrev pub RedoSaid : S → Said → S → Type 0
+  RedoSaid old silent new = new ≡ old
+  RedoSaid old (faulty f) new = ⊥
+  RedoSaid old (calls c) new = (reply : Reply) × serves old c (Answered reply) new × (is_done reply ≡ true)
+
+  -- a line that is not done is no command, or its command is refused where it stands
+  abbrev pub BadSaid : S → Said → S → Type 0
+  BadSaid old silent new = ⊥
+  BadSaid old (faulty f) new = new ≡ old
+  BadSaid old (calls c) new = (served : Served) × serves old c served new × (is_refused served ≡ true)
+
+  -- or memory ran out: to read it, or while its command was served
+  abbrev pub StarvedSaid : S → Said → S → Type 0
+  StarvedSaid old silent new = ⊥
+  StarvedSaid old (faulty f) new = new ≡ old
+  StarvedSaid old (calls c) new = (new ≡ old) ⊎ ((served : Served) × serves old c served new × (is_short served ≡ true))
+
+  -- whichever
+  abbrev pub RedoStopSaid : S → Said → RedoStop → S → Type 0
+  RedoStopSaid old what stop.Bad new = BadSaid old what new
+  RedoStopSaid old what stop.Starved new = StarvedSaid old what new
+
+  -- so as a handler of lines sees it
+  abbrev pub RedoLine : S → List ℕ → Effect → S → Type 0
+  RedoLine old line effect new = RedoSaid old (said line) new × (effect.reply ≡ None)
+
+  -- so of a line that is not done
+  abbrev pub RedoStopLine : S → List ℕ → RedoStop → S → Type 0
+  RedoStopLine old line why new = RedoStopSaid old (said line) why new
+
+  -- the lines, one after another
+  abbrev pub Redoes : S → List (List ℕ) → S → Type 0
+  Redoes old [] new = new ≡ old
+  Redoes old (l ∷ ls) new = (mid : S) × RedoSaid old (said l) mid × Redoes mid ls new
+
+  -- lines of a text that stand behind so many others were done up to a fault: before a bad line, which has this number; up to where memory ran out; or all that
+  -- have ended
+  abbrev pub RedoHalts : S → ℕ → List ℕ → RedoFault → S → Type 0
+  RedoHalts old before text (BadLine number) new = (done : List (List ℕ)) × (bad : List ℕ) × (rest : List (List ℕ)) × (mid : S)
+      × ((cut text).0 ≡ done ++ bad ∷ rest) × Redoes old done mid × BadSaid mid (said bad) new × (number ≡ before + length done + 1)
+  RedoHalts old before text (Run kind.Starved) new = (done : List (List ℕ)) × (rest : List (List ℕ)) × (mid : S)
+      × (lines_of text ≡ done ++ rest) × Redoes old done mid
+      × ((new ≡ mid) ⊎ ((line : List ℕ) × (more : List (List ℕ)) × (rest ≡ line ∷ more) × StarvedSaid mid (said line) new))
+  RedoHalts old before text (Run kind.Read) new = Redoes old (cut text).0 new
+  RedoHalts old before text (Run kind.Endless) new = Redoes old (cut text).0 new
+  RedoHalts old before text (Run kind.Write) new = ⊥
+
+  -- a text was read to its end, and its lines that have ended were done; there are so many, of so many bytes, and no byte behind the last LF was looked at
+  pub record RedoDone (start : S) (unread : Option (List ℕ)) (now : S) (left : Option (List ℕ)) (redo : RedoneLines) : Type 0 where
+    pub text : List ℕ
+    pub read : Consumes unread left text
+    pub at_end : IsAtEnd left
+    pub done : Redoes start (cut text).0 now
+    pub lines : redo.lines ≡ length (cut text).0
+    pub bytes : redo.bytes + length (cut text).1 ≡ length text
+
+  -- a fault ended that: of what was read the lines before it were done
+  pub record RedoBroke (start : S) (unread : Option (List ℕ)) (fault : RedoFault) (now : S) (left : Option (List ℕ)) : Type 0 where
+    pub text : List ℕ
+    pub read : Consumes unread left text
+    pub halts : RedoHalts start 0 text fault now
+
+-- the fault of lines of which one ended so, behind so many others
+abbrev pub IsFaultOf : ℕ → StopCause RedoStop → Tally → RedoFault → Type 0
+IsFaultOf before (causes.Line stop.Bad) tally fault = fault ≡ BadLine (min (before + tally.lines) (2 ^ 128 - 1))
+IsFaultOf before (causes.Line stop.Starved) tally fault = fault ≡ Run kind.Starved
+IsFaultOf before (causes.Run why) tally fault = fault ≡ Run kind.Starved
+
+-- no reply is to go out
+abbrev pub IsSilent : LineAnswer → Type 0
+IsSilent answer = answer.reply ≡ Ok None
+
+-- the fault comes while a line is done
+abbrev pub IsInLine : RedoFault → Type 0
+IsInLine (Run kind.Read) = ⊥
+IsInLine (Run kind.Endless) = ⊥
+IsInLine (Run kind.Starved) = ⊤
+IsInLine (Run kind.Write) = ⊥
+IsInLine (BadLine line) = ⊤
+
+-- each fault comes only where its cause was counted
+abbrev pub IsRedoCaused : {R : Type 0} → RedoFault → Counted R → ℕ → Type 0
+IsRedoCaused (Run kind.Read) reader reads = 0 < reader.failures
+IsRedoCaused (Run kind.Endless) reader reads = reader.calls ≡ reads
+IsRedoCaused (Run kind.Starved) reader reads = ⊤
+IsRedoCaused (Run kind.Write) reader reads = ⊥
+IsRedoCaused (BadLine line) reader reads = ⊤

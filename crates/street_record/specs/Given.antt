@@ -1,0 +1,30 @@
+-- What has become of the bytes that a writer was given.
+use Rattle.std.specs.Prelude.{◌≡◌, ℕ, List, [], ◌++◌, Bool, false, Option}
+use Rattle.std.specs.Io.KnownBytes.{Appends}
+use Rattle.street_stream.specs.declared.counted.Counted.{Counted}
+
+-- what contracts see of a writer: its stream, the bytes that wait for it, and whether a write has failed
+pub record WriterView (W : Type 0) : Type 0 where
+  pub writer : Counted W
+  pub waiting : List ℕ
+  pub has_failed : Bool
+
+-- since its stream held `start` it was given these bytes: the stream has the first of them, and where no write failed the others wait
+pub record IsGiven {W : Type 0} (contents : W → Option (List ℕ)) (start : Option (List ℕ)) (given : List ℕ) (w : WriterView W) : Type 0 where
+  pub out : List ℕ
+  pub rest : List ℕ
+  pub written : Appends start (contents w.writer.stream) out
+  pub split : given ≡ out ++ rest
+  pub waits : w.has_failed ≡ false → rest ≡ w.waiting
+
+-- nothing waits to be written, unless a write has failed
+abbrev pub HasNoRest : {W : Type 0} → WriterView W → Type 0
+HasNoRest w = w.has_failed ≡ false → w.waiting ≡ []
+
+-- no write has failed, and nothing waits
+abbrev pub IsFresh : {W : Type 0} → WriterView W → Type 0
+IsFresh w = (w.has_failed ≡ false) × (w.waiting ≡ [])
+
+-- whatever it was given, it was then given these bytes too
+abbrev pub Adds : {W : Type 0} → (W → Option (List ℕ)) → List ℕ → WriterView W → WriterView W → Type 0
+Adds contents bytes old new = (start : Option (List ℕ)) (given : List ℕ) → IsGiven contents start given old → IsGiven contents start (given ++ bytes) new

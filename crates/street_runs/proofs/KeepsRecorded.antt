@@ -1,0 +1,77 @@
+-- A session that goes on from a file, and the record of its steps, from nothing loaded.
+use Rattle.std.proofs.Common.{◌≡◌, ◌∙◌, ℕ, List, [], Option, Some, None, refl, sym, subst}
+use Rattle.std.proofs.KnownBytes.{Appends-nil}
+use Rattle.std.specs.Io.KnownBytes.{Appends}
+use Rattle.street_base.specs.Prelude.{State}
+use Rattle.street_engine.specs.Prelude.{EngineView, StandsFor}
+use Rattle.street_line.proofs.FileMachine.{begins-machine, recovered-machine}
+use Rattle.street_line.proofs.KeptAs.{kept-part-as, kept-whole-as}
+use Rattle.street_line.proofs.RecordedRuns.{none-kept, record-served}
+use Rattle.street_line.specs.Engines.{EngineServes, MachineServes}
+use Rattle.street_line.specs.Kept.{KeptUpTo, KeptWhole}
+use Rattle.street_line.specs.KeptFiles.{BeginBreaks, Recovered}
+use Rattle.street_line.specs.Recorded.{HoldsRecord, MachineRecords, RecordServes, RecordedView, StandsRecorded}
+use Rattle.street_line.specs.declared.redo.RedoneLines.{RedoneLines}
+use Rattle.street_line.specs.declared.kept_file.BeginFault.{BeginFault}
+use Rattle.street_line.specs.declared.kept_runs.KeptFault.{KeptFault}
+use Rattle.street_record.specs.Given.{IsFresh, WriterView}
+use Rattle.street_stream.specs.Lines.{lines_of}
+use Rattle.street_stream.specs.declared.counted.Counted.{Counted}
+use Rattle.street_runs.specs.KeptRecords.{KeepsRecorded, KeepsRecordedFirst, recorded_from}
+use Rattle.street_runs.specs.declared.kept_records.OpenFault.{OpenFault}
+use Rattle.street_runs.specs.declared.kept_records.RecordedFault.TheVariants.{Begin, Open, Session}
+
+module _ {K D V W : Type 0} (held synced : K → Option (List ℕ)) (remaining : D → Option (List ℕ)) (outputs : V → Option (List ℕ)) (contents : W → Option (List ℕ)) where
+  -- a session with the machine's state, and no step recorded
+  begins-at : (start : Option (List ℕ)) (view : RecordedView W) (recorder : WriterView W) (m : State) → StandsFor view.engine m → view.writer ≡ Some recorder
+      → IsFresh recorder → contents recorder.writer.stream ≡ start → StandsRecorded contents start view (recorded_from m)
+  begins-at start view recorder m stands has fresh is =
+      record {
+        engine = stands;
+        writer = recorder;
+        written_by = has;
+        rests = λ _. fresh.1;
+        holds = (fresh.0, subst (λ (s : Option (List ℕ)). Appends s (contents recorder.writer.stream) []) is (Appends-nil (contents recorder.writer.stream)));
+      }
+
+  module _ (file : K) (reader : Counted D) (writer : Counted V) (kept : K) (read : Counted D) (written : Counted V) (before : EngineView) (nothing : StandsFor before None) where
+    pub begin-broke : (after : EngineView) (fault : BeginFault) → BeginBreaks EngineServes before (held file) (synced file) after (held kept) (synced kept) fault
+        → read ≡ reader → written ≡ writer → KeepsRecordedFirst held synced remaining outputs file reader writer kept read written (Begin fault)
+    begin-broke after fault broke same quiet =
+        let machine = begins-machine before (held file) (synced file) after (held kept) (synced kept) fault broke None nothing in
+        (machine.0, machine.1, same, quiet)
+
+    module _ (mid : EngineView) (log : Option (List ℕ)) (redo : RedoneLines) (recovered : Recovered EngineServes before (held file) mid log redo) where
+      pub open-broke : (fault : OpenFault) → held kept ≡ log → synced kept ≡ held kept → read ≡ reader → written ≡ writer
+          → KeepsRecordedFirst held synced remaining outputs file reader writer kept read written (Open fault)
+      open-broke fault is stays same quiet =
+          let machine = recovered-machine before (held file) mid log redo recovered None nothing in
+          (machine.0, redo, subst (λ (l : Option (List ℕ)). Recovered MachineServes None (held file) machine.0 l redo) (sym is) machine.1, stays, same, quiet)
+
+      module _ (start : Option (List ℕ)) (view : RecordedView W) (recorder : WriterView W) (engine : view.engine ≡ mid) (has : view.writer ≡ Some recorder) (fresh : IsFresh recorder)
+          (is : contents recorder.writer.stream ≡ start) where
+        pub session-broke : (fault : KeptFault)
+            → KeptUpTo (RecordServes contents) view (remaining reader.stream) log (outputs writer.stream) fault (remaining read.stream) (held kept) (synced kept) (outputs written.stream)
+            → KeepsRecordedFirst held synced remaining outputs file reader writer kept read written (Session fault)
+        session-broke fault part =
+            let machine = recovered-machine before (held file) mid log redo recovered None nothing in
+            let stands = begins-at start view recorder machine.0 (subst (λ (v : EngineView). StandsFor v machine.0) (sym engine) machine.2) has fresh is in (
+              machine.0,
+              log,
+              redo,
+              machine.1,
+              kept-part-as (RecordServes contents) MachineRecords (StandsRecorded contents start) (record-served contents start) view (remaining reader.stream) log (outputs writer.stream) fault
+                  (remaining read.stream) (held kept) (synced kept) (outputs written.stream) part (recorded_from machine.0) stands,
+            )
+
+        pub keeps-recorded : (after : RecordedView W) (out : Option (WriterView W)) → out ≡ after.writer
+            → KeptWhole (RecordServes contents) view (remaining reader.stream) log (outputs writer.stream) after (remaining read.stream) (held kept) (synced kept) (outputs written.stream)
+            → KeepsRecorded held synced remaining outputs contents start file reader writer kept out read written redo
+        keeps-recorded after out same whole =
+            let machine = recovered-machine before (held file) mid log redo recovered None nothing in
+            let stands = begins-at start view recorder machine.0 (subst (λ (v : EngineView). StandsFor v machine.0) (sym engine) machine.2) has fresh is in
+            let run = kept-whole-as (RecordServes contents) MachineRecords (StandsRecorded contents start) (record-served contents start) view (remaining reader.stream) log (outputs writer.stream) after
+            (remaining read.stream) (held kept) (synced kept) (outputs written.stream) whole (recorded_from machine.0) stands in
+            let none = none-kept (recorded_from machine.0) (lines_of run.1.text) run.1.passed.out run.1.passed.kept run.0 refl run.1.passed.served in
+            let ends = run.2 in
+            (machine.0, log, run.0, ends.writer, machine.1, run.1, same ∙ ends.written_by, subst (λ (begun : Option (List ℕ)). HoldsRecord contents start ends.writer run.0.whole begun) none ends.holds)

@@ -1,1 +1,0 @@
-"""Buses while a run goes: they stop, and lights wait for them."""

@@ -1,0 +1,135 @@
+"""The page of streetsim-open: a report, and with it queues over time, the vehicles as they drive, and what to do
+next."""
+import argparse
+import base64
+import os
+import shlex
+import tempfile
+from collections.abc import Iterator
+from contextlib import redirect_stdout
+from html import escape
+from io import StringIO
+from pathlib import Path
+
+from streetsim.base.files import Fault, whole_file
+from streetsim.cli.play import main as play
+from streetsim.cli.report import DETAIL, interval_of
+from streetsim.model.folder import Folder
+from streetsim.model.sources import sources_of
+from streetsim.report.light_timings import timings_of
+from streetsim.report.page_background import what_was_run
+from streetsim.report.page_making import PageWishes, report_of
+from streetsim.report.page_markup import Section, facts, page
+from streetsim.report.page_summary import doubted
+from streetsim.report.picture_files import load_pyplot, save_picture
+from streetsim.report.picture_plots import draw_queues
+from streetsim.report.run_tables import Runs, read_folders, read_runs
+from streetsim.report.timing_sheets import clashes
+
+PLAYED = 600  # seconds that the page plays
+STYLE = "width: 100%; height: min(75vh, 600px); border: 1px solid #555"
+FRAME = f'<iframe title="The vehicles as they drive" style="{STYLE}" srcdoc="{{page}}"></iframe>'
+
+
+def write_page(path: str, folder: str, run: str) -> None:
+    """Writes the page of a folder that streetsim-run wrote; run: the path of its run file, empty where that is not
+    known. Fault where the folder cannot be read, or the page not be written."""
+    try:
+        runs = read_runs(folder)
+        shown = interval_of([runs], argparse.Namespace(begin=None))
+        more = list(sections(runs, shown[0], run))
+        wishes = PageWishes(runs.name, "", DETAIL, False, clashes(timings_of(runs), runs), first=more)
+        text = report_of([runs], shown, wishes)
+    except Fault as fault:
+        text = page_without_junctions(read_folders(folder), run, str(fault))
+    with whole_file(path) as file:
+        file.write(text)
+
+
+def page_without_junctions(runs: Runs, run: str, why: str) -> str:
+    """The page of a run that has no junction tables, as HTML; why: there are none, or they cannot be shown."""
+    notes = "".join(f'<p class="doubt">{escape(text)}</p>' for text in runs.first.notes)
+    lead = f"{notes}<p>No junctions are shown: {escape(why)}</p>"
+    doubts = Section("doubts", "What is doubted", doubted([runs]))
+    told = Section("run", "What was run", what_was_run([runs]))
+    return page(runs.name, lead, [*sections(runs, runs.first.made.get("start", 0), run), doubts], [told])
+
+
+def sections(runs: Runs, begin: int, run: str) -> Iterator[Section]:
+    """What the page has beside a report: queues, the player from a clock on, and what next; what cannot be drawn is
+    told there."""
+    for name, title, content in (
+        ("queues", "Queues over time", lambda: queues_told(runs.first)),
+        ("player", "The vehicles as they drive", lambda: player_told(runs.first, begin)),
+        ("next", "What next", lambda: next_told(runs, run)),
+    ):
+        try:
+            yield Section(name, title, content())
+        except Fault as fault:
+            yield Section(name, title, f"<p>{escape(str(fault))}</p>")
+
+
+def queues_told(folder: Folder) -> str:
+    """The picture of the queues of a run over time, as HTML. Fault where it cannot be drawn."""
+    with tempfile.TemporaryDirectory() as made:
+        save_picture(draw_queues(load_pyplot(), folder), f"{made}/queues.png")
+        packed = base64.b64encode(Path(made, "queues.png").read_bytes()).decode()
+    return f'<figure><img alt="Queues at the stop lines over time" src="data:image/png;base64,{packed}"></figure>'
+
+
+def player_told(folder: Folder, begin: int) -> str:
+    """The player of PLAYED seconds of a run from a clock on, in a frame, as HTML. Fault where nothing can be played."""
+    with tempfile.TemporaryDirectory() as made, redirect_stdout(StringIO()):
+        out = f"{made}/player.html"
+        play([folder.path, "--first", str(begin), "--last", str(begin + PLAYED), "-o", out])
+        text = Path(out).read_text(encoding="utf-8")
+    whole = f'<p class="small">Ten minutes of it; all: {command("streetsim-play", folder.path)}.</p>'
+    return FRAME.format(page=escape(text)) + whole
+
+
+def command(*words: str) -> str:
+    """A command of the shell, as HTML."""
+    return f"<code>{escape(shlex.join(words))}</code>"
+
+
+def next_told(runs: Runs, run: str) -> str:
+    """Five questions, each with the command that answers it, as HTML; run: path of the run file, or none."""
+    folder = runs.first
+    name = run or folder.made.get("run", "RUN.jsonl")
+    net = net_of(folder, name)
+    lane, metres = longest_lane(folder)
+    works = f"{lane}:0-{int(min(metres, 100))}:{closing(folder)}"
+    own = os.path.normpath(folder.path)
+    questions = (
+        ("Would another cycle, other greens or offsets be better?", command("streetsim-signals", name, "--plans", net)),
+        (
+            "What if a lane is closed?",
+            command("streetsim-run", name, "--close", works, "--junctions", "900", "--out", "works")
+            + "<br>" + command("streetsim-report", own, "works"),
+        ),
+        ("Does it fit counts?", command("streetsim-compare", own, "--counts", "counts.csv")),
+        ("Is it chance? Five other days:", command("streetsim-run", name, "--seeds", "1-5", "--junctions", "900")),
+        ("A report to hand in:", command("streetsim-report", own, "--title", "Title", "-o", "report.html")),
+    )
+    return facts(questions)
+
+
+def net_of(folder: Folder, run: str) -> str:
+    """The path of the network that a run was imported from, as its map keeps it, else a word that stands for it."""
+    try:
+        return os.path.relpath(sources_of(folder.mapping.sources, run, run).net)
+    except Fault:
+        return os.path.basename(folder.mapping.sources.get("net", "NET.net.xml"))
+
+
+def longest_lane(folder: Folder) -> tuple[str, float]:
+    """(name, metres) of the longest lane of a run."""
+    mapping = folder.mapping
+    link = max(range(len(mapping.links)), key=lambda number: mapping.links[number].metres)
+    return mapping.lane_name(link, 0), mapping.links[link].metres
+
+
+def closing(folder: Folder) -> str:
+    """The middle half of a run, as --close takes it: seconds from and to."""
+    start, until = folder.made.get("start", 0), folder.made.get("until", 3600)
+    return f"{start + (until - start) // 4}-{until - (until - start) // 4}"

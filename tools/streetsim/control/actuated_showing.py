@@ -1,0 +1,116 @@
+"""What a light shows here of a phase whose end is not known yet: what the import's rules show of a plan in which each
+phase has the mean length that it had so far, as who gives way and what starts late depends on how long a green is.
+Where a phase lasts longer its last second goes on."""
+from collections.abc import Iterator, Mapping, Sequence
+from dataclasses import replace
+from itertools import groupby
+from typing import Any
+
+from streetsim.base import limits
+from streetsim.base.report import Report
+from streetsim.control.actuated_kept import NodeOf
+from streetsim.control.actuated_lights import Driven
+from streetsim.control.actuated_logic import Actuated
+from streetsim.model.mapping import Map
+from streetsim.model.runs import Command
+from streetsim.sumo.crossing import CrossingMovement, movements_of
+from streetsim.sumo.driver_words import measured_of
+from streetsim.sumo.net import LightProgram
+from streetsim.sumo.signals import Green, LitNode, green_seconds, phases_that_fit
+from streetsim.sumo.yielding import settle
+
+WEIGHT = 0.2  # of the newest length in a phase's mean, chosen at eight rows of four networks
+Lengths = tuple[int, ...]  # seconds of each phase of a cycle
+
+
+class NodesOfLight:
+    """What the nodes of one actuated light show in one run."""
+
+    def __init__(self, light: Driven, mapping: Map) -> None:
+        """light: what is driven; mapping: of the run whose nodes show it."""
+        self.light, self.limits = light, {link.edge: link.limit for link in mapping.links}
+        cycle = [(float(phase.seconds), phase.state) for phase in light.phases]
+        self.nodes = [(one, lit_node(light.name, one, mapping, light.offset, cycle)) for one in light.nodes]
+        self.means = [float(phase.usual) for phase in light.phases]
+        self.known = 0  # ended phases that are in the means
+        self.rows: dict[tuple[int, Lengths], list[Green]] = {}  # by place of a node: green turns second by second
+        # By place of a node, lengths, phase and seconds: phases of a plan, one list for all plans that show them.
+        self.phases: dict[tuple[int, Lengths, int, int], list[list[Any]]] = {}
+
+    def learn(self, logic: Actuated) -> Lengths:
+        """Takes the phases that ended since it last did into the means, and gives these in whole seconds, 1 to 600. The
+        first phase is left out, as it may have begun before the run."""
+        for place in range(max(1, self.known), len(logic.ended)):
+            at, _, seconds, _ = logic.ended[place]
+            self.means[at] += WEIGHT * (seconds - self.means[at])
+        self.known = len(logic.ended)
+        return tuple(max(1, round(min(mean, limits.PHASE_STEPS))) for mean in self.means)
+
+    def plans(self, logic: Actuated, now: int) -> Iterator[Command]:
+        """The signal commands, one for each node, that show the phase that the logic is in, whose begin (or the run's)
+        is the clock `now`; first takes what ended into the means, as `learn`."""
+        lengths = self.learn(logic)
+        end = sum(lengths[: logic.at + 1])
+        # At the begin of a run the end of a phase may be all that is left of it.
+        left = lengths[logic.at] if logic.ended else min(lengths[logic.at], logic.due - now)
+        for at, (kept, node) in enumerate(self.nodes):
+            if (at, lengths) not in self.rows:
+                self.rows[at, lengths] = self.greens_by_second(kept, node, lengths)
+            key = at, lengths, logic.at, left
+            if key not in self.phases:
+                self.phases[key] = phases_of(self.rows[at, lengths][end - left : end])
+            yield command_of(node.node, self.phases[key], now)
+
+    def greens_by_second(self, kept: NodeOf, node: LitNode, lengths: Lengths) -> list[Green]:
+        """The green turns in each second, from its begin, of a cycle whose phases have some lengths."""
+        pairs = zip(self.light.phases, lengths, strict=True)
+        states = [phase.state for phase, length in pairs for _ in range(length)]
+        own = settled(node, kept, states, self.limits)
+        return green_seconds(own, states, own.shown_seconds(states), 1, True)
+
+
+def settled(node: LitNode, kept: NodeOf, states: Sequence[str], limits_of: Mapping[str, int]) -> LitNode:
+    """A node with what the import's rules (where the import used them) find of who gives way there in a cycle of these
+    states, one for each second; limits_of: of edges, cells a step."""
+    found: dict[int, CrossingMovement] = {}
+    if node.permissive is None and kept.flows and kept.yields:
+        found = movements_of(kept.connections, states, kept.yields, kept.flows, limits_of)
+        settle(list(found.values()))
+    return replace(node, found=found)
+
+
+def lit_node(light: str, kept: NodeOf, mapping: Map, offset: int, cycle: list[tuple[float, str]]) -> LitNode:
+    """A node with a light as the import had it; offset: seconds; cycle: seconds and states of the light's phases."""
+    turns = [
+        (turn.link, turn.lane, turn.next, turn) for turn in mapping.turns if mapping.links[turn.link].end == kept.node
+    ]
+    edges = {link: mapping.links[link].edge for link, *_ in turns}
+    program = LightProgram(offset, cycle, "actuated")
+    cut, shares = measured_of(mapping)
+    permissive = mapping.options.get("permissive")
+    return LitNode(kept.node, turns, edges, light, program, permissive, Report(), cut=cut, shares=shares)
+
+
+def plan_command(node: int, rows: Sequence[Green], now: int) -> Command:
+    """The signal command that shows some seconds (green turns of each; one second at least) from the clock `now` on;
+    the last of the first 600 goes on for so long."""
+    return command_of(node, phases_of(rows), now)
+
+
+def command_of(node: int, phases: list[list[Any]], now: int) -> Command:
+    """The signal command of a plan that begins at the clock `now`."""
+    return {"cmd": "signal", "node": node, "offset": -now % sum(seconds for seconds, _ in phases), "phases": phases}
+
+
+def phases_of(rows: Sequence[Green]) -> list[list[Any]]:
+    """The phases of a plan that shows some seconds; the last of the first 600, as long as a phase of a plan may last,
+    goes on for so long. With more changes than a plan has phases the shortest are added to those before."""
+    phases = phases_that_fit((len(list(run)), green) for green, run in groupby(rows[: limits.PHASE_STEPS]))
+    phases[-1] = (limits.PHASE_STEPS, phases[-1][1])
+    return [[seconds, sorted([*turn] for turn in green)] for seconds, green in phases]
+
+
+def lasting(command: Command) -> Command:
+    """The signal command that goes on showing what a given one shows at its end: one phase of 600 s, which repeats
+    until another command comes."""
+    return {**command, "offset": 0, "phases": [[limits.PHASE_STEPS, command["phases"][-1][1]]]}

@@ -1,0 +1,117 @@
+"""Which vehicles have priority at which lights of a run, and within which bounds of its phases: by vehicle class or
+line."""
+from collections import defaultdict
+from collections.abc import Iterator, Mapping, Sequence
+from dataclasses import replace
+from itertools import pairwise
+from math import ceil
+from typing import Any
+
+from streetsim.base.files import Fault
+from streetsim.base.report import first_few
+from streetsim.control.actuated_kept import Listed, node_of
+from streetsim.control.actuated_lights import ActuatedLights, DrivenLight, passing
+from streetsim.control.actuated_logic import ActuatedPhase
+from streetsim.control.bus_coordinated import Fixed
+from streetsim.control.bus_planned import SEEN, Ahead, Planned
+from streetsim.model.mapping import Map
+from streetsim.model.runs import Run
+from streetsim.model.stops import bus_lines_of, vehicle_classes_of
+
+LEAST = 5  # seconds of a green without bounds of its own, or half of what is listed
+LESS_GAIN = (
+    "at lights that detectors drive these vehicles gain fewer seconds than in SUMO, where each stop that they are "
+    "spared saves them the seconds of braking and starting too"
+)
+
+LinkPair = tuple[int, int]  # a link and the next one
+Turns = list[tuple[str, int]]  # lights, and indexes in their states
+
+
+def prioritised(
+    run: Run, mapping: Map, names: Sequence[str], seen: int | None, lights: ActuatedLights, buses: Planned
+) -> tuple[ActuatedLights, Planned]:
+    """(the lights, the buses) of a run in which lights wait for vehicles of the classes and lines in names; with the
+    buses it is told which cannot, and why. lights: those that detectors drive, which wait too; buses: the stops that
+    are made; seen: seconds before the stop line, None: SEEN. Fault where a name has no vehicle."""
+    owners, seen = named(run, mapping, names), SEEN if seen is None else seen
+    timed = {line.command["node"] for _, line in run.timed if line.command["cmd"] == "signal"}
+    changed = {light for light, node in mapping.signals if node in timed}
+    found: dict[str, DrivenLight] = {one.name: one for one in lights.driven}
+    kept, mine = {one["light"]: one for one in mapping.fixed}, []
+    unable: defaultdict[str, list[str]] = defaultdict(list)
+    for light in sorted(passing((run.enters[owner] for owner in owners), mapping)):
+        try:
+            if light in changed:
+                found.pop(light, None)
+                raise Listed("as lines of the run change their plans")
+            if light not in found:
+                mine.append(fixed_light(light, kept, seen))
+                found[light] = mine[-1]
+        except Listed as why:
+            unable[str(why)].append(light)
+    turns, plans = turns_of(mapping), {owner: run.enters[owner].command["plan"] for owner in owners}
+    ahead = {owner: way for owner, plan in plans.items() if (way := tuple(ahead_of(plan, turns, found)))}
+    waits = {one.light for way in ahead.values() for one in way}
+    told = [f"{len(waits):,} lights wait for {len(ahead):,} vehicles that are seen {seen} s before"]
+    if by_detectors := sorted(waits & {one.name for one in lights.driven}):
+        told.append(f"{LESS_GAIN}: {first_few(by_detectors)}")
+    told += [f"lights do not wait for them, {why}: {first_few(those)}" for why, those in unable.items()]
+    made = replace(lights, driven=(*lights.driven, *mine))
+    return made, replace(buses, ahead=ahead, seen=seen, told=tuple(told))
+
+
+def named(run: Run, mapping: Map, names: Sequence[str]) -> list[int]:
+    """The numbers in the file of the vehicles whose class or line is one of names; Fault where one has none."""
+    count = len(run.enters)
+    classes, lines = vehicle_classes_of(mapping.kinds, count), bus_lines_of(mapping.kinds, count)
+    for name in names:
+        if name not in classes and name not in lines:
+            raise Fault(f"priority {name!r}: no vehicle is of this class or line")
+    return [owner for owner in range(count) if classes[owner] in names or lines[owner] in names]
+
+
+def fixed_light(light: str, kept: Mapping[str, Any], seen: int) -> Fixed:
+    """A light with listed seconds, of what the map keeps of its program (kept, by light). seen: seconds before the stop
+    line at which a vehicle is seen. Raises Listed, with the reason, where it cannot wait."""
+    if light not in kept:
+        raise Listed("as detectors drive them in SUMO and not here, or an older streetsim-import wrote the map")
+    program = kept[light]
+    if any(seconds != round(seconds) or seconds < 1 for seconds, *_ in program["phases"]):
+        raise Listed("as their phases are no whole seconds")
+    phases = tuple(bounded(row, seen) for row in program["phases"])
+    nodes = tuple(node_of(one) for one in program["nodes"])
+    return Fixed(light, round(program["offset"]), phases, 2.0, (), (), nodes, (), program["program"])
+
+
+def bounded(kept: Sequence[Any], seen: int) -> ActuatedPhase:
+    """A phase, as kept ([seconds, state, least or none, greatest or none]), with its bounds in seconds. A green has
+    those of the file (its most never below its least), else it may be as short as half its seconds (LEAST at least, but
+    never above its own), and as long as its own and the seconds (seen) that a vehicle is seen before the stop line; any
+    other phase lasts its listed seconds."""
+    seconds, state, least, most, *_ = kept
+    phase = ActuatedPhase(state, round(seconds), round(seconds), round(seconds))
+    if not phase.is_green:
+        return phase
+    least = min(phase.seconds, max(LEAST, ceil(seconds / 2))) if least is None else round(least)
+    return ActuatedPhase(state, phase.seconds, least, phase.seconds + seen if most is None else max(least, round(most)))
+
+
+def ahead_of(
+    plan: Sequence[int], turns: Mapping[LinkPair, Turns], lights: Mapping[str, DrivenLight]
+) -> Iterator[Ahead]:
+    """The lights on a vehicle's way (plan: links) that wait for it, in their order; lights: all that wait, by name."""
+    for at, pair in enumerate(pairwise(plan)):
+        own = [(light, index) for light, index in turns.get(pair, ()) if light in lights]
+        if own:
+            light = lights[own[0][0]]
+            yield Ahead(at, light.name, light.phases_serving({index for _, index in own}))
+
+
+def turns_of(mapping: Map) -> dict[LinkPair, Turns]:
+    """By (link, next link) the lights of its turns, each with the turn's index in the light's state."""
+    found: defaultdict[LinkPair, Turns] = defaultdict(list)
+    for turn in mapping.turns:
+        if turn.light:
+            found[turn.link, turn.next].append((turn.light, turn.index))
+    return found

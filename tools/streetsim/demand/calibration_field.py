@@ -1,0 +1,321 @@
+"""What a planner measured on a day: travel times from stop line to stop line, a survey of saturation, queues and
+counts, in the spellings of the field's usual files. Fault, one line, for what cannot be read."""
+from __future__ import annotations
+
+import csv
+import io
+from collections import defaultdict
+from collections.abc import Callable, Collection, Iterable, Iterator, Mapping, Sequence
+from dataclasses import dataclass, field
+from math import sqrt
+from pathlib import Path
+from statistics import fmean
+
+from streetsim.base.files import Fault, FilePath, attribute, elements, number, open_text, optional, reading, seconds
+from streetsim.demand.calibration_survey import SurveyedLane
+from streetsim.demand.cells import TableRow, begins_with, clock_of, name_of, vehicle_number, values_in
+from streetsim.demand.reading import COLUMNS as COUNT_COLUMNS
+
+QUARTER = 900  # seconds of a period that a file does not end
+TRIP = "trip from and to"  # before the edges of a trip, where ways have names; no edge is called so
+TIME = ("time", "begin", "start", "from_time", "timestamp", "interval", "interval_begin")
+ENDS = ("end", "until", "to_time", "interval_end")
+SEGMENT = ("segment", "route", "section", "path")
+FROM = ("from", "from_edge", "origin", "start_reader", "reader_from", "from_reader")
+TO = ("to", "to_edge", "destination", "end_reader", "reader_to", "to_reader", "next_edge")
+MEAN = ("mean", "mean_s", "travel_time", "travel_time_s", "tt", "tt_s", "seconds", "duration", "duration_s")
+MINUTES = ("mean_min", "travel_time_min", "tt_min", "minutes", "duration_min")
+DEVIATION = ("sd", "sd_s", "std", "stdev", "std_dev")
+NUMBER = ("n", "matches", "samples", "count", "vehicles", "trips")
+EDGE = ("edge", "link", "detector", "station", "from", "from_edge")
+COUNT = ("count", "vehicles", "volume", "veh", "n", "q_veh")
+HOURLY = ("flow", "vehicles_per_hour", "veh_per_hour", "veh/h", "vph", "q")
+SUMO_COUNTS = ("meandata", "data", "edgeRelations", "turns", "edgeData")
+
+
+@dataclass(frozen=True, slots=True)
+class TravelTime:
+    """What a quarter of an hour (or another period) saw of a way: from the stop line of its first edge to that of its
+    last, by the clock there; of a trip, from the wish to depart on its first edge to the arrival on its last."""
+
+    edges: tuple[str, ...]
+    begin: int  # seconds
+    end: int
+    mean: float  # seconds
+    deviation: float  # of one vehicle, seconds; 0: not known
+    vehicles: int
+    is_trip: bool = False
+
+    @property
+    def key(self) -> tuple[str, ...]:
+        """By what it is pooled with those of other periods."""
+        return (TRIP, *self.edges) if self.is_trip else self.edges
+
+
+@dataclass(frozen=True, slots=True)
+class FieldQueue:
+    """Queues of an edge: the mean over cycles of the longest (m), and the longest of all."""
+
+    edge: str
+    mean: float
+    most: float
+
+
+@dataclass(slots=True)
+class FieldDay:
+    """All that was measured on a day. counts: paths; notes: how files were read."""
+
+    counts: list[str]
+    times: list[TravelTime]
+    lanes: list[SurveyedLane] = field(default_factory=list)
+    queues: list[FieldQueue] = field(default_factory=list)
+    notes: list[str] = field(default_factory=list)
+
+    def window(self) -> tuple[int, int]:
+        """The (begin, end) of the times, in seconds."""
+        return min(one.begin for one in self.times), max(one.end for one in self.times)
+
+
+def read_times(paths: Iterable[str], notes: list[str]) -> list[TravelTime]:
+    """The travel times of files: tables, and SUMO's tripinfo and vehroute output (with exit times). notes: gets how
+    columns were read."""
+    found: list[TravelTime] = []
+    for path in paths:
+        if begins_with(path, "<"):
+            own = list(grouped(records_of_sumo(path)))
+        else:
+            own = times_of_table(path, notes)
+        if not own:
+            raise Fault(f"{path}: no travel time is in it")
+        found += own
+    return found
+
+
+class Columns:
+    """The columns of a table by what they are, whichever way they are spelt."""
+
+    def __init__(self, path: FilePath) -> None:
+        """Reads a table; Fault where it has no rows, or one is shorter or longer than the first."""
+        self.path = path
+        with reading(path), open_text(path) as file:
+            rows = list(values_in(path, file))
+        if not rows:
+            raise Fault(f"{path}: nothing is in it")
+        self.names = [name.strip().lower().replace(" ", "_") for name in rows[0][1]]
+        if len(set(self.names)) < len(self.names):
+            raise Fault(f"{path}: a column twice")
+        for line, values in rows[1:]:
+            if len(values) != len(self.names):
+                told = f"{len(values)} values, and the first line has {len(self.names)} columns"
+                raise Fault(f"{path}: line {line}: {told}")
+        self.rows = [TableRow(path, line, dict(zip(self.names, values, strict=True))) for line, values in rows[1:]]
+
+    def find(self, *spellings: Sequence[str]) -> str | None:
+        """The first column that is there, of some spellings; none where no one is."""
+        return next((name for some in spellings for name in some if name in self.names), None)
+
+    def need(self, what: str, *spellings: Sequence[str]) -> str:
+        """As find; Fault where there is none; what: it is."""
+        if (found := self.find(*spellings)) is None:
+            told = ", ".join(name for some in spellings for name in some[:3])
+            raise Fault(f"{self.path}: no column of {what} (as {told}); it has {','.join(self.names)}")
+        return found
+
+
+def times_of_table(path: str, notes: list[str]) -> list[TravelTime]:
+    """The travel times of a table: means of periods where it says how many vehicles, else of single vehicles, whose
+    time is that at the end of the way."""
+    table = Columns(path)
+    time, mean = table.need("time", TIME), table.need("travel time", MEAN, MINUTES)
+    way = way_of(table)
+    scale = 60.0 if mean in MINUTES else 1.0
+    deviation, count, ends = table.find(DEVIATION), table.find(NUMBER), table.find(ENDS)
+    unit = "minutes" if scale > 1 else "seconds"
+    notes.append(f"{path}: {mean} in {unit}, {f'of {count} vehicles' if count else 'of single vehicles'}")
+    if count is None:
+        singles = ((way(row), row.get(time, clock_of), scale * row.get(mean, positive), False) for row in table.rows)
+        return list(grouped(singles))
+    period = period_in([row.get(time, clock_of) for row in table.rows])
+    found = []
+    for row in table.rows:
+        begin = row.get(time, clock_of)
+        end = row.get(ends, clock_of) if ends else begin + period
+        if end <= begin:
+            raise Fault(f"{row.where}: the period ends at {end:,} s, and begins at {begin:,} s")
+        spread = scale * row.get(deviation, at_least_nothing) if deviation else 0.0
+        vehicles = row.get(count, whole)
+        if vehicles:
+            found.append(TravelTime(way(row), begin, end, scale * row.get(mean, positive), spread, vehicles))
+    return found
+
+
+def way_of(table: Columns) -> Callable[[TableRow], tuple[str, ...]]:
+    """What gives the edges of a row: of a column as a>b, or of two columns."""
+    if (column := table.find(SEGMENT)) is not None:
+        named: str = column
+        return lambda row: row.get(named, edges_of)
+    source, target = table.need("a segment", SEGMENT, FROM), table.need("a segment", TO)
+    return lambda row: (row.get(source, name_of), row.get(target, name_of))
+
+
+def edges_of(text: str) -> tuple[str, ...]:
+    """The edges of a>b, two or more; ValueError otherwise."""
+    edges = tuple(part.strip() for part in text.split(">"))
+    if len(edges) < 2 or not all(edges):
+        raise ValueError("is no segment as EDGE>EDGE, or route with > between its edges")
+    return edges
+
+
+def positive(text: str) -> float:
+    """A number above 0; ValueError otherwise."""
+    value = number(text)
+    if value <= 0:
+        raise ValueError("is not above 0")
+    return value
+
+
+def at_least_nothing(text: str) -> float:
+    """A number from 0 on; 0 where the text is empty; ValueError otherwise."""
+    value = number(text) if text else 0.0
+    if value < 0:
+        raise ValueError("is below 0")
+    return value
+
+
+def whole(text: str) -> int:
+    """A whole number from 0 on; ValueError otherwise."""
+    value = number(text)
+    if value < 0 or value != int(value):
+        raise ValueError("is no whole number from 0 on")
+    return int(value)
+
+
+def period_in(times: Iterable[int]) -> int:
+    """The seconds of the periods of a table: the least between its times, QUARTER where it has one alone."""
+    some = sorted({*times})
+    return min((later - sooner for sooner, later in zip(some, some[1:])), default=QUARTER)
+
+
+Single = tuple[tuple[str, ...], float, float, bool]  # edges, clock at the end, seconds, whether it is a trip
+
+
+def grouped(singles: Iterable[Single]) -> Iterator[TravelTime]:
+    """The travel times of single vehicles, by quarters of an hour."""
+    found: defaultdict[tuple[tuple[str, ...], bool, int], list[float]] = defaultdict(list)
+    for edges, clock, duration, is_trip in singles:
+        found[edges, is_trip, int(clock // QUARTER)].append(duration)
+    for (edges, is_trip, quarter), some in sorted(found.items()):
+        mean = fmean(some)
+        spread = sqrt(sum((one - mean) ** 2 for one in some) / (len(some) - 1)) if len(some) > 1 else 0.0
+        yield TravelTime(edges, QUARTER * quarter, QUARTER * (quarter + 1), mean, spread, len(some), is_trip)
+
+
+def records_of_sumo(path: str) -> Iterator[Single]:
+    """The single vehicles of SUMO's tripinfo, as trips, or of its vehroute output with exit times, as segments."""
+    for element in elements(path, ["tripinfos", "routes"]):
+        if element.tag == "tripinfo":
+            if (arrival := attribute(path, element, "arrival", seconds)) >= 0:
+                delay = optional(path, element, "departDelay", seconds, 0.0)
+                ends = (attribute(path, element, name).rpartition("_")[0] for name in ("departLane", "arrivalLane"))
+                yield tuple(ends), arrival, arrival - attribute(path, element, "depart", seconds) + delay, True
+        elif element.tag == "vehicle" and (route := element.find("route")) is not None:
+            edges = attribute(path, route, "edges").split()
+            clocks = [seconds(text) for text in attribute(path, route, "exitTimes").split()]
+            for pair, (sooner, later) in zip(zip(edges, edges[1:]), zip(clocks, clocks[1:])):
+                if later > sooner > 0:
+                    yield pair, later, later - sooner, False
+
+
+def read_lanes(path: str, limits_of: Mapping[str, int]) -> list[SurveyedLane]:
+    """The lanes of a survey: street, flow, vehicles_per_green, green, greens. limits_of: cells a step by edge, of
+    streets that are edges."""
+    table = Columns(path)
+    street, flow = table.need("a street", ("street", "edge", "lane")), table.need("a flow", ("flow", "saturation_flow"))
+    full = table.need("vehicles a green", ("vehicles_per_green", "veh_per_green"))
+    green, greens = table.need("seconds of green", ("green", "green_s")), table.need("greens", ("greens", "cycles"))
+    found = []
+    for row in table.rows:
+        name = row.get(street, name_of)
+        lane = SurveyedLane(
+            name, row.get(flow, positive), row.get(full, positive), row.get(green, positive), row.get(greens, whole),
+            limits_of.get(name, 2),
+        )
+        if not 300 <= lane.flow <= 3600:
+            raise Fault(f"{row.where}: a lane has no saturation flow of {lane.flow:g} vehicles an hour")
+        if lane.per_green > lane.green:
+            raise Fault(f"{row.where}: {lane.per_green:g} vehicles in a green of {lane.green:g} s")
+        found.append(lane)
+    if not found:
+        raise Fault(f"{path}: no lane is in it")
+    return found
+
+
+def read_queues(path: str) -> list[FieldQueue]:
+    """The queues of a table: edge, mean_of_cycles, max (m)."""
+    table = Columns(path)
+    edge, mean = table.need("an edge", ("edge", "link")), table.need("a mean", ("mean_of_cycles", "mean", "mean_m"))
+    most = table.find(("max", "max_m", "longest"))
+    found = []
+    for row in table.rows:
+        longest = row.get(most, at_least_nothing) if most else 0.0
+        found.append(FieldQueue(row.get(edge, name_of), row.get(mean, at_least_nothing), longest))
+    return found
+
+
+def counts_as_demand(paths: Iterable[str], folder: str, notes: list[str]) -> list[str]:
+    """Paths of counts as streetsim-demand reads them: files of its own columns, and SUMO's, as they are; tables in
+    other spellings anew, in a folder. notes: gets how columns were read."""
+    found = []
+    for place, path in enumerate(paths):
+        if begins_with(path, "<"):
+            found.append(path)
+            continue
+        table = Columns(path)
+        if {*COUNT_COLUMNS} <= {*table.names}:
+            found.append(path)
+        else:
+            made = Path(folder) / f"counts-{place}.csv"
+            made.write_text(rewritten_counts(table, notes), encoding="utf-8")
+            found.append(str(made))
+    return found
+
+
+def rewritten_counts(table: Columns, notes: list[str]) -> str:
+    """A table of counts as text, with the columns of streetsim-demand."""
+    time, edge, ends = table.need("time", TIME), table.need("an edge", EDGE), table.find(ENDS)
+    to, count = table.find(TO), table.need("a count", COUNT, HOURLY)
+    hourly = count in HOURLY
+    notes.append(f"{table.path}: {count} as vehicles {'an hour' if hourly else 'of a period'}")
+    period = period_in([row.get(time, clock_of) for row in table.rows])
+    text = io.StringIO()
+    write = csv.writer(text, lineterminator="\n").writerow
+    write(COUNT_COLUMNS)
+    for row in table.rows:
+        begin = row.get(time, clock_of)
+        end = row.get(ends, clock_of) if ends else begin + period
+        if end <= begin:
+            raise Fault(f"{row.where}: the period ends at {end:,} s, and begins at {begin:,} s")
+        vehicles = row.get(count, vehicle_number) * ((end - begin) / 3600 if hourly else 1)
+        write([begin, end, row.get(edge, name_of), row.text(to) if to else "", f"{vehicles:g}"])
+    return text.getvalue()
+
+
+def pooled(times: Iterable[TravelTime]) -> dict[tuple[str, ...], tuple[float, float, int]]:
+    """By way (mean, standard deviation of one vehicle, vehicles) over all periods."""
+    some: defaultdict[tuple[str, ...], list[TravelTime]] = defaultdict(list)
+    for one in times:
+        some[one.key].append(one)
+    found = {}
+    for key, own in some.items():
+        vehicles = sum(one.vehicles for one in own)
+        mean = sum(one.mean * one.vehicles for one in own) / vehicles
+        square = sum(one.vehicles * (one.deviation**2 + (one.mean - mean) ** 2) for one in own) / vehicles
+        found[key] = mean, sqrt(square), vehicles
+    return found
+
+
+def refuse_unknown(day: FieldDay, edges: Collection[str], where: str) -> None:
+    """Fault where a way or a queue is of an edge that the network does not have; where: of which day."""
+    named = [name for one in day.times for name in one.edges] + [one.edge for one in day.queues]
+    if unknown := next((name for name in named if name not in edges), None):
+        raise Fault(f"{where}: the network has no edge {unknown!r}")

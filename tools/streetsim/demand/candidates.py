@@ -1,0 +1,260 @@
+"""The ways that a demand may take: the shortest by time between entries, exits and zones, several for a pair."""
+import random
+from collections import Counter, defaultdict
+from collections.abc import Iterable, Iterator, Mapping, Sequence
+from dataclasses import dataclass, replace
+from itertools import pairwise
+
+from streetsim.demand.science import Array, numpy_and_scipy
+from streetsim.demand.values import Zone
+from streetsim.sumo.net import SumoNet
+from streetsim.sumo.router import Path
+from streetsim.sumo.way_costs import flat_costs
+from streetsim.sumo.way_graph import END, Graph
+
+LONGEST = 1.5  # times the seconds of the shortest way of a pair
+SPREAD = 0.25  # of the logarithm of seconds that are drawn to find further ways
+DRAWS = 3  # draws of all seconds for each further way
+BATCH = 200  # ends from which ways are searched at once
+
+
+@dataclass(frozen=True, slots=True)
+class End:
+    """What is expected of an edge or a zone where trips begin or end, before counts are looked at: its weight beside
+    others that lie as it does, outside (the network begins or ends there) or within."""
+
+    weight: float = 1.0
+    outside: bool = False
+
+
+@dataclass(frozen=True, slots=True)
+class Pair:
+    """Where trips begin and end: names of zones or edges, the edges of both by number of the graph with their weights,
+    and what is expected of both ends."""
+
+    source: str
+    target: str
+    sources: Mapping[int, float]
+    sinks: Mapping[int, float]
+    begins: End = End()
+    ends: End = End()
+
+
+@dataclass(frozen=True, slots=True)
+class Way:
+    """A way of a pair, by its index among the pairs: edges by number; seconds with the mean waits at signals and
+    without other traffic; the share of the pair's vehicles that would take it; seconds without the waits too (driven);
+    and the share of the pair's vehicles that has its first and last edge (ends_share). Of a way that files give both of
+    these are None: its share stays, whatever the habit of drivers."""
+
+    pair: int
+    path: Path
+    seconds: float
+    share: float
+    driven: float | None = None
+    ends_share: float | None = None
+
+
+def entries_and_exits(graph: Graph) -> tuple[list[int], list[int]]:
+    """(numbers of the edges that nothing leads to, numbers of those that lead nowhere), but by turning back."""
+    back = graph.turns_back
+    return (
+        [edge for edge, into in enumerate(graph.into) if all(back[movement] for _, movement in into)],
+        [edge for edge, out in enumerate(graph.out) if all(back[movement] for _, movement in out)],
+    )
+
+
+def pairs_of_edges(graph: Graph, net: SumoNet, everywhere: bool) -> list[Pair]:
+    """All pairs of an entry and an exit; of any two edges where the network has no entries or no exits, or where
+    `everywhere` says that trips begin and end on any edge. Pairs of an edge with itself, and of two of which one turns
+    back to the other, are left out."""
+    entries, exits = entries_and_exits(graph)
+    begins, ends = (expected_ends(graph, net, some) for some in (entries, exits))
+    if everywhere or not entries or not exits:
+        entries = exits = list(range(len(graph.edges)))
+    back = graph.turns_back
+    reverse = {way for at, way in enumerate(graph.movements) if way[1] != END and back[at]}
+    return [
+        Pair(graph.edges[one], graph.edges[other], {one: 1.0}, {other: 1.0}, begins[one], ends[other])
+        for one in entries for other in exits
+        if one != other and (one, other) not in reverse and (other, one) not in reverse
+    ]  # fmt: skip
+
+
+def expected_ends(graph: Graph, net: SumoNet, outside: Iterable[int]) -> list[End]:
+    """For each edge what is expected of it as an end: weight by how many lanes it has where it is one of `outside`
+    (edges by number), else by the metres of its lanes, as for the houses along it."""
+    there, lanes = set(outside), [net.edges[name].lanes for name in graph.edges]
+    return [
+        End(float(len(some)), True) if edge in there else End(sum(lane.metres for lane in some))
+        for edge, some in enumerate(lanes)
+    ]
+
+
+def pairs_of_zones(graph: Graph, zones: Mapping[str, Zone], wanted: Iterable[tuple[str, str]]) -> list[Pair]:
+    """The pairs of zones that are wanted, (source, target) by name, in their order; edges of weight 0 are left out, so
+    that a pair may have none."""
+
+    def numbers(weights: Mapping[str, float]) -> dict[int, float]:
+        """{number of an edge: its weight}."""
+        return {graph.number[name]: weight for name, weight in weights.items() if weight}
+
+    return [
+        Pair(source, target, numbers(zones[source].sources), numbers(zones[target].sinks)) for source, target in wanted
+    ]
+
+
+def thinned_pairs(pairs: Sequence[Pair], ways: int, most: int, seed: int) -> tuple[list[Pair], int]:
+    """(pairs to search, how many ways from each first to each last edge of a pair: at most `ways`), so that there are
+    about `most` ways in all. First there are fewer ways of each, as pairs that are left out cost more; where even one
+    way of each is too many, a seed draws some pairs. One pair of those given, and one way, are kept at least."""
+    count = sum(len(pair.sources) * len(pair.sinks) for pair in pairs)
+    each = max(1, min(ways, most // max(1, count)))
+    if count <= most:
+        return list(pairs), each
+    kept = sorted(random.Random(f"pairs {seed}").sample(range(len(pairs)), max(1, most * len(pairs) // count)))
+    return [pairs[at] for at in kept], each
+
+
+@dataclass(frozen=True, slots=True)
+class Times:
+    """Seconds of each movement without other traffic, and without what turning back costs: whole with the mean waits at
+    signals, driven without them."""
+
+    whole: Sequence[float]
+    driven: Sequence[float]
+
+
+def ways_between(graph: Graph, pairs: Sequence[Pair], times: Times, most: int, seed: int) -> list[Way]:
+    """At most `most` ways from each first to each last edge of the pairs, with their shares: the shortest by time with
+    the waits at signals, then without, and further ones that draws (by the seed) of these seconds find. One that takes
+    more than 1.5 times the seconds of the first, both with the waits, is left out. What turning back costs is in all
+    seconds."""
+    numpy, _ = numpy_and_scipy()
+    both = [numpy.array(flat_costs(graph, some).means) for some in (times.whole, times.driven)]
+    found: dict[tuple[int, int], dict[Path, float]] = {}
+    wanted = ends_wanted(pairs)
+    generator = numpy.random.default_rng(seed)
+    for draw in range(1 + DRAWS * (most - 1)):
+        noise = numpy.exp(SPREAD * generator.standard_normal(len(graph.edges)))
+        seconds = both[draw % 2]
+        drawn = seconds if draw < 2 else seconds * noise[[edge for edge, _ in graph.movements]]
+        for origin, target, path in shortest_paths(graph, drawn, wanted):
+            ways = found.setdefault((origin, target), {})
+            if path not in ways and len(ways) < most:
+                time = path_seconds(graph, both[0], path)
+                if not ways or time <= LONGEST * next(iter(ways.values())):
+                    ways[path] = time
+    made = [way for at, pair in enumerate(pairs) for way in ways_of_pair(at, pair, found)]
+    made = [replace(way, driven=path_seconds(graph, both[1], way.path)) for way in made]
+    shares = shares_by_habit(made, HABITS[0])
+    return [replace(way, share=float(share)) for way, share in zip(made, shares, strict=True)]
+
+
+@dataclass(frozen=True, slots=True)
+class Habit:
+    """How drivers choose between ways: the part, 0 to 1, of the waits at signals that they reckon with; and spread: a
+    way that is longer by this part of the shortest one's seconds is taken by a part 1 / e of as many."""
+
+    waits: float
+    spread: float
+
+
+HABITS = [Habit(waits, spread) for waits in (1.0, 0.5, 0.0) for spread in (0.1, 0.05, 0.3)]
+
+
+def shares_by_habit(ways: Sequence[Way], habit: Habit) -> Array:
+    """The share of its pair's vehicles that each way, none of which is of files, has by a habit, as an array in the
+    ways' order. A spread of less than a second counts as one."""
+    numpy, _ = numpy_and_scipy()
+    groups: dict[tuple[int, int, int], int] = {}
+    group = numpy.array([groups.setdefault((way.pair, way.path[0], way.path[-1]), len(groups)) for way in ways], int)
+    driven = numpy.array([way.driven for way in ways])
+    seconds = driven + habit.waits * (numpy.array([way.seconds for way in ways]) - driven)
+    least = numpy.full(len(groups), numpy.inf)
+    numpy.minimum.at(least, group, seconds)
+    parts = numpy.exp(-(seconds - least[group]) / numpy.maximum(1.0, habit.spread * least[group]))
+    return numpy.array([way.ends_share for way in ways]) * parts / numpy.bincount(group, parts, len(groups))[group]
+
+
+def ends_wanted(pairs: Iterable[Pair]) -> dict[int, list[int]]:
+    """{edge on which trips begin: edges on which they end, sorted}, by number; an edge is no end of itself."""
+    wanted: dict[int, set[int]] = {}
+    for pair in pairs:
+        for source in pair.sources:
+            wanted.setdefault(source, set()).update(pair.sinks)
+    return {source: sorted(sinks - {source}) for source, sinks in sorted(wanted.items())}
+
+
+def shortest_paths(graph: Graph, costs: Array, wanted: Mapping[int, Sequence[int]]) -> Iterator[tuple[int, int, Path]]:
+    """The shortest path, (origin, target, path), from each edge to those wanted for it, all by number; pairs without a
+    path are left out. costs: seconds of each movement, as an array."""
+    numpy, scipy = numpy_and_scipy()
+    ways = graph.movements[: len(graph.movements) - len(graph.edges)]
+    ends = numpy.array(ways, int).reshape(-1, 2)
+    size = len(graph.edges)
+    table = scipy.sparse.csr_matrix((costs[: len(ways)], (ends[:, 0], ends[:, 1])), shape=(size, size))
+    origins = list(wanted)
+    for at in range(0, len(origins), BATCH):
+        some = origins[at : at + BATCH]
+        _, before = scipy.sparse.csgraph.dijkstra(table, indices=some, return_predecessors=True)
+        for origin, row in zip(some, before.tolist(), strict=True):
+            for target in wanted[origin]:
+                if path := traced_path(row, origin, target):
+                    yield origin, target, path
+
+
+def traced_path(before: Sequence[int], origin: int, target: int) -> Path:
+    """The path from origin to target, of the edge before each that a search found (below 0: none); empty where none
+    leads there, or both are one edge."""
+    path, edge = [target], before[target]
+    while edge >= 0:
+        path.append(edge)
+        edge = before[edge]
+    return tuple(reversed(path)) if path[-1] == origin and len(path) > 1 else ()
+
+
+def path_seconds(graph: Graph, costs: Array, path: Path) -> float:
+    """The seconds of a path, the way over its last edge included; costs: of each movement."""
+    return float(sum(costs[graph.movement_of[way]] for way in pairwise((*path, END))))
+
+
+def ways_of_pair(at: int, pair: Pair, found: Mapping[tuple[int, int], Mapping[Path, float]]) -> Iterator[Way]:
+    """The ways of a pair, by its index among the pairs, with the share of its vehicles that their ends have
+    (ends_share), among those ends alone that some way joins; their shares are still 0, their driven seconds None.
+    found: by (first edge, last edge) seconds of each path."""
+    ends = {
+        (source, sink): weight * other
+        for source, weight in pair.sources.items() for sink, other in pair.sinks.items()
+        if (source, sink) in found
+    }  # fmt: skip
+    total = sum(ends.values())
+    for key, weight in ends.items():
+        for path, seconds in found[key].items():
+            yield Way(at, path, seconds, 0.0, None, weight / total)
+
+
+def with_given_routes(
+    graph: Graph, pairs: Sequence[Pair], ways: Sequence[Way], routes: Iterable[tuple[str, ...]], free: Sequence[float]
+) -> tuple[list[Pair], list[Way]]:
+    """(all pairs, all ways) with the routes of files (names of edges, all of the graph) as further candidates; one that
+    is a way already is left out. A route belongs to the last pair that has its ends, else to a new pair with these. The
+    routes of files have half of their pair's vehicles together, or all where it had no way: each in proportion to how
+    often it stands in the files. free: seconds of each movement, without what turning back costs."""
+    many = Counter(tuple(graph.number[name] for name in edges) for edges in routes)
+    all_pairs, known = list(pairs), {way.path for way in ways}
+    pair_of = {(one, other): at for at, pair in enumerate(pairs) for one in pair.sources for other in pair.sinks}
+    found: defaultdict[int, list[tuple[Path, int]]] = defaultdict(list)
+    for path, count in many.items():
+        ends = path[0], path[-1]
+        if ends not in pair_of:
+            pair_of[ends] = len(all_pairs)
+            all_pairs.append(Pair(graph.edges[ends[0]], graph.edges[ends[1]], {ends[0]: 1.0}, {ends[1]: 1.0}))
+        if path not in known:
+            found[pair_of[ends]].append((path, count))
+    has, costs = {way.pair for way in ways}, flat_costs(graph, free).means
+    halved = [replace(way, share=way.share / 2) if way.pair in found else way for way in ways]
+    for at, some in found.items():
+        total = sum(count for _, count in some) * (2 if at in has else 1)
+        halved += [Way(at, path, path_seconds(graph, costs, path), count / total) for path, count in some]
+    return all_pairs, halved

@@ -1,0 +1,342 @@
+"""Makes a demand from what a planner has: inputs read and checked, candidate ways, and the fit."""
+from bisect import bisect_right
+from collections import defaultdict
+from collections.abc import Callable, Iterable, Mapping, Sequence
+from dataclasses import dataclass
+from itertools import pairwise
+from xml.etree.ElementTree import Element
+
+from streetsim.base.files import Fault
+from streetsim.base.report import Report
+from streetsim.demand import candidates, checking, fitting, matrices, ratios, walking
+from streetsim.demand.candidates import Pair, Times, Way
+from streetsim.demand.departing import trips_of
+from streetsim.demand.fitting import Expecting, Problem, counted_vehicles, deviations
+from streetsim.demand.passing import CountsByEdges, Slices, passing_matrix, slices_of
+from streetsim.demand.reading import read_counts
+from streetsim.demand.rounding import whole_vehicles
+from streetsim.demand.science import Array, Sparse, numpy_and_scipy
+from streetsim.demand.values import Count, MatrixCell, Zone, share_between
+from streetsim.demand.zones import read_zones
+from streetsim.search.route_loading import RouteTown
+from streetsim.sumo.demand import Demand
+from streetsim.sumo.trips import Trip
+from streetsim.sumo.types import CLASSES, Types
+from streetsim.sumo.way_costs import Costs, flat_costs
+from streetsim.sumo.way_seconds import free_seconds
+from streetsim.sumo.way_unloaded import map_without_routes, times_and_capacities_without_routes
+
+Told = Callable[[str], object]  # takes what is done just now, in words
+
+
+@dataclass(frozen=True, slots=True)
+class DemandInputs:
+    """What a demand is to be made of: paths of files, and how."""
+
+    counts: tuple[str, ...] = ()
+    attribute: str | None = None  # of SUMO's files, that is the count
+    zones: tuple[str, ...] = ()
+    matrices: tuple[str, ...] = ()
+    flows: tuple[str, ...] = ()
+    ratios: tuple[str, ...] = ()
+    candidates: tuple[str, ...] = ()
+    ways: int | None = None  # between two edges at most; none: 3, or 0 with files of candidates
+    most: int = 60_000  # candidate ways, about
+    everywhere: bool = False  # trips begin and end on any edge
+    error: float = fitting.ERROR  # of a count, as a share, by which it is taken to be wrong
+    seed: int = 1
+
+
+@dataclass(frozen=True, slots=True)
+class Basis:
+    """What a fit stands on. kinds: vehicle classes that are told apart, empty for all others; given: by class the
+    vehicles of a matrix or of turn ratios, an array in one row, at index way * slices + slice; free: seconds of
+    each movement without other traffic, with the mean waits at signals."""
+
+    town: RouteTown
+    counts: list[Count]
+    contradictions: list[checking.Contradiction]  # of counts
+    kinds: tuple[str, ...]
+    pairs: list[Pair]
+    ways: list[Way]
+    slices: Slices
+    by_edges: CountsByEdges
+    given: Mapping[str, Array]
+    free: Sequence[float]
+    kept_pairs: tuple[int, int]  # pairs that were kept, of how many
+
+    def free_costs(self) -> Costs:
+        """The costs of movements without other traffic, equal in all slices of time: the seconds of free, and more for
+        turning back."""
+        return flat_costs(self.town.graph, list(self.free))
+
+
+@dataclass(frozen=True, slots=True)
+class Fitted:
+    """A fit on paper. Vehicles are arrays in one row, at index (class * ways + way) * slices + slice. passing: the
+    matrix of the counts, a row for each count and a column for each index; expected: vehicles before anything was
+    counted; vehicles: of the fit; whole: the same in whole vehicles."""
+
+    passing: Sparse
+    expected: Array
+    vehicles: Array
+    whole: Array
+
+    def passed_by_count(self) -> list[float]:
+        """How many of the whole vehicles would pass each count, by the seconds of the fit."""
+        return (self.passing @ self.whole).tolist()
+
+
+def basis_of(town: RouteTown, asked: DemandInputs, told: Told) -> Basis:
+    """Reads and checks what was asked for, and finds the candidate ways. Classes of counts and matrices, and types of
+    files of candidates, are added to the vehicle types of the town. Fault for what cannot be used and without SciPy."""
+    numpy_and_scipy()
+    check_asked(asked)
+    told("reading counts")
+    counts = read_counts(asked.counts, asked.attribute)
+    if counts:
+        checking.check_counts(counts, town.net, town.graph)
+    free = list(times_and_capacities_without_routes(town.net, town.graph, town.options)[0])
+    driven = free_seconds(town.graph, map_without_routes(town.net, town.options), [], town.dawdle)
+    zones, cells = read_matrix(asked, counts, town)
+    kinds = kinds_of(counts, cells)
+    add_types(kinds, town.types)
+    told("finding ways")
+    if asked.flows:
+        pairs, ways, departs = ways_by_ratios(town, asked, free)
+        thinned = len(pairs), len(pairs)
+    else:
+        pairs, ways, thinned = ways_of_pairs(town, asked, Times(free, driven), zones, cells)
+        departs = []
+    if not ways:
+        raise Fault("no way leads from any place where trips begin to one where they end")
+    lead = max(way.seconds for way in ways) if counts and not cells and not departs else 0.0
+    slices = slices_of(slice_bounds(counts, cells, departs), lead, town.options.begin)
+    if slices.bounds[0] < town.options.begin:
+        raise Fault(f"--begin {town.options.begin}: what is given begins sooner, at {slices.bounds[0]:,} s")
+    by_edges = CountsByEdges(counts, town.graph)
+    given = cell_vehicles(cells, pairs, ways, slices) if cells else departing_vehicles(departs, slices, len(ways))
+    begins, ends = {one for pair in pairs for one in pair.sources}, {one for pair in pairs for one in pair.sinks}
+    apart = checking.contradictions(counts, town.graph, begins, ends)
+    return Basis(town, counts, apart, kinds, pairs, ways, slices, by_edges, given, free, thinned)
+
+
+def check_asked(asked: DemandInputs) -> None:
+    """Fault where nothing is given that a demand could be made of, files that do not go together are given, or ways are
+    neither searched nor given."""
+    if not (asked.counts or asked.matrices or asked.flows):
+        raise Fault("nothing to make a demand of: give --counts, --matrix or --flows with --ratios")
+    if bool(asked.flows) != bool(asked.ratios):
+        raise Fault("--flows and --ratios are given together or not at all")
+    if asked.flows and (asked.matrices or asked.zones or asked.candidates or asked.ways is not None):
+        raise Fault("--flows have ways by their ratios: give no --matrix, --zones, --candidates or --ways beside")
+    if asked.attribute and not asked.counts:
+        raise Fault("--attribute is of --counts: give it too")
+    if asked.ways == 0 and not asked.candidates:
+        raise Fault("--ways 0 leaves no candidates: give files of routes after --candidates")
+
+
+def read_matrix(
+    asked: DemandInputs, counts: Sequence[Count], town: RouteTown
+) -> tuple[dict[str, Zone], list[MatrixCell]]:
+    """({name: zone}, cells of the matrix between zones); without zones a matrix is between edges, each of which is then
+    a zone. Cells without a period have that from the first begin to the last end of counts. Fault for files that cannot
+    be read, zones or edges that are not known, and a matrix without a vehicle."""
+    zones = read_zones(asked.zones)
+    for zone in zones.values():
+        checking.check_edges([*zone.sources, *zone.sinks], zone.where, town.net)
+    period = (min(one.begin for one in counts), max(one.end for one in counts)) if counts else None
+    cells = matrices.read_matrices(asked.matrices, period)
+    if cells and not zones:
+        names = {name for cell in cells for name in (cell.source, cell.target)}
+        if unknown := sorted(names - town.net.edges.keys()):
+            raise Fault(f"{cells[0].where}: there is no zone {unknown[0]!r}: give zones as lists of edges by --zones")
+        zones = {name: Zone(name, {name: 1.0}, {name: 1.0}, "") for name in names}
+    matrices.check_zones(cells, zones)
+    if cells and not any(cell.vehicles for cell in cells):
+        raise Fault(f"{cells[0].where} and {len(cells) - 1:,} more: the matrix is empty")
+    return zones, cells
+
+
+def kinds_of(counts: Iterable[Count], cells: Iterable[MatrixCell]) -> tuple[str, ...]:
+    """The classes that are told apart by counts and matrix, sorted; empty stands for all others, which are cars, and is
+    alone where none is told apart. Fault for one that SUMO does not have."""
+    dated: list[Count | MatrixCell] = [*counts, *cells]
+    for one in dated:
+        if one.kind and one.kind not in CLASSES:
+            raise Fault(f"{one.where}: SUMO has no vehicle class {one.kind!r}; it has {', '.join(CLASSES)}")
+    return tuple(sorted({one.kind for one in dated})) or ("",)
+
+
+def add_types(kinds: Iterable[str], types: Types) -> None:
+    """Adds to the types one for each class, but the empty one, where there is none of its name."""
+    for kind in sorted({*kinds} - {"", *types.kinds}):
+        types.read_element("the classes of counts", Element("vType", {"id": kind, "vClass": kind}))
+
+
+def ways_of_pairs(
+    town: RouteTown, asked: DemandInputs, times: Times, zones: Mapping[str, Zone], cells: Sequence[MatrixCell]
+) -> tuple[list[Pair], list[Way], tuple[int, int]]:
+    """(pairs of a matrix, else of zones, else as of pairs_of_edges, and those of route files; their ways; (pairs that
+    were kept, of how many)). Without a matrix pairs and ways are thinned to about `asked.most` ways. Where no ways are
+    searched (asked.ways), all are of the route files. Fault as of given_routes."""
+    graph = town.graph
+    count = (0 if asked.candidates else 3) if asked.ways is None else asked.ways
+    if cells:
+        wanted = list(dict.fromkeys((cell.source, cell.target) for cell in cells if cell.vehicles))
+        pairs = candidates.pairs_of_zones(graph, zones, wanted)
+    elif zones:
+        pairs = candidates.pairs_of_zones(graph, zones, [(one, other) for one in zones for other in zones])
+    elif count:
+        pairs = candidates.pairs_of_edges(graph, town.net, asked.everywhere)
+    else:
+        pairs = []
+    kept = pairs
+    if count and not cells:
+        kept, count = candidates.thinned_pairs(pairs, count, asked.most, asked.seed)
+    ways = candidates.ways_between(graph, kept, times, count, asked.seed) if count else []
+    if asked.candidates:
+        routes = given_routes(town, asked)
+        kept, ways = candidates.with_given_routes(graph, kept, ways, routes, times.whole)
+    return kept, ways, (len(kept), max(len(pairs), len(kept)))
+
+
+def given_routes(town: RouteTown, asked: DemandInputs) -> list[tuple[str, ...]]:
+    """The edges, by name, of each route of the files of candidates: as often as vehicles have it, once where none has.
+    Routes of one edge are left out, so that it may be empty; and those with edges without a connection where the
+    options ignore them, which is reported. The vehicle types of the files are added to the town's. Fault where the
+    files have no route, or else no connection leads from an edge to the next."""
+    demand = Demand(town.net, town.types, asked.seed, Report())
+    for path in asked.candidates:
+        demand.read_file(path)
+    driven = [vehicle.edges for vehicle in demand.completed_vehicles()]
+    taken = set(driven)
+    found = [*driven, *(edges for edges in demand.routes.values() if edges not in taken)]
+    if not found:
+        raise Fault(f"{', '.join(asked.candidates)}: no route is in it")
+    number, movement_of = town.graph.number.get, town.graph.movement_of
+    ways = ((edges, one, other) for edges in found for one, other in pairwise(edges))
+    apart = [way for way in ways if (number(way[1]), number(way[2])) not in movement_of]
+    if apart and not town.options.ignore_route_errors:
+        _, source, target = apart[0]
+        raise Fault(f"{', '.join(asked.candidates)}: no connection leads from edge {source!r} to {target!r}")
+    lost = {edges for edges, *_ in apart}
+    if lost:
+        town.types.report.warn(f"{len(lost):,} routes have edges without a connection, and are no candidates")
+    return [edges for edges in found if len(edges) > 1 and edges not in lost]
+
+
+def ways_by_ratios(
+    town: RouteTown, asked: DemandInputs, free: Sequence[float]
+) -> tuple[list[Pair], list[Way], list[tuple[float, int]]]:
+    """(pairs that turn ratios give, their ways, (departure in seconds, index of its way among these) of each vehicle).
+    free: seconds of each movement. Fault for a file that is wrong, and where the ratios lead to no end."""
+    found, sinks = ratios.read_ratios(asked.ratios)
+    inflows = ratios.read_inflows(asked.flows, asked.seed, town.types.report)
+    turns = walking.Turns(found, sinks, town.net, town.graph)
+    walks = list(walking.walks_of(inflows, turns, free, town.net, asked.seed))
+    routes = [town.graph.names(path) for _, path in walks]
+    pairs, ways = candidates.with_given_routes(town.graph, [], [], routes, free)
+    index = {way.path: at for at, way in enumerate(ways)}
+    return pairs, ways, [(depart, index[path]) for depart, path in walks]
+
+
+def slice_bounds(
+    counts: Iterable[Count], cells: Iterable[MatrixCell], departs: Sequence[tuple[float, int]]
+) -> list[int]:
+    """The begins and ends of slices in seconds, rising: of counts and of cells, and of departures (second, index of the
+    way) the first one and the second after the last, where these are sooner and later. Fault where there are none."""
+    periods = [*((one.begin, one.end) for one in counts), *((one.begin, one.end) for one in cells)]
+    bounds = {bound for period in periods for bound in period}
+    if departs:
+        seconds = [int(depart) for depart, _ in departs]
+        bounds |= {min([*bounds, *seconds]), max([*bounds, max(seconds) + 1])}
+    if not bounds:
+        raise Fault("there is no period in which vehicles depart")
+    return sorted(bounds)
+
+
+def cell_vehicles(
+    cells: list[MatrixCell], pairs: Sequence[Pair], ways: Sequence[Way], slices: Slices
+) -> dict[str, Array]:
+    """{class: the vehicles of a matrix, an array in one row, at index way * slices + slice}: those of a cell over
+    the slices of its period, evenly, and over the ways of its pair by their shares. Cells whose pair is not among
+    `pairs`, or has no way, are left out."""
+    numpy, _ = numpy_and_scipy()
+    pair_of = {(pair.source, pair.target): at for at, pair in enumerate(pairs)}
+    of_pair: dict[str, Array] = {}
+    for cell in cells:
+        rows = of_pair.setdefault(cell.kind, numpy.zeros((len(pairs), len(slices))))
+        if (at := pair_of.get((cell.source, cell.target))) is not None:
+            rows[at] += [cell.vehicles * share_between(cell, *bounds) for bounds in pairwise(slices.bounds)]
+    pair, shares = numpy.array([way.pair for way in ways]), numpy.array([[way.share] for way in ways])
+    return {kind: (rows[pair] * shares).ravel() for kind, rows in of_pair.items()}
+
+
+def departing_vehicles(departs: Sequence[tuple[float, int]], slices: Slices, ways: int) -> dict[str, Array]:
+    """{"": the vehicles, an array in one row, at index way * slices + slice}, of departures (second, index of the
+    way), all within the slices; an empty dict where there are none. ways: how many there are."""
+    if not departs:
+        return {}
+    numpy, _ = numpy_and_scipy()
+    found = numpy.zeros((ways, len(slices)))
+    for depart, way in departs:
+        found[way, bisect_right(slices.bounds, depart) - 1] += 1
+    return {"": found.ravel()}
+
+
+def passing_by_class(basis: Basis, costs: Costs) -> Sparse:
+    """The passing_matrix of each class, side by side, as one sparse matrix: rows are counts, columns class, way and
+    slice, as Fitted has them. A count of one class has shares in the columns of this alone, one without a class
+    in all. costs: seconds of movements."""
+    numpy, scipy = numpy_and_scipy()
+    base = passing_matrix(basis.town.graph, basis.ways, basis.slices, basis.by_edges, costs)
+    masks = [numpy.array([float(one.kind in ("", kind)) for one in basis.counts]) for kind in basis.kinds]
+    return scipy.sparse.hstack([scipy.sparse.diags(mask) @ base for mask in masks]).tocsr()
+
+
+def fit_to_counts(basis: Basis, asked: DemandInputs, costs: Costs, counted: Array = None) -> Fitted:
+    """The vehicles that fit the counts best; without counts those that are expected. costs: seconds of movements, by
+    which it is known who passes when; counted: an array of the vehicles to be met, by count, where a run has corrected
+    them; None: what was counted. Fault where there are counts, and too many ways and slices (passing_matrix)."""
+    numpy, scipy = numpy_and_scipy()
+    size = len(basis.ways) * len(basis.slices)
+    passing = passing_by_class(basis, costs) if basis.counts else scipy.sparse.csr_matrix((0, len(basis.kinds) * size))
+    counted = counted_vehicles(basis.counts) if counted is None else counted
+    parts = [
+        expected_vehicles(basis, asked, kind, passing[:, at * size : (at + 1) * size], counted)
+        for at, kind in enumerate(basis.kinds)
+    ]
+    vehicles = expected = numpy.concatenate(parts)
+    if basis.counts:
+        deviation = deviations(counted, asked.error) / fitting.FIRM**0.5
+        vehicles, _ = fitting.least_squares(Problem(passing, expected, counted, deviation))
+    return Fitted(passing, expected, vehicles, whole_vehicles(vehicles, passing, asked.seed, asked.error))
+
+
+def expected_vehicles(basis: Basis, asked: DemandInputs, kind: str, base: Sparse, counted: Array) -> Array:
+    """The vehicles of a class that are expected of each way and slice, an array in one row: of a matrix or of ratios,
+    else by the counts of the class; for the empty class by those of all vehicles, less those of classes that are
+    counted there in that time; else 0. base: the class's columns of passing_by_class; counted: vehicles by count."""
+    numpy, _ = numpy_and_scipy()
+    if kind in basis.given:
+        return basis.given[kind]
+    rows = [at for at, one in enumerate(basis.counts) if one.kind == kind]
+    if not rows:
+        return numpy.zeros(base.shape[1])
+    others: defaultdict[tuple[str, ...], list[Count]] = defaultdict(list)
+    for one in basis.counts:
+        if one.kind and not kind:
+            others[one.edges].append(one)
+    whole = [basis.counts[at] for at in rows]
+    less = [sum(some.vehicles * share_between(some, one.begin, one.end) for some in others[one.edges]) for one in whole]
+    own = numpy.maximum(counted[rows] - numpy.array(less), 0.0)
+    return Expecting(basis.ways, basis.pairs, basis.slices, asked.error).vehicles_by_counts(base[rows], own)
+
+
+def trips_of_fit(basis: Basis, asked: DemandInputs, fitted: Fitted) -> list[Trip]:
+    """The trips of a fit, by departure; Fault where it has no vehicle."""
+    trips = trips_of(fitted.whole, basis.kinds, basis.ways, basis.slices, asked.seed)
+    if not trips:
+        raise Fault("nobody drives: the fit has no vehicle")
+    return trips

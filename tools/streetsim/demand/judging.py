@@ -1,0 +1,251 @@
+"""How well vehicles that passed, in a run or on paper, fit those that were counted: GEH, totals, r and slope."""
+from collections import defaultdict
+from collections.abc import Iterable, Iterator, Sequence
+from dataclasses import dataclass, replace
+from heapq import nlargest
+from statistics import pstdev
+
+from streetsim.demand.values import Count
+from streetsim.report.beside_sumo import correlation, geh
+
+GOOD = 5.0  # GEH below which a count fits
+SHARE = 0.85  # of the counts of an hour, that are to fit
+TOTAL = 0.05  # of the sum of an hour's counts, by which what passed may differ
+HOUR = 3600
+WORST = 5  # counts that are told
+
+FIT = ("begin", "end", "from", "to", "class", "group", "counted", "passed", "geh")
+TOTALS = ("counted", "passed", "difference_percent")
+HOURS = ("begin", "end", "counts", "geh_below_5", "share_percent", *TOTALS, "criteria")
+GROUPS = ("begin", "end", "group", "counts", *TOTALS, "geh")
+
+
+@dataclass(frozen=True, slots=True)
+class ComparedCount:
+    """Vehicles of the same edges in one period, in seconds: those that were counted, and those that passed in a run or,
+    on paper, in a fit."""
+
+    begin: int
+    end: int
+    edges: tuple[str, ...]
+    kind: str  # the vehicle class; empty: all vehicles
+    group: str  # the screen line; empty: none
+    counted: float
+    passed: float
+    seconds: int  # of the period, in which was counted
+
+    @property
+    def volumes(self) -> tuple[float, float]:
+        """(counted, passed), vehicles an hour."""
+        per_hour = HOUR / self.seconds
+        return self.counted * per_hour, self.passed * per_hour
+
+    @property
+    def geh(self) -> float:
+        """The GEH of both numbers, as vehicles an hour."""
+        return geh(*self.volumes)
+
+    def fit_row(self) -> tuple[object, ...]:
+        """The row of fit.csv that stands for it, as FIT has the columns."""
+        source, *others = self.edges
+        ends = source, " ".join(others)
+        values = f"{self.counted:g}", f"{self.passed:g}", f"{self.geh:.2f}"
+        return (self.begin, self.end, *ends, self.kind, self.group, *values)
+
+
+@dataclass(frozen=True, slots=True)
+class CountSums:
+    """Counts that begin in one hour of the clock, or those of a screen line in it, together; their begin and end."""
+
+    begin: int  # seconds
+    end: int  # seconds
+    group: str  # the screen line; empty: all counts
+    counts: int  # how many
+    good: int  # counts whose GEH is below 5
+    counted: float
+    passed: float
+    geh: float  # of both sums, as vehicles an hour
+
+    @property
+    def good_share(self) -> float:
+        """The share, 0 to 1, of its counts whose GEH is below 5."""
+        return self.good / self.counts
+
+    @property
+    def relative_difference(self) -> float:
+        """What passed beyond what was counted, as a share of what was counted; less than 0 where fewer passed. Where
+        nothing was counted 1 if anything passed, else 0."""
+        return self.passed / self.counted - 1 if self.counted else float(self.passed > 0)
+
+    @property
+    def meets_criteria(self) -> bool:
+        """Whether GEH is below 5 for 85 % of its counts at least, and its totals differ by 5 % at most."""
+        return self.good_share >= SHARE and abs(self.relative_difference) <= TOTAL
+
+    def criteria_missed(self) -> str:
+        """What it would have to reach to fit; empty where it fits."""
+        parts = [] if self.good_share >= SHARE else [f"GEH below 5 for {100 * SHARE:.0f} %"]
+        parts += [] if abs(self.relative_difference) <= TOTAL else [f"totals within {100 * TOTAL:.0f} %"]
+        return " and ".join(parts)
+
+    def totals(self) -> tuple[str, str, str]:
+        """Its cells in the columns TOTALS."""
+        return f"{self.counted:g}", f"{self.passed:g}", f"{100 * self.relative_difference:.1f}"
+
+    def hour_row(self) -> tuple[object, ...]:
+        """The row of hours.csv that stands for it, as HOURS has the columns."""
+        told = "passed" if self.meets_criteria else "not passed"
+        return (self.begin, self.end, self.counts, self.good, f"{100 * self.good_share:.1f}", *self.totals(), told)
+
+    def group_row(self) -> tuple[object, ...]:
+        """The row of groups.csv that stands for it, as GROUPS has the columns."""
+        return (self.begin, self.end, self.group, self.counts, *self.totals(), f"{self.geh:.2f}")
+
+
+@dataclass(frozen=True, slots=True)
+class JudgedCounts:
+    """How well a run, or a fit, meets counts, of which there is one at least. each: by count; hourly: by edges, class
+    and hour of the clock, as one count each; hours: sums of these, by hour; groups: sums by screen line and hour."""
+
+    each: list[ComparedCount]
+    hourly: list[ComparedCount]
+    hours: list[CountSums]
+    groups: list[CountSums]
+
+    @property
+    def meets_criteria(self) -> bool:
+        """Whether each hour meets the criteria."""
+        return all(one.meets_criteria for one in self.hours)
+
+    @property
+    def good_share(self) -> float:
+        """The share, 0 to 1, of the counts of all hours whose GEH is below 5."""
+        return sum(one.good for one in self.hours) / sum(one.counts for one in self.hours)
+
+    @property
+    def greatest_difference(self) -> float:
+        """The greatest difference of an hour's total from what was counted, as a share."""
+        return max(abs(one.relative_difference) for one in self.hours)
+
+    def lines(self) -> Iterator[str]:
+        """Lines for the terminal: the criteria hour by hour, then screen lines, r and slope."""
+        for one in self.hours:
+            yield (
+                f"{one.begin:,} to {one.end:,} s: "
+                f"GEH below 5 for {100 * one.good_share:.1f} % of {one.counts:,} counts, "
+                f"{one.passed:,.0f} passed of {one.counted:,.0f} counted ({100 * one.relative_difference:+.1f} %): "
+                f"{'fits' if one.meets_criteria else f'does not fit ({one.criteria_missed()})'}"
+            )
+        for one in self.groups:
+            yield (
+                f"screen line {one.group}, {one.begin:,} to {one.end:,} s: {one.passed:,.0f} passed of "
+                f"{one.counted:,.0f} counted ({100 * one.relative_difference:+.1f} %)"
+            )
+        if (line := correlation_and_slope(self.each)) is not None:
+            yield f"all {len(self.each):,} counts: r = {line[0]:.3f}, slope {line[1]:.3f}"
+
+
+def judged(counts: Sequence[Count], passed: Sequence[float]) -> JudgedCounts:
+    """How well numbers of vehicles that passed, one for each count, meet the counts, of which there must be one at
+    least."""
+    each = [
+        ComparedCount(one.begin, one.end, one.edges, one.kind, one.group, one.vehicles, value, one.end - one.begin)
+        for one, value in zip(counts, passed, strict=True)
+    ]
+    hourly = merged_by_hour(each)
+    hours = sums_by_hour(replace(one, group="") for one in hourly)
+    return JudgedCounts(each, hourly, hours, sums_by_hour(one for one in hourly if one.group))
+
+
+def merged_by_hour(each: Iterable[ComparedCount]) -> list[ComparedCount]:
+    """The counts of the same edges and class whose begins lie in one hour of the clock, as one with their sums, from
+    the first begin to the last end, with the screen line of the first; sorted by begin, end, edges and class."""
+    found: defaultdict[tuple[object, ...], list[ComparedCount]] = defaultdict(list)
+    for one in each:
+        found[one.begin // HOUR, one.edges, one.kind].append(one)
+    made = (
+        replace(
+            some[0], begin=min(one.begin for one in some), end=max(one.end for one in some),
+            counted=sum(one.counted for one in some), passed=sum(one.passed for one in some),
+            seconds=sum(one.seconds for one in some),
+        )
+        for some in found.values()
+    )  # fmt: skip
+    return sorted(made, key=lambda one: (one.begin, one.end, one.edges, one.kind))
+
+
+def sums_by_hour(hourly: Iterable[ComparedCount]) -> list[CountSums]:
+    """Sums of counts by hour of the clock (of their begin) and screen line."""
+    found: defaultdict[tuple[int, str], list[ComparedCount]] = defaultdict(list)
+    for one in hourly:
+        found[one.begin // HOUR, one.group].append(one)
+    return [
+        CountSums(
+            min(one.begin for one in some), max(one.end for one in some), group, len(some),
+            sum(one.geh < GOOD for one in some), sum(one.counted for one in some), sum(one.passed for one in some),
+            geh(*(sum(volumes) for volumes in zip(*(one.volumes for one in some)))),
+        )
+        for (_, group), some in sorted(found.items())
+    ]  # fmt: skip
+
+
+def correlation_and_slope(each: Sequence[ComparedCount]) -> tuple[float, float] | None:
+    """(Pearson's r of what passed with what was counted, slope of the regression of the former on the latter); none
+    where one of both does not vary. each: one at least."""
+    counted, passed = [one.counted for one in each], [one.passed for one in each]
+    r = correlation(counted, passed)
+    return None if r is None else (r, r * pstdev(passed) / pstdev(counted))
+
+
+def volume_at_geh_5(counted: float, sign: int) -> float:
+    """The volume above (sign 1) or below (sign -1) a counted one whose GEH beside it is 5, 0 at least; by 2 (p - c)^2 =
+    25 (p + c)."""
+    square = GOOD**2
+    root = (square * square + 16 * square * counted) ** 0.5
+    return max(0.0, counted + (square + sign * root) / 4)
+
+
+def without_parts(hourly: Iterable[ComparedCount]) -> list[ComparedCount]:
+    """Counts of hours without those that others replace (is_part_of), so that sums by first edge have none twice: of a
+    time in which all vehicles are counted those of a class are left out, and those of turns where their edge is."""
+    hourly = list(hourly)
+    keys = [[(one.edges[0], hour) for hour in range(one.begin // HOUR, -(-one.end // HOUR))] for one in hourly]
+    beside: defaultdict[tuple[str, int], list[ComparedCount]] = defaultdict(list)
+    for key, one in ((key, one) for one, own in zip(hourly, keys, strict=True) for key in own):
+        beside[key].append(one)
+    others = ((other for key in own for other in beside[key]) for own in keys)
+    return [one for one, some in zip(hourly, others, strict=True) if not any(is_part_of(one, other) for other in some)]
+
+
+def is_part_of(one: ComparedCount, other: ComparedCount) -> bool:
+    """Whether `one` is left out beside `other`, with a time and, as far as both go, the edges in common: if it is of a
+    class and `other` of all vehicles, even along more edges, or both are of the same and `other` has fewer edges."""
+    size = min(len(one.edges), len(other.edges))
+    if one.edges[:size] != other.edges[:size] or one.end <= other.begin or other.end <= one.begin:
+        return False
+    return len(other.edges) < len(one.edges) if other.kind == one.kind else not other.kind
+
+
+def counted_seconds(hourly: Iterable[ComparedCount]) -> int:
+    """The seconds of all periods, those in common once."""
+    total = last = 0
+    for begin, end in sorted((one.begin, one.end) for one in hourly):
+        total += max(0, end - max(begin, last))
+        last = max(last, end)
+    return total
+
+
+def differences_of(hourly: Sequence[ComparedCount]) -> dict[str, float]:
+    """How many vehicles an hour more (above 0) or fewer passed than were counted, by edge: of the edge itself, else of
+    its turns together; of all vehicles, else of the classes together. It is a mean over all the time in which anything
+    is counted: where the edge is not, it is 0. Edges of which nothing is counted are left out."""
+    found: defaultdict[str, float] = defaultdict(float)
+    hours = counted_seconds(hourly) / HOUR
+    for one in without_parts(hourly):
+        found[one.edges[0]] += (one.passed - one.counted) / hours
+    return dict(found)
+
+
+def worst_fits(fit: JudgedCounts) -> list[ComparedCount]:
+    """Of the edges and hours with a GEH of 5 or more the worst, five at most."""
+    return nlargest(WORST, (one for one in fit.hourly if one.geh >= GOOD), key=lambda one: one.geh)

@@ -1,0 +1,166 @@
+"""Makes a demand from its basis to its files: fitted, run as often as asked for, written, and told."""
+import sys
+from collections.abc import Callable, Sequence
+from dataclasses import asdict, dataclass
+
+from streetsim.base import limits
+from streetsim.base.files import Json, whole_folder
+from streetsim.demand import correcting, demanding
+from streetsim.demand.correcting import Attempt
+from streetsim.demand.demanding import Basis, DemandInputs, Fitted
+from streetsim.demand.fitting import unreachable_counts
+from streetsim.demand.judging import JudgedCounts, judged
+from streetsim.demand.pictures import draw_fit
+from streetsim.demand.writing import write_demand, write_judged
+from streetsim.model import trust
+from streetsim.search.route_loading import write_loaded
+from streetsim.search.route_results import NAME, write_setting
+from streetsim.search.route_watching import RunGround
+from streetsim.search.run_prepared import program_digest
+from streetsim.sumo.trips import Trip, Trips, write_routes
+
+SLICE = 300  # seconds of a slice of time, over which the seconds of movements are means
+MOST_TOLD = 5  # warnings of one sort
+
+
+@dataclass(frozen=True, slots=True)
+class DemandOutputs:
+    """Where outputs go: paths of the vehicles, of the folder of tables, and of the run with its map; these two are none
+    where they are not asked for."""
+
+    routes: str
+    folder: str
+    run: str | None
+    mapping: str | None
+
+
+@dataclass(frozen=True, slots=True)
+class DemandRuns:
+    """How a demand is run: by which program, at most how many times, by how many rounds of giving way."""
+
+    program: str
+    runs: int
+    rounds: int
+
+
+@dataclass(frozen=True, slots=True)
+class Made:
+    """A demand, with all runs that were tried. judged: how it meets the counts, none where there are none; trips: its
+    vehicles; best: the run that it is of, none where nothing was run."""
+
+    basis: Basis
+    fitted: Fitted
+    tried: list[Attempt]
+    judged: JudgedCounts | None
+    trips: list[Trip]
+    best: Attempt | None
+
+
+def run_and_tell(
+    basis: Basis, asked: DemandInputs, wanted: DemandRuns, fitted: Fitted, ends: Callable[[], bool],
+    told: demanding.Told,
+) -> list[Attempt]:
+    """Runs until the demand fits, all runs are used up, or the user asks for an end (which `ends` tells); prints a line
+    on standard error after each, and gives them all. Each run ends correcting.AFTER seconds after the last slice at the
+    latest. Fault where a run cannot be made."""
+    until = min(limits.CLOCK, basis.slices.bounds[-1] + correcting.AFTER)
+    ground = RunGround(wanted.program, program_digest(wanted.program), basis.town.graph, SLICE, until, wanted.rounds)
+    found: list[Attempt] = []
+    for one in correcting.try_demands(basis, asked, ground, wanted.runs, fitted, told):
+        print(one.line(), file=sys.stderr, flush=True)
+        found.append(one)
+        if ends():
+            break
+    return found
+
+
+def best_demand(basis: Basis, asked: DemandInputs, fitted: Fitted, tried: list[Attempt]) -> Made:
+    """The demand of the run that fits best, or of the fit on paper where nothing was run. Fault where that has no
+    vehicle."""
+    if tried:
+        best = max(tried, key=Attempt.rank)  # the first of equal ones
+        return Made(basis, best.fitted, tried, best.judged, best.trips, best)
+    on_paper = judged(basis.counts, fitted.passed_by_count()) if basis.counts else None
+    return Made(basis, fitted, [], on_paper, demanding.trips_of_fit(basis, asked, fitted), None)
+
+
+def tell_inputs(basis: Basis, fitted: Fitted) -> None:
+    """Prints on standard error what is noticed before anything runs: what is reported of the files, counts that
+    contradict each other, counts that no way passes, pairs of a matrix without a way, and how many of the pairs were
+    kept, where not all were."""
+    for line in basis.town.types.report.lines():
+        print(line, file=sys.stderr)
+    apart = [f"counts contradict each other: {one.line()}" for one in basis.contradictions]
+    warn(apart, "{:,} more contradictions: contradictions.csv")
+    none = [
+        f"no way passes {one.edges_told()} from {one.begin:,} to {one.end:,} s: {one.where}"
+        for one in unreachable_counts(fitted.passing, basis.counts)
+    ]
+    warn(none, "no way passes {:,} more counts")
+    joined = {way.pair for way in basis.ways}
+    lost = [pair for at, pair in enumerate(basis.pairs) if basis.given and at not in joined]
+    warn(
+        [f"no way leads from {one.source} to {one.target}: vehicles of the matrix are left out" for one in lost],
+        "no way leads from one to the other zone of {:,} more pairs",
+    )
+    kept, all_ = basis.kept_pairs
+    if kept < all_:
+        print(f"{kept:,} of {all_:,} pairs are drawn, for {len(basis.ways):,} ways (--most)", file=sys.stderr)
+
+
+def warn(texts: Sequence[str], more: str) -> None:
+    """Prints warnings of one sort on standard error, five at most, and how many more there are by `more`."""
+    further = [more.format(len(texts) - MOST_TOLD)] if len(texts) > MOST_TOLD else []
+    for text in [*texts[:MOST_TOLD], *further]:
+        print(f"warning: {text}", file=sys.stderr)
+
+
+def write_made(paths: DemandOutputs, made: Made, setting: Json) -> None:
+    """Writes the vehicles, the tables and pictures, and the run with its map where they are asked for; setting: what
+    goes into setting.json. Fault where a file cannot be written, and without runs as of RouteTown.loaded."""
+    basis = made.basis
+    loaded = made.best.loaded if made.best else basis.town.loaded(made.trips)
+    types = [f'<vType id="{kind}" vClass="{kind}"/>' for kind in basis.kinds if kind]
+    write_routes(paths.routes, Trips(list(made.trips), types), basis.town.graph)
+    if paths.run and paths.mapping:
+        write_loaded(loaded, basis.town, paths.routes, paths.run, paths.mapping)
+    with whole_folder(paths.folder, NAME) as folder:
+        write_demand(folder, basis, made.fitted, made.tried)
+        if made.judged:
+            write_judged(folder, made.judged)
+            what = "passed in the run" if made.tried else "fitted on paper"
+            draw_fit(folder, made.judged, loaded.mapping.links, what)
+        write_setting(folder, setting)
+
+
+def setting_of(asked: DemandInputs, made: Made, runs: int) -> Json:
+    """What a demand was made of and came to, for setting.json; runs: how many were allowed."""
+    return {
+        **asdict(asked),
+        "runs": runs,
+        "close": [*made.basis.town.works],
+        "begin": made.basis.slices.bounds[0],
+        "vehicles": len(made.trips),
+        "not_trusted": correcting.doubts_of(made.best) if made.best else [],
+    }
+
+
+def tell_result(made: Made) -> int:
+    """Prints what was made, how well it fits and why it is not to be trusted; gives the status: 1 where counts do not
+    fit, else 0."""
+    slices, ways = made.basis.slices, made.basis.ways
+    print(
+        f"{len(made.trips):,} vehicles from {slices.bounds[0]:,} to {slices.bounds[-1]:,} s on "
+        f"{len({trip.path for trip in made.trips}):,} of {len(ways):,} ways of {len(made.basis.pairs):,} pairs"
+    )
+    if not made.judged:
+        return 0
+    if not made.best:
+        print("on paper, by seconds without other traffic (--runs N judges in the simulation):")
+    print(*made.judged.lines(), sep="\n")
+    if made.best:
+        for line in correcting.misfits_told(made.basis, made.best):
+            print(line)
+        if doubts := correcting.doubts_of(made.best):
+            print(trust.verdict(doubts))
+    return 0 if made.judged.meets_criteria else 1

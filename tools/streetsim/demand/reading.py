@@ -1,0 +1,66 @@
+"""Reads counts of edges and turns, from CSV and from SUMO's edgeData and edgeRelation files."""
+from collections.abc import Iterable, Iterator
+
+from streetsim.base.files import Fault, FilePath
+from streetsim.demand.cells import begins_with, clock_of, name_of, period_of, table_rows, vehicle_number
+from streetsim.demand.tags import Tag, read_tags
+from streetsim.demand.values import Count
+
+COLUMNS = ("begin", "end", "from", "to", "vehicles")
+MORE = ("class", "group")
+ROOTS = ("meandata", "data", "edgeRelations", "turns", "edgeData")
+# What a count of an edge is, of those attributes that there are; two are added.
+BY_EDGE = (("left", "arrived"), ("entered", "departed"), ("count",), ("vehicles",))
+BY_TURN = (("count",), ("vehicles",))
+
+
+def read_counts(paths: Iterable[FilePath], attribute: str | None = None) -> list[Count]:
+    """The counts of files, in their order; Fault where a file cannot be read, is no file of counts, or has none.
+    attribute: of SUMO's files, the one that is the count; none: the usual ones."""
+    found: list[Count] = []
+    for path in paths:
+        own = list(counts_in_sumo(path, attribute) if begins_with(path, "<") else counts_in_table(path))
+        if not own:
+            raise Fault(f"{path}: no count is in it")
+        found += own
+    return found
+
+
+def counts_in_table(path: FilePath) -> Iterator[Count]:
+    """The counts of a CSV table with begin,end,from,to,vehicles and maybe class,group: `to` is empty for an edge, and
+    has several edges, with blanks between, for a way. Fault for other columns or values."""
+    for row in table_rows(path, COLUMNS, MORE):
+        begin, end = period_of(row.get("begin", clock_of), row.get("end", clock_of), row.where)
+        edges = (row.get("from", name_of), *row.text("to").split())
+        vehicles = row.get("vehicles", vehicle_number)
+        yield Count(begin, end, edges, vehicles, row.where, row.text("class"), row.text("group"))
+
+
+def counts_in_sumo(path: FilePath, attribute: str | None) -> Iterator[Count]:
+    """The counts of an edgeData or edgeRelation file; lanes in it are passed over, and any other element, or one that
+    stands in no interval, is a Fault. attribute: the one that is the count; none: the usual ones."""
+    begin = end = 0
+    for tag in read_tags(path, ROOTS):
+        if tag.name == "interval":
+            begin, end = period_of(tag.get("begin", clock_of), tag.get("end", clock_of), tag.where)
+        elif tag.name in ("edge", "edgeRelation") and "interval" not in tag.inside:
+            raise Fault(f"{tag.where}: <{tag.name}> stands in no <interval>")
+        elif tag.name == "edge":
+            yield Count(begin, end, (tag.get("id", name_of),), vehicles_of_tag(tag, BY_EDGE, attribute), tag.where)
+        elif tag.name == "edgeRelation":
+            edges = (tag.get("from", name_of), *tag.attributes.get("via", "").split(), tag.get("to", name_of))
+            yield Count(begin, end, edges, vehicles_of_tag(tag, BY_TURN, attribute), tag.where)
+        elif tag.name != "lane":
+            raise Fault(f"{tag.where}: <{tag.name}> is no count: <edge> or <edgeRelation> in an <interval>")
+
+
+def vehicles_of_tag(tag: Tag, usual: Iterable[tuple[str, ...]], attribute: str | None) -> float:
+    """The count of an element: of the attribute that is asked for, else the sum of the first of the usual groups whose
+    first attribute it has; Fault where it has none."""
+    if attribute:
+        return tag.get(attribute, vehicle_number)
+    names = next((some for some in usual if some[0] in tag.attributes), None)
+    if names is None:
+        wanted = ", ".join(some[0] for some in usual)
+        raise Fault(f"{tag.where}: <{tag.name}> has no count: none of {wanted} (--attribute names another one)")
+    return sum(tag.get(name, vehicle_number) for name in names if name in tag.attributes)

@@ -1,0 +1,101 @@
+"""Counts beside a run on a page, as HTML: by hour, screen lines, scatter, map of the differences, and the worst."""
+from html import escape
+
+from streetsim.base.words import time_of_day
+from streetsim.demand.judging import (
+    GOOD, JudgedCounts, correlation_and_slope, differences_of, volume_at_geh_5, worst_fits,
+)
+from streetsim.model.mapping import Map
+from streetsim.model.names import Names
+from streetsim.report.page_drawings import difference_map
+from streetsim.report.page_markup import table
+
+SIDE, EDGE = 420, 45  # pixels of the scatter
+POINTS = 40  # of the curves of GEH
+BAD, GOOD_COLOUR = "#c04000", "#225588"
+
+
+def counts_section(name: str, fit: JudgedCounts, mapping: Map) -> str:
+    """How well what passed in a plan's first seed meets the counts, as HTML; name: of the plan."""
+    names = Names(mapping)
+    line = correlation_and_slope(fit.each)
+    more = f"; all {len(fit.each):,} counts: r = {line[0]:.3f}, slope {line[1]:.3f}" if line else ""
+    shares = f"GEH is below 5 for {100 * fit.good_share:.1f} % of the counts by hour"
+    criteria = "which passes the usual criteria" if fit.meets_criteria else "which does not pass the usual criteria"
+    told = f"{name}, its first seed: {shares}, {criteria}{more}."
+    parts = [f"<p>{escape(told)}</p>", hours_table(fit), groups_table(fit), worst_table(fit, names)]
+    pictures = f'<div class="whole">{scatter(fit)}{differences_map(fit, mapping)}</div>'
+    return "".join([*parts, pictures])
+
+
+def hours_table(fit: JudgedCounts) -> str:
+    """A table of the criteria by hour, as HTML."""
+    rows = [
+        [
+            f"{time_of_day(one.begin)} to {time_of_day(one.end)}", str(one.counts), f"{100 * one.good_share:.1f}",
+            f"{one.counted:,.0f}", f"{one.passed:,.0f}", f"{100 * one.relative_difference:+.1f}",
+            "passed" if one.meets_criteria else "not passed",
+        ]
+        for one in fit.hours
+    ]
+    head = ["hour", "counts", "GEH below 5, %", "counted", "passed in the run", "difference, %", "criteria"]
+    return table(head, rows)
+
+
+def groups_table(fit: JudgedCounts) -> str:
+    """A table of the screen lines by hour, as HTML; empty where there are none."""
+    rows = [
+        [
+            escape(one.group), f"{time_of_day(one.begin)} to {time_of_day(one.end)}", f"{one.counted:,.0f}",
+            f"{one.passed:,.0f}", f"{100 * one.relative_difference:+.1f}",
+        ]
+        for one in fit.groups
+    ]
+    return table(["screen line", "hour", "counted", "passed in the run", "difference, %"], rows, 2) if rows else ""
+
+
+def worst_table(fit: JudgedCounts, names: Names) -> str:
+    """A table of the counts that fit worst, as HTML; empty where all fit."""
+    rows = []
+    for one in worst_fits(fit):
+        called = names.approach(one.edges[0]) if len(one.edges) == 1 else names.movement(*one.edges[:2])
+        numbers = f"{one.counted:,.0f}", f"{one.passed:,.0f}", f"{one.geh:.1f}"
+        rows.append([escape(called), escape(" to ".join(one.edges)), time_of_day(one.begin), *numbers])
+    return table(["fits worst", "edges", "from", "counted", "passed in the run", "GEH"], rows, 2) if rows else ""
+
+
+def scatter(fit: JudgedCounts) -> str:
+    """A picture (SVG) of passed over counted, vehicles an hour, by edges and hour, with the curves on which GEH is
+    5."""
+    points = [(*one.volumes, one.geh < GOOD) for one in fit.hourly]
+    most = 1.08 * max([1.0, *(max(counted, passed) for counted, passed, _ in points)])
+    scale = (SIDE - EDGE - 10) / most
+
+    def at(counted: float, passed: float) -> str:
+        """The pixels across and down of a point, as the text X,Y."""
+        return f"{EDGE + counted * scale:.1f},{SIDE - EDGE - passed * scale:.1f}"
+
+    parts = [f'<polyline points="{at(0, 0)} {at(most, most)}" stroke="#000" fill="none"/>']
+    for sign in (1, -1):
+        curve = (most * step / POINTS for step in range(POINTS + 1))
+        way = " ".join(at(counted, min(volume_at_geh_5(counted, sign), most)) for counted in curve)
+        parts.append(f'<polyline points="{way}" stroke="#777" stroke-dasharray="4 3" fill="none"/>')
+    for counted, passed, good in points:
+        x, y = at(counted, passed).split(",")
+        parts.append(f'<circle cx="{x}" cy="{y}" r="3" fill="{GOOD_COLOUR if good else BAD}"/>')
+    low = SIDE - EDGE
+    parts += [
+        f'<line x1="{EDGE}" x2="{SIDE - 10}" y1="{low}" y2="{low}" stroke="#666"/>',
+        f'<line x1="{EDGE}" x2="{EDGE}" y1="10" y2="{low}" stroke="#666"/>',
+        f'<text x="{SIDE - 10}" y="{low + 15}" text-anchor="end">counted: {most:.0f} vehicles/h</text>',
+        f'<text x="{EDGE + 4}" y="16">passed in the run; broken: GEH is 5</text>',
+    ]
+    shape = f'viewBox="0 0 {SIDE} {SIDE}" style="max-width: 420px" role="img" aria-label="Passed over counted"'
+    return f"<svg {shape}>{''.join(parts)}</svg>"
+
+
+def differences_map(fit: JudgedCounts, mapping: Map) -> str:
+    """A map of how many vehicles an hour more or fewer passed than were counted, of an edge, else of its turns
+    together, as HTML."""
+    told = "Vehicles an hour more (red) or fewer (blue) in the run than counted; dark grey: as many; light: not counted"
+    return f"<figure>{difference_map(mapping, differences_of(fit.hourly))}<figcaption>{told}</figcaption></figure>"

@@ -1,0 +1,157 @@
+"""How many passed where was counted, in a folder of streetsim-run: by its tables, else by its rows of each second."""
+import csv
+import os
+from collections import defaultdict
+from collections.abc import Iterator, Sequence
+from dataclasses import dataclass
+from itertools import pairwise
+
+from streetsim.base.arrays import Array, numpy as np
+from streetsim.base.files import Fault, open_text, reading
+from streetsim.base.unpacking import lines_of
+from streetsim.demand.checking import check_periods
+from streetsim.demand.values import Count
+from streetsim.model.folder import Folder
+from streetsim.model.rows import NAME as ROWS, parts_of
+from streetsim.model.stops import vehicle_classes_of
+from streetsim.model.tables import unguarded
+
+NEVER = -1  # a clock that does not come
+
+Key = tuple[str, ...]
+Row = tuple[int, int, float]  # begin and end in seconds, vehicles
+
+
+def passed_in(folder: Folder, counts: Sequence[Count]) -> list[float]:
+    """The vehicles that passed in each count's period, in the counts' order; of a period that goes on after the run's
+    end those until then. Fault where the run does not have edges of theirs or ended before a period, two overlap, or
+    the folder cannot tell."""
+    check_counts_in_run(folder, counts)
+    rows = {**edge_rows(folder), **movement_rows(folder)}
+    found = [vehicles_within(rows.get(count.edges, ()), count) if not count.kind else None for count in counts]
+    missing = [count for count, value in zip(counts, found, strict=True) if value is None]
+    more = passed_by_rows(folder, missing) if missing else iter(())
+    return [next(more) if value is None else value for value in found]
+
+
+def check_counts_in_run(folder: Folder, counts: Sequence[Count]) -> None:
+    """Fault for counts of edges or turns that the run's map does not have, of periods that begin when edges.csv has
+    ended, and for two counts of the same edges and class whose periods overlap; and where edges.csv cannot be read."""
+    links = folder.mapping.links
+    ways = {(links[turn.link].edge, links[turn.next].edge) for turn in folder.mapping.turns}
+    last = max((float(row["end"]) for row in folder.edges()), default=0.0)
+    for count in counts:
+        for edge in count.edges:
+            if edge not in folder.mapping.links_of:
+                raise Fault(f"{count.where}: the run's map has no edge {edge!r}")
+        for way in pairwise(count.edges):
+            if way not in ways:
+                raise Fault(f"{count.where}: no turn leads from edge {way[0]!r} to edge {way[1]!r} in the run")
+        if count.begin >= last:
+            raise Fault(f"{count.where}: counted from {count.begin:,} s on, and {folder.path} ends at {last:,.0f} s")
+    check_periods(counts)
+
+
+def edge_rows(folder: Folder) -> dict[Key, list[Row]]:
+    """By (edge,): (begin, end, vehicles that left it or arrived on it) of each period of edges.csv. Fault where this
+    cannot be read."""
+    found: defaultdict[Key, list[Row]] = defaultdict(list)
+    for row in folder.edges():
+        found[(row["edge"],)].append((int(row["begin"]), int(row["end"]), float(row["left"])))
+    return found
+
+
+def movement_rows(folder: Folder) -> dict[Key, list[Row]]:
+    """By (edge, next edge): (begin, end, vehicles) of each interval of movements.csv, for movements on which somebody
+    passed in one of them; empty where the run has no junction tables. Fault where their file cannot be read."""
+    path = f"{folder.path}/movements.csv"
+    if not os.path.exists(path):
+        return {}
+    found: defaultdict[Key, dict[tuple[int, int], float]] = defaultdict(dict)
+    with reading(path), open_text(path) as file:
+        for row in csv.DictReader(lines_of(file)):
+            key = unguarded(row["approach"]), unguarded(row["to"])
+            found[key][int(row["begin"]), int(row["end"])] = float(row["vehicles"])
+    times = sorted({time for own in found.values() for time in own})
+    return {key: [(*time, own.get(time, 0.0)) for time in times] for key, own in found.items()}
+
+
+def vehicles_within(rows: Sequence[Row], count: Count) -> float | None:
+    """The vehicles of those rows (begin, end, vehicles) that together make up a count's period, as far as there are
+    rows; none where they do not."""
+    last = min(count.end, max((end for _, end, _ in rows), default=count.end))
+    inside = [row for row in rows if count.begin <= row[0] and row[1] <= last]
+    whole = sum(end - begin for begin, end, _ in inside) == last - count.begin
+    return sum(vehicles for *_, vehicles in inside) if whole else None
+
+
+@dataclass(frozen=True, slots=True)
+class Visits:
+    """The edges on which vehicles were, as columns, by vehicle and then in the order in which they came to them: the
+    vehicle's number, the edge's number, and the clock at which the vehicle passed the edge's end or arrived there,
+    NEVER where it did not."""
+
+    vehicle: Array
+    edge: Array
+    passed: Array
+
+    def clocks_of(self, edges: Sequence[int]) -> tuple[Array, Array]:
+        """(vehicles, clocks) of those who pass the end of an edge, or of those who drive over two edges or more, by
+        their numbers, one behind the other: these pass where they come on the last one."""
+        last = np.arange(len(edges) - 1, len(self.vehicle))
+        first = last - (len(edges) - 1)
+        fits = self.vehicle[first] == self.vehicle[last]
+        for step, edge in enumerate(edges):
+            fits &= self.edge[first + step] == edge
+        rows = (last if len(edges) == 1 else last - 1)[fits]
+        return self.vehicle[rows], self.passed[rows]
+
+
+def passed_by_rows(folder: Folder, counts: Sequence[Count]) -> Iterator[int]:
+    """The vehicles that passed in each count's period, by the run's rows of each second. Fault where it has none, or
+    those of some edges alone, or they cannot be read. counts: one at least."""
+    if not os.path.exists(f"{folder.path}/{ROWS}") or any(word.startswith("--edges") for word in words_of(folder)):
+        raise Fault(
+            f"{counts[0].where}: {folder.path} has neither this place and period in its tables nor {ROWS} of all "
+            f"edges: run it with --junctions {counts[0].end - counts[0].begin}, or without --edges and --every 0"
+        )
+    number = {edge: at for at, edge in enumerate(folder.mapping.links_of)}
+    kinds = np.array(vehicle_classes_of(folder.mapping.kinds, len(folder.trips())), object)
+    visits = visits_in(folder, np.array([number[link.edge] for link in folder.mapping.links]))
+    found = {edges: visits.clocks_of([number[edge] for edge in edges]) for edges in {count.edges for count in counts}}
+    for count in counts:
+        vehicles, clocks = found[count.edges]
+        inside = (clocks > count.begin) & (clocks <= count.end)
+        yield int((inside & (kinds[vehicles] == count.kind) if count.kind else inside).sum())
+
+
+def words_of(folder: Folder) -> Sequence[str]:
+    """The words by which a run was made, as far as its setting has them."""
+    found = folder.made.get("words", ())
+    return [str(word) for word in found] if isinstance(found, list) else ()
+
+
+def visits_in(folder: Folder, edge_of: Array) -> Visits:
+    """The visits of a run, by its rows and its trips; edge_of: by link the number of its edge. Fault where a file
+    cannot be read."""
+    arrived = [(at, int(row["arrival"])) for at, row in enumerate(folder.trips()) if row["arrival"]]
+    ends = np.array(arrived, np.int64).reshape(-1, 2).T
+    slot = np.full(len(folder.trips()), NEVER)  # where each vehicle was seen last: twice its link, and 1 behind it
+    parts = [(*ends, np.full(ends.shape[1], NEVER), np.ones(ends.shape[1], bool))]
+    path = f"{folder.path}/{ROWS}"
+    with reading(path), open(path, "rb") as file:
+        for part in parts_of(file, path):
+            order = np.argsort(part.vehicle, kind="stable")
+            vehicle, here = part.vehicle[order].astype(np.int64), 2 * (part.slot[order] // 2) + (part.cell[order] < 0)
+            fresh = np.append(True, vehicle[1:] != vehicle[:-1])[: len(vehicle)]
+            before = np.where(fresh, slot[vehicle], np.append(0, here)[:-1])
+            clock = np.repeat(np.arange(len(part.first) - 1), np.diff(part.first))[order] + part.clock
+            rows = np.flatnonzero(here != before)
+            parts.append((vehicle[rows], clock[rows], edge_of[here[rows] // 2], here[rows] % 2 == 1))
+            slot[vehicle] = here
+    vehicle, clock, edge, passes = (np.concatenate(columns) for columns in zip(*parts, strict=True))
+    order = np.lexsort((clock, vehicle))
+    vehicle, clock, edge, passes = vehicle[order], clock[order], edge[order], passes[order]
+    comes = np.flatnonzero(~passes)
+    has_passed = np.append(passes[1:], False)[comes]  # the row behind it is that of its end
+    return Visits(vehicle[comes], edge[comes], np.where(has_passed, np.append(clock[1:], 0)[comes], NEVER))

@@ -1,0 +1,77 @@
+"""Writes the files of a fitted demand and of a comparison with counts."""
+from collections import Counter
+from collections.abc import Iterator, Sequence
+from itertools import pairwise
+from xml.sax.saxutils import quoteattr
+
+from streetsim.base.files import whole_file
+from streetsim.demand.candidates import Way
+from streetsim.demand.checking import Contradiction
+from streetsim.demand.correcting import Attempt
+from streetsim.demand.demanding import Basis, Fitted
+from streetsim.demand.judging import FIT, GROUPS, HOURS, JudgedCounts
+from streetsim.model.tables import write_table
+from streetsim.sumo.way_graph import Graph
+
+PAIRS = ("begin", "end", "from", "to", "class", "vehicles")
+RUNS = ("run", "vehicles", "arrived", "rescues", "geh_below_5_percent", "total_difference_percent", "criteria")
+APART = ("place", "begin", "end", "what", "first", "second", "where")
+LAST = "hours.csv"  # of a comparison: away while other files take their places (whole_folder)
+
+
+def write_judged(folder: str, fit: JudgedCounts) -> None:
+    """Writes the tables of a comparison with counts to a folder: fit.csv, hours.csv, and groups.csv where there are
+    screen lines. Fault where one cannot be written."""
+    write_table(f"{folder}/fit.csv", FIT, (one.fit_row() for one in fit.each))
+    write_table(f"{folder}/{LAST}", HOURS, (one.hour_row() for one in fit.hours))
+    if fit.groups:
+        write_table(f"{folder}/groups.csv", GROUPS, (one.group_row() for one in fit.groups))
+
+
+def write_demand(folder: str, basis: Basis, fitted: Fitted, tried: Sequence[Attempt]) -> None:
+    """Writes to a folder pairs.csv, candidates.rou.xml, contradictions.csv where counts contradict each other, and
+    runs.csv where the demand was run (tried: its runs). Fault where one cannot be written."""
+    write_table(f"{folder}/pairs.csv", PAIRS, pair_rows(basis, fitted))
+    write_candidates(f"{folder}/candidates.rou.xml", basis.ways, basis.town.graph)
+    if basis.contradictions:
+        write_table(f"{folder}/contradictions.csv", APART, contradiction_rows(basis.contradictions))
+    if tried:
+        write_table(f"{folder}/runs.csv", RUNS, run_rows(tried))
+
+
+def pair_rows(basis: Basis, fitted: Fitted) -> Iterator[tuple[object, ...]]:
+    """(begin, end, from, to, class, vehicles) of each pair, class and slice with vehicles: a matrix that --matrix
+    takes."""
+    found: Counter[tuple[int, int, int]] = Counter()
+    count, size = len(basis.slices), len(basis.ways) * len(basis.slices)
+    for at in fitted.whole.nonzero()[0].tolist():
+        found[at // size, at % count, basis.ways[at // count % len(basis.ways)].pair] += int(fitted.whole[at])
+    bounds = list(pairwise(basis.slices.bounds))
+    for (kind, slice_, pair), vehicles in sorted(found.items()):
+        ends = basis.pairs[pair].source, basis.pairs[pair].target
+        yield (*bounds[slice_], *ends, basis.kinds[kind], vehicles)
+
+
+def write_candidates(path: str, ways: Sequence[Way], graph: Graph) -> None:
+    """Writes candidate ways as routes, with numbers as ids, as SUMO's routeSampler takes them. Fault where it cannot be
+    written."""
+    with whole_file(path) as file:
+        file.write("<routes>\n")
+        for at, way in enumerate(ways):
+            file.write(f'    <route id="{at}" edges={quoteattr(" ".join(graph.names(way.path)))}/>\n')
+        file.write("</routes>\n")
+
+
+def contradiction_rows(found: Sequence[Contradiction]) -> Iterator[tuple[object, ...]]:
+    """The rows of contradictions.csv, as APART has the columns."""
+    for one in found:
+        values = f"{one.first:g}", f"{one.second:g}"
+        yield one.street, one.begin, one.end, one.words.replace("{} ", ""), *values, one.where
+
+
+def run_rows(tried: Sequence[Attempt]) -> Iterator[tuple[object, ...]]:
+    """The rows of runs.csv, as RUNS has the columns."""
+    for one in tried:
+        told = "passed" if one.judged.meets_criteria else "not passed"
+        shares = f"{100 * one.judged.good_share:.1f}", f"{100 * one.judged.greatest_difference:.1f}"
+        yield (one.number, len(one.trips), one.arrived, one.ran.rescues, *shares, told)

@@ -1,0 +1,105 @@
+"""A session that is kept in a file: the same run goes on there after tools, program or machine have ended."""
+from __future__ import annotations
+
+from collections.abc import Sequence
+
+from streetsim.base.client import check_kept
+from streetsim.base.files import Fault, FilePath, reading
+from streetsim.kernel.program import Blocks, Program
+
+ADVANCE = b'{"cmd":"advance","steps":1}\n'
+COUNT = b'{"cmd":"count"}\n'
+ASKING = COUNT[:-2], b'{"cmd":"vehicle"', b'{"cmd":"lane"', b'{"cmd":"read"'  # begins of lines that change nothing
+
+
+class KeptProgram(Program):
+    """The program with its record, which keeps its session in a file and has the file for itself. What the file has is
+    done again by a second program, for its record; when the file's last line is done, the first one goes on. So the
+    lines that are sent have to begin with those of the file."""
+
+    def __init__(self, path: str, file: FilePath, workers: int = 1) -> None:
+        """Starts the program. path, workers: as Program has them; file: made where it is not there. Fault where it is
+        no session's, ProgramEnded where another program has it."""
+        check_kept(file)
+        super().__init__(path, workers, ("--keep", str(file)))
+        self.file, self.number = file, 1
+        self.again: Program | None = None
+        try:
+            self.state = super().ask([COUNT])  # at the file's end
+            with reading(file):
+                self.kept = open(file, "rb")
+        except BaseException:
+            self.process.kill()
+            self.end()
+            raise
+        self.pipes.append(self.kept)
+        self.next = self.kept.readline()  # of the file; empty: all of it is done again
+        if self.next:
+            self.again = Program(path, workers)
+
+    def end(self) -> tuple[int, str]:
+        """Ends both programs; gives (the status, the standard error) of the one that keeps."""
+        self.end_again()
+        return super().end()
+
+    def ask(self, lines: Sequence[bytes]) -> list[bytes]:
+        """As Program has it. Fault where a line is not the next one of the file."""
+        count = self.count_known(lines)
+        replies = self.again.ask(lines[:count]) if self.again else []
+        if count < len(lines):
+            self.go_on()
+            replies += super().ask(lines[count:])
+        return replies
+
+    def begin(self, steps: int) -> None:
+        """As Program has it. Fault where steps are not the next ones of the file."""
+        self.known = self.count_known(self.advance(steps))
+        self.begun = steps - self.known
+        if self.again and self.known:
+            self.again.begin(self.known)
+        else:
+            self.go_on()
+            super().begin(steps)
+
+    def advance(self, steps: int) -> list[bytes]:
+        """As Program has it: a line for each, so that a run goes on wherever its file ends."""
+        return [ADVANCE] * steps
+
+    def blocks(self) -> Blocks:
+        """As Program has it."""
+        if not (self.again and self.known):
+            return super().blocks()
+        begins, data = self.again.blocks()
+        if self.begun:
+            self.go_on()
+            super().begin(self.begun)
+            later, more = super().blocks()
+            begins, data = begins + [len(data) + begin for begin in later[1:]], data + more
+        return begins, data
+
+    def count_known(self, lines: Sequence[bytes]) -> int:
+        """How many of the lines, from the first on, change nothing or come next in the file, from which these are then
+        taken; none behind the file's end."""
+        for count, line in enumerate(lines):
+            if not self.next:
+                return count
+            if line == self.next:
+                self.next, self.number = self.kept.readline(), self.number + 1
+            elif not line.startswith(ASKING):
+                raise Fault(f"{self.file}: line {self.number} is not of this run: it has another session")
+        return len(lines)
+
+    def go_on(self) -> None:
+        """Has the program that keeps go on, where the other one has come to the file's end. Fault where it has come to
+        another state."""
+        if self.again:
+            if self.again.ask([COUNT]) != self.state:
+                raise Fault(f"{self.file}: it leads to another state than this run")
+            self.end_again()
+
+    def end_again(self) -> None:
+        """Ends the program that does again what the file has."""
+        if self.again:
+            self.again.process.kill()
+            self.again.end()
+            self.again = None

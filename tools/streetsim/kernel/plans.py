@@ -1,0 +1,68 @@
+"""The plans of a run's vehicles as columns."""
+from itertools import chain
+
+from streetsim.base.arrays import Array
+from streetsim.base.arrays import numpy as np
+from streetsim.model.freeflow import Alone
+from streetsim.model.mapping import Map
+from streetsim.model.runs import Run
+
+PART = 1 << 19  # places of plans at once
+
+
+class Plans:
+    """The plans of all vehicles of the file, end to end: links, and by vehicle its first place and the one behind its
+    last; a place is alone for the mean seconds of one on the link and in the junction behind it."""
+
+    def __init__(self, run: Run, mapping: Map) -> None:
+        """The plans of a run; each has a link at least."""
+        plans = [line.command["plan"] for line in run.enters]
+        self.lengths = np.fromiter(map(len, plans), np.int64, len(plans))
+        self.last = np.cumsum(self.lengths)
+        self.first = self.last - self.lengths
+        self.links = np.fromiter(chain.from_iterable(plans), np.int32, int(self.lengths.sum()))
+        alone, before = Alone(mapping, run.load.command["dawdle"] / 1000), np.roll(self.links, 1)
+        before[self.first] = -1
+        # By place the number of its pair of a link and the one before; by number the seconds.
+        self.pair, pairs = np.zeros(len(self.links), np.int32), Pairs(alone)
+        for begin in range(0, len(self.links), PART):
+            own = slice(begin, begin + PART)
+            self.pair[own] = pairs.numbers_of(self.links[own], before[own])
+        self.seconds = np.array(pairs.seconds, float)
+        self.across = np.array([alone.across(link) for link in range(len(mapping.links))], float)
+
+    def vehicles(self, first: int, last: int) -> Array:
+        """By place of the plans of some vehicles, from one number to another (not included), the vehicle's number."""
+        return np.repeat(np.arange(first, last), self.lengths[first:last])
+
+    def alone(self, first: Array, last: Array) -> Array:
+        """The sums of the seconds from some places to others, both included, each added in the plan's order."""
+        total = np.zeros(len(first))
+        for step in range(int((last - first).max(initial=-1)) + 1):
+            own = np.flatnonzero(first + step <= last)
+            total[own] += self.seconds[self.pair[first[own] + step]]
+        return total
+
+    def alone_on_trips(self) -> Array:
+        """By vehicle the mean seconds of its trip alone, from the wished departure to arrival; in the first of them it
+        stands."""
+        return 1 + self.alone(self.first, self.last - 1) - self.across[self.links[self.last - 1]]
+
+
+class Pairs:
+    """Pairs of a link and the one before, by numbers, and the mean seconds of one alone there (seconds)."""
+
+    def __init__(self, alone: Alone) -> None:
+        """None is known."""
+        self.alone, self.seconds = alone, list[float]()
+        self.number: dict[int, int] = {}  # by link and the one before
+
+    def numbers_of(self, links: Array, before: Array) -> Array:
+        """The numbers of pairs; before: -1 for none."""
+        keys, which = np.unique(links.astype(np.int64) << 32 | before + 1, return_inverse=True)
+        for key in keys.tolist():
+            if key not in self.number:
+                self.number[key] = len(self.seconds)
+                link, last = key >> 32, (key & (1 << 32) - 1) - 1
+                self.seconds.append(self.alone.on_link(link, last if last >= 0 else None) + self.alone.across(link))
+        return np.array([self.number[key] for key in keys.tolist()], np.int32)[which]

@@ -1,0 +1,24 @@
+"""The program with its record, started to serve one run."""
+import contextlib
+from collections.abc import Iterator
+
+from streetsim.base.client import NoReply, ProgramEnded, Refused, Starved
+from streetsim.base.files import Fault, FilePath
+from streetsim.base.program import find_program
+from streetsim.kernel.kept import KeptProgram
+from streetsim.kernel.program import Program
+
+
+@contextlib.contextmanager
+def serving_program(
+    program: str | None, path: FilePath, workers: int = 1, keep: FilePath | None = None
+) -> Iterator[Program]:
+    """The program, started for the run of a file, and ended after the block. program: as find_program takes it; path:
+    the file, for a Fault's words alone; workers: its threads; keep: a file in which its session is kept. Fault where
+    the program cannot be found, ends too early or answers in other words than its own."""
+    try:
+        found = find_program(program)
+        with Program(found, workers) if keep is None else KeptProgram(found, keep, workers) as made:
+            yield made
+    except (Refused, Starved, NoReply, ProgramEnded) as fault:
+        raise Fault(f"{path}: {fault}") from None

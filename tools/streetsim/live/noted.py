@@ -1,0 +1,67 @@
+"""The program of a page, with the lines that were sent: by them streetsim does the same again."""
+import os
+from collections import deque
+from collections.abc import Iterator, Sequence
+from typing import Self
+
+from streetsim.base.files import FilePath
+from streetsim.base.limits import STEPS
+from streetsim.kernel.kept import ASKING
+from streetsim.kernel.program import Blocks, Program
+from streetsim.model.record import HEAD
+
+SHOWN = 8  # of the last lines with their replies
+
+
+class Noted(Program):
+    """A program that notes what was sent, but for what only asks or was refused."""
+
+    def __init__(self, path: str, workers: int = 1, words: Sequence[str] = ()) -> None:
+        """As Program."""
+        super().__init__(path, workers, words)
+        self.noted: list[bytes | int] = []  # lines, and of advances so many steps on end
+        self.last: deque[tuple[bytes, bytes]] = deque(maxlen=SHOWN)  # lines and replies
+
+    def kept_in(self, path: FilePath, workers: int) -> Self:
+        """Another process that goes on from a file that has all that was noted; this one is killed."""
+        made = type(self)(self.path, workers, ["--keep", os.fspath(path)])
+        made.noted, made.last = self.noted, self.last
+        self.kill()
+        return made
+
+    def kill(self) -> None:
+        """Ends the process, whatever it does."""
+        self.process.kill()
+        self.end()
+
+    def ask(self, lines: Sequence[bytes]) -> list[bytes]:
+        """As Program."""
+        replies = super().ask(lines)
+        for line, reply in zip(lines, replies, strict=True):
+            if not line.startswith(ASKING) and b'"error"' not in reply and b'"starved"' not in reply:
+                self.noted.append(line)
+                self.last.append((line, reply))
+        return replies
+
+    def blocks(self) -> Blocks:
+        """As Program."""
+        steps, (begins, data) = self.begun, super().blocks()
+        before = self.noted.pop() if self.noted and isinstance(self.noted[-1], int) else 0
+        assert isinstance(before, int)
+        self.noted.append(before + steps)
+        self.last.append((advance(steps), b'{"clock":%d}' % HEAD.unpack_from(data, begins[-2])[0]))
+        return begins, data
+
+    def session(self) -> Iterator[bytes]:
+        """All lines that were noted, each with its end."""
+        for one in self.noted:
+            if isinstance(one, bytes):
+                yield one
+            else:
+                yield from [advance(STEPS)] * (one // STEPS)
+                yield from [advance(one % STEPS)] if one % STEPS else []
+
+
+def advance(steps: int) -> bytes:
+    """The line that makes so many steps."""
+    return b'{"cmd":"advance","steps":%d}\n' % steps

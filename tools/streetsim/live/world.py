@@ -1,0 +1,144 @@
+"""One traffic of a page: a run that goes on as the page asks, and what the page was told of it."""
+from collections.abc import Collection, Iterable
+from dataclasses import dataclass
+from functools import cached_property
+from typing import Any
+
+from streetsim.base import limits
+from streetsim.base.arrays import Array
+from streetsim.base.arrays import numpy as np
+from streetsim.base.files import Fault, FilePath, Json
+from streetsim.control.settings import Settings
+from streetsim.control.steering import Steering
+from streetsim.kernel.kept import COUNT
+from streetsim.kernel.loop import Kernel
+from streetsim.live.facts import departures_and_ends, nodes_giving_way
+from streetsim.live.hand import Hand
+from streetsim.live.ledger import Ledger
+from streetsim.live.noted import Noted
+from streetsim.model.mapping import Map
+from streetsim.model.runs import Command, Run, Sent
+
+
+@dataclass(frozen=True)
+class PageRun:
+    """The run of a page, with all that is asked of it; its last clock is the greatest."""
+
+    run: Run
+    mapping: Map
+    settings: Settings
+    program: str
+    workers: int = 1
+
+    @cached_property
+    def departs_and_ends(self) -> tuple[Array, Array]:
+        """As of departures_and_ends."""
+        departs, ends = departures_and_ends(self.run, self.mapping)
+        return np.array(departs, np.int64), np.array(ends, np.int64)
+
+    @cached_property
+    def wishes(self) -> tuple[Array, Array]:
+        """By vehicle the clock at which it wishes to depart, and its lane: twice the link, and the lane."""
+        commands = [line.command for line in self.run.enters]
+        slots = [2 * one["plan"][0] + one.get("lane", 0) for one in commands]
+        return np.array([one["depart"] for one in commands], np.int64), np.array(slots, np.int64)
+
+    @cached_property
+    def givers(self) -> Collection[int]:
+        """The junctions where vehicles give way by signals that nobody sees."""
+        return frozenset(nodes_giving_way(self.run, self.mapping))
+
+
+class World:
+    """One traffic of a page."""
+
+    def __init__(self, of: PageRun, later: Iterable[Sent] = (), node: int | None = None) -> None:
+        """later: what is done by hand, with its clocks; node: the junction before which those who stand are counted.
+        Fault or ProgramEnded where it cannot be begun; nothing runs then."""
+        self.of, steering = of, Steering(of.run, of.mapping, of.settings)
+        self.hand = Hand(steering.merging if of.settings.merging else None, later)
+        self.ledger = Ledger(self.hand, *of.departs_and_ends, node)
+        self.program = Noted(of.program, of.workers)
+        controllers, observers = [*steering.controllers, self.hand], [self.ledger]
+        self.kernel = Kernel(self.program, of.run, of.mapping, controllers, observers)
+        self.forget_told()
+        try:
+            self.kernel.begin(limits.CLOCK)
+        except BaseException:
+            self.close()
+            raise
+
+    @property
+    def clock(self) -> int:
+        """The clock so far."""
+        return self.kernel.clock
+
+    def go_on(self, clock: int) -> None:
+        """Makes the run on to a clock."""
+        self.kernel.go_on(clock)
+
+    def close(self) -> None:
+        """Ends the program."""
+        self.program.kill()
+
+    def keep_in(self, path: FilePath) -> None:
+        """Has a program go on that keeps its session in a file, which has all that was done so far. Fault where it
+        leads to another state."""
+        state = self.program.ask([COUNT])
+        self.program = self.kernel.program = self.program.kept_in(path, self.of.workers)
+        if self.program.ask([COUNT]) != state:
+            raise Fault(f"{path}: it leads to another state than the page")
+
+    # ---- what the page is told
+
+    def forget_told(self) -> None:
+        """Has the next message tell all, as to a page that knows nothing."""
+        self.lines_told = self.cars_told = self.points_told = -1
+
+    def message(self) -> Json:
+        """What a page is to know of the last second beside its rows: all, or what is new since the last message."""
+        kernel, ledger, clock = self.kernel, self.ledger, self.clock
+        whole = self.cars_told < 0
+        plans, shown = self.signals()
+        cars, self.cars_told = max(0, self.cars_told), kernel.vehicles.told
+        points, self.points_told = max(0, self.points_told), len(ledger.points)
+        told: dict[str, Any] = {
+            "whole": whole, "first": points, "clock": clock, "arrived": kernel.last.gone,
+            "coming": int(np.count_nonzero(~ledger.seen)),
+            "owners": kernel.vehicles.owner[cars : self.cars_told].tolist(), "points": ledger.points_from(points),
+            "plans": plans, "shown": shown, "waiting": self.waiting(), "detectors": self.hand.detectors,
+            "closed": [[slot, *one] for slot, all_ in kernel.closed.stretches().items() for one in all_],
+        }  # fmt: skip
+        return told
+
+    def rows(self) -> bytes:
+        """The vehicles of the last second, each car, slot, cell (below 0 in a buffer) and speed, of 4 bytes each."""
+        last = self.kernel.last
+        return np.stack([last.car, last.slot, last.cell, last.speed], axis=1).astype("<i4").tobytes()
+
+    def signals(self) -> tuple[list[Command], list[Command]]:
+        """(the plans that the run or the page has set, what detectors have lights show) since the last message; the
+        last of each node alone."""
+        kernel, first = self.kernel, self.lines_told < 0
+        sent = [(line, True) for line in kernel.run.first] if first else []
+        sent += [(one.line, one.passed_on) for one in kernel.sent[max(0, self.lines_told) :]]
+        self.lines_told = len(kernel.sent)
+        plans: dict[int, Command] = {}
+        shown: dict[int, Command] = {}
+        for line, is_plan in sent:
+            command = line.command
+            if command["cmd"] == "signal" and command["node"] not in self.of.givers:
+                (plans if is_plan else shown)[command["node"]] = command
+                if is_plan:
+                    shown.pop(command["node"], None)
+        return [*plans.values()], [*shown.values()]
+
+    def waiting(self) -> list[list[int]]:
+        """[slot, how many] of the lanes that vehicles wait to enter, who wished to by now."""
+        departs, slots = self.of.wishes
+        late = slots[(departs <= self.clock) & ~self.ledger.seen]
+        return [list(one) for one in zip(*(part.tolist() for part in np.unique(late, return_counts=True)))]
+
+    def text(self) -> bytes:
+        """The session as lines, which streetsim does again."""
+        return b"".join(self.program.session())

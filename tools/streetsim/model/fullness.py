@@ -1,0 +1,60 @@
+"""Lanes that are nearly full by the demand, as an import finds them: there queues may be other than in SUMO."""
+from collections.abc import Mapping
+from dataclasses import dataclass
+from typing import Any
+
+from streetsim.model.named import one_of
+
+LEFT, RIGHT, STRAIGHT, TURNAROUND = "left", "right", "straight on", "back"
+MERGING = "where lanes become one"
+
+
+@dataclass(slots=True, frozen=True)
+class FullLane:
+    """A lane that is nearly full by the demand."""
+
+    junction: str
+    lane: str  # SUMO's id; where lanes become one, the edge
+    way: str  # of most of its vehicles: LEFT, .. or MERGING
+    source: str  # the edges from which and to which these go
+    target: str
+    demand: float  # in the worst quarter of an hour, as a share of what can pass here
+    vehicles: int = 0  # of the demand, that pass it
+
+    def told(self) -> str:
+        """Where it is, and how full."""
+        where = f"{self.way} from {self.source} to {self.target} at {self.junction}"
+        return f"{where}: demand {self.demand:.2f} of what passes here"
+
+
+@dataclass(slots=True, frozen=True)
+class Fullness:
+    """The lanes of a demand that are nearly full, the fullest first."""
+
+    lanes: tuple[FullLane, ...] = ()
+    vehicles: int = 0  # that pass such lanes
+    of: int = 0  # vehicles of the demand
+
+    def __bool__(self) -> bool:
+        """Whether there are any."""
+        return bool(self.lanes)
+
+    @property
+    def share(self) -> float:
+        """The share of the vehicles, 0 to 1, that pass such lanes."""
+        return self.vehicles / self.of if self.of else 0.0
+
+    def junctions(self) -> dict[str, float]:
+        """By junction the greatest demand of its lanes, as a share of what can pass."""
+        found: dict[str, float] = {}
+        for one in self.lanes:
+            found[one.junction] = max(one.demand, found.get(one.junction, 0.0))
+        return found
+
+
+def fullness_of(value: Mapping[str, Any]) -> Fullness:
+    """Those of a map's file, whose lanes have names or, in version 1, are lists; none of an empty value. KeyError,
+    TypeError or ValueError for anything else."""
+    if not value:
+        return Fullness()
+    return Fullness(tuple(one_of(FullLane, one) for one in value["lanes"]), int(value["vehicles"]), int(value["of"]))

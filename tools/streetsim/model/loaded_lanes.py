@@ -1,0 +1,35 @@
+"""What speaks against a forecast by how full lanes are in it: lefts that give way and were not surveyed, and growth
+near capacity."""
+from __future__ import annotations
+
+from collections.abc import Iterator, Mapping
+
+from streetsim.base.report import first_few
+from streetsim.model.fullness import LEFT, FullLane
+from streetsim.model.mapping import Map
+
+LOADED = 0.85  # of what a lane passes whose lefts give way, above which they want a survey
+NEARLY_FULL = 0.9  # the same of any lane, above which growth is doubted
+MORE = 1.02  # times as many vehicles are growth
+
+
+def loaded_lanes(mapping: Map) -> dict[str, FullLane]:
+    """By lane the nearly full ones of a demand, without approaches whose share of permissive greens was surveyed."""
+    surveyed = {edge for edge, _ in mapping.options.get("shares", ())}
+    return {one.lane: one for one in mapping.full.lanes if one.source not in surveyed}
+
+
+def forecast_doubts(own: Mapping[str, FullLane], base: Mapping[str, FullLane], growth: float) -> Iterator[str]:
+    """What speaks against a variant by its nearly full lanes and those of the base: lefts that it loads above LOADED
+    and the base does not, and growth (times the vehicles of the base) where lanes are above NEARLY_FULL."""
+    lefts = [
+        one for lane, one in own.items()
+        if one.way == LEFT and one.demand > LOADED and (lane not in base or base[lane].demand <= LOADED)
+    ]
+    if lefts:
+        told = first_few([one.told() for one in lefts], 3)
+        yield f"lefts that give way, which no survey told (streetsim-import --permissive EDGE=SHARE): {told}"
+    full = [one for one in own.values() if one.demand > NEARLY_FULL]
+    if growth > MORE and full:
+        told = first_few([one.told() for one in full], 3)
+        yield f"growth above 0.9 of what passes, where forecasts came out too small: {told}"

@@ -1,0 +1,157 @@
+"""The passages of approaches that go on to another edge, and what they come to in a run."""
+from __future__ import annotations
+
+from collections.abc import Iterator, Mapping, Sequence
+from itertools import pairwise
+from math import fsum
+
+from streetsim.base.arrays import Array, numpy as np
+from streetsim.control.bus_fleet import Dwell
+from streetsim.kernel.plans import Plans
+from streetsim.kernel.seconds import SLOTS, by_number, groups_of
+from streetsim.model.mapping import Place
+from streetsim.observe.counts import PeriodSums
+from streetsim.observe.junction_layout import movements_that_stop
+from streetsim.observe.junction_measures import Losses, Movement, stop_loss
+from streetsim.observe.log import Columns, Log
+from streetsim.observe.passages import Passages
+from streetsim.sumo.across import AT_SIGN
+
+PART = 1 << 14  # vehicles whose plans are looked through at once
+
+
+class Movements:
+    """Movements as numbers: that of an edge, times how many edges there are, and that of the next one; and what those
+    lose beyond what is seen who go from one to the other."""
+
+    def __init__(self, passages: Passages) -> None:
+        """passages: over the approaches of which they are."""
+        mapping, self.approaches = passages.kernel.map, passages.approaches
+        self.edges = list(dict.fromkeys(link.edge for link in mapping.links))
+        numbers = {edge: number for number, edge in enumerate(self.edges)}
+        self.edge_of = np.array([numbers[link.edge] for link in mapping.links])
+        self.own = np.array([numbers[edge] for edge in passages.edges], np.int64)  # by number of an approach
+        self.stopping = movements_that_stop(mapping)
+        self.losses: dict[int, tuple[float, float]] = {}
+
+    def name(self, movement: int) -> Movement:
+        """The edges of a movement."""
+        return self.edges[movement // len(self.edges)], self.edges[movement % len(self.edges)]
+
+    def losses_of(self, movement: int) -> tuple[float, float]:
+        """What those lose beyond what is seen who stop, and those who have to, which one alone loses too."""
+        if movement not in self.losses:
+            pair = edge, target = self.name(movement)
+            self.losses[movement] = stop_loss(self.approaches[edge], target), AT_SIGN * (pair in self.stopping)
+        return self.losses[movement]
+
+
+class PlanPlaces:
+    """Where the edges of approaches stand in the plans of vehicles."""
+
+    def __init__(self, movements: Movements, plans: Plans) -> None:
+        """plans: of the vehicles."""
+        self.movements, self.plans, count = movements, plans, len(plans.first)
+        # By vehicle, then by edge: keys of both, places of plans, and how often each was passed, by the key's first.
+        self.keys = np.zeros(len(plans.links), np.int64)
+        self.places, self.passed = (np.zeros(len(plans.links), np.int32) for _ in range(2))
+        for first, last in pairwise((*range(0, count, PART), count)):
+            own = slice(plans.first[first], plans.last[last - 1])
+            keys = plans.vehicles(first, last) * len(movements.edges) + movements.edge_of[plans.links[own]]
+            order = np.argsort(keys, kind="stable")
+            self.keys[own], self.places[own] = keys[order], order + own.start
+
+    def places_of(self, owner: Array, edge: Array) -> tuple[Array, Array]:
+        """(where the edge of each passage stands in its vehicle's plan, whether it stands there): as the edge may stand
+        there more than once, the first passage is that of the first place, and so on; those beyond the last place are
+        of this one. edge: by number of an approach. Passages are given once, in the order of their ends."""
+        wanted = owner.astype(np.int64) * len(self.movements.edges) + self.movements.own[edge]
+        low, high = (np.searchsorted(self.keys, wanted, side) for side in ("left", "right"))
+        at, several = low.copy(), np.flatnonzero(high - low > 1)
+        several = several[np.argsort(wanted[several], kind="stable")]
+        begins, group = groups_of(wanted[several])
+        rank = self.passed[low[several]] + np.arange(len(several)) - begins[group]
+        at[several] = np.minimum(low[several] + rank, high[several] - 1)
+        np.add.at(self.passed, low[several], 1)
+        return self.places[np.minimum(at, len(self.places) - 1)], high > low
+
+
+class Crossings:
+    """Passages of approaches, as columns: movement by its number, slot, following link, end, line, delay, stops, stood,
+    alone, before. Those whose plan ends on the approach or does not have its edge are left out, and those that left it
+    from an edge before: they arrived, turned back or were rescued there."""
+
+    def __init__(self, planned: PlanPlaces, done: Columns) -> None:
+        """done: as `Passages.done` gives them; they follow those of the Crossings before."""
+        plans, movements = planned.plans, planned.movements
+        rows = np.flatnonzero(movements.edge_of[done["slot"] // 2] == movements.own[done["edge"]])
+        at, there = planned.places_of(done["owner"][rows], done["edge"][rows])
+        going_on = there & (at + 1 < plans.last[done["owner"][rows]])
+        done, at = {name: values[rows[going_on]] for name, values in done.items()}, at[going_on]
+        first, floor = at.copy(), plans.first[done["owner"]]
+        while (off := (plans.links[first] != done["first"]) & (first > floor)).any():
+            first[off] -= 1
+        first = np.where(plans.links[first] == done["first"], first, at)
+        self.following = plans.links[at + 1]
+        self.movement = movements.own[done["edge"]] * len(movements.edges) + movements.edge_of[self.following]
+        self.delay = done["end"] - done["begin"] - plans.alone(first, at) - done["dwell"]
+        self.slot, self.end, self.line, self.before = (done[name] for name in ("slot", "end", "line", "before"))
+        self.stops, self.stood, self.alone = (done[name] for name in ("stops", "stood", "alone"))
+        found, which = np.unique(self.movement, return_inverse=True)
+        of_stop, of_all = np.array([movements.losses_of(one) for one in found.tolist()], float).reshape(-1, 2).T
+        self.delay = self.delay + of_stop[which] * (self.stops > 0)
+        self.delay = self.delay + of_all[which]
+
+
+class Crossed:
+    """What the crossings of a run come to: by interval what movements lost, and by lane who passed the stop line."""
+
+    def __init__(
+        self, passages: Passages, plans: Plans, interval: int, stopped: Mapping[int, Sequence[Dwell]]
+    ) -> None:
+        """plans: of the vehicles; interval, stopped: as of `done` of the passages, which are let go."""
+        self.movements, lanes, start = Movements(passages), len(passages.places), passages.kernel.start
+        self.lost: dict[int, tuple[Array, ...]] = {}  # by interval
+        self.log = Log({"line": "i4", "slot": "u2", "before": "i2", "stood": "?"})
+        self.passed, self.alone = PeriodSums(lanes), PeriodSums(lanes)  # by interval and lane
+        self.taken = np.zeros(0, np.int64)  # SLOTS times the lane, and the link to which they go, each pair once
+        planned = PlanPlaces(self.movements, plans)
+        for number, part in passages.done(interval, stopped):
+            one = Crossings(planned, part)
+            self.lost[number] = tuple(self.sums_of(one))
+            lane, at = passages.column[one.slot], (one.line - 1 - start) // interval
+            alone = (one.stood == 0) & (one.alone > 0)
+            self.passed.add(at, lane)
+            self.alone.add(at[alone], lane[alone])
+            self.taken = np.union1d(self.taken, one.slot.astype(np.int64) * SLOTS + one.following)
+            self.log.add({"line": one.line, "slot": one.slot, "before": one.before, "stood": one.stood > 0})
+
+    def sums_of(self, one: Crossings) -> Iterator[Array]:
+        """Of crossings, by movement: its number, how many, their mean delay, seconds of standing and stops of all; then
+        by movement and lane, from the lowest number on, both and how many."""
+        rows = by_number(one.movement)
+        begins, _ = groups_of(one.movement[rows])
+        bounds = [*begins.tolist(), len(rows)]
+        delays = one.delay[rows].tolist()
+        yield one.movement[rows[begins]].astype(np.int32)
+        yield np.diff(bounds).astype(np.int32)
+        yield np.array([fsum(delays[first:last]) / (last - first) for first, last in pairwise(bounds)], float)
+        for column in (one.stood, one.stops):
+            sums = np.append(0, np.cumsum(column[rows], dtype=np.int64))[bounds]
+            yield np.diff(sums).astype(np.int32)
+        lanes, counts = np.unique(one.movement * SLOTS + one.slot, return_counts=True)
+        yield from ((lanes // SLOTS).astype(np.int32), (lanes % SLOTS).astype(np.uint16), counts.astype(np.int32))
+
+    def losses_in(self, number: int) -> tuple[dict[Movement, Losses], dict[Movement, dict[Place, int]]]:
+        """By movement what its vehicles lost, as means, in an interval, and how many were on each lane; the delay is at
+        least the seconds of standing."""
+        lost: dict[Movement, Losses] = {}
+        lanes: dict[Movement, dict[Place, int]] = {}
+        movements, *columns = (one.tolist() for one in self.lost.get(number, [np.zeros(0, np.int32)] * 8))
+        names = {movement: self.movements.name(movement) for movement in movements}
+        for movement, count, delay, stood, stops in zip(movements, *columns[:4], strict=True):
+            lost[names[movement]] = Losses(count, max(stood / count, delay), stood / count, stops / count)
+            lanes[names[movement]] = {}
+        for movement, slot, count in zip(*columns[4:], strict=True):
+            lanes[names[movement]][slot // 2, slot % 2] = count
+        return lost, lanes

@@ -1,0 +1,288 @@
+"""Signals that are green in the gaps between vehicles that go first, where there is no light."""
+import math
+from bisect import bisect_left, bisect_right
+from collections import defaultdict
+from collections.abc import Collection, Iterable, Iterator, Mapping, Sequence
+from itertools import groupby
+
+from streetsim.base import limits
+from streetsim.model.mapping import Map, Place
+from streetsim.model.runs import Line
+from streetsim.model.waiting import Foe, GivingWay, Pace, TurnKey
+
+State = tuple[int, ...]  # for each group whether it is red
+Group = tuple[Sequence[TurnKey], Sequence[int]]  # turns that give way, and for each second whether they are red
+# {(link, lane): [(second, next link, the second at which it would have come to the line were nobody in its way)]}
+StopLinePassings = Mapping[Place, Sequence[tuple[float, int, float]]]
+Times = Mapping[TurnKey, Sequence[float]]  # when vehicles pass, by turn
+# For each second whether it is red: to one who stands at the line, to one who comes while nobody does; what is shown.
+Signals = tuple[bytearray, bytearray, bytearray]
+Stands = Mapping[tuple[TurnKey, float], float]  # {(turn, second): how long the one that passes then stood at the line}
+AROUND = 300  # seconds before and after, in which those that go first are counted
+SHOWN, HIDDEN = 3, 2  # seconds in turn, where those that use a gap follow each other slowly
+# Seconds between two of them that may use one gap, and before and after them for what differs from run to run.
+CLOSE = 15
+PATIENCE = 150  # seconds without a gap; then one goes
+TAIL = 30  # seconds after the last vehicle
+FOLLOWING = 2.0  # seconds behind another, after which one is the first of its lane
+# Seconds that one who gives way stands at the line before it is in the way of others, and for how many it is at most.
+UNSEEN, MOST_SEEN = 3.0, 30.0
+
+
+def gap_lines(mapping: Map, passed: StopLinePassings, start: int) -> list[tuple[int, Line]]:
+    """The signal lines, (clock, line), rising, for nodes without a light where vehicles give way: green in the
+    gaps between those who go first. passed: when vehicles passed in a run; start: the run's first clock."""
+    reds = reds_of(mapping, passed, start)
+    return signal_lines(mapping, shown_reds(mapping, reds, passed, start), start)
+
+
+def reds_of(mapping: Map, passed: StopLinePassings, start: int) -> list[tuple[GivingWay, bytearray]]:
+    """(one who gives way, a byte for each second from start to TAIL after the last passing, 1: red) for each GivingWay
+    of a map; those before whom nobody comes, and that have no pace, are left out. Arguments: as of gap_lines."""
+    end = int(max((second for each in passed.values() for second, *_ in each), default=start)) + TAIL
+    times = by_turn(passed)
+    stands = stands_of(passed, {turn for one in mapping.yields for turn in one.turns}, UNSEEN)
+    reds = ((one, red_seconds(one, times, start, end, stands)) for one in mapping.yields)
+    return [(one, red) for one, red in reds if red is not None]
+
+
+def shown_reds(
+    mapping: Map, reds: Iterable[tuple[GivingWay, bytearray]], passed: StopLinePassings, start: int
+) -> list[tuple[GivingWay, bytearray]]:
+    """What reds_of gave, with those seconds alone red in which somebody stands at the line, or in which one would have
+    to stop who comes to it. Arguments: as of gap_lines."""
+    times, found = by_turn(passed), []
+    stands = stands_of(passed, {turn for one in mapping.yields for turn in one.turns}, 0.0)
+    signals: dict[TurnKey, Signals] = {}
+    for one, standing in reds:
+        rolling = standing if one.pace else rolling_seconds(one, times, start, len(standing), stands)
+        shown = bytearray(rolling)
+        signals.update(dict.fromkeys(one.turns, (standing, rolling, shown)))
+        found.append((one, shown))
+    for place in passed.keys() & {(link, lane) for link, lane, _ in signals}:
+        show_to_standing(place, passed[place], signals, start)
+    return found
+
+
+def signal_lines(mapping: Map, reds: Iterable[tuple[GivingWay, Sequence[int]]], start: int) -> list[tuple[int, Line]]:
+    """The signal lines, (clock, line), of what reds_of gave, by rising clocks; start: the run's first clock."""
+    turns_at: defaultdict[int, list[TurnKey]] = defaultdict(list)
+    groups_at: defaultdict[int, list[Group]] = defaultdict(list)
+    for turn in mapping.turns:
+        turns_at[mapping.links[turn.link].end].append((turn.link, turn.lane, turn.next))
+    for one, red in reds:
+        groups_at[one.node].append((one.turns, red))
+    found = [pair for node, groups in groups_at.items() for pair in node_lines(node, turns_at[node], groups, start)]
+    return sorted(found, key=lambda pair: (pair[0], pair[1].command["node"]))
+
+
+def by_turn(passed: StopLinePassings) -> dict[TurnKey, list[float]]:
+    """When vehicles passed, by turn and not by lane, {(link, lane, next link): [second]}."""
+    times: defaultdict[TurnKey, list[float]] = defaultdict(list)
+    for (link, lane), each in passed.items():
+        for second, following, _ in each:
+            times[link, lane, following].append(second)
+    return times
+
+
+def stands_of(passed: StopLinePassings, waits: Collection[TurnKey], unseen: float) -> Stands:
+    """For how many seconds those who give way stood at their line in the way of others, by turn and second: those
+    beyond unseen, MOST_SEEN at most; who stood for no longer is left out. waits: the turns that give way."""
+    stood = ((place, *one) for place, each in passed.items() for one in standing_seconds(each))
+    return {
+        ((*place, following), second): min(MOST_SEEN, seconds - unseen)
+        for place, second, following, seconds in stood
+        if seconds > unseen and (*place, following) in waits
+    }
+
+
+def standing_seconds(passing: Iterable[tuple[float, int, float]]) -> Iterator[tuple[float, int, float]]:
+    """(second, next link, how many seconds it stood) of each vehicle that passes the line of a lane, by rising seconds:
+    from when it came there, or the one before it was FOLLOWING seconds gone; below 0 where it passes sooner than that.
+    passing: as the values of StopLinePassings."""
+    free = -math.inf
+    for second, following, due in sorted(passing):
+        yield second, following, second - max(due, free)
+        free = second + FOLLOWING
+
+
+def node_lines(node: int, turns: Sequence[TurnKey], groups: Sequence[Group], start: int) -> Iterator[tuple[int, Line]]:
+    """The signal lines of a node, (clock, line), from the clock start on. turns: all of the node; groups: turns that
+    give way, with a byte for each second, 1: red. Other turns are always green, and by the last line, which has one
+    phase, all are from the end of these seconds on."""
+    waits = {turn for each, _ in groups for turn in each}
+    always = [turn for turn in turns if turn not in waits]
+
+    def green(state: State) -> tuple[list[TurnKey], str]:
+        """(the turns that are green in a state, the same as they stand in a line)."""
+        shown = [turn for (each, _), hidden in zip(groups, state, strict=True) if not hidden for turn in each]
+        turns = sorted([*always, *shown])
+        return turns, ",".join(f"[{link},{lane},{following}]" for link, lane, following in turns)
+
+    phases, open_ = phases_of_reds([red for _, red in groups]), (limits.PHASE_STEPS, (0,) * len(groups))
+    shown = {state: green(state) for state in {state for _, state in [*phases, open_]}}
+    parts = [phases[first : first + limits.PHASES] for first in range(0, len(phases), limits.PHASES)]
+    clock = start
+    for part in [*parts, [open_]]:
+        listed = ",".join(f"[{length},[{shown[state][1]}]]" for length, state in part)
+        seconds = sum(length for length, _ in part)
+        offset = -clock % seconds
+        text = f'{{"cmd":"signal","node":{node},"offset":{offset},"phases":[{listed}]}}'
+        told = [(length, shown[state][0]) for length, state in part]
+        yield clock, Line(0, text, {"cmd": "signal", "node": node, "offset": offset, "phases": told})
+        clock += seconds
+
+
+def phases_of_reds(reds: Sequence[Sequence[int]]) -> list[tuple[int, State]]:
+    """The phases of a node, (seconds, (red or not by group)): each is a stretch of seconds in which no group changes,
+    of PHASE_STEPS at most. reds: for each group a byte for each second, 1: red."""
+    made = []
+    for state, run in groupby(zip(*reds, strict=True)):
+        length = sum(1 for _ in run)
+        while length:
+            made.append((min(limits.PHASE_STEPS, length), state))
+            length -= made[-1][0]
+    return made
+
+
+def red_seconds(waiting: GivingWay, times: Times, start: int, end: int, stands: Stands = {}) -> bytearray | None:
+    """For the turns of one GivingWay a byte for each second from start to before end, 1: red, as somebody comes
+    who goes first, so that they use a gap slowly, or to keep their pace; be_patient makes some green. None where nobody
+    comes and they have no pace. times: when vehicles pass, by turn; stands: as stands_of gives them."""
+    comes = [(second, foe) for foe in waiting.foes for second in times.get((foe.link, foe.lane, foe.next), ())]
+    comes.sort(key=lambda one: one[0])
+    if not comes and waiting.pace is None:
+        return None
+    red, owed, counts = bytearray(end - start), 0.5, GapCounts(comes)
+    for second, foe in comes:
+        if not foe.gap.seconds:  # all stop, and go in turn
+            continue
+        stood = stands.get(((foe.link, foe.lane, foe.next), second), 0.0)
+        length = foe.gap.before(*counts.flows_around(second, foe)) + stood + foe.gap.after + owed
+        owed = length % 1
+        last = round(second + foe.gap.after) - start
+        mark(red, last - int(length), last)
+    if any(foe.slow for _, foe in comes):
+        for sooner, later in followings(sorted(second for turn in waiting.turns for second in times.get(turn, ()))):
+            slow_down(red, int(sooner) - start, int(later) - start)
+    if waiting.pace is not None:
+        keep_pace(red, waiting.pace, counts.every, near_passings(waiting, times, start, len(red)), start)
+    be_patient(red)
+    return red
+
+
+def rolling_seconds(waiting: GivingWay, times: Times, start: int, length: int, stands: Stands) -> bytearray:
+    """For the turns of one GivingWay a byte for each of length seconds from start, 1 where one would have to stop who
+    comes to the line while nobody stands there. times, stands: as of red_seconds."""
+    red, owed = bytearray(length), 0.5
+    comes = ((second, foe) for foe in waiting.foes for second in times.get((foe.link, foe.lane, foe.next), ()))
+    for second, foe in sorted(comes, key=lambda one: one[0]):
+        stood = stands.get(((foe.link, foe.lane, foe.next), second), 0.0)
+        seconds = foe.gap.rolling + stood + foe.gap.after + owed
+        owed = seconds % 1
+        last = round(second + foe.gap.after) - start
+        mark(red, last - int(seconds), last)
+    return red
+
+
+def show_to_standing(
+    place: Place, passing: Iterable[tuple[float, int, float]], signals: Mapping[TurnKey, Signals], start: int
+) -> None:
+    """Makes red what is shown, as it is to those who stand, while somebody stands at the line of a lane, and CLOSE
+    seconds longer: who starts behind another, or comes when it is red to those who come, until it is green to those who
+    stand. passing: as the values of StopLinePassings; signals: by turn, of those who give way; start: the clock of the
+    first byte."""
+    gone = -int(FOLLOWING)
+    for _, following, due in sorted(passing):
+        came = max(0, int(due) - start)
+        at = max(came, gone + int(FOLLOWING))
+        if own := signals.get((*place, following)):
+            standing, rolling, shown = own
+            if at > came or rolling[at : at + 1] == b"\1":
+                first = gone + 1 if at > came else at
+                free = standing.find(0, at)
+                at = len(shown) if free < 0 else free
+                shown[max(0, first) : at + CLOSE] = standing[max(0, first) : at + CLOSE]
+        gone = at
+
+
+def near_passings(waiting: GivingWay, times: Times, start: int, length: int) -> bytearray:
+    """A byte for each of length seconds from the start, 1 where somebody passes then, or up to CLOSE seconds before or
+    after, on a lane of its turns. All of a lane count, wherever they turn, as they wait for one another."""
+    lanes = {(link, lane) for link, lane, _ in waiting.turns}
+    near = bytearray(length)
+    for (link, lane, _), seconds in times.items():
+        for second in seconds if (link, lane) in lanes else ():
+            mark(near, int(second) - CLOSE - start, int(second) + CLOSE - start)
+    return near
+
+
+def keep_pace(red: bytearray, pace: Pace, comes: Sequence[float], near: Sequence[int], start: int) -> None:
+    """Makes seconds of red red so that those who have to stop follow each other as slowly as in SUMO, where somebody is
+    near (a byte a second, by near_passings). comes: the seconds at which others come, rising; start: the clock of the
+    first byte."""
+    at, owed = 0, 0.0
+    while at < len(red):
+        period = pace.period(hourly_around(comes, at + start)) + owed
+        owed = period % 1
+        for second in range(at + pace.shown, min(len(red), at + int(period))):
+            red[second] |= near[second]
+        at += int(period)
+
+
+class GapCounts:
+    """How many vehicles go first around a second: on one lane, on one street, and in all."""
+
+    def __init__(self, comes: Iterable[tuple[float, Foe]]) -> None:
+        """comes: (second, who goes first), by rising seconds."""
+        self.by_lane: defaultdict[tuple[int, ...], list[float]] = defaultdict(list)
+        self.by_street: defaultdict[int, list[float]] = defaultdict(list)
+        self.every: list[float] = []
+        for second, foe in comes:
+            for times in self.lists_of(foe):
+                times.append(second)
+
+    def lists_of(self, foe: Foe) -> tuple[list[float], list[float], list[float]]:
+        """(on the lane of a foe, on its street, on all): the seconds at which vehicles come."""
+        return self.by_lane[foe.link, foe.lane], self.by_street[foe.street], self.every
+
+    def flows_around(self, second: float, foe: Foe) -> tuple[float, ...]:
+        """(on the lane of a foe, on its street, on all): vehicles an hour around a second."""
+        return tuple(hourly_around(times, second) for times in self.lists_of(foe))
+
+
+def hourly_around(times: Sequence[float], second: float) -> float:
+    """Vehicles an hour within AROUND seconds before and after a second; times: seconds that rise."""
+    count = bisect_right(times, second + AROUND) - bisect_left(times, second - AROUND)
+    return count * 3600 / (2 * AROUND)
+
+
+def mark(seconds: bytearray, first: int, last: int) -> None:
+    """Makes the bytes from first to before last 1, as far as there are any."""
+    first, last = max(0, first), max(0, min(len(seconds), last))
+    seconds[first:last] = b"\1" * (last - first)
+
+
+def followings(seconds: Sequence[float]) -> Iterator[tuple[float, float]]:
+    """The stretches of time in which vehicles follow each other closely, (first second, last second), with CLOSE
+    seconds before and after; they may overlap, and one vehicle alone has none. seconds: when they pass, rising."""
+    first = 0
+    for at in range(1, len(seconds) + 1):
+        if at == len(seconds) or seconds[at] - seconds[at - 1] > CLOSE:
+            if at - first > 1:
+                yield seconds[first] - CLOSE, seconds[at - 1] + CLOSE
+            first = at
+
+
+def slow_down(red: bytearray, first: int, last: int) -> None:
+    """Makes some seconds of red red in each gap between the seconds first and last from its begin: HIDDEN after every
+    SHOWN, so that no more vehicles use the gap than can. Those of a gap that goes on may lie after last."""
+    at = red.find(0, max(0, first), max(0, last))
+    while at >= 0:
+        mark(red, at + SHOWN, at + SHOWN + HIDDEN)
+        at = red.find(0, at + SHOWN + HIDDEN, last)
+
+
+def be_patient(red: bytearray) -> None:
+    """Makes the last one of each PATIENCE seconds that are red without a break green, so that one vehicle goes."""
+    red[:] = red.replace(b"\1" * PATIENCE, b"\1" * (PATIENCE - 1) + b"\0")

@@ -1,0 +1,79 @@
+"""What the lanes of approaches showed in an interval, summed up over the spans in which a light shows one phase."""
+from __future__ import annotations
+
+from collections import defaultdict
+from collections.abc import Mapping, Sequence
+from dataclasses import dataclass
+from typing import Any
+
+from streetsim.base.arrays import Array, numpy as np
+from streetsim.model.mapping import Place
+from streetsim.observe.shown import ShownPlans, Spans
+
+COUNT = "u2"  # of seconds of a phase, and of vehicles on a lane
+
+
+@dataclass(slots=True)
+class Showed:
+    """An interval, from one clock to another. Its spans go by node. Its lanes go by the node to which they lead."""
+
+    begin: int
+    end: int
+    spans: Array  # by node how many
+    phases: Array  # by span its number, as of Shown
+    seconds: Array  # by span
+    waiting: Array  # by lane and span the seconds in which anybody was there who had stood
+    last: Array  # by lane and span who had stood in its last second
+    first: Array  # by lane who had stood in the first second of all
+    cycles: Array  # by lane how many
+    queues: Array  # by lane and cycle the longest queue, metres
+
+
+def showed(
+    shown: ShownPlans, lanes: Mapping[int, Sequence[int]], places: Sequence[Place], begin: int, back: Array,
+    stood: Array,
+) -> Showed:
+    """What lanes showed in some seconds behind a clock. lanes: by node those that lead to it, by their positions among
+    the places; back, stood: by second and place the queue, in metres, and who had stood."""
+    back, stood, end = np.ascontiguousarray(back.T), np.ascontiguousarray(stood.T, COUNT), begin + len(back)
+    spans = {node: shown.spans(node, begin, end) for node in lanes}
+    alike: defaultdict[tuple[bytes, bytes], list[int]] = defaultdict(list)
+    for node, one in spans.items():
+        alike[one.begins.tobytes(), one.turns.tobytes()].append(node)
+    found: dict[int, tuple[Any, ...]] = {}
+    for nodes in alike.values():
+        own = [lane for node in nodes for lane in lanes[node]]
+        seconds, *columns = columns_of(spans[nodes[0]], back[own], stood[own])
+        last = 0
+        for node in nodes:
+            first, last = last, last + len(lanes[node])
+            found[node] = seconds, *(one[first:last].ravel() for one in columns)
+    for node in lanes:
+        if not shown.has_one_plan(node):
+            greens = shown.greens(node, [places[lane] for lane in lanes[node]], spans[node].phases.tolist())
+            found[node] = *found[node][:4], *by_greens(spans[node], greens, back[lanes[node]])
+    counts = np.array([len(one.phases) for one in spans.values()])
+    phases = np.concatenate([one.phases for one in spans.values()]).astype(np.int32)
+    others = zip(*(found[node] for node in lanes), strict=True)
+    return Showed(begin, end, counts, phases, *(np.concatenate(those) for those in others))
+
+
+def columns_of(spans: Spans, back: Array, stood: Array) -> tuple[Array, ...]:
+    """What Showed has from `seconds` on, of lanes with the same spans, whose cycles are those of a plan; back, stood:
+    by lane and second."""
+    ends, cycles = np.append(spans.begins[1:], len(back[0])), spans.begins[spans.turns]
+    waiting = np.add.reduceat(stood > 0, spans.begins, axis=1, dtype=COUNT)
+    count, queues = np.full(len(back), len(cycles), COUNT), np.maximum.reduceat(back, cycles, axis=1)
+    return (ends - spans.begins).astype(COUNT), waiting, stood[:, ends - 1], stood[:, 0], count, queues
+
+
+def by_greens(
+    spans: Spans, greens: Sequence[Sequence[frozenset[int] | None]], back: Array
+) -> tuple[list[int], Array]:
+    """By lane how many cycles, and the longest queue in each, where a light has several plans, so that its cycles begin
+    with the greens of each lane; greens: as `ShownPlans.greens` gives them; back: by lane and second."""
+    found = []
+    for own, metres in zip(greens, back, strict=True):
+        rises = [True, *(bool(now) and not before for before, now in zip(own, own[1:]))]
+        found.append(np.maximum.reduceat(metres, spans.begins[rises]))
+    return [len(one) for one in found], np.concatenate(found)

@@ -1,0 +1,207 @@
+"""Which junctions, approaches and movements a map has, and what their signals show."""
+from bisect import bisect_right
+from collections import defaultdict
+from collections.abc import Collection, Iterable, Mapping, Sequence
+from dataclasses import dataclass, field
+from itertools import accumulate
+from math import atan2, degrees
+from typing import Any
+
+from streetsim.model.mapping import Map, Place, Shape
+from streetsim.model.runs import Sent
+from streetsim.model.service import PRIORITY, ROUNDABOUT, SIGNALS
+
+STRAIGHT, BACK = 45, 150  # degrees: less is straight on, more is a turn back
+
+
+@dataclass(slots=True)
+class Approach:
+    """The way to a junction: the edge that leads to it, and those before that this edge alone continues."""
+
+    edge: str
+    junction: str  # its name, of a roundabout that of its first node
+    control: str  # SIGNALS, PRIORITY or ROUNDABOUT
+    links: list[int]  # that the edge became
+    metres: float  # of its edge
+    lanes: list[Place] = field(default_factory=list)  # (link, lane) of its edge
+    movements: dict[str, str] = field(default_factory=dict)  # next edge: L, T, R or U
+    # Links of each edge before, the nearest first, turning back apart.
+    before: list[list[int]] = field(default_factory=list)
+    whole: float = 0.0  # metres, with the edges before
+
+    @property
+    def all_links(self) -> list[int]:
+        """The links of its edge, then those of the edges before, the nearest first."""
+        return [*self.links, *(link for links in self.before for link in links)]
+
+
+def approaches_of(mapping: Map) -> dict[str, Approach]:
+    """The approaches by edge: of junctions with signals, of others with at least two edges in, two out and five in all,
+    and of roundabouts, each one junction whose approaches are its entries (and its own edges that lead to a node with
+    two in, two out and five in all). Edges from which no turn leads are left out."""
+    lit, rings = {node for _, node in mapping.signals}, rings_of(mapping)
+    junctions = junction_nodes(mapping)
+    found = {}
+    for edge, links in mapping.links_of.items():
+        node = mapping.links[links[0]].end
+        in_ring = node in rings and node not in lit
+        if node in lit or node in junctions or in_ring and edge not in mapping.rings:
+            control = SIGNALS if node in lit else ROUNDABOUT if in_ring else PRIORITY
+            name = mapping.nodes[rings[node] if in_ring else node][0]
+            found[edge] = Approach(edge, name, control, links, mapping.links[links[0]].metres, mapping.lanes(links))
+    for turn in mapping.turns:
+        source, target = mapping.links[turn.link], mapping.links[turn.next]
+        if source.edge in found:
+            found[source.edge].movements[target.edge] = turn_name(source.shape, target.shape)
+    made = {edge: approach for edge, approach in found.items() if approach.movements}
+    set_edges_before(mapping, made, lit | junctions | rings.keys())
+    return made
+
+
+def junction_nodes(mapping: Map) -> set[int]:
+    """The nodes with at least two edges in, two out and five in all."""
+    ends, begins = defaultdict(set), defaultdict(set)
+    for link in mapping.links:
+        ends[link.end].add(link.edge)
+        begins[link.begin].add(link.edge)
+    both = {node for node in ends if len(ends[node]) >= 2 and len(begins[node]) >= 2}
+    return {node for node in both if len(ends[node]) + len(begins[node]) >= 5}
+
+
+def rings_of(mapping: Map) -> dict[int, int]:
+    """By node of a roundabout the least number of a node of the same roundabout."""
+    least: dict[int, int] = {}
+    edges = [link for link in mapping.links if link.edge in mapping.rings]
+    for link in edges:
+        for node in (link.begin, link.end):
+            least.setdefault(node, node)
+    for _ in edges:  # as often as a ring may be long
+        for link in edges:
+            least[link.begin] = least[link.end] = min(least[link.begin], least[link.end])
+    return least
+
+
+def set_edges_before(mapping: Map, approaches: Mapping[str, Approach], junctions: Collection[int]) -> None:
+    """Sets before and whole of new approaches; edges before go back at most to the next of some junctions (nodes)."""
+    before, after = defaultdict(set), defaultdict(set)
+    for turn in mapping.turns:
+        source, target = mapping.links[turn.link], mapping.links[turn.next]
+        if turn_name(source.shape, target.shape) != "U":
+            before[target.edge].add(source.edge)
+            after[source.edge].add(target.edge)
+    for approach in approaches.values():
+        edge, passed = approach.edge, {approach.edge}
+        approach.whole = approach.metres
+        while mapping.links[mapping.links_of[edge][0]].begin not in junctions and len(before[edge]) == 1:
+            (sooner,) = before[edge]
+            if after[sooner] != {edge} or sooner in passed:
+                break
+            approach.before.append(mapping.links_of[sooner])
+            approach.whole += mapping.links[mapping.links_of[sooner][0]].metres
+            edge, passed = sooner, passed | {sooner}
+
+
+def movements_that_stop(mapping: Map) -> set[tuple[str, str]]:
+    """The movements (edge, next edge) of those who always have to stop, as at a stop sign."""
+    paced = (turn for one in mapping.yields if one.pace is not None for turn in one.turns)
+    return {(mapping.links[link].edge, mapping.links[following].edge) for link, _, following in paced}
+
+
+def approaches_cut_short(mapping: Map, approaches: Mapping[str, Approach]) -> list[str]:
+    """The edges of approaches to which further edges lead that no table has."""
+    before = defaultdict(set)
+    for turn in mapping.turns:
+        before[mapping.links[turn.next].edge].add(mapping.links[turn.link].edge)
+    own = {mapping.links[link].edge for approach in approaches.values() for link in approach.all_links}
+    firsts = {edge: mapping.links[one.all_links[-1]].edge for edge, one in approaches.items()}
+    return [edge for edge, first in firsts.items() if not before[first] - {edge} <= own]
+
+
+def turn_name(source: Shape, target: Shape) -> str:
+    """L (left), T (through), R (right) or U (back), by the lines, of two points at least, before and after a
+    junction: T below STRAIGHT degrees, U above BACK."""
+    turned = (heading(*target[:2]) - heading(*source[-2:]) + 180) % 360 - 180
+    if abs(turned) < STRAIGHT:
+        return "T"
+    return "U" if abs(turned) > BACK else "R" if turned > 0 else "L"
+
+
+def heading(begin: Sequence[float], end: Sequence[float]) -> float:
+    """The direction from one point (x, y) to another, degrees clockwise from north, -180 to 180."""
+    return degrees(atan2(end[0] - begin[0], end[1] - begin[1]))
+
+
+class Greens:
+    """What the signals of a run show to each lane; steps are clocks at their begin. A node without a light always shows
+    green to all."""
+
+    def __init__(self, mapping: Map, signals: Iterable[Sent]) -> None:
+        """signals: (clock at which it is sent, command), in any order."""
+        self.mapping = mapping
+        # By node: (clock from which it holds, command).
+        self.plans: dict[int, list[Sent]] = {node: [] for _, node in mapping.signals}
+        self.clocks: dict[int, list[int]] = {node: [] for node in self.plans}
+        # By the list of a plan's phases, which its command keeps: the ends of these, and by lane what is green in each.
+        self.shown: dict[int, tuple[list[int], dict[Place, list[frozenset[int]]]]] = {}
+        self.add(signals)
+
+    def add(self, signals: Iterable[Sent]) -> None:
+        """Adds signals, in any order, none of which is sent before those that are known."""
+        for clock, command in sorted(signals, key=lambda pair: pair[0]):
+            if command["node"] in self.plans:
+                self.plans[command["node"]].append((clock, command))
+                self.clocks[command["node"]].append(clock)
+
+    def has_one_plan(self, link: int) -> bool:
+        """Whether the light at the end of a link has at most one plan; one that detectors drive has one a phase."""
+        return len(self.clocks.get(self.mapping.links[link].end, ())) <= 1
+
+    def green_and_cycle_at(self, link: int, lane: int, step: int) -> tuple[frozenset[int] | None, Any]:
+        """(the links to which a lane has green in a step, None for all, as before the first plan; a value that is equal
+        for all steps of one cycle, or of one minute where there is no signal)."""
+        node = self.mapping.links[link].end
+        number = bisect_right(self.clocks.get(node, ()), step) - 1
+        if number < 0:
+            return None, step // CYCLE
+        ends, greens = self.phase_ends_and_greens(number, link, lane)
+        cycle, second = divmod(step + self.plans[node][number][1]["offset"], ends[-1])
+        return greens[bisect_right(ends, second)], (number, cycle)
+
+    def begin_of(self, link: int, lane: int, step: int) -> int | None:
+        """The step in which the green of a lane began that it has in a step; None where it has none then, or has had it
+        for CYCLE_MOST steps, since before its first plan, or always. Before clock 0 nothing is green."""
+        for back in range(step, step - CYCLE_MOST, -1):
+            shown = self.green_and_cycle_at(link, lane, back)[0] if back >= 0 else frozenset()
+            if not shown:
+                return back + 1 if shown is not None and back < step else None
+        return None
+
+    def phase_ends_and_greens(self, number: int, link: int, lane: int) -> tuple[list[int], list[frozenset[int]]]:
+        """(by phase of a plan the second of the cycle in which it ends, by phase the links to which a lane has green);
+        number: of the plan among those of the node."""
+        ends, greens = self.ends_and_greens_of(self.mapping.links[link].end, number)
+        return ends, greens.get((link, lane)) or [frozenset()] * len(ends)
+
+    def ends_and_greens_of(self, node: int, number: int) -> tuple[list[int], dict[Place, list[frozenset[int]]]]:
+        """What `ends_and_greens` gives of a plan, by its number among those of the node."""
+        phases = self.plans[node][number][1]["phases"]
+        if id(phases) not in self.shown:
+            self.shown[id(phases)] = ends_and_greens(phases)
+        return self.shown[id(phases)]
+
+
+def ends_and_greens(phases: Sequence[Sequence[Any]]) -> tuple[list[int], dict[Place, list[frozenset[int]]]]:
+    """(by phase the second of the cycle in which it ends, by lane with any green the links that are green in each
+    phase) of a plan's phases."""
+    found: dict[Place, list[set[int]]] = {}
+    for number, (_, green) in enumerate(phases):
+        for link, lane, following in green:
+            if (link, lane) not in found:
+                found[link, lane] = [set() for _ in phases]
+            found[link, lane][number].add(following)
+    ends = list(accumulate(duration for duration, _ in phases))
+    return ends, {place: [frozenset(links) for links in own] for place, own in found.items()}
+
+
+CYCLE_MOST = 600  # seconds that a green is looked back for
+CYCLE = 60  # seconds by which queues are counted where no signal stands

@@ -1,0 +1,51 @@
+"""What vehicles lost on approaches and how far lanes were used, by intervals of a run."""
+from collections.abc import Iterable
+from dataclasses import dataclass, field
+
+from streetsim.model.mapping import Place
+from streetsim.model.service import SIGNALS, STOP_LOSS
+from streetsim.observe.junction_layout import Approach
+
+Movement = tuple[str, str]  # an edge and the next one
+
+
+@dataclass(slots=True)
+class Losses:
+    """What some vehicles lost: means over them."""
+
+    vehicles: int  # how many
+    delay: float  # control delay, seconds
+    stood: float  # seconds
+    stops: float
+
+
+@dataclass(slots=True)
+class Interval:
+    """What is known of an interval, by movement (edge, next edge) or by lane (link, lane)."""
+
+    begin: int
+    end: int
+    lost: dict[Movement, Losses] = field(default_factory=dict)
+    lanes: dict[Movement, dict[Place, int]] = field(default_factory=dict)  # vehicles by lane
+    queues: dict[Place, list[float]] = field(default_factory=dict)  # metres of the queue in each cycle
+    uses: dict[Place, float] = field(default_factory=dict)  # v/c, from 0; above 1 where more want to pass than can
+    flows: dict[Place, float] = field(default_factory=dict)  # saturation flow, vehicles an hour
+
+
+def weighted_mean_losses(parts: Iterable[Losses]) -> Losses:
+    """The means over all vehicles of several movements, of which at least one has vehicles."""
+    count, delay, stood, stops = 0, 0.0, 0.0, 0.0
+    for part in parts:
+        count += part.vehicles
+        delay += part.vehicles * part.delay
+        stood += part.vehicles * part.stood
+        stops += part.vehicles * part.stops
+    return Losses(count, delay / count, stood / count, stops / count)
+
+
+def stop_loss(approach: Approach, target: str) -> float:
+    """Seconds that a vehicle which stops on an approach loses beyond what is seen; target: the next edge. 0 for those
+    that turn at a light, as the import has put it into the seconds of green that it leaves out."""
+    if approach.control == SIGNALS and approach.movements[target] != "T":
+        return 0.0
+    return STOP_LOSS[0] if len(approach.lanes) == 1 else STOP_LOSS[1]

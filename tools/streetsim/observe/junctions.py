@@ -1,0 +1,91 @@
+"""movements.csv, approaches.csv and junctions.csv: what passages lost, by intervals."""
+from __future__ import annotations
+
+import pickle
+import zlib
+from collections.abc import Iterable
+
+from streetsim.base.arrays import Array, numpy as np
+from streetsim.base.report import first_few
+from streetsim.control.bus_fleet import Done, dwells
+from streetsim.kernel.loop import Kernel
+from streetsim.kernel.seconds import Seconds
+from streetsim.model.names import Names
+from streetsim.observe.crossings import Crossed
+from streetsim.observe.intervals import COUNT, showed
+from streetsim.observe.judging import Judge
+from streetsim.observe.junction_facing import junctions_with_facing_streets
+from streetsim.observe.junction_layout import approaches_cut_short
+from streetsim.observe.junction_rows import JunctionTables
+from streetsim.observe.passages import Passages
+from streetsim.observe.shown import ShownPlans
+
+
+class Junctions(Passages):
+    """Follows vehicles over approaches, and sums up what lanes showed, by intervals."""
+
+    def __init__(self, interval: int) -> None:
+        """interval: seconds of one."""
+        self.interval = interval
+
+    def begin(self, kernel: Kernel) -> None:
+        """Nothing is kept."""
+        super().begin(kernel)
+        self.begun: list[tuple[Array, Array]] = []  # of the interval under way: queues, who had stood
+        self.kept: list[bytes] = []  # of each interval a packed Showed
+        self.clock, self.left = kernel.start, self.interval  # begin, and seconds to come, of the interval under way
+        signals = [(kernel.start, line.command) for line in kernel.run.first if line.command["cmd"] == "signal"]
+        self.shown, self.sent = ShownPlans(kernel.map, signals), 0  # sent: lines that are in it
+
+    def log_lanes(self, seconds: Seconds, back: Array, stood: Array) -> None:
+        """Takes what lanes showed in some seconds."""
+        while len(back) and self.places:
+            self.begun.append((back[: self.left], stood[: self.left].astype(COUNT)))
+            taken = len(self.begun[-1][0])
+            back, stood, self.left = back[taken:], stood[taken:], self.left - taken
+            if not self.left:
+                self.keep_interval()
+
+    def keep_interval(self) -> None:
+        """Sums up the interval under way, which is over."""
+        sent = self.kernel.sent[self.sent :]
+        self.shown.plans.add((one.clock, one.line.command) for one in sent if one.line.command["cmd"] == "signal")
+        self.sent += len(sent)
+        back, stood = (np.concatenate(parts) for parts in zip(*self.begun, strict=True))
+        found = showed(self.shown, self.lanes, self.places, self.clock, back, stood)
+        self.kept.append(zlib.compress(pickle.dumps(found), 1))
+        self.begun, self.clock, self.left = [], self.clock + len(back), self.interval
+
+    def end(self, clock: int) -> None:
+        """Sums up the last interval, which may be shorter."""
+        self.until = clock
+        if self.begun:
+            self.keep_interval()
+
+    def write(self, folder: str, stops: Iterable[Done]) -> tuple[list[str], list[str]]:
+        """Writes movements.csv, approaches.csv and junctions.csv into the folder of a run; stops: what became of them.
+        Gives (sentences for the terminal; doubts: why they are not to be trusted). Fault where one cannot be
+        written."""
+        kernel = self.kernel
+        run, mapping, start = kernel.run, kernel.map, kernel.start
+        crossed = Crossed(self, kernel.plans, self.interval, dwells(stops))
+        judge = Judge(self, self.shown, crossed, run.load.command["dawdle"])
+        tables = JunctionTables(self.approaches, mapping.full.junctions())
+        intervals = (judge.judged(at, pickle.loads(zlib.decompress(one))) for at, one in enumerate(self.kept))
+        tables.write(folder, Names(mapping), intervals)
+        plans, told = [line.command["plan"] for line in run.enters], []
+        if found := junctions_with_facing_streets(mapping, plans, (self.until - start) / 3600):
+            told.append(f"junctions: delays are too small where minor streets wait for each other: {first_few(found)}")
+        cut = tables.filled.intersection(approaches_cut_short(mapping, self.approaches))
+        beyond, doubts = told_of_queues_beyond(sorted(cut))
+        return told + beyond, doubts
+
+
+def told_of_queues_beyond(approaches: list[str]) -> tuple[list[str], list[str]]:
+    """(a sentence for the terminal, a doubt), each in a list, on approaches beyond which queues went on, if any."""
+    if not approaches:
+        return [], []
+    small, found = "delays, letters and queues are too small", first_few(approaches)
+    where = "where a queue fills an approach and goes on in the edge before it, which no table has"
+    doubt = f"junction tables: {small} at {found}, as queues go on in the edges before, which no table has"
+    return [f"junctions: {small} {where}: {found}"], [doubt]

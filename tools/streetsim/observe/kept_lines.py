@@ -1,0 +1,44 @@
+"""Keeps in a run's folder the lines of its run, so that it can be made again without the files that it was made of, and
+what its lights show at the road, as far as the files of the import are still there."""
+import json
+import os
+from collections.abc import Sequence
+
+from streetsim.base.files import Fault, FilePath, Json, whole_file
+from streetsim.model.folder import KEPT, LIGHTS
+from streetsim.model.mapping import Map
+from streetsim.model.runs import Run, texts_of
+from streetsim.model.sources import sum_of, sum_of_lines
+
+
+def write_kept(folder: str, run: Run) -> None:
+    """Writes run.jsonl.gz, the lines of a run with those of its works, to a folder; Fault where that fails."""
+    with whole_file(f"{folder}/{KEPT}") as file:
+        file.writelines(line + "\n" for line in texts_of(run))
+
+
+def how_made_again(run: Run, words: Sequence[str], again: Sequence[str]) -> Json:
+    """What a run's setting says of how it is made again: `words`, the options that were given and change its numbers;
+    `again`, those of them that are needed beside the kept lines; and `lines`, the SHA-256 of these lines."""
+    return {"words": list(words), "again": list(again), "lines": sum_of_lines(texts_of(run))}
+
+
+def write_lights(folder: str, mapping: Map, map_path: FilePath) -> None:
+    """Writes lights.json, the programs of the lights by the files that were imported, to a folder; map_path: from which
+    these are found. Writes nothing, and says nothing, where these are gone, changed or cannot be read, or there is no
+    light."""
+    if not mapping.sources or not mapping.signals:
+        return
+    from streetsim.sumo.timings import timings_of_files
+
+    beside = os.path.dirname(os.path.realpath(map_path))
+    paths = [os.path.join(beside, path) for path in (mapping.sources["net"], *mapping.sources.get("additional", ()))]
+    try:
+        if not all(map(os.path.isfile, paths)) or [*map(sum_of, paths)] != mapping.sources["sums"][: len(paths)]:
+            return
+        found = timings_of_files(paths[0], paths[1:], mapping.options.get("classes", ["passenger"]))
+    except (Fault, OSError):
+        return
+    lit = {light for light, _ in mapping.signals}
+    with whole_file(f"{folder}/{LIGHTS}") as file:
+        file.write(json.dumps([one.written() for one in found if one.light in lit], separators=(",", ":")))

@@ -1,0 +1,278 @@
+"""Makes a run into a folder: its tables, its setting, SUMO's output files and the tables of junctions."""
+from __future__ import annotations
+
+import contextlib
+import json
+import os
+from collections import defaultdict
+from collections.abc import Iterable, Iterator, Sequence
+from dataclasses import asdict, dataclass, field
+from functools import partial
+from heapq import merge
+from operator import itemgetter
+from statistics import fmean
+
+from streetsim.base.client import Census
+from streetsim.base.files import Json, whole_file
+from streetsim.base.program import proof_note
+from streetsim.base.report import COLUMNS, first_few
+from streetsim.control import works_figures
+from streetsim.control.bus_fleet import Done
+from streetsim.control.settings import Settings
+from streetsim.control.steering import Steering
+from streetsim.control.works_crowding import crowded_works
+from streetsim.control.works_watched import doubts_of
+from streetsim.kernel.loop import Kernel, Observer, Sent
+from streetsim.kernel.serving import serving_program
+from streetsim.kernel.telling import Tell, Telling
+from streetsim.model import tables, trust
+from streetsim.model.folder import NAME, POLLS
+from streetsim.model.mapping import Map
+from streetsim.model.names import Names, write_named
+from streetsim.model.rows import NAME as ROWS
+from streetsim.model.runs import Line, Run
+from streetsim.model.sources import program_digest
+from streetsim.model.stops import MISSED, OTHER_LANE, vehicle_classes_of
+from streetsim.model.tables import Entry, write_table
+from streetsim.observe.counts import Counts
+from streetsim.observe.detectors import Detectors
+from streetsim.observe.giving_way_rounds import Yielding, giving_way, with_lines
+from streetsim.observe.junctions import Junctions
+from streetsim.observe.polls import Polls, RowsWriter
+from streetsim.observe.queues import Queues, Summary
+from streetsim.observe.sampling import samples_of
+from streetsim.observe.segments import Segments
+from streetsim.observe.trips import TripsTable, stop_rows
+from streetsim.observe.works import WorksTable
+
+
+EVERY = 10  # seconds between polls, where no others are asked for
+
+
+def first_poll(every: int | None, start: int) -> int:
+    """The clock at which lanes are polled first: the first multiple of `every` seconds after the start; the start where
+    they are not polled (0 or none)."""
+    return (start // every + 1) * every if every else start
+
+
+@dataclass(frozen=True, slots=True)
+class Making:
+    """How a run is made, and what is written of it beside its tables."""
+
+    program: str
+    rounds: int  # by which vehicles give way without a light
+    workers: int = 1  # of the program
+    kinds: Sequence[str] = ()  # of SUMO's output files
+    # Seconds of the rows of the junction tables; 0: the period of the counts; none: no such tables.
+    junctions: int | None = None
+    polls: bool = False  # as text too
+    along: Sequence[Sequence[str]] = ()  # routes, each by its edges, whose travel times are told
+    again: Json = field(default_factory=dict)  # by what it is made again, as kept.how_made_again has it
+    keep: str | None = None  # the file in which the session of the program is kept
+    listed: Json = field(default_factory=dict)  # of drawn departures, as listed_in_map has it
+
+
+@dataclass(frozen=True, slots=True)
+class Figures:
+    """What a run gave, in a few numbers and words."""
+
+    vehicles: int
+    arrived: int
+    mean_trip_s: float | None  # none where nobody arrived
+    rescues: int
+    notes: list[str]  # sentences for the terminal, on what is not as asked for or not in the tables
+    told: str  # what its last line says
+    doubts: list[str]  # why it is not to be trusted
+    by_class: str = ""  # of a run with stops or priority, the trips of each class of vehicles
+
+
+class RunTables:
+    """The observers of a run that make its tables, and the tables that they make."""
+
+    def __init__(self, making: Making, run: Run, mapping: Map, settings: Settings, steering: Steering) -> None:
+        """making, settings: what is asked for; steering: of the same run."""
+        self.run, self.mapping, self.settings, self.steering = run, mapping, settings, steering
+        every = EVERY if settings.every is None else settings.every
+        edges = set(settings.edges)
+        self.polled = [one for one in mapping.lanes() if mapping.links[one[0]].edge in edges] if edges else None
+        rich = every if self.polled is None or len(self.polled) == len(mapping.lanes()) else 0
+        samples = samples_of(run.start(), settings.period, rich)
+        self.every, self.trips, self.counts = every, TripsTable(), Counts(settings.period, samples)
+        self.queues = Queues(every, self.polled)
+        self.summary = Summary(self.trips, steering.ending.looks)
+        self.segments, self.along = Segments(), making.along
+        self.detectors, self.works = Detectors(samples), WorksTable(steering.closures, every)
+        self.junctions = None if making.junctions is None else Junctions(making.junctions or settings.period)
+
+    def observers(self, making: Making, folder: str, files: contextlib.ExitStack) -> Iterator[Observer]:
+        """All of them; folder: of the run, in which files are opened as blocks of `files`."""
+        yield from (self.trips, self.counts, self.queues, self.summary, self.segments, self.detectors, self.works)
+        if self.junctions is not None:
+            yield self.junctions
+        if self.every:
+            yield RowsWriter(files.enter_context(open(f"{folder}/{ROWS}", "wb")), self.polled)
+        if self.every and making.polls:
+            yield Polls(files.enter_context(whole_file(f"{folder}/{POLLS}")), self.every, self.polled)
+        if making.kinds:
+            yield self.sumo_files(making.kinds, folder, files)
+
+    def sumo_files(self, kinds: Iterable[str], folder: str, files: contextlib.ExitStack) -> Observer:
+        """What writes SUMO's output files of some kinds to a new folder sumo in the run's, opened as a block of
+        `files`."""
+        from streetsim.observe.sumo_files import SumoFiles
+        from streetsim.observe.sumo_writing import Outputs
+
+        os.mkdir(f"{folder}/sumo")
+        paths = {kind: f"{folder}/sumo/{kind}.xml" for kind in kinds}
+        dawdle, rescued = self.run.load.command["dawdle"] / 1000, self.steering.rescue.clocks
+        outputs = Outputs(paths, self.mapping, dawdle, self.settings.period, self.run.start(), rescued)
+        return SumoFiles(files.enter_context(outputs), self.steering.buses)
+
+    def write(self, folder: str, trips: Sequence[Entry], clock: int) -> None:
+        """Writes the tables, but for those of junctions, to the folder of a run; those of phases, stops and works where
+        there were any. trips: rows of trips.csv; clock: at the end."""
+        run, mapping, names = self.run, self.mapping, Names(self.mapping)
+        write_named(f"{folder}/counts.csv", tables.COUNTS, self.counts.count_rows(), names)
+        write_table(f"{folder}/trips.csv", tables.TRIPS, trips)
+        write_named(f"{folder}/edges.csv", tables.EDGES, self.counts.edge_rows(), names)
+        write_table(f"{folder}/detectors.csv", tables.LOOPS, self.detectors.loop_rows())
+        write_table(f"{folder}/areas.csv", tables.AREAS, self.detectors.area_rows())
+        before_works = list(self.works.queue_rows())
+        queues = merge(self.queues.rows(), before_works, key=itemgetter(0)) if before_works else self.queues.rows()
+        write_named(f"{folder}/queues.csv", tables.QUEUES, queues, names)
+        write_table(f"{folder}/summary.csv", tables.SUMMARY, map(summary_row, self.summary.censuses()))
+        of_segments = self.segments.segment_rows(self.settings.period)
+        write_named(f"{folder}/segments.csv", tables.SEGMENTS, of_segments, names)
+        if self.along:
+            of_routes = self.segments.route_rows(self.along, self.settings.period)
+            write_table(f"{folder}/{tables.ROUTES_FILE}", tables.ROUTES, of_routes)
+        write_table(f"{folder}/warnings.csv", COLUMNS, mapping.told)
+        if phases := self.steering.phases(clock):
+            write_table(f"{folder}/{tables.PHASES_FILE}", tables.PHASES, phases)
+        if stops := self.steering.stops():
+            write_named(f"{folder}/{tables.STOPS_FILE}", tables.STOPS, stop_rows(stops, run, mapping), names)
+        if watched := self.works.watched:
+            rows = works_figures.works_rows(watched, mapping, run.start(), self.settings.period)
+            write_named(f"{folder}/{tables.WORKS_FILE}", tables.WORKS, rows, names)
+
+
+def one_run(making: Making, run: Run, mapping: Map, settings: Settings, folder: str, tell: Tell) -> Figures:
+    """Makes one run, after the rounds by which its vehicles give way, writes all that was asked for into a folder that
+    is there, and gives its figures. tell: gets the clock and a count while it goes. Fault where the program refuses a
+    command, or a file cannot be written."""
+    given, start_program = run, partial(serving_program, making.program, run.path, making.workers)
+    run, yielding = giving_way(run, mapping, settings, making.rounds, start_program, tell)
+    steering = Steering(run, mapping, settings)
+    made = RunTables(making, run, mapping, settings, steering)
+    with contextlib.ExitStack() as files:
+        observers = [*made.observers(making, folder, files), Telling(tell)]
+        program = files.enter_context(start_program(keep=making.keep))
+        kernel = Kernel(program, run, mapping, steering.controllers, observers)
+        kernel.go(settings.until)
+    return figures_of(making, given, yielding, made, kernel, folder)
+
+
+def figures_of(
+    making: Making, given: Run, yielding: Yielding, made: RunTables, kernel: Kernel, folder: str
+) -> Figures:
+    """Writes the tables and the setting of a run that was made to its folder, and gives its figures. given: the run
+    without the signals by which its vehicles give way, as yielding tells. Fault where a file cannot be written."""
+    run, mapping, settings, steering = made.run, made.mapping, made.settings, made.steering
+    stops, clock = steering.stops(), kernel.clock
+    told = [*settings.lights.notes(), *settings.buses.notes(), *stop_notes(stops, mapping), *run_notes(made, clock)]
+    beyond: list[str] = []
+    if made.junctions is not None:
+        more, beyond = made.junctions.write(folder, stops)
+        told += more
+    trips = list(made.trips.rows(steering.rescue.count, stops))
+    made.write(folder, trips, clock)
+    driven, rescues = trust.trips_at(clock, run.start(), trips), steering.rescue.count.total()
+    listed, censuses = settings.lights.listed_lights(mapping), list(made.summary.censuses())
+    doubts = [
+        *trust.doubts(driven, rescues, censuses, run, mapping, listed),
+        *trust.crowding_doubts(driven.vehicles, yielding.crowded),
+        *beyond,
+        *doubts_of(made.works.watched, mapping),
+        *crowded_works(run, mapping, steering.closures),
+    ]
+    given = with_lines(given, list(lit_lines(kernel.sent, mapping)))
+    write_setting(making, given, made, yielding, doubts, folder, clock)
+    return Figures(
+        vehicles=driven.vehicles,
+        arrived=len(driven.durations),
+        mean_trip_s=fmean(driven.durations) if driven.durations else None,
+        rescues=rescues,
+        notes=told,
+        told=", ".join(filter(None, (driven.told(), f"{rescues:,} rescues", yielding.told(), steering.ending.ended))),
+        doubts=doubts,
+        by_class=class_trips_told(trips, mapping) if settings.buses.visits or settings.buses.ahead else "",
+    )
+
+
+def summary_row(census: Census) -> Entry:
+    """The row of summary.csv of a count."""
+    return census.clock, census.admitted, census.waiting, census.cells, census.buffers, census.arrived, census.taken
+
+
+def class_trips_told(trips: Sequence[Entry], mapping: Map) -> str:
+    """How many of each vehicle class arrived and their mean trip, as one line; empty where all vehicles are of one.
+    trips: rows of trips.csv, in the order of the vehicles' numbers."""
+    found: defaultdict[str, list[int | None]] = defaultdict(list)
+    for vclass, (_, _, arrival, duration, *_) in zip(vehicle_classes_of(mapping.kinds, len(trips)), trips, strict=True):
+        found[vclass].append(duration if arrival != "" else None)
+    told = []
+    for vclass, all_ in sorted(found.items()):
+        some_ = [one for one in all_ if one is not None]
+        mean = f", mean trip {fmean(some_):.1f} s" if some_ else ""
+        told.append(f"{vclass}: {len(some_):,} of {len(all_):,} arrived{mean}")
+    return "; ".join(told) if len(told) > 1 else ""
+
+
+def lit_lines(sent: Iterable[Sent], mapping: Map) -> Iterator[tuple[int, Line]]:
+    """Of the lines that a run sent, as (clock, line), those with the signal plans that the tools made for nodes with a
+    light; the setting tells them as signals of the run."""
+    lit = {node for _, node in mapping.signals}
+    for clock, line, _ in sent:
+        if line.number < 0 and line.command["cmd"] == "signal" and line.command["node"] in lit:
+            yield clock, line
+
+
+def run_notes(made: RunTables, clock: int) -> Iterator[str]:
+    """What was not polled or not sent, a sentence each, for the terminal; clock: at the end."""
+    if (first := first_poll(made.every, made.run.start())) > clock:
+        yield f"lanes were never polled: the run ended at {clock:,} s, and the first poll is at {first:,} s"
+    if unsent := made.steering.timed.unsent():
+        yield f"{unsent:,} lines were not sent, as their clock is after --until"
+
+
+def stop_notes(stops: Sequence[Done], mapping: Map) -> Iterator[str]:
+    """Sentences on how many stops were made on the lane beside, or passed without one, and which; nothing where none
+    were."""
+    for state, told in ((OTHER_LANE, "were made on the lane beside"), (MISSED, "were passed: no lane had room")):
+        names = [f"{mapping.cars[one.visit.vehicle]} at {one.visit.stop}" for one in stops if one.state == state]
+        if names:
+            yield f"{len(names):,} of {len(stops):,} stops {told}: {first_few(names)}"
+
+
+def write_setting(
+    making: Making, given: Run, made: RunTables, yielding: Yielding, doubts: Sequence[str], folder: str, clock: int
+) -> None:
+    """Writes setting.json: what a run was made of. given: the run without the signals by which its vehicles give way;
+    doubts: why it is not to be trusted, empty where it is; clock: at the end."""
+    command, settings = given.load.command, made.settings
+    of = {"run": os.path.basename(given.path), "seed": command.get("seed", 0), "start": given.start()}
+    of.update(until=clock, rescue=settings.rescue, vehicles=len(given.enters))
+    of.update(program=program_digest(making.program), **proof_note(making.program), **making.again)
+    content = {
+        "map": made.mapping.written(),
+        "signals": given.signals(),
+        "dawdle": command["dawdle"],
+        "every": made.every,
+        "period": settings.period,
+        "yielding": asdict(yielding),
+        "not_trusted": doubts,
+        "made": of,
+        **({"listed": making.listed} if making.listed else {}),
+    }
+    with whole_file(f"{folder}/{NAME}") as file:
+        file.write(json.dumps(content, separators=(",", ":")))

@@ -1,0 +1,269 @@
+"""Passages of vehicles over the approaches of junctions, followed through the seconds, as columns."""
+from __future__ import annotations
+
+from collections import defaultdict
+from collections.abc import Iterable, Iterator, Mapping, Sequence
+from typing import Any
+
+from streetsim.base.arrays import Array, numpy as np
+from streetsim.control.bus_fleet import Dwell
+from streetsim.kernel.loop import Kernel, Observer
+from streetsim.kernel.seconds import SLOTS, Seconds, groups_of, unbroken
+from streetsim.observe.junction_layout import approaches_of
+from streetsim.observe.log import Columns, Log, by_period
+
+NONE = -1
+REACH = 20.0  # metres: who stands within these of the stop line, or of the queue's rear, is of the queue
+STILL = 2  # seconds of standing that make a stop: who creeps may stand for one by chance
+GAP = 2.5  # metres behind a vehicle that its cell has and it does not cover
+
+
+class Passages(Observer):
+    """Follows vehicles over approaches. A passage lasts from when a vehicle is first seen on an approach until it has
+    left it and the junction behind it. `done` gives those that have ended."""
+
+    # Of one under way, by vehicle: edge, by its number, NONE: it is on none; clocks of its begin and from which on it
+    # was behind the stop line, 0: not yet; its lane and first link; stops; seconds that it stood, and for which it has
+    # stood now; whether nobody else who had stood was on its lane when it passed the line; how many had stood there in
+    # the second before, the lane's first vehicles that passed then among them.
+    FIELDS = "edge", "begin", "line", "slot", "first", "stops", "stood", "still", "alone", "before"
+    # Of one that has ended: the clock from which on it was not there, the vehicle, and FIELDS.
+    ENDED = {
+        **{"end": "i4", "owner": "i4", "edge": "i2", "begin": "i4", "line": "i4", "slot": "u2", "first": "i2"},
+        **{"stops": "i2", "stood": "i4", "alone": "i1", "before": "i2"},
+    }
+
+    def begin(self, kernel: Kernel) -> None:
+        """Nobody is on an approach."""
+        self.kernel, mapping = kernel, kernel.map
+        links = mapping.links
+        self.approaches = approaches_of(mapping)
+        self.edges = list(self.approaches)
+        self.places = [place for one in self.approaches.values() for place in one.lanes]
+        self.lanes: defaultdict[int, list[int]] = defaultdict(list)  # by node, of the places those that lead to it
+        for column, (link, _) in enumerate(self.places):
+            self.lanes[links[link].end].append(column)
+        self.edge_of = np.full(len(links), NONE, np.int32)
+        at_line = np.zeros(len(links), bool)
+        for number, one in enumerate(self.approaches.values()):
+            self.edge_of[one.all_links] = number
+            at_line[one.links] = True
+        self.metres = np.array([float(one.metres) for one in links])
+        # By slot.
+        self.edge, self.at_line = np.repeat(self.edge_of, 2), np.repeat(at_line, 2)
+        self.cells = np.repeat(np.array([one.cells for one in links], np.int32), 2)
+        self.slow = np.repeat(np.array([one.limit for one in links]) == 1, 2)
+        self.stay = np.repeat(np.array([mapping.nodes[one.end][3] for one in links], np.int32), 2)
+        self.column = np.full(2 * len(links), NONE, np.int32)
+        self.column[[2 * link + lane for link, lane in self.places]] = np.arange(len(self.places))
+        self.now = {name: np.zeros(len(kernel.run.enters), np.int32) for name in self.FIELDS}
+        self.now["edge"][:] = NONE
+        self.log = Log(self.ENDED)
+        self.stood_last = np.zeros(len(self.places), np.int64)  # by lane of an approach: who had stood, a second ago
+
+    def see(self, seconds: Seconds) -> None:
+        """Takes some seconds."""
+        rows = seconds.by_owner
+        rows = rows[self.edge[seconds.slot[rows]] != NONE]
+        runs = FoundPassages(self, seconds, rows, self.standing(seconds, rows))
+        still = np.zeros(len(seconds.car), np.int32)
+        still[rows] = runs.still
+        queues = self.queues(seconds, np.flatnonzero(still >= STILL))
+        self.log_lanes(seconds, queues, runs.stood_on_lanes)
+        self.end_passages(seconds, runs)
+
+    def log_lanes(self, seconds: Seconds, back: Array, stood: Array) -> None:
+        """Takes what lanes showed in some seconds: by second, but for second 0, and lane of an approach, the metres of
+        the queue, and how many vehicles had stood on the approach."""
+
+    def standing(self, seconds: Seconds, rows: Array) -> Array:
+        """Of some rows who stands; where vehicles move by a cell a step only right behind another or the lane's end."""
+        stands = seconds.on[rows] & (seconds.speed[rows] == 0)
+        own = np.flatnonzero(stands & self.slow[seconds.slot[rows]])
+        rows = rows[own]
+        ahead, slot, second = rows - 1, seconds.slot, seconds.second
+        behind = (rows > 0) & seconds.on[ahead] & (slot[ahead] == slot[rows]) & (second[ahead] == second[rows])
+        rear = seconds.cell[ahead] - seconds.size[ahead]  # cell before which the one ahead leaves no room
+        stands[own] = seconds.cell[rows] == np.where(behind, rear, self.cells[slot[rows]] - 1)
+        return stands
+
+    def queues(self, seconds: Seconds, rows: Array) -> Array:
+        """By second and lane of an approach the metres from the stop line to the rear of the queue of those who have
+        stood for STILL seconds, each at most REACH behind the one before; where it fills the lane, with the longest on
+        the edge before, and so on. rows: who has stood for so long."""
+        slot, second = seconds.slot[rows], seconds.second[rows]
+        link, cells = slot // 2, self.cells[slot]
+        metres = self.metres[link] / cells
+        ahead = (cells - 1 - seconds.cell[rows]) * metres
+        back = ahead + seconds.size[rows] * metres
+        begins, group = groups_of(second * SLOTS + slot)
+        reach = np.append(REACH, back[:-1] + REACH)
+        reach[begins] = REACH
+        held = unbroken(ahead <= reach, begins, group)
+        number = np.bincount(group[held], minlength=len(begins))
+        some = np.flatnonzero(number)
+        tail = begins[some] + number[some] - 1
+        second, slot = second[tail], slot[tail]
+        metres = np.maximum(0.0, np.minimum(back[tail], self.metres[link[tail]]) - GAP)
+        found, own = np.zeros((len(seconds.clocks), len(self.places)), np.float32), self.column[slot] != NONE
+        found[second[own], self.column[slot[own]]] = metres[own]
+        if any(one.before for one in self.approaches.values()):
+            queue = np.zeros((len(seconds.clocks), len(self.cells)))
+            queue[second, slot] = metres
+            self.add_edges_before(found, queue)
+        return found[1:]
+
+    def add_edges_before(self, found: Array, queue: Array) -> None:
+        """Adds to the queues of lanes of approaches, by second, what goes on before their edges; queue: by second and
+        slot, of each lane alone."""
+        for column, (link, lane) in enumerate(self.places):
+            own, full = queue[:, 2 * link + lane], self.metres[link]
+            for links in self.approaches[self.edges[self.edge_of[link]]].before:
+                fills = own >= full - GAP - 0.1
+                if not fills.any():
+                    break
+                longest = np.max([queue[:, 2 * at + side] for at, side in self.kernel.map.lanes(links)], axis=0)
+                own = np.where(fills, full + longest, own)  # who does not fill the first edge does not fill two
+                full += self.metres[links[0]]
+                found[:, column] = own
+
+    def end_passages(self, seconds: Seconds, runs: FoundPassages) -> None:
+        """Keeps the passages that have ended, and what goes on."""
+        now, last, found = self.now, len(seconds.clocks) - 1, runs.found
+        known = np.zeros(len(now["edge"]), bool)
+        known[found["owner"][runs.goes_on]] = True
+        over = np.flatnonzero((now["edge"] != NONE) & ~known)
+        part = {name: now[name][over] for name in self.FIELDS}
+        self.keep_ended({**part, "owner": over}, np.zeros(len(over), np.int64), seconds, runs)
+        now["edge"][over] = NONE
+        ended = runs.end < last
+        part = {name: found[name][ended] for name in (*self.FIELDS, "owner")}
+        self.keep_ended(part, runs.end[ended], seconds, runs)
+        now["edge"][found["owner"][ended]] = NONE
+        for name in self.FIELDS:
+            now[name][found["owner"][~ended]] = found[name][~ended]
+
+    def keep_ended(self, part: Columns, last: Array, seconds: Seconds, runs: FoundPassages) -> None:
+        """Keeps passages that have ended, with their ends, `end`; who was not seen behind its stop line counts as
+        passing it then. last: the last second of each, 0: of the part before."""
+        before = runs.known[last, self.column[part["slot"]]]
+        part["before"] = np.where(part["line"] == 0, before, part["before"])
+        part["end"] = seconds.clocks[last + 1]
+        part["line"] = np.where(part["line"] == 0, part["end"], part["line"])
+        self.log.add(part)
+
+    def done(self, interval: int, stopped: Mapping[int, Sequence[Dwell]]) -> Iterator[tuple[int, Columns]]:
+        """(number from 0, passages that ended, in the order in which they did) of each interval of so many seconds that
+        has any: ENDED, and `dwell`, seconds at stops of its own, which are in neither stops nor stood. Each is let go
+        where it is given. stopped: by vehicle the stops that it left."""
+        stopping = np.array(list(stopped), np.int64)
+        for number, found in by_period(self.log.take(), self.kernel.start, interval):
+            found["dwell"] = np.zeros(len(found["end"]), np.int32)
+            for row in np.flatnonzero(np.isin(found["owner"], stopping)).tolist() if stopped else ():
+                self.take_stops_off(found, row, stopped[int(found["owner"][row])])
+            yield number, found
+
+    def take_stops_off(self, found: Columns, row: int, stops: Iterable[Dwell]) -> None:
+        """Takes the stops of its vehicle that lie in a passage, by its row, off what is found of it."""
+        for one in stops:
+            there = found["edge"][row] == self.edge_of[one.link]
+            if there and found["begin"][row] <= one.arrived <= found["end"][row]:
+                found["dwell"][row] += one.seconds
+                found["stood"][row] = max(0, found["stood"][row] - one.stood)
+                found["stops"][row] = max(0, found["stops"][row] - 1)
+
+
+class FoundPassages:
+    """The passages, or their parts, that some seconds show: in `found` the FIELDS of Passages and `owner` of each, as
+    they are at its end; by run its last second (end), and whether it went on from the seconds before (goes_on); by row
+    the seconds for which it has stood now (still), and stood on the approach so far (stood)."""
+
+    def __init__(self, passages: Passages, seconds: Seconds, rows: Array, standing: Array) -> None:
+        """rows: on approaches, by owner, then by second; standing: of them, who stand."""
+        self.passages, self.clocks = passages, seconds.clocks.astype(np.int32)
+        self.owner, self.second = seconds.owner[rows], seconds.second[rows]
+        self.slot, self.on = seconds.slot[rows], seconds.on[rows]
+        owner, second, edge = self.owner, self.second, passages.edge[self.slot]
+        fresh = np.ones(len(rows), bool)
+        fresh[1:] = (owner[1:] != owner[:-1]) | (second[1:] != second[:-1] + 1) | (edge[1:] != edge[:-1])
+        first = self.first = np.flatnonzero(fresh)
+        lengths = np.diff(np.append(first, len(rows)))
+        self.run, self.last = np.repeat(np.arange(len(first), dtype=np.int32), lengths), first + lengths - 1
+        self.end = second[self.last]
+        self.goes_on = (second[first] == 1) & (passages.now["edge"][owner[first]] == edge[first])
+        self.found: Columns = {"owner": owner[first], "edge": edge[first]}
+        begin, link = self.clocks[second[first]], self.slot[first] // 2
+        self.found.update(begin=self.kept("begin", begin), first=self.kept("first", link))
+        self.find_standing(standing)
+        self.find_crossings()
+        self.find_who_stood_on_lanes(len(seconds.clocks))
+
+    def kept(self, name: str, other: Any) -> Array:
+        """By run the value of the part before, or another where the passage begins."""
+        return np.where(self.goes_on, self.passages.now[name][self.owner[self.first]], other)
+
+    def find_standing(self, standing: Array) -> None:
+        """Sets how long each has stood now, and the stops. Who departs stands then, which is no stop; the junction
+        between two edges of an approach does not end a stand. standing: by row who stands."""
+        first, on = self.first, self.on
+        self.stands = standing.copy()
+        self.stands[first[~self.goes_on]] = False
+        place = np.cumsum(on, dtype=np.int32) - 1
+        base = place[first] + ~on[first] - 1 - self.kept("still", 0)
+        since = place.copy()  # where a stand may begin: the place of the last row before it
+        moved = on & ~self.stands
+        since[first] = np.where(moved[first], place[first], base)
+        moved[first] = True
+        since = since[latest(moved)]
+        self.found["still"] = place[self.last] - since[self.last]
+        self.still = np.where(on, place - since, 0)
+        halts = np.bincount(self.run[self.still == STILL], minlength=len(first))
+        self.found["stops"] = self.kept("stops", 0) + halts.astype(np.int32)
+
+    def find_crossings(self) -> None:
+        """Sets when each passed the stop line, on which lane, and the seconds that it stood so far: those in which it
+        stands; where vehicles move by a cell a step, from the one that makes it a stop on; and behind the line those
+        for which it was there longer than one crosses."""
+        first, run, slot, passages = self.first, self.run, self.slot, self.passages
+        off = np.flatnonzero(~self.on)
+        rows = off[passages.at_line[slot[off]]]
+        line = self.kept("line", 0)
+        self.new = np.zeros(len(first), bool)
+        self.new[run[rows]] = True
+        self.new &= line == 0
+        row = np.full(len(first), NONE)
+        row[run[rows[::-1]]] = rows[::-1]  # of each run the first
+        self.crossed = row[self.new]
+        line[self.new] = self.clocks[self.second[self.crossed]]
+        gained = self.stands.copy()
+        slow = np.flatnonzero(gained & passages.slow[slot])
+        gained[slow] = self.still[slow] >= STILL
+        gained[rows] = self.clocks[self.second[rows]] - line[run[rows]] > passages.stay[slot[rows]]
+        sums = np.cumsum(gained, dtype=np.int32)
+        self.stood = sums + (self.kept("stood", 0) - sums[first] + gained[first])[run]
+        seen = np.ones(len(run), bool)
+        seen[off], seen[rows] = False, True
+        valid = latest(seen)[self.last]
+        self.found.update(line=line, slot=np.where(valid >= first, slot[valid], self.kept("slot", 0)))
+        self.found["stood"] = self.stood[self.last]
+
+    def find_who_stood_on_lanes(self, count: int) -> None:
+        """Sets by second and lane of an approach how many there had stood (known; stood_on_lanes: but for second 0),
+        and of those who passed the line what this was in the second before. count: seconds, with second 0."""
+        passages, rows = self.passages, self.crossed
+        lanes = len(passages.places)
+        some = np.flatnonzero(self.on & (self.stood > 0))
+        column = passages.column[self.slot[some]]
+        keys = self.second[some].astype(np.int64) * lanes + column
+        self.known = np.bincount(keys[column != NONE], minlength=count * lanes).reshape(count, lanes)
+        self.known[0] = passages.stood_last
+        self.stood_on_lanes, passages.stood_last = self.known[1:], self.known[-1].copy()
+        before = self.known[self.second[rows] - 1, passages.column[self.slot[rows]]]
+        alone, found = self.kept("alone", 1), self.kept("before", 0)
+        alone[self.new], found[self.new] = before <= (self.stood[rows] > 0), before
+        self.found.update(alone=alone, before=found)
+
+
+def latest(holds: Array) -> Array:
+    """By row the last row up to it that holds; NONE before the first one."""
+    return np.maximum.accumulate(np.where(holds, np.arange(len(holds), dtype=np.int32), NONE))

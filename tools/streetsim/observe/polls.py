@@ -1,0 +1,145 @@
+"""rows.bin and lanes.jsonl.gz: what stands on the lanes in each second, and at polls."""
+from __future__ import annotations
+
+from collections.abc import Collection, Iterator, Mapping
+from typing import IO
+
+from streetsim.base.arrays import Array, numpy as np
+from streetsim.base.files import TextFile
+from streetsim.kernel.loop import ClosedCells, Kernel, Observer
+from streetsim.kernel.seconds import SLOTS, Seconds, groups_of
+from streetsim.model.mapping import Place
+from streetsim.model.rows import CLOSED, packed
+from streetsim.observe.queues import wanted_slots
+
+Stretches = dict[int, list[tuple[int, int]]]  # closed ones, by slot
+
+
+class ClosedLanes:
+    """The closed stretches of lanes at polls: those that controllers close at its clock, and lines of the file before
+    it."""
+
+    def __init__(self, kernel: Kernel, wanted: Array) -> None:
+        """wanted: by slot whether its lane is polled."""
+        self.kernel, self.wanted, self.closed, self.place = kernel, wanted, ClosedCells(), 0
+        for line in kernel.run.first:
+            self.closed.note(line.command)
+        self.stretches = self.found()
+
+    def found(self) -> Stretches:
+        """Those that are closed now, of polled lanes."""
+        return {slot: found for slot, found in self.closed.stretches().items() if self.wanted[slot]}
+
+    def at(self, clock: int) -> Stretches:
+        """By slot the stretches at a poll; clocks rise."""
+        sent, before = self.kernel.sent, self.place
+        while self.place < len(sent) and (sent[self.place].clock, sent[self.place].passed_on) <= (clock, False):
+            self.closed.note(sent[self.place].line.command)
+            self.place += 1
+        if self.place > before:
+            self.stretches = self.found()
+        return self.stretches
+
+
+class RowsWriter(Observer):
+    """Writes rows.bin: the vehicles of lanes, and their closed stretches, in each second."""
+
+    def __init__(self, file: IO[bytes], polled: Collection[Place] | None = None) -> None:
+        """file: where they are written; polled: the lanes, None: all."""
+        self.file, self.polled = file, polled
+
+    def begin(self, kernel: Kernel) -> None:
+        """Nothing is written."""
+        self.wanted = wanted_slots(self.polled, 2 * len(kernel.map.links))
+        self.closed = ClosedLanes(kernel, self.wanted)
+        self.before: Stretches = {}
+
+    def see(self, seconds: Seconds) -> None:
+        """Takes some seconds."""
+        rows = seconds.by_owner
+        if self.polled is not None:
+            rows = rows[self.wanted[seconds.slot[rows]]]
+        owner, second = seconds.owner[rows], seconds.second[rows]
+        goes_on = (owner[1:] == owner[:-1]) & (second[1:] == second[:-1] + 1)
+        begins = np.flatnonzero(np.append(True, ~goes_on)[: len(rows)])
+        lengths = np.diff(np.append(begins, len(rows)))
+        stays = owner[begins], seconds.size[rows[begins]], second[begins] - 1, lengths
+        columns = seconds.slot[rows], cells_told(seconds)[rows], seconds.speed[rows]
+        changes = [one for clock in seconds.clocks[1:].tolist() for one in self.changes(clock)]
+        closed = np.array(changes, np.int64).reshape(-1, len(CLOSED)).T
+        clock, count = int(seconds.clocks[1]), len(seconds.clocks) - 1
+        self.file.write(packed(clock, count, stays, columns, tuple(closed)))
+
+    def changes(self, clock: int) -> Iterator[tuple[int, int, int, int]]:
+        """(clock, slot, first, last cell) of the closed stretches of each lane where these change at a clock; cells 1
+        to 0 where there are none any more."""
+        before, now = self.before, self.closed.at(clock)
+        if now is not before:
+            for slot in sorted({*before, *now}):
+                if before.get(slot) != now.get(slot):
+                    yield from ((clock, slot, first, last) for first, last in now.get(slot, [(1, 0)]))
+        self.before = now
+
+
+def cells_told(seconds: Seconds) -> Array:
+    """By row the cell of its front, and in a buffer -1 for its front, -2 for the next, and so on."""
+    cell, off = seconds.cell.copy(), np.flatnonzero(~seconds.on)
+    slot, second = seconds.slot[off], seconds.second[off]
+    fresh = np.append(True, (slot[1:] != slot[:-1]) | (second[1:] != second[:-1]))[: len(off)]
+    begins = np.flatnonzero(fresh)
+    cell[off] = begins[np.cumsum(fresh) - 1] - np.arange(len(off)) - 1
+    return cell
+
+
+class Polls(Observer):
+    """Writes lanes.jsonl.gz: the vehicles of lanes, and their closed stretches, at each poll."""
+
+    def __init__(self, file: TextFile, every: int, polled: Collection[Place] | None = None) -> None:
+        """file: where they are written; every: seconds between polls; polled: the lanes, None: all."""
+        self.file, self.every, self.polled = file, every, polled
+
+    def begin(self, kernel: Kernel) -> None:
+        """No poll has come."""
+        self.wanted = wanted_slots(self.polled, 2 * len(kernel.map.links))
+        self.closed = ClosedLanes(kernel, self.wanted)
+
+    def see(self, seconds: Seconds) -> None:
+        """Takes some seconds."""
+        polled = seconds.clocks % self.every == 0
+        rows = np.flatnonzero(seconds.at(polled) & self.wanted[seconds.slot])
+        second, slot = seconds.second[rows], seconds.slot[rows]
+        begins, _ = groups_of(second * SLOTS + slot)
+        slots, lanes = slot[begins].tolist(), lane_texts(seconds, rows, begins)
+        at = np.searchsorted(second[begins], np.arange(len(polled) + 1)).tolist()
+        for number in np.flatnonzero(polled).tolist():
+            if number:
+                clock, here = int(seconds.clocks[number]), slice(*at[number : number + 2])
+                closed = self.closed.at(clock)
+                shown = [f"{lane}[]]" for lane in lanes[here]]
+                if closed:
+                    shown = list(with_closed(dict(zip(slots[here], lanes[here], strict=True)), closed))
+                self.file.write(f'{{"clock":{clock},"lanes":[{",".join(shown)}]}}\n')
+
+
+def lane_texts(seconds: Seconds, rows: Array, begins: Array) -> list[str]:
+    """The text of each lane up to its closed stretches; rows: of the lanes, of which each begins at one of begins."""
+    car, cell, speed, size = (one[rows].tolist() for one in (seconds.owner, seconds.cell, seconds.speed, seconds.size))
+    texts = [
+        str(c) if x < 0 else f"[{c},{x},{v}]" if n == 1 else f"[{c},{x},{v},{n}]"
+        for c, x, v, n in zip(car, cell, speed, size, strict=True)
+    ]
+    ends = np.append(begins, len(rows))[1:]
+    waits = np.append(0, np.cumsum(~seconds.on[rows]))
+    waits = waits[ends] - waits[begins]
+    return [
+        f"[{s >> 1},{s & 1},[{','.join(texts[a : b - w])}],[{','.join(texts[b - w : b])}],"
+        for s, a, b, w in zip(seconds.slot[rows[begins]].tolist(), begins.tolist(), ends.tolist(), waits.tolist())
+    ]
+
+
+def with_closed(lanes: Mapping[int, str], closed: Stretches) -> Iterator[str]:
+    """The texts of lanes, by slot, with those where nothing but closed stretches is, rising."""
+    for slot in sorted({*lanes, *closed}):
+        text = lanes.get(slot, f"[{slot >> 1},{slot & 1},[],[],")
+        stretches = ",".join(f"[{first},{last}]" for first, last in closed.get(slot, ()))
+        yield f"{text}[{stretches}]]"

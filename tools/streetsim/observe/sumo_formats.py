@@ -1,0 +1,202 @@
+"""SUMO's output files that are made second by second: each class writes one, from what a second shows."""
+from bisect import bisect_right
+from collections.abc import Mapping, Sequence
+from xml.sax.saxutils import quoteattr
+
+from streetsim.base import limits
+from streetsim.base.files import TextFile
+from streetsim.control.bus_fleet import Dwell
+from streetsim.model.mapping import Place
+from streetsim.observe.sumo_places import LanePlaces
+from streetsim.observe.sumo_seconds import At, Second, TripUnderWay
+
+SCHEMAS = "http://sumo.dlr.de/xsd/"
+HALTING = 0.1  # metres a second, SUMO's: below it a vehicle stands
+
+
+class XmlFile:
+    """A file with a root element and SUMO's schema of it, written second by second; each kind has its own class."""
+
+    root, schema = "", ""
+
+    def __init__(self, file: TextFile, places: LanePlaces) -> None:
+        """Writes the begin of the root element; places: where cells lie in metres."""
+        self.file, self.places = file, places
+        self.file.write(
+            '<?xml version="1.0" encoding="UTF-8"?>\n\n'
+            f'<{self.root} xmlns:xsi="http://www.w3.org/2001/XMLSchema-instance" '
+            f'xsi:noNamespaceSchemaLocation="{SCHEMAS}{self.schema}.xsd">\n'
+        )
+
+    def add_second(self, second: Second) -> None:
+        """Takes the next second of a run, each of them, rising; here nothing is done."""
+
+    def write_end(self) -> None:
+        """Writes what is left, and the end of the root; the file is closed by who opened it."""
+        self.file.write(f"</{self.root}>\n")
+
+
+def attributes(**values: object) -> str:
+    """The attributes of an element as XML, name="value" with blanks between, escaped here: float numbers (seconds,
+    metres) with two decimals, others as str gives them."""
+    texts = (f"{value:.2f}" if isinstance(value, float) else str(value) for value in values.values())
+    return " ".join(f"{name}={quoteattr(text)}" for name, text in zip(values, texts, strict=True))
+
+
+class Tripinfo(XmlFile):
+    """tripinfo: a row for each vehicle that arrived. It departs in the second in which it is first seen; `departDelay`
+    is since the wished departure, so that it and `duration` add up to the duration of trips.csv. Seconds at stops are
+    in `stopTime`, and neither in `waitingTime` nor in `timeLoss`."""
+
+    root, schema = "tripinfos", "tripinfo_file"
+
+    def __init__(self, file: TextFile, places: LanePlaces, dwells: Mapping[int, Sequence[Dwell]]) -> None:
+        """dwells: by the vehicle's number in looks its stops; those of one that arrives are known by then."""
+        super().__init__(file, places)
+        self.dwells = dwells
+
+    def add_second(self, second: Second) -> None:
+        """Writes a row for each vehicle that arrived in a second."""
+        for car, trip in second.arrived:
+            self.file.write(f"    <tripinfo {self.attributes_of(trip, second.clock, self.dwells.get(car, ()))}/>\n")
+
+    def attributes_of(self, trip: TripUnderWay, arrival: int, stops: Sequence[Dwell]) -> str:
+        """The attributes of a trip that arrived at a clock, with its stops, in SUMO's order."""
+        names, duration, dwell = self.places.names, arrival - trip.depart, sum(one.seconds for one in stops)
+        return attributes(
+            id=trip.name,
+            depart=float(trip.depart),
+            departLane=names[trip.first.link, trip.first.lane],
+            departPos=self.places.metres_on_lane(trip.first),
+            departSpeed=self.places.metres_per_second(trip.first),
+            departDelay=float(trip.depart - trip.wished),
+            arrival=float(arrival),
+            arrivalLane=names[trip.last.link, trip.last.lane],
+            arrivalPos=self.places.mapping.links[trip.last.link].metres,
+            arrivalSpeed=self.places.metres_per_second(trip.last),
+            duration=float(duration),
+            routeLength=trip.metres,
+            waitingTime=float(max(0, trip.waiting - sum(one.stood for one in stops))),
+            waitingCount=max(0, trip.stops - len(stops)),
+            stopTime=float(dwell),
+            timeLoss=max(0.0, duration - trip.free - dwell),
+            rerouteNo=0,
+            devices="",
+            vType=trip.kind,
+            speedFactor=1.0,
+            vaporized="",
+        )
+
+
+class SummaryOutput(XmlFile):
+    """summary: a row for each second, with how many vehicles are where."""
+
+    root, schema = "summary", "summary_file"
+
+    def __init__(self, file: TextFile, places: LanePlaces, wished: Sequence[int], rescued: Sequence[int]) -> None:
+        """wished: the seconds, sorted, at which vehicles would depart, as far as they are known; rescued: the clocks,
+        rising, of rescues, as looks at the lanes do not show those out of a junction."""
+        super().__init__(file, places)
+        self.wished, self.rescued = wished, rescued
+        self.loaded = self.inserted = self.arrived = self.delays = self.durations = self.teleports = 0
+
+    def add_second(self, second: Second) -> None:
+        """Adds a second to the sums, and writes its row; those in junctions count there, and in its speeds, too."""
+        self.loaded = bisect_right(self.wished, second.time)
+        self.count_changes(second)
+        speeds = [self.places.metres_per_second(at) for at in second.here.values()]
+        free = [at.speed / self.places.mapping.links[at.link].limit for at in second.here.values()]
+        row = attributes(
+            time=float(second.time),
+            loaded=max(self.loaded, self.inserted),
+            inserted=self.inserted,
+            running=len(second.here),
+            waiting=max(0, self.loaded - self.inserted),
+            ended=self.arrived,
+            arrived=self.arrived,
+            collisions=0,
+            teleports=max(self.teleports, bisect_right(self.rescued, second.time)),
+            halting=sum(speed < HALTING for speed in speeds),
+            stopped=0,
+            meanWaitingTime=self.delays / self.inserted if self.inserted else -1.0,
+            meanTravelTime=self.durations / self.arrived if self.arrived else -1.0,
+            meanSpeed=sum(speeds) / len(speeds) if speeds else -1.0,
+            meanSpeedRelative=sum(free) / len(free) if free else -1.0,
+        )
+        self.file.write(f"    <step {row}/>\n")
+
+    def count_changes(self, second: Second) -> None:
+        """Adds to the sums those who departed, arrived and were taken out in a second."""
+        self.inserted += len(second.departed)
+        self.delays += sum(second.trips[car].depart - second.trips[car].wished for car in second.departed)
+        self.arrived += len(second.arrived)
+        self.durations += sum(second.clock - trip.depart for _, trip in second.arrived)
+        self.teleports += len(second.teleported)
+
+
+class Fcd(XmlFile):
+    """fcd: where each vehicle is and how fast, in each second; of one in a junction the end of the lane before it."""
+
+    root, schema = "fcd-export", "fcd_file"
+
+    def __init__(self, file: TextFile, places: LanePlaces) -> None:
+        """places: where cells lie in metres."""
+        super().__init__(file, places)
+        self.texts: dict[At, tuple[str, str]] = {}  # many vehicles come to each
+        self.names: dict[int, tuple[str, str]] = {}  # of vehicles and their types, quoted
+
+    def add_second(self, second: Second) -> None:
+        """Writes the rows of all vehicles in a second."""
+        trips = ((car, second.trips[car]) for car in second.departed)
+        self.names.update((car, (quoteattr(trip.name), quoteattr(trip.kind))) for car, trip in trips)
+        rows = [f'    <timestep time="{second.time:.2f}">\n']
+        for car, at in second.here.items():
+            before, after = self.texts.get(at) or self.texts_at(at)
+            name, kind = self.names[car]
+            rows.append(f"        <vehicle id={name} {before} type={kind} {after}/>\n")
+        self.file.write("".join([*rows, "    </timestep>\n"]))
+
+    def texts_at(self, at: At) -> tuple[str, str]:
+        """The attributes of where a vehicle is, (those that stand before its type, those after it); made once and then
+        kept."""
+        x, y, angle = self.places.point_and_angle(at)
+        lane = self.places.names[at.link, at.lane]
+        speed, along = self.places.metres_per_second(at), self.places.metres_on_lane(at)
+        after = attributes(speed=speed, pos=along, lane=lane, slope=0.0)
+        self.texts[at] = attributes(x=x, y=y, angle=angle), after
+        return self.texts[at]
+
+
+class QueueOutput(XmlFile):
+    """queue: for each second and lane on which vehicles stand, the longest time of standing, and metres from the stop
+    line to the rear of the last one's cells."""
+
+    root, schema = "queue-export", "queue_file"
+
+    def __init__(self, file: TextFile, places: LanePlaces) -> None:
+        """places: where cells lie in metres."""
+        super().__init__(file, places)
+        self.standing: dict[int, int] = {}  # car: seconds
+
+    def add_second(self, second: Second) -> None:
+        """Adds a second to the time of those who stand in cells, and writes the lanes on which any do."""
+        cars = [(car, at) for car, at in second.here.items() if at.cell is not None and not at.speed]
+        self.standing = {car: self.standing.get(car, 0) + 1 for car, _ in cars}
+        lengths: dict[Place, float] = {}
+        waits: dict[Place, int] = {}
+        for car, at in cars:
+            place, link = (at.link, at.lane), self.places.mapping.links[at.link]
+            length = link.metres - max(0, at.front + 1 - at.size) * self.places.cell_metres[at.link]
+            lengths[place] = max(length, lengths.get(place, 0.0))
+            waits[place] = max(self.standing[car], waits.get(place, 0))
+        self.file.write(f'    <data timestep="{second.time:.2f}">\n        <lanes>\n')
+        for place, length in sorted(lengths.items()):
+            own = {"id": self.places.names[place], "queueing_time": float(waits[place])}
+            row = attributes(**own, queueing_length=length, queueing_length_experimental=length)
+            self.file.write(f"            <lane {row}/>\n")
+        self.file.write("        </lanes>\n    </data>\n")
+
+
+def vehicle_metres(at: At) -> float:
+    """Metres of a vehicle itself: of its cells, as if each had 7.5 m, without the gap to another one."""
+    return at.size * limits.CELL_METRES - limits.GAP_METRES

@@ -1,0 +1,307 @@
+"""SUMO's output files that are sums over intervals: edgeData, e1, e2."""
+from collections.abc import Sequence
+from dataclasses import dataclass, field, replace
+from typing import Any
+
+from streetsim.base.files import TextFile
+from streetsim.model.detectors import E1, E2, Detector, longest_jam
+from streetsim.model.mapping import Place
+from streetsim.observe.sumo_formats import XmlFile, attributes, vehicle_metres
+from streetsim.observe.sumo_places import LanePlaces
+from streetsim.observe.sumo_seconds import At, Second
+
+Sums = Any  # of a kind of detector: its own
+
+
+@dataclass(slots=True)
+class EdgeSums:
+    """What was seen of an edge in an interval, all vehicles and seconds added up."""
+
+    seconds: int = 0  # of vehicles on it
+    metres: float = 0.0  # driven
+    waiting: int = 0  # seconds of standing
+    loss: float = 0.0  # seconds
+    covered: float = 0.0  # metres of vehicles, summed over seconds
+    departed: int = 0
+    arrived: int = 0
+    entered: int = 0
+    left: int = 0
+    teleported: int = 0
+
+
+class Edgedata(XmlFile):
+    """edgedata: a row for each interval and edge. Who is in a junction is on no edge, as in SUMO."""
+
+    root, schema = "meandata", "meandata_file"
+
+    def __init__(self, file: TextFile, places: LanePlaces, period: int, start: int) -> None:
+        """period: seconds of an interval; start: the clock at which the first one begins."""
+        super().__init__(file, places)
+        self.period, self.begin, self.clock = period, start, start
+        self.links = places.mapping.links
+        self.sums: dict[str, EdgeSums] = {}  # by edge
+
+    def sums_of(self, link: int) -> EdgeSums:
+        """The sums of a link's edge in the interval under way."""
+        return self.sums.setdefault(self.links[link].edge, EdgeSums())
+
+    def add_second(self, second: Second) -> None:
+        """Adds a second; first writes the interval before it where that has ended."""
+        if second.clock > self.begin + self.period:
+            self.write_interval()
+        self.clock = second.clock
+        for at in second.here.values():
+            if at.cell is not None:
+                self.add_vehicle(at)
+        for car in second.departed:
+            self.sums_of(second.here[car].link).departed += 1
+        for _, link in second.entered:
+            self.sums_of(link).entered += 1
+        for _, at in second.left:
+            self.sums_of(at.link).left += 1
+        for at in second.teleported.values():
+            self.sums_of(at.link).teleported += 1
+        for _, trip in second.arrived:
+            self.sums_of(trip.last.link).arrived += 1
+
+    def add_vehicle(self, at: At) -> None:
+        """Adds one vehicle in the cells of an edge for one second."""
+        sums, link = self.sums_of(at.link), self.links[at.link]
+        sums.seconds += 1
+        sums.metres += self.places.metres_per_second(at)
+        sums.waiting += not at.speed
+        sums.loss += max(0.0, 1 - at.speed / link.limit)
+        sums.covered += vehicle_metres(at)
+
+    def write_interval(self) -> None:
+        """Writes the interval that has ended, all edges of the map, and begins the next."""
+        end = min(self.clock, self.begin + self.period)
+        self.file.write(f'    <interval begin="{self.begin:.2f}" end="{end:.2f}" id="streetsim">\n')
+        for edge in self.places.mapping.links_of:
+            row = self.attributes_of(edge, self.sums.get(edge, EdgeSums()), end - self.begin)
+            self.file.write(f"        <edge {row}/>\n")
+        self.file.write("    </interval>\n")
+        self.begin, self.sums = end, {}
+
+    def attributes_of(self, edge: str, sums: EdgeSums, seconds: int) -> str:
+        """The attributes of an edge over an interval; seconds: its length. Where nobody was on it there are only
+        the counts and sampledSeconds, and no travel time where nobody moved."""
+        links = [self.links[link] for link in self.places.mapping.links_of[edge]]
+        lanes, metres = sum(len(link.lanes) for link in links), links[0].metres
+        seen = {}
+        if sums.seconds:
+            speed, density = sums.metres / sums.seconds, sums.seconds / seconds / metres * 1000
+            seen = {
+                **({"traveltime": metres / speed} if speed else {}),
+                "density": density,
+                "laneDensity": density / lanes,
+                "occupancy": sums.covered / seconds / metres / lanes * 100,
+                "waitingTime": float(sums.waiting),
+                "timeLoss": sums.loss,
+                "speed": speed,
+                "speedRelative": speed / (links[0].limit * metres / links[0].cells),
+            }
+        names = ("departed", "arrived", "entered", "left", "teleported")
+        counts = {name: getattr(sums, name) for name in names}
+        return attributes(id=edge, sampledSeconds=float(sums.seconds), **seen, **counts)
+
+    def write_end(self) -> None:
+        """Writes the last interval, which may be shorter, and the end of the root."""
+        if self.clock > self.begin:
+            self.write_interval()
+        super().write_end()
+
+
+class DetectorOutput(XmlFile):
+    """A row for each interval of each detector of one kind; each class below says what is summed, by sums_at_begin,
+    note_second and attributes_of, which raise NotImplementedError here."""
+
+    root, kind = "detector", ""
+
+    def __init__(self, file: TextFile, places: LanePlaces, start: int) -> None:
+        """start: the clock at which the first interval of each detector begins."""
+        super().__init__(file, places)
+        self.detectors = [one for one in places.mapping.detectors if one.kind == self.kind]
+        self.begins, self.clock = {one.name: start for one in self.detectors}, start
+        self.sums: dict[str, Sums] = {one.name: self.sums_at_begin(one, None) for one in self.detectors}
+
+    def sums_at_begin(self, one: Detector, before: Sums) -> Sums:
+        """The sums with which an interval begins; before: those of the interval that has ended, None of the first."""
+        raise NotImplementedError
+
+    def note_second(self, one: Detector, sums: Sums, second: Second, here: Sequence[tuple[int, At]]) -> None:
+        """Adds a second to the sums of a detector; here: (car, where it is) of those on its lane in it, and of those
+        in the junction behind that."""
+        raise NotImplementedError
+
+    def attributes_of(self, one: Detector, sums: Sums, seconds: int) -> str:
+        """The attributes of an interval; seconds: its length."""
+        raise NotImplementedError
+
+    def add_second(self, second: Second) -> None:
+        """Adds a second to all detectors; first writes those intervals that have ended."""
+        for one in self.detectors:
+            if second.clock > self.begins[one.name] + one.period:
+                self.write_interval(one)
+        self.clock = second.clock
+        by_place: dict[Place, list[tuple[int, At]]] = {}
+        for car, at in second.here.items():
+            by_place.setdefault((at.link, at.lane), []).append((car, at))
+        for one in self.detectors:
+            self.note_second(one, self.sums[one.name], second, by_place.get((one.link, one.lane), ()))
+
+    def write_interval(self, one: Detector) -> None:
+        """Writes a detector's interval that has ended, and begins the next."""
+        begin = self.begins[one.name]
+        end = min(self.clock, begin + one.period)
+        row = self.attributes_of(one, self.sums[one.name], end - begin)
+        self.file.write(f"    <interval {attributes(begin=float(begin), end=float(end), id=one.name)} {row}/>\n")
+        self.begins[one.name], self.sums[one.name] = end, self.sums_at_begin(one, self.sums[one.name])
+
+    def write_end(self) -> None:
+        """Writes the last intervals, which may be shorter, and the end of the root."""
+        for one in self.detectors:
+            if self.clock > self.begins[one.name]:
+                self.write_interval(one)
+        super().write_end()
+
+
+@dataclass(slots=True)
+class LoopSums:
+    """What an e1 saw in an interval."""
+
+    speeds: list[float] = field(default_factory=list)  # metres a second of those that passed
+    metres: list[float] = field(default_factory=list)  # of these vehicles
+    occupied: int = 0  # seconds
+
+
+class InductionLoopOutput(DetectorOutput):
+    """e1, induction loops: who drove over a cell in a second, as detectors.csv counts them. Who leaves the edge in that
+    second has the speed of the second before, a cell a second where it stood."""
+
+    schema, kind = "det_e1_file", E1
+
+    def sums_at_begin(self, one: Detector, _before: LoopSums | None) -> LoopSums:
+        """The sums of an e1 with which an interval begins: nothing."""
+        return LoopSums()
+
+    def note_second(self, one: Detector, sums: LoopSums, second: Second, here: Sequence[tuple[int, At]]) -> None:
+        """Adds a second to the sums of an e1: whether its cell is covered, and who has passed it."""
+        sums.occupied += any(at.cell is not None and at.cell - at.size < one.first <= at.cell for _, at in here)
+        for car, last in second.before.items():
+            on_edge = last.link == one.link and car not in second.teleported
+            if on_edge and last.cell is not None and last.cell <= one.first:
+                self.note_pass(one, sums, last, second.here.get(car, replace(last, cell=None)))
+
+    def note_pass(self, one: Detector, sums: LoopSums, last: At, now: At) -> None:
+        """Adds to the sums of an e1 a vehicle that was on the loop or before it in the second before (last), if it is
+        beyond it now: in the cells of its lane or, in the junction or as one that has arrived, without a cell."""
+        if now.lane == one.lane and (now.cell is None or now.cell > one.first):
+            speed = last.speed or 1.0 if now.cell is None else now.speed
+            sums.speeds.append(speed * self.places.cell_metres[one.link])
+            sums.metres.append(vehicle_metres(last))
+
+    def attributes_of(self, one: Detector, sums: LoopSums, seconds: int) -> str:
+        """The attributes of an e1's interval; means are -1 where nobody passed, as SUMO writes."""
+        count = len(sums.speeds)
+        return attributes(
+            nVehContrib=count,
+            flow=count * 3600 / seconds,
+            occupancy=sums.occupied / seconds * 100,
+            speed=sum(sums.speeds) / count if count else -1.0,
+            harmonicMeanSpeed=count / sum(1 / speed for speed in sums.speeds) if count else -1.0,
+            length=sum(sums.metres) / count if count else -1.0,
+            nVehEntered=count,
+        )
+
+
+@dataclass(slots=True)
+class AreaSums:
+    """What an e2 saw in an interval; halts are by car."""
+
+    inside: dict[int, At] = field(default_factory=dict)  # by car, of the last second
+    seen: set[int] = field(default_factory=set)
+    entered: int = 0
+    left: int = 0
+    seconds: int = 0
+    metres: float = 0.0  # driven
+    loss: float = 0.0
+    most: int = 0  # in one second
+    covered: list[float] = field(default_factory=list)  # share of the area, by second
+    jams: list[int] = field(default_factory=list)  # vehicles in the longest jam, by second
+    standing: int = 0  # vehicles, summed over seconds
+    halts: dict[int, int] = field(default_factory=dict)  # going on: seconds in all
+    interval_halts: dict[int, int] = field(default_factory=dict)  # going on: seconds of this interval
+    ended: list[tuple[int, int]] = field(default_factory=list)  # (seconds in all, of this interval)
+    started: int = 0
+
+
+class LaneAreaOutput(DetectorOutput):
+    """e2, lane areas: the vehicles whose front is in them. A jam is of vehicles that stand without a gap."""
+
+    schema, kind = "det_e2_file", E2
+
+    def sums_at_begin(self, one: Detector, before: AreaSums | None) -> AreaSums:
+        """The sums of an e2 with which an interval begins: vehicles inside and halts that go on are taken over."""
+        if before is None:
+            return AreaSums()
+        return AreaSums(inside=before.inside, halts=before.halts, interval_halts=dict.fromkeys(before.halts, 0))
+
+    def note_second(self, one: Detector, sums: AreaSums, second: Second, here: Sequence[tuple[int, At]]) -> None:
+        """Adds a second to the sums of an e2."""
+        inside = {car: at for car, at in here if at.cell is not None and one.first <= at.cell <= one.last}
+        sums.entered += len(inside.keys() - sums.inside.keys())
+        sums.left += len(sums.inside.keys() - inside.keys())
+        sums.seen.update(inside)
+        sums.seconds += len(inside)
+        sums.most = max(sums.most, len(inside))
+        sums.metres += sum(self.places.metres_per_second(at) for at in inside.values())
+        sums.loss += sum(max(0.0, 1 - at.speed / self.places.mapping.links[at.link].limit) for at in inside.values())
+        area = (one.last - one.first + 1) * self.places.cell_metres[one.link]
+        sums.covered.append(min(1.0, sum(map(vehicle_metres, inside.values())) / area))
+        ranked = sorted(inside.values(), key=lambda at: -at.front)
+        sums.jams.append(longest_jam([(0, at.front, bool(at.speed), at.size) for at in ranked]))
+        sums.inside = inside
+        self.note_halts(sums, {car for car, at in inside.items() if not at.speed})
+
+    def note_halts(self, sums: AreaSums, standing: set[int]) -> None:
+        """Adds to the sums of an e2 the halts of a second; standing: the cars that stand in it."""
+        for car in sums.halts.keys() - standing:
+            sums.ended.append((sums.halts.pop(car), sums.interval_halts.pop(car)))
+        sums.started += len(standing - sums.halts.keys())
+        sums.standing += len(standing)
+        for car in standing:
+            sums.halts[car] = sums.halts.get(car, 0) + 1
+            sums.interval_halts[car] = sums.interval_halts.get(car, 0) + 1
+
+    def attributes_of(self, one: Detector, sums: AreaSums, seconds: int) -> str:
+        """The attributes of an e2's interval; the mean speed and loss of nobody are -1, as SUMO writes."""
+        car_metres = self.places.cell_metres[one.link]
+        halts = [halt for halt, _ in sums.ended] + list(sums.halts.values())
+        within = [halt for _, halt in sums.ended] + list(sums.interval_halts.values())
+        vehicles = len(sums.seen)
+        return attributes(
+            sampledSeconds=float(sums.seconds),
+            nVehEntered=sums.entered,
+            nVehLeft=sums.left,
+            nVehSeen=vehicles,
+            meanSpeed=sums.metres / sums.seconds if sums.seconds else -1.0,
+            meanTimeLoss=sums.loss / vehicles if vehicles else -1.0,
+            meanOccupancy=sum(sums.covered) / seconds * 100,
+            maxOccupancy=max(sums.covered, default=0.0) * 100,
+            meanMaxJamLengthInVehicles=sum(sums.jams) / seconds,
+            meanMaxJamLengthInMeters=sum(sums.jams) * car_metres / seconds,
+            maxJamLengthInVehicles=max(sums.jams, default=0),
+            maxJamLengthInMeters=max(sums.jams, default=0) * car_metres,
+            jamLengthInVehiclesSum=sum(sums.jams),
+            jamLengthInMetersSum=sum(sums.jams) * car_metres,
+            meanHaltingDuration=sum(halts) / len(halts) if halts else 0.0,
+            maxHaltingDuration=float(max(halts, default=0)),
+            haltingDurationSum=float(sum(halts)),
+            meanIntervalHaltingDuration=sum(within) / len(within) if within else 0.0,
+            maxIntervalHaltingDuration=float(max(within, default=0)),
+            intervalHaltingDurationSum=float(sum(within)),
+            startedHalts=float(sums.started),
+            meanVehicleNumber=sums.seconds / seconds,
+            maxVehicleNumber=sums.most,
+        )

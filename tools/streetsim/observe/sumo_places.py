@@ -1,0 +1,58 @@
+"""Where cells lie: SUMO's lane names, metres along a lane, points and angles."""
+from bisect import bisect_right
+from itertools import accumulate
+from math import atan2, degrees, dist
+
+from streetsim.model.mapping import Map, Shape
+from streetsim.observe.sumo_seconds import At
+
+LANE_WIDTH = 3.2  # metres, SUMO's default
+
+
+class LanePlaces:
+    """The lanes of a map in metres: where vehicles are and how fast."""
+
+    def __init__(self, mapping: Map) -> None:
+        """The lanes of a run's map."""
+        self.mapping = mapping
+        self.names = {place: mapping.lane_name(*place) for place in mapping.lanes()}
+        self.cell_metres = [link.metres / link.cells for link in mapping.links]
+        self.lines = [Polyline(link.shape) for link in mapping.links]
+
+    def metres_on_lane(self, at: At) -> float:
+        """Metres from the lane's begin to the front of a vehicle; of one in the junction behind it, the lane's
+        length."""
+        link = self.mapping.links[at.link]
+        return link.metres if at.cell is None else (at.cell + 1) * self.cell_metres[at.link]
+
+    def metres_per_second(self, at: At) -> float:
+        """Metres a second of a vehicle, by the length of its link's cells."""
+        return at.speed * self.cell_metres[at.link]
+
+    def point_and_angle(self, at: At) -> tuple[float, float, float]:
+        """(x, y, angle) of a vehicle's front, on its lane beside the link's line: metres, and degrees clockwise from
+        north."""
+        link = self.mapping.links[at.link]
+        side = ((len(link.lanes) - 1) / 2 - at.lane) * LANE_WIDTH
+        return self.lines[at.link].point_and_angle(self.metres_on_lane(at) / link.metres, side)
+
+
+class Polyline:
+    """A line through two or more points (x, y), in metres."""
+
+    def __init__(self, points: Shape) -> None:
+        """points: (x, y) in metres, two at least."""
+        self.points = points
+        self.sizes = [dist(one, other) for one, other in zip(points, points[1:])]
+        self.ends = list(accumulate(self.sizes))
+
+    def point_and_angle(self, share: float, side: float = 0.0) -> tuple[float, float, float]:
+        """(x, y, angle) at a share, 0 to 1, of the length, `side` metres to the right of the line: metres, and the
+        angle of the line there in degrees clockwise from north."""
+        way = share * self.ends[-1]
+        piece = min(bisect_right(self.ends, way), len(self.sizes) - 1)
+        (x, y), (following_x, following_y) = self.points[piece : piece + 2]
+        size = self.sizes[piece] or 1.0
+        east, north = (following_x - x) / size, (following_y - y) / size
+        along = way - (self.ends[piece] - self.sizes[piece])
+        return x + east * along + north * side, y + north * along - east * side, degrees(atan2(east, north)) % 360

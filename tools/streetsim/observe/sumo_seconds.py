@@ -1,0 +1,146 @@
+"""What each second of a run shows, vehicle by vehicle: who departed, entered an edge, left it, arrived."""
+from collections.abc import Iterable, Sequence
+from dataclasses import dataclass, field
+from typing import Any
+
+from streetsim.model.detectors import size_of
+from streetsim.model.freeflow import Alone
+from streetsim.model.mapping import Map
+
+
+@dataclass(slots=True, frozen=True)
+class At:
+    """Where a vehicle is: in a cell of a lane, or in the junction behind it (no cell)."""
+
+    link: int
+    lane: int
+    cell: int | None  # of its front
+    speed: float  # cells a second
+    size: int = 1  # cells
+
+    @property
+    def front(self) -> int:
+        """The cell of its front; only of one that is in a cell (AssertionError in a junction)."""
+        assert self.cell is not None
+        return self.cell
+
+
+@dataclass(slots=True)
+class TripUnderWay:
+    """A vehicle on its way, with what it has done so far."""
+
+    name: str
+    wished: int  # second at which it would depart
+    depart: int  # the second in which it departed
+    first: At
+    last: At
+    metres: float = 0.0  # of the links that it has been on
+    free: float = 0.0  # seconds of these where nobody is in the way, without the last junction
+    waiting: int = 0  # seconds of standing
+    stops: int = 0
+    standing: int = 0  # seconds for which it has stood by now
+    crossing: float = 0.0  # seconds of the junction behind its link
+    kind: str = "DEFAULT_VEHTYPE"
+
+
+@dataclass(slots=True)
+class Second:
+    """What the lanes show at a clock, and what has changed since the second before."""
+
+    clock: int
+    trips: dict[int, TripUnderWay]  # by car, of those on their way
+    here: dict[int, At] = field(default_factory=dict)  # by car
+    departed: list[int] = field(default_factory=list)  # cars
+    entered: list[tuple[int, int]] = field(default_factory=list)  # (car, link): onto the cells of an edge from another
+    left: list[tuple[int, At]] = field(default_factory=list)  # out of the cells of an edge into the junction behind it
+    teleported: dict[int, At] = field(default_factory=dict)  # by car, out of which cells it was taken
+    arrived: list[tuple[int, TripUnderWay]] = field(default_factory=list)
+    before: dict[int, At] = field(default_factory=dict)  # by car, of the second before
+
+    @property
+    def time(self) -> int:
+        """SUMO's time of this second, that of its begin: the clock, which is that of its end, less 1."""
+        return self.clock - 1
+
+
+class Follower:
+    """Follows the vehicles of a run from second to second, and says what changed in each."""
+
+    def __init__(self, mapping: Map, dawdle: float) -> None:
+        """dawdle: the chance, 0 to 1, to go on by a cell a step less."""
+        self.mapping, self.alone = mapping, Alone(mapping, dawdle)
+        self.trips: dict[int, TripUnderWay] = {}
+        self.expected: dict[int, tuple[str, int, str]] = {}  # name, wished second, type
+        self.before: dict[int, At] = {}
+        self.entered_at: dict[int, int] = {}  # car: the clock since which it is in a junction
+
+    def expect_vehicle(self, car: int, name: str, wished: int, kind: str = "DEFAULT_VEHTYPE") -> None:
+        """Tells of a vehicle before it is seen: the second at which it would depart, its name and its type. One that
+        was not told of is called # and its number."""
+        self.expected[car] = name, wished, kind
+
+    def see_second(self, clock: int, lanes: Iterable[Sequence[Any]], arrived: Iterable[int]) -> Second:
+        """Takes the second that ends at a clock, and gives what it shows; called for every second, rising. Its trips,
+        without those who arrived, change with the next call. lanes: [link, lane, cells, cars in the buffer, ..] as a
+        folder's polls have them, empty lanes left out; arrived: cars."""
+        second = Second(clock, self.trips, before=self.before)
+        for link, lane, cells, buffer, *_ in lanes:
+            for entry in cells:
+                second.here[entry[0]] = At(link, lane, entry[1], entry[2], size_of(entry))
+            for car in buffer:
+                second.here[car] = self.follow_in_junction(car, link, lane, clock)
+        for car, at in second.here.items():
+            self.follow_vehicle(second, car, at)
+        gone = dict.fromkeys(arrived)
+        lost = ((car, at) for car, at in self.before.items() if car not in second.here and car not in gone)
+        second.teleported.update((car, at) for car, at in lost if at.cell is not None)
+        second.arrived = [(car, self.trips.pop(car)) for car in gone if car in self.trips]
+        self.before = second.here
+        return second
+
+    def follow_in_junction(self, car: int, link: int, lane: int, clock: int) -> At:
+        """Notes since when a vehicle is in the buffer of a lane, and gives where it is. It drives, at a cell a second,
+        for the least time that the junction takes, but one second in any case, and then stands."""
+        last = self.before.get(car)
+        if last is None or last.cell is not None or last.link != link:
+            self.entered_at[car] = clock
+        residence = self.mapping.nodes[self.mapping.links[link].end][3]
+        driving = clock - self.entered_at[car] < max(1, residence)
+        return At(link, lane, None, 1.0 if driving else 0.0, last.size if last else 1)
+
+    def follow_vehicle(self, second: Second, car: int, at: At) -> None:
+        """Begins the trip of a vehicle, or goes on with it, and notes in `second` what it did since the second before;
+        at: where it is now."""
+        last, trip = self.before.get(car), self.trips.get(car)
+        if trip is None:
+            name, wished, kind = self.expected.get(car, (f"#{car}", second.clock - 1, "DEFAULT_VEHTYPE"))
+            trip = self.trips[car] = TripUnderWay(name, wished, second.clock - 1, at, at, kind=kind)
+            second.departed.append(car)
+            self.add_link(trip, at.link)
+        elif last is None or last.link != at.link or (last.cell is None and at.cell is not None):
+            if last is not None and last.cell is not None:
+                second.teleported[car] = last
+            second.entered.append((car, at.link))
+            self.add_link(trip, at.link)
+        elif at.cell is None and last.cell is not None:
+            second.left.append((car, last))
+        note_standing(trip, at)
+        trip.last = at
+
+    def add_link(self, trip: TripUnderWay, link: int) -> None:
+        """Adds to a trip the metres and free seconds of a link that it comes to. SUMO counts as lost what a vehicle
+        loses by gaining speed, so it comes at the link's own limit."""
+        trip.free += trip.crossing + self.alone.on_link(link, link)
+        trip.crossing = self.alone.across(link)
+        trip.metres += self.mapping.links[link].metres
+
+
+def note_standing(trip: TripUnderWay, at: At) -> None:
+    """Adds to a trip a second of standing, and a halt where that begins, if it stands where it is now (at); else its
+    standing is over."""
+    if at.speed:
+        trip.standing = 0
+        return
+    trip.stops += trip.standing == 0
+    trip.standing += 1
+    trip.waiting += 1

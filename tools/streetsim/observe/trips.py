@@ -1,0 +1,88 @@
+"""trips.csv and stops.csv: when each vehicle arrived, where the others are at the end, and what became of stops."""
+from collections import Counter
+from collections.abc import Iterable, Iterator, Mapping
+
+from streetsim.base.arrays import numpy as np
+from streetsim.control.bus_fleet import Done, dwells
+from streetsim.kernel.loop import Kernel, Observer
+from streetsim.kernel.seconds import Seconds
+from streetsim.model.mapping import Map
+from streetsim.model.runs import Line, Run
+from streetsim.model.stops import bus_lines_of
+from streetsim.model.tables import Entry
+
+
+End = tuple[int | None, str]  # the clock of a vehicle's arrival, None: it has not arrived; and where it is
+
+
+class TripsTable(Observer):
+    """Notes when vehicles arrive (arrival, by number in the file; 0: not), and where the others are at the end."""
+
+    def begin(self, kernel: Kernel) -> None:
+        """Nobody has arrived."""
+        self.kernel = kernel
+        self.arrival = np.zeros(len(kernel.run.enters), np.int64)
+        self.states: dict[int, str] = {}
+
+    def see(self, seconds: Seconds) -> None:
+        """Takes some seconds."""
+        over = seconds.arrivals
+        self.arrival[seconds.vehicles.owner[over.car]] = seconds.clocks[over.second]
+
+    def end(self, clock: int) -> None:
+        """Notes where those are who are on the road."""
+        last, owner = self.kernel.last, self.kernel.vehicles.owner
+        states = np.where(last.cell >= 0, "cell", "buffer").tolist()
+        self.states = dict(zip(owner[last.car].tolist(), states, strict=True))
+
+    def rows(self, rescues: Mapping[int, int], stops: Iterable[Done]) -> Iterator[Entry]:
+        """The rows of trips.csv, as `trip_rows` gives them; rescues: by vehicle; stops: what became of them."""
+        run, alone = self.kernel.run, self.kernel.plans.alone_on_trips().tolist()
+        names, stood = vehicle_names(run, self.kernel.map), seconds_at_stops(stops)
+        more = ((alone[at], stood[at], rescues.get(at, 0)) for at in range(len(alone)))
+        return trip_rows(zip(names, run.enters, self.ends(), more, strict=True))
+
+    def ends(self) -> Iterator[End]:
+        """How each vehicle ended."""
+        for at, arrival in enumerate(self.arrival.tolist()):
+            if arrival:
+                yield arrival, "arrived"
+            else:
+                yield None, self.states.get(at, "waiting") if at < self.kernel.entered else "not departed"
+
+
+def trip_rows(trips: Iterable[tuple[str, Line, End, tuple[float, int, int]]]) -> Iterator[Entry]:
+    """The rows of trips.csv, (name, wished departure, arrival, seconds, seconds alone, seconds lost, how many links its
+    plan has, rescues, state), one for each vehicle, as in SUMO's tripinfo. A trip lasts from the wished departure to
+    arrival; seconds lost are those beyond seconds alone and at its stops. Arrival, seconds and seconds lost are empty
+    where it has not arrived. trips: name, enter line, end, and (seconds alone, seconds at stops, rescues)."""
+    for name, line, (arrival, state), (free, stood, rescues) in trips:
+        depart = line.command["depart"]
+        trip: Entry = ("", "", f"{free:.1f}", "")
+        if arrival is not None:
+            trip = arrival, arrival - depart, f"{free:.1f}", f"{arrival - depart - free - stood:.1f}"
+        yield (name, depart, *trip, len(line.command["plan"]), rescues, state)
+
+
+def seconds_at_stops(stops: Iterable[Done]) -> Counter[int]:
+    """The seconds that vehicles stood at their stops, by their number in the file; stops not left do not count."""
+    return Counter({vehicle: sum(one.seconds for one in those) for vehicle, those in dwells(stops).items()})
+
+
+def stop_rows(stops: Iterable[Done], run: Run, mapping: Map) -> Iterator[Entry]:
+    """The rows of stops.csv, (vehicle, line, stop, edge, lane, arrived, left, seconds, until, seconds late, state):
+    each stop of each vehicle, vehicle by vehicle; clocks and seconds are empty where they did not come about."""
+    vehicles, lines = vehicle_names(run, mapping), bus_lines_of(mapping.kinds, len(run.enters))
+    for one in sorted(stops, key=lambda one: (one.visit.vehicle, one.visit.at)):
+        visit, link = one.visit, mapping.links[one.visit.link]
+        lane = link.lanes[visit.lane if one.lane is None else one.lane]
+        dwell = late = None
+        if one.left is not None and one.arrived is not None:
+            dwell, late = one.left - one.arrived, None if visit.until is None else one.left - visit.until
+        times = ["" if time is None else time for time in (one.arrived, one.left, dwell, visit.until, late)]
+        yield vehicles[visit.vehicle], lines[visit.vehicle], visit.stop, link.edge, lane, *times, one.state
+
+
+def vehicle_names(run: Run, mapping: Map) -> list[str]:
+    """SUMO's names of the run's vehicles; those that were added to the run file by hand are # and their number."""
+    return [*mapping.cars, *(f"#{number}" for number in range(len(mapping.cars), len(run.enters)))][: len(run.enters)]

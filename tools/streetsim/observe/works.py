@@ -1,0 +1,127 @@
+"""works.csv, and the queues before works of queues.csv: what is seen before the works of a run."""
+from __future__ import annotations
+
+from collections.abc import Iterable, Iterator, Sequence
+
+from streetsim.base.arrays import numpy as np
+from streetsim.base.client import Lane
+from streetsim.control.merging_rule import EVERY
+from streetsim.control.works_closures import Closure
+from streetsim.control.works_queue_ends import Reach, streets_of
+from streetsim.control.works_watched import Watched
+from streetsim.kernel.loop import Kernel, Observer
+from streetsim.kernel.seconds import READY, Seconds
+from streetsim.model.freeflow import FreeFlow
+from streetsim.model.mapping import Place
+from streetsim.model.tables import BEFORE_WORKS, Entry
+
+NOTHING = Lane((), (), (), ())
+
+
+class WorksTable(Observer):
+    """Looks at the lanes before works each EVERY seconds, and at polls how far the queues reach."""
+
+    def __init__(self, closures: Sequence[Closure], every: int = 0) -> None:
+        """closures: before which a queue can begin; every: seconds between polls, 0: none."""
+        self.closures, self.every = closures, every
+        self.watched: list[Watched] = []
+        self.queues: list[tuple[int, Closure, int, float]] = []  # clock, works, vehicles that stand, metres
+
+    def begin(self, kernel: Kernel) -> None:
+        """Nobody has come."""
+        self.kernel, mapping = kernel, kernel.map
+        driving = FreeFlow(mapping, kernel.run.load.command.get("dawdle", 0) / 1000).driving
+        pace = [seconds / link.cells for seconds, link in zip(driving, mapping.links, strict=True)]
+        streets = streets_of(mapping)
+        self.watched = [Watched(one, streets, pace, upstream_of(one, self.closures)) for one in self.closures]
+        self.rescued = 0  # rescues that are noted
+
+    def see(self, seconds: Seconds) -> None:
+        """Takes some seconds. Who is rescued at a clock is there at its look."""
+        for second in range(1, len(seconds.clocks)) if self.watched else ():
+            clock = int(seconds.clocks[second])
+            due = [one for one in self.watched if due_after(one, clock - 1) == clock]
+            polled = [one for one in self.watched if one.closure.begin < clock <= one.closure.end]
+            if self.every == 0 or clock % self.every:
+                polled = []
+            if due or polled:
+                self.look(clock, LanesNow(seconds, second), due, polled)
+
+    def look(self, clock: int, lanes: LanesNow, due: Iterable[Watched], polled: Iterable[Watched]) -> None:
+        """Notes what works show that are due at a clock, or polled."""
+        taken = self.kernel.vehicles.taken
+        while self.rescued < len(taken) and taken[self.rescued].clock < clock:
+            for each in self.watched:
+                each.rescue(taken[self.rescued].car, taken[self.rescued].anew)
+            self.rescued += 1
+        for one in due:
+            one.note_look(clock, self.seen_before(clock, one, lanes), self.is_bound)
+        for one in polled:
+            reach = self.reach_at(clock, one, lanes)
+            if reach.vehicles:
+                self.queues.append((clock, one.closure, reach.vehicles, reach.metres))
+
+    def seen_before(self, clock: int, one: Watched, lanes: LanesNow) -> dict[Place, Lane]:
+        """What stands on the lanes of the link of some works, and of those upstream that their queue reaches."""
+        places = self.kernel.map.lanes
+        seen = {place: lanes.at(place) for place in places([one.closure.link])}
+        while more := one.further(clock, seen):
+            seen.update((place, lanes.at(place)) for place in places(sorted(more)))
+        return seen
+
+    def reach_at(self, clock: int, one: Watched, lanes: LanesNow) -> Reach:
+        """How far the queue before some works reaches, on however many links upstream."""
+        seen: dict[Place, Lane] = {}
+        links = {one.closure.link}
+        while links:
+            seen.update((place, lanes.at(place)) for place in self.kernel.map.lanes(sorted(links)))
+            reach = one.reach(clock, seen)
+            known = {link for link, _ in seen}
+            links = {feeder for link in reach.full for feeder in one.streets.before.get(link, ())} - known
+        return reach
+
+    def is_bound(self, car: int, here: int, ahead: int) -> bool:
+        """Whether a car, by its number in the program, that is on one link has another ahead in its vehicle's plan. It
+        counts as where its link stands first in the plan; False where that does not have it."""
+        plan = self.kernel.run.enters[int(self.kernel.vehicles.owner[car])].command["plan"]
+        return here in plan and ahead in plan[plan.index(here) + 1 :]
+
+    def queue_rows(self) -> Iterator[Entry]:
+        """The rows of queues.csv before works, as Queues.rows has them, with the metres where the works begin."""
+        mapping = self.kernel.map
+        for clock, closure, count, metres in self.queues:
+            link, (begin, _) = mapping.links[closure.link], closure.metres(mapping)
+            yield clock, link.edge, link.lanes[closure.lane], count, round(metres, 1), BEFORE_WORKS, f"{begin:.1f}"
+
+
+class LanesNow:
+    """The lanes in one second, as replies."""
+
+    def __init__(self, seconds: Seconds, second: int) -> None:
+        """second: by its number among these."""
+        self.seconds, self.begin = seconds, int(seconds.first[second])
+        self.slots = seconds.slot[self.begin : seconds.first[second + 1]]
+
+    def at(self, place: Place) -> Lane:
+        """What stands on a lane, without closed stretches."""
+        slot = 2 * place[0] + place[1]
+        low, high = (self.begin + np.searchsorted(self.slots, (slot, slot + 1))).tolist()
+        if low == high:
+            return NOTHING
+        rows, now = slice(low, high), self.seconds
+        found = list(zip(*(one[rows].tolist() for one in (now.car, now.cell, now.speed, now.size)), strict=True))
+        cells = tuple((car, cell, speed, size) for car, cell, speed, size in found if cell >= 0)
+        return Lane(cells, tuple((car, speed, cell & READY) for car, cell, speed, _ in found if cell < 0), (), ())
+
+
+def upstream_of(own: Closure, closures: Iterable[Closure]) -> list[Closure]:
+    """The works on the lane of some works that begin upstream of these, whenever they are there."""
+    place = own.link, own.lane
+    return [one for one in closures if (one.link, one.lane) == place and one.first < own.first]
+
+
+def due_after(watched: Watched, clock: int) -> int | None:
+    """The clock of the first look at a place of works after a clock; None where the works are over."""
+    begin, end = watched.closure.begin, watched.closure.end
+    following = begin + (max(0, clock - begin) // EVERY + 1) * EVERY
+    return min(following, end) if clock < end else None

@@ -1,1 +1,0 @@
-"""Pictures of runs by matplotlib, and the data of the page that plays them."""

@@ -1,0 +1,65 @@
+"""What a report rests on: what was run, what the import said, what is assumed."""
+from collections.abc import Sequence
+from html import escape
+
+from streetsim.base.limits import GAP_METRES
+from streetsim.base.words import time_of_day
+from streetsim.model.service import STOP_LOSS
+from streetsim.report.page_markup import bullets, facts
+from streetsim.report.run_tables import Runs
+
+WEIGHTS = (
+    ("skipped:", "Left out: vehicles that do not drive"),
+    ("warning:", "Otherwise than in SUMO"),
+    ("ignored:", "Read, and without effect"),
+    ("", "Notes"),
+)
+MOST_LINES = 8  # of each weight on the page
+ASSUMPTIONS = (
+    "A vehicle takes one to four cells of 7.5 m and moves in steps of a second; speeds are whole cells a second.",
+    f"Control delay has {STOP_LOSS[0]} s for each vehicle that stops, {STOP_LOSS[1]} s where its edge has more lanes, "
+    "as vehicles brake and start at once: measured on lone crosses against SUMO's detectors. Not for those that turn "
+    "at a light, as seconds of their green are left out instead.",
+    "Levels of service, A to F, are those of the Highway Capacity Manual 2010 by control delay; of a movement F too "
+    "where v/c, its volume over its capacity, is above 1.",
+    f"Queues are the backs of queues in each cycle of a signal. One that is {GAP_METRES} m shorter than its edge, the "
+    "gap behind a vehicle, has filled it; it may reach on.",
+    "Routes are given: nobody changes its route on the way.",
+)
+
+
+def what_was_run(all_runs: Sequence[Runs]) -> str:
+    """A table, as HTML, of each plan's run: its files, network, demand, time, seeds, SHA-256 of the program."""
+    rows: list[tuple[str, str]] = []
+    for runs in all_runs:
+        mapping, made = runs.first.mapping, runs.first.made
+        sources = mapping.sources or {}
+        files = [sources["net"], *sources.get("routes", ()), *sources.get("additional", ())] if sources else []
+        places = f"{len(mapping.links_of):,} edges, {len(mapping.nodes):,} junctions"
+        times = f"{time_of_day(made.get('start', 0))} to {time_of_day(made.get('until', 0))}"
+        seeds = ", ".join(map(str, runs.folders))
+        rows += [
+            (f"<b>{escape(runs.name)}</b>", escape(made.get("run", ""))),
+            ("files of the import", escape(", ".join(files)) or "not told by the map"),
+            ("network", f"{places}, {len(mapping.signals):,} with signals"),
+            ("demand", f"{made.get('vehicles', len(mapping.cars)):,} vehicles"),
+            ("time", f"{times}, seeds {seeds}, dawdle {runs.first.dawdle}"),
+            ("program", f'<span class="sum">SHA-256 {escape(made.get("program") or "not told")}</span>'),
+        ]
+    return facts(rows)
+
+
+def warnings(all_runs: Sequence[Runs]) -> str:
+    """What the imports of all plans had to say, as HTML: what is left out, what is otherwise than in SUMO, what has no
+    effect, and notes; at most eight lines of each, equal ones once. A sentence where they said nothing."""
+    lines = list(dict.fromkeys(line for runs in all_runs for line in runs.first.mapping.warnings))
+    marks = tuple(mark for mark, _ in WEIGHTS if mark)
+    parts = []
+    for mark, title in WEIGHTS:
+        those = [line for line in lines if (line.startswith(mark) if mark else not line.startswith(marks))]
+        if those:
+            told = [line.removeprefix(mark).strip() for line in those[:MOST_LINES]]
+            if left := len(those) - len(told):
+                told.append(f"{left:,} more: warnings.csv")
+            parts.append(f"<h3>{title}</h3>{bullets(told)}")
+    return "".join(parts) or "<p>The import had nothing to warn of.</p>"

@@ -1,0 +1,128 @@
+"""Draws the ways of vehicles along a path, over time, as SVG: a page has the same bytes wherever it is made."""
+from collections.abc import Callable, Iterable, Iterator, Sequence
+from html import escape
+
+from streetsim.base.words import time_of_day
+from streetsim.model.folder import Folder
+from streetsim.model.names import Names
+from streetsim.report import run_series
+from streetsim.report.picture_plots import SPEEDS, refuse_undrawn
+from streetsim.report.run_series import Piece, Spot
+
+WIDE, LEFT, RIGHT = 900, 64, 150  # pixels: of the picture, and beside its panels
+TOP, HIGH, BELOW = 26, 300, 46  # of a panel: above it, it, below it
+At = Callable[[float, float], str]  # of a second and metres, where they are: "across,down", pixels
+
+
+def corridor_picture(folder: Folder, ways: Sequence[Sequence[str]], first: int, last: int, told: str) -> str:
+    """Where each vehicle is along paths (metres) over time (seconds), one panel a path, as SVG. ways: of each path its
+    edges; told: what the picture shows. Fault as of refuse_undrawn."""
+    for way in ways:
+        refuse_undrawn(folder, way, first, last)
+    tall = len(ways) * (TOP + HIGH + BELOW) + 26
+    parts = [f'<svg class="corridor" viewBox="0 0 {WIDE} {tall}" role="img" aria-label="{escape(told)}">']
+    classes = {0}
+    for at, way in enumerate(ways):
+        pieces = run_series.trajectories(folder, way, first, last)
+        classes |= {class_of(piece) for piece in pieces}
+        parts.append(panel(folder, way, (first, last), pieces, at * (TOP + HIGH + BELOW) + TOP))
+    return "".join([*parts, legend(sorted(classes), tall - 12), "</svg>"])
+
+
+def class_of(piece: Piece) -> int:
+    """The place in SPEEDS of a piece's speed."""
+    return min(piece[2], len(SPEEDS) - 1)
+
+
+def panel(folder: Folder, way: Sequence[str], span: Spot, pieces: Sequence[Piece], top: int) -> str:
+    """One direction of a path, as SVG: its vehicles, red signals, green band (in the title) and the names of junctions
+    beside it. span: first and last second; top: pixels from the picture's top."""
+    (first, last), length = span, run_series.links_and_length(folder, way)[1]
+    across, down = (WIDE - LEFT - RIGHT) / (last - first), HIGH / (length * 1.01)
+
+    def at(second: float, metres: float) -> str:
+        """Where a second and metres are, in pixels."""
+        return f"{LEFT + (second - first) * across:.1f},{top + HIGH - metres * down:.1f}"
+
+    frame = f'<rect x="{LEFT}" y="{top}" width="{WIDE - LEFT - RIGHT}" height="{HIGH}" fill="none" stroke="#555"/>'
+    parts = [*grid(at, span, length), frame]
+    for place in range(len(SPEEDS) - 1, -1, -1):
+        parts += vehicles(at, [piece for piece in pieces if class_of(piece) == place], place)
+    for metres, begin, end in run_series.red_times(folder, way, int(first), int(last)):
+        parts.append(f'<path d="M{at(begin, metres)}L{at(end, metres)}" stroke="#000" stroke-width="4"/>')
+    for metres, name in run_series.junctions_along(folder, way):
+        level = at(last, metres).split(",")[1]
+        parts.append(f'<text x="{WIDE - RIGHT + 6}" y="{level}" dy="4">{escape(name)}</text>')
+    title = f'<text x="{LEFT}" y="{top - 8}" font-weight="bold">{escape(title_of(folder, way, int(first)))}</text>'
+    return f"<g>{title}{''.join(parts)}</g>"
+
+
+def title_of(folder: Folder, way: Sequence[str], first: int) -> str:
+    """What a panel shows: the streets of a path and its green band from a second on."""
+    streets, band = Names(folder.mapping), run_series.green_band(folder, way, first)
+    begin, end = (streets.street(edge) or edge for edge in (way[0], way[-1]))
+    where = f"Along {begin}" if begin == end else f"From {begin} to {end}"
+    return f"{where}: each line is a vehicle" + (f"; green band {band[0]} of {band[1]} s" if band else "")
+
+
+def grid(at: At, span: Spot, length: float) -> Iterator[str]:
+    """Lines and numbers of the axes of a panel, as SVG. span: first and last second; length: metres."""
+    (first, last), places = span, steps(0, length)
+    for second in steps(first, last):
+        x, y = at(second, 0).split(",")
+        yield f'<path d="M{at(second, 0)}L{at(second, length)}" stroke="#ddd"/>'
+        yield f'<text x="{x}" y="{y}" dy="16" text-anchor="middle">{time_of_day(int(second))}</text>'
+    for metres in places:
+        x, y = at(first, metres).split(",")
+        yield f'<path d="M{at(first, metres)}L{at(last, metres)}" stroke="#ddd"/>'
+        yield f'<text x="{x}" y="{y}" dx="-6" dy="4" text-anchor="end">{metres:g} m</text>'
+
+
+def steps(first: float, last: float) -> list[float]:
+    """Round numbers from a first to a last one, some six of them."""
+    step = run_series.round_length(max(1.0, (last - first) / 5))
+    begin = -(-first // step) * step
+    return [begin + step * at for at in range(int((last - begin) // step) + 1)]
+
+
+def vehicles(at: At, pieces: Iterable[Piece], place: int) -> Iterator[str]:
+    """The ways of vehicles of one class of speed, by its place in SPEEDS, as SVG; nothing where there are none."""
+    pieces, (_, label, colour, width) = list(pieces), SPEEDS[place]
+    long = run_series.long_vehicle_strips(pieces)
+    if strips := "".join(f"M{'L'.join(at(*corner) for corner in one)}Z" for one in long):
+        yield f'<path d="{strips}" fill="{colour}" fill-opacity="0.6"/>'
+    if lines := "".join(f"M{'L'.join(at(*spot) for spot in one)}" for one in joined(pieces)):
+        line = f'<path d="{lines}" fill="none" stroke="{colour}" stroke-width="{width}">'
+        yield f"{line}<title>{label}</title></path>"
+
+
+def joined(pieces: Iterable[Piece]) -> list[list[Spot]]:
+    """Pieces of ways as lines through as many points as they need: those that go on where another ends are joined, and
+    are one straight line where they are equally steep."""
+    lines: list[list[Spot]] = []
+    ends: dict[Spot, list[Spot]] = {}
+    for begin, end, _, _ in pieces:
+        line = ends.pop(begin, None)
+        if line is None:
+            lines.append(line := [begin])
+        elif is_straight(line[-2], begin, end):
+            line.pop()
+        line.append(end)
+        ends[end] = line
+    return lines
+
+
+def is_straight(one: Spot, middle: Spot, other: Spot) -> bool:
+    """Whether three places are on a line."""
+    return (middle[1] - one[1]) * (other[0] - middle[0]) == (other[1] - middle[1]) * (middle[0] - one[0])
+
+
+def legend(classes: Sequence[int], down: int) -> str:
+    """What the lines mean, as SVG, at so many pixels down: those of the classes of speed that there are, and red."""
+    entries = [(label, colour, width + 1) for _, label, colour, width in (SPEEDS[one] for one in classes)]
+    parts = []
+    for at, (label, colour, width) in enumerate([*entries, ("red signal", "#000", 4)]):
+        x = LEFT + 160 * at
+        parts.append(f'<path d="M{x},{down - 4}h28" stroke="{colour}" stroke-width="{width}"/>')
+        parts.append(f'<text x="{x + 34}" y="{down}">{label}</text>')
+    return "".join(parts)

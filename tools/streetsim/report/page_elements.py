@@ -1,0 +1,147 @@
+"""A page as a list of its tags and texts, and where each stands, so that two pages can be compared."""
+import re
+from collections.abc import Iterator, Sequence
+from dataclasses import dataclass
+from difflib import SequenceMatcher
+from html import unescape
+
+NUMBER = re.compile(r"\d+(?:[.,]\d+)*")
+PIECE = re.compile(r"<[^<>]*>|<|[^<]+")  # a tag, or the text between two; each letter is in one, whatever it is
+TAG = re.compile(r"<(/?)([a-zA-Z][a-zA-Z0-9]*)")
+LONG = 60  # letters of what is said of a difference
+MOST_PARTS = 20_000  # pieces in which those are sought that were put in or taken out
+HEADS = ("h1", "h2", "h3")
+
+
+@dataclass(slots=True, frozen=True)
+class Mismatch:
+    """What a page says somewhere, and what was found there anew."""
+
+    where: str
+    said: str
+    found: str
+
+    def told(self) -> str:
+        """The difference in words; long texts cut to what is around it."""
+        said, found = around_difference(self.said, self.found)
+        return f"{self.where}: said {said!r}, found {found!r}"
+
+
+def around_difference(said: str, found: str) -> tuple[str, str]:
+    """(said, found): two texts; where one is longer than 60 letters, of both the 60 or so around their first
+    difference."""
+    if len(said) <= LONG and len(found) <= LONG:
+        return said, found
+    at = first_difference(said, found)
+    begin = max(0, at - LONG // 3)
+    return said[begin : begin + LONG], found[begin : begin + LONG]
+
+
+def first_difference(one: Sequence[object], other: Sequence[object]) -> int:
+    """The first place at which two sequences differ; the length of the shorter one where that is the other's begin."""
+    return next((at for at, (a, b) in enumerate(zip(one, other)) if a != b), min(len(one), len(other)))
+
+
+class Places:
+    """Where the pieces of a page are: goes over them, and knows the section, row and column."""
+
+    def __init__(self) -> None:
+        """Before the page's begin."""
+        self.heads = {name: "" for name in HEADS}
+        self.open = ""  # the heading or cell that is read
+        self.columns: list[str] = []
+        self.column, self.row = -1, ""
+
+    def where(self) -> str:
+        """Where that is, in words: headings, row and column; 'the page's head' before any of these."""
+        heads = [self.heads["h2"] or self.heads["h1"], self.heads["h3"]]
+        column = self.columns[self.column] if 0 <= self.column < len(self.columns) else ""
+        return ", ".join(filter(None, [*heads, self.row, column])) or "the page's head"
+
+    def pass_piece(self, piece: str) -> None:
+        """Goes over a piece, a tag or a text."""
+        if not (tag := TAG.match(piece)):
+            self.note_text(unescape(piece))
+        elif tag[1]:
+            self.note_end(tag[2])
+        else:
+            self.note_begin("row" if tag[2] == "th" and 'scope="row"' in piece else tag[2])
+
+    def note_begin(self, tag: str) -> None:
+        """Notes by its tag that a heading, table, row, cell or other block begins; 'row': the cell that heads a row."""
+        if tag in HEADS:
+            self.open, self.column, self.row = tag, -1, ""
+            for name in HEADS[HEADS.index(tag) :]:
+                self.heads[name] = ""
+        elif tag == "table":
+            self.columns, self.row = [], ""
+        elif tag == "tr":
+            self.column, self.row = -1, ""
+        elif tag == "row":
+            self.column, self.open = 0, "td"
+        elif tag in ("td", "th"):
+            self.column, self.open = self.column + 1, tag
+            if tag == "th":
+                self.columns.append("")
+        elif tag in ("p", "ul", "figure", "svg", "nav"):
+            self.column, self.row = -1, ""
+
+    def note_end(self, tag: str) -> None:
+        """Notes that a heading, cell or table is over."""
+        if tag in (*HEADS, "td", "th"):
+            self.open = ""
+        if tag == "table":
+            self.columns, self.column, self.row = [], -1, ""
+
+    def note_text(self, text: str) -> None:
+        """Notes the text of a heading, or of the cell that heads a row or column."""
+        if self.open in HEADS:
+            self.heads[self.open] += text
+        elif self.open == "th" and self.columns:
+            self.columns[-1] += text
+        elif self.open == "td" and self.column == 0:
+            self.row += text
+
+
+def places_of(pieces: Sequence[str]) -> list[str]:
+    """Where each piece of a page is."""
+    places, found = Places(), []
+    for piece in pieces:
+        places.pass_piece(piece)
+        found.append(places.where())
+    return found
+
+
+def numbers_in(text: str) -> int:
+    """How many numbers a page of the tools has, in texts and in attributes of tags, as those of SVG pictures; not in
+    its styles and scripts, what is sealed among them, or in the names of tags, as h2."""
+    hidden = r"<(style|script)\b.*?</\1>|</?[a-zA-Z][a-zA-Z0-9]*"
+    return len(NUMBER.findall(re.sub(hidden, "", text, flags=re.DOTALL)))
+
+
+def page_mismatches(said: str, found: str) -> list[Mismatch]:
+    """The mismatches of two pages (HTML), the one that is checked (said) and the one made anew (found): one at least
+    where they differ, none where they are equal to the byte."""
+    return [] if said == found else list(mismatches(PIECE.findall(said), PIECE.findall(found)))
+
+
+def mismatches(said: Sequence[str], found: Sequence[str]) -> Iterator[Mismatch]:
+    """What differs of the pieces of two pages, as of page_mismatches: one by one where they have equally many, else the
+    parts that were put in, taken out or changed, and as one where these are long."""
+    where = places_of(found) or [""]
+    if len(said) == len(found):
+        for one, other, place in zip(said, found, where, strict=True):
+            if one != other:
+                yield Mismatch(place, one.strip() or one, other.strip() or other)
+        return
+    begin = first_difference(said, found)
+    rest = min(len(said), len(found)) - begin
+    end = min(first_difference(said[::-1], found[::-1]), rest)
+    parts = said[begin : len(said) - end], found[begin : len(found) - end]
+    spans = [("replace", 0, len(parts[0]), 0, len(parts[1]))]
+    if max(map(len, parts)) <= MOST_PARTS:
+        spans = SequenceMatcher(None, *parts).get_opcodes()
+    for kind, first, last, start, stop in spans:
+        if kind != "equal":
+            place = where[min(begin + start, len(where) - 1)]
+            yield Mismatch(place, "".join(parts[0][first:last]), "".join(parts[1][start:stop]))

@@ -1,0 +1,137 @@
+"""The appendix of junctions: a line for each, movements that change, and some with all their movements and queues."""
+from collections.abc import Sequence
+from html import escape
+from operator import itemgetter
+
+from streetsim.base.words import time_of_day
+from streetsim.model.names import Names
+from streetsim.report.page_choice import LEAST, RowChange
+from streetsim.report.page_drawings import anchor, letter_mark, queue_picture
+from streetsim.report.page_markup import change_told, table
+from streetsim.report.run_tables import ResultRow, Runs
+
+KEY = (
+    "L, T, R, U: left, straight on, right, back. Queues: what half of the cycles and what 95 % of them do not exceed, "
+    "and the greatest, of the room. Bars: the length of an edge, and in it the same queues, dark, light and a line."
+)
+FULL = "Queues and delays may be other than in SUMO here."
+MOST_MOVEMENTS = 25  # of changes on the page
+
+
+def title_of(name: str, names: Names) -> str:
+    """A junction's title: its name and id, or its id alone."""
+    called = names.junction(name)
+    return f"{called} (junction {name})" if called else f"Junction {name}"
+
+
+def junction_table(rows: Sequence[RowChange], names: Names, detailed: int) -> str:
+    """A table with one line for each junction, as HTML; the first `detailed` of them are links to their sections. Where
+    one has a row before, it is of two plans, with empty cells where nothing can be paired."""
+    two = any(one.before for one in rows)
+    made = []
+    for place, one in enumerate(rows):
+        title = escape(title_of(one.key[0], names))
+        cells = [(f'<a href="#{anchor(one.key[0])}">{title}</a>' if place < detailed else title) + full_mark(one.row)]
+        cells.append(f"{one.row.values['vehicles_per_hour']:,.0f}")
+        level = letter_mark(one.row.letter())
+        if not two:
+            made.append([*cells, f"{one.row.delay:.1f}", level, f"{one.row.values['v_c']:.2f}"])
+        elif one.before and one.change:
+            numbers = f"{one.change.before:.1f}", f"{one.change.after:.1f}", change_told(one.change)
+            made.append([*cells, *numbers, f"{letter_mark(one.before.letter())} to {level}"])
+        else:
+            made.append([*cells, "", f"{one.row.delay:.1f}", "", level])
+    if two:
+        return table(["junction", "vehicles/h", "before, s", "after, s", "change, s", "level of service"], made)
+    return table(["junction", "vehicles/h", "delay, s", "level of service", "greatest v/c"], made)
+
+
+def full_mark(row: ResultRow) -> str:
+    """A mark, as HTML, behind a junction whose lanes are nearly full by the demand; empty for others."""
+    full = row.values.get("nearly_full")
+    return f' <span class="small" title="{FULL}">nearly full ({full:.2f})</span>' if full else ""
+
+
+def full_lanes(runs: Runs, name: str) -> str:
+    """A sentence on the lanes of a junction that are nearly full by the demand, as HTML; empty where there are none."""
+    told = "; ".join(one.told() for one in runs.first.mapping.full.lanes if one.junction == name)
+    return f'<p class="small">Nearly full by the demand: {escape(told)}. {FULL}</p>' if told else ""
+
+
+def movement_changes(rows: Sequence[RowChange], names: Names) -> str:
+    """A table of the movements with both plans that change noticeably or are worse than D, as HTML, at most 25; a
+    sentence where there are none. rows: movements as ranked_rows of council gives them, whose order stays."""
+    those = [one for one in rows if one.change and one.before and (one.changes_noticeably or one.is_bad)]
+    made = []
+    for one in those[:MOST_MOVEMENTS]:
+        assert one.change and one.before
+        ids = f"{one.key[0]}: {' to '.join(one.key[1:])}"
+        levels = f"{letter_mark(one.before.letter())} to {letter_mark(one.row.letter())}"
+        numbers = f"{one.change.before:.1f}", f"{one.change.after:.1f}", change_told(one.change)
+        shown = f'<span class="ids">{escape(ids)}</span>'
+        made.append([escape(names.movement(*one.key[1:])), shown, *numbers, levels])
+    if not made:
+        return "<p>No movement changes for sure by so much that one notices, and none is worse than D.</p>"
+    head = ["movement", "junction: edges", "before, s", "after, s", "change, s", "level of service"]
+    left = len(rows) - len(made)
+    more = f'<p class="small">{left:,} other movements: movements.csv of the runs.</p>' if left else ""
+    return table(head, made, names=2) + more
+
+
+def said_of_changes(seeds: int) -> str:
+    """A note, as HTML, on how differences are paired, what is bold and what comes first; seeds: how many both have."""
+    alone = "One seed alone tells nothing of chance: use --seeds 1-5"
+    said = "Differences are of the same seeds" if seeds > 1 else alone
+    return (
+        f'<p class="small">{said}; those whose sign is sure at 95 % are bold. Control delay, seconds. First those that '
+        f"change by {LEAST:.0f} s or in their level of service for sure, or are worse than D.</p>"
+    )
+
+
+def detail(runs: Runs, name: str, shown: tuple[int, int]) -> str:
+    """The section of a junction, as HTML: its movements and the queues of its approaches in an interval (begin, end),
+    in which it must have a row, by_time and full_lanes."""
+    junction, called = runs.rows["junctions", *shown][name,], runs.names
+    movements = [row for row in runs.rows["movements", *shown].values() if row.key[0] == name]
+    approaches = [row for row in runs.rows["approaches", *shown].values() if row.key[0] == name]
+    head = ["movement", "from and to edge", "", "vehicles/h", "delay, s", "level of service", "v/c", "stopped, s"]
+    head += ["stops", "queues, m"]
+    rows = [movement_row(row, called) for row in sorted(movements, key=lambda row: row.key)]
+    queues = []
+    for row in sorted(approaches, key=lambda row: row.key):
+        half, usual, greatest, room = itemgetter("queue_50_m", "queue_95_m", "queue_max_m", "storage_m")(row.values)
+        queues.append((called.approach(row.key[1]), half, usual, greatest, room))
+    values = junction.values
+    return (
+        f'<section class="whole"><h3 id="{anchor(name)}">{escape(title_of(name, called))}: {junction.delay:.1f} s '
+        f'{letter_mark(junction.letter())}, {values["vehicles_per_hour"]:,.0f} vehicles an hour, '
+        f'{escape(junction.control)}</h3>{by_time(runs, name)}'
+        f'{full_lanes(runs, name)}'
+        f'{table(head, rows, names=3)}<div class="picture">{queue_picture(queues)}</div></section>'
+    )
+
+
+def by_time(runs: Runs, name: str) -> str:
+    """The mean delay and the level of service of a junction in each interval that has them, as HTML; empty where the
+    tables have one interval alone."""
+    intervals = runs.intervals()
+    if len(intervals) < 2:
+        return ""
+    found = ((begin, runs.rows.get(("junctions", begin, end), {}).get((name,))) for begin, end in intervals)
+    those = ((time_of_day(begin), row) for begin, row in found if row)
+    told = ", ".join(f"from {begin} {row.delay:.0f} s {letter_mark(row.letter())}" for begin, row in those)
+    return f'<p class="small">By time: {told}</p>'
+
+
+def movement_row(row: ResultRow, names: Names) -> list[str]:
+    """The cells of a movement in its junction's table, as HTML."""
+    values = row.values
+    stops = f"{values['stops_per_vehicle']:.2f}" if "stops_per_vehicle" in values else ""
+    lengths = (f"{values[name]:.0f}" for name in ("queue_50_m", "queue_95_m", "queue_max_m"))
+    queues = f'<span class="ids">{", ".join(lengths)} of {values["storage_m"]:.0f}</span>'
+    ids = f'<span class="ids">{escape(" to ".join(row.key[1:]))}</span>'
+    return [
+        *(escape(names.movement(*row.key[1:])), ids, row.movement),
+        *(f"{values['vehicles_per_hour']:.0f}", f"{row.delay:.1f}", letter_mark(row.letter()), f"{values['v_c']:.2f}"),
+        *(f"{values['stopped_delay_s']:.1f}", stops, queues),
+    ]

@@ -1,0 +1,77 @@
+"""Makes a page from runs: its first page, and the appendix. Fault where a table of the runs cannot be read."""
+from collections.abc import Iterator, Sequence
+from dataclasses import dataclass, field
+from html import escape
+
+from streetsim.base.words import time_of_day
+from streetsim.report import page_background, page_junctions, page_summary, page_works
+from streetsim.report.page_choice import RowChange
+from streetsim.report.page_markup import Section, bullets, page
+from streetsim.report.page_summary import Interval
+from streetsim.report.run_tables import Runs
+
+
+@dataclass(slots=True, frozen=True)
+class PageWishes:
+    """What a page is asked for, beside the runs that it is of."""
+
+    title: str
+    question: str = ""
+    detailed: int = 8  # junctions that are told with all their movements
+    is_short: bool = False  # the first page alone
+    doubts: Sequence[str] = ()  # what speaks against the runs, beside what they say
+    pictures: Sequence[Section] = field(default_factory=list)  # further sections of the appendix
+    first: Sequence[Section] = ()  # further sections of the first page
+    last: str = ""  # how to check the page, at its end, as HTML
+
+
+def report_of(plans: Sequence[Runs], shown: Interval, wishes: PageWishes) -> str:
+    """The whole page, as HTML, of one plan, or of two, before and after, in the interval that is shown, one of those of
+    the junction tables (KeyError for another one)."""
+    rows = page_summary.ranked_rows(plans, shown)
+    detailed = 0 if wishes.is_short else wishes.detailed
+    first = [
+        Section("verdict", "Verdict", page_summary.verdict(plans, shown)),
+        Section("map", "Where", page_summary.service_and_works_map(plans[-1], shown, rows, detailed)),
+        Section(
+            "costs", "What it costs whom" if len(plans) == 2 else "Who waits longest", page_summary.costs(plans, shown)
+        ),
+        Section("doubts", "What is doubted", page_summary.doubted(plans, wishes.doubts)),
+        *wishes.first,
+    ]
+    lead = page_summary.question_html(wishes.question, plans, shown)
+    appendix = [] if wishes.is_short else list(appendix_of(plans, shown, rows, wishes))
+    return page(wishes.title, lead, first, appendix, wishes.last)
+
+
+def appendix_of(
+    plans: Sequence[Runs], shown: Interval, rows: Sequence[RowChange], wishes: PageWishes
+) -> Iterator[Section]:
+    """The sections behind the first page, those without content left out; rows: of all junctions, those first that are
+    told with all their movements."""
+    last, times, detailed = plans[-1], f"{time_of_day(shown[0])} to {time_of_day(shown[1])}", rows[: wishes.detailed]
+    seeds = len(plans[0].folders.keys() & last.folders.keys())
+    note = page_junctions.said_of_changes(seeds) if len(plans) == 2 else ""
+    table = note + page_junctions.junction_table(rows, last.names, len(detailed))
+    yield Section("junctions", f"Junctions, {times}", table)
+    if len(plans) == 2:
+        changes = page_junctions.movement_changes(page_summary.ranked_rows(plans, shown, "movements"), last.names)
+        yield Section("movements", f"Movements that change, {times}", changes)
+        yield Section("map-before", f"Map before: {plans[0].name}", page_summary.service_and_works_map(plans[0], shown))
+    if detailed:
+        title = f"Junctions in detail: {last.name}, {times}"
+        yield Section("details", title, details(last, shown, rows, len(detailed)))
+    if told := page_works.section(plans, shown):
+        yield Section("works", "Road works", told)
+    yield from wishes.pictures
+    yield Section("run", "What was run", page_background.what_was_run(plans))
+    yield Section("warnings", "What the import said", page_background.warnings(plans))
+    yield Section("assumptions", "Assumptions", bullets(page_background.ASSUMPTIONS))
+
+
+def details(runs: Runs, shown: Interval, rows: Sequence[RowChange], count: int) -> str:
+    """The key, and the sections of the junctions told with all their movements, as HTML: of the first `count` rows."""
+    left = len(rows) - count
+    more = f" {left:,} other junctions: movements.csv of the runs, or --detail." if left else ""
+    tables = "".join(page_junctions.detail(runs, one.key[0], shown) for one in rows[:count])
+    return f'<p class="small">{escape(page_junctions.KEY + more)}</p>{tables}'

@@ -1,0 +1,115 @@
+"""Makes the seal of a page: gathers the run files, maps, words and sums of its runs."""
+import hashlib
+import os
+from collections.abc import Mapping, Sequence
+from dataclasses import replace
+from pathlib import Path
+
+from streetsim.base.files import Fault, Json, open_bytes, read_json, reading
+from streetsim.base.seeds import seeds_told
+from streetsim.model.folder import KEPT, LIGHTS, NAME
+from streetsim.model.tables import SEEDS, read_table
+from streetsim.report.light_timings import lights_path
+from streetsim.report.page_seal import Seal, canonical, sealed, sum_of
+from streetsim.report.run_tables import Runs
+
+HOW = ("run", "words", "again", "lines", "program")  # of a setting, equal for the seeds of one run
+PACKAGE = Path(__file__).parents[1]
+
+
+def seal_for(
+    plans: Sequence[Runs], words: Sequence[str], page: str, others: Mapping[str, str]
+) -> tuple[Seal, dict[str, bytes]]:
+    """(the seal of a page of some plans, the files that go to the one beside it: content by name). words: as given to
+    streetsim-report; page: its path; others: further files, {name: path}. Fault as of refuse_unsealable, sealed_plan
+    and reading."""
+    files: dict[str, bytes] = {}
+    made = []
+    for place, runs in enumerate(plans, 1):
+        refuse_unsealable(runs)
+        plan, own = sealed_plan(runs, place)
+        made.append(plan)
+        files.update(own)
+    for name, path in others.items():
+        with reading(path):
+            files[name] = Path(path).read_bytes()
+    return sealed({"words": list(words), "plans": made, "tools": tools_sum()}, files, page)
+
+
+def sealed_again(plans: Sequence[Runs], said: Seal, page: str, others: Mapping[str, str]) -> Seal:
+    """The seal of a page's plans that were run again, as of seal_for, for a page that has the seal `said`, whose files
+    have their sums. Of that are taken: the sums of programs and of the tools; the words of runs and of the page; and
+    how files are packed that are those found anew, as another library may pack the same bytes otherwise."""
+    for runs, plan in zip(plans, said.content["plans"], strict=True):
+        for folder in runs.folders.values():
+            folder.made |= {"program": plan["program"] or None, "words": plan["words"]}
+            folder.made.pop("unproved", None)  # of what runs again now: no such page is sealed
+    made, _ = seal_for(plans, said.content["words"], page, others)
+    known = said.content["files"]
+    equal = {name for name, sum_ in made.content["files"].items() if known.get(name) == sum_}
+    beside = sorted(equal.intersection(said.content["beside"]))
+    texts = made.texts | {name: text for name, text in said.texts.items() if name in equal}
+    kept = {name: text for name, text in texts.items() if name not in beside}
+    content = {**made.content, "tools": said.content["tools"], "beside": beside}
+    return replace(made, content=content, texts=kept, beside=said.beside)
+
+
+def refuse_unsealable(runs: Runs) -> None:
+    """Fault for runs of a program without proofs, and where runs of seeds that were made are gone."""
+    for folder in runs.folders.values():
+        if folder.unproved:
+            raise Fault(f"{folder.path}: {folder.unproved}: a page of it is not sealed; ./build makes a proved one")
+    table = os.path.join(os.path.dirname(os.path.normpath(runs.first.path)), "seeds.csv")
+    if len(runs.folders) > 1 and os.path.exists(table):
+        gone = sorted({int(row["seed"]) for row in read_table(table, SEEDS)} - {*runs.folders})
+        if gone:
+            raise Fault(f"{table}: the runs of seeds {seeds_told(gone)} were taken away: what is left is not sealed")
+
+
+def sealed_plan(runs: Runs, place: int) -> tuple[Json, dict[str, bytes]]:
+    """(what the seal says of a plan: name, run, map, words, again, seeds, several, program; its files, content by
+    name). place: its number, from 1. Fault where its folder does not keep what made it, or its seeds are of several
+    runs."""
+    folder, made = runs.first, runs.first.made
+    lines = kept_lines(runs)
+    if len({canonical({name: one.made.get(name) for name in HOW}) for one in runs.folders.values()}) > 1:
+        raise Fault(f"{folder.path}: seeds of several runs: they cannot be sealed as one")
+    run, mapped = f"plan-{place}/{made['run']}", f"plan-{place}/map.json"
+    several = os.path.basename(os.path.normpath(folder.path)).startswith("seed-")
+    plan = {
+        "name": runs.name, "run": run, "map": mapped, "words": made["words"], "again": made["again"],
+        "seeds": list(runs.folders), "several": several, "program": made.get("program") or "",
+    }
+    # As the setting has it, without names that were given to it later.
+    setting = read_json(f"{folder.path}/{NAME}", ("map",))
+    kept = {**setting["map"], **setting.get("listed", {})}  # of drawn departures the vehicles of the file
+    files = {run: lines, mapped: canonical(kept).encode()}
+    if lights := lights_path(runs):
+        with reading(lights):
+            files[f"plan-{place}/{LIGHTS}"] = Path(lights).read_bytes()
+    return plan, files
+
+
+def kept_lines(runs: Runs) -> bytes:
+    """The lines of a plan's run as bytes, unpacked, of its folder or the one above; Fault where neither keeps them,
+    they cannot be read, or are others than its setting says."""
+    folder = runs.first
+    places = [f"{folder.path}/{KEPT}", f"{os.path.dirname(os.path.normpath(folder.path))}/{KEPT}"]
+    path = next(filter(os.path.exists, places), None)
+    if path is None or "words" not in folder.made:
+        why = "as another tool or an older one made it: streetsim-run makes it anew"
+        raise Fault(f"{folder.path}: keeps no {KEPT}, {why}")
+    with reading(path), open_bytes(path) as file:
+        content = file.read()
+    if sum_of(content) != folder.made["lines"]:
+        raise Fault(f"{path}: was changed since the run was made")
+    return content
+
+
+def tools_sum() -> str:
+    """The SHA-256, in hex, of all files of the package streetsim with their paths: Python, HTML and JavaScript."""
+    found = hashlib.sha256()
+    for path in sorted(PACKAGE.rglob("*")):
+        if path.suffix in (".py", ".html", ".js"):
+            found.update(f"{path.relative_to(PACKAGE)}\n".encode() + path.read_bytes())
+    return found.hexdigest()

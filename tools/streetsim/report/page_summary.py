@@ -1,0 +1,251 @@
+"""The first page of a report: what was asked, a map, the verdict, what it costs whom, what is doubted. Fault where a
+table of the runs cannot be read."""
+from collections.abc import Mapping, Sequence
+from html import escape
+from statistics import fmean
+
+from streetsim.base.report import HEAVY
+from streetsim.base.words import time_of_day
+from streetsim.model.service import AT_PRIORITY, AT_SIGNALS, COLOURS
+from streetsim.report import page_works
+from streetsim.report.page_choice import LEAST, RowChange, ranked_changes, sure_changes
+from streetsim.report.page_drawings import letter_mark, map_picture
+from streetsim.report.page_markup import bullets, change_told, mean_told, table
+from streetsim.report.page_words import change_in_words, count_in_words, counted_noun
+from streetsim.report.plan_costs import NOTICED, Means, PlanCosts, costs_of, means_by_class
+from streetsim.report.plan_differences import difference_of, mean_delays
+from streetsim.report.run_tables import Runs
+
+Interval = tuple[int, int]  # begin and end, seconds
+MOST_GROUPS = 6  # flows in the table of trips
+LONG = 160  # letters of a warning on the first page
+BUS = "bus"  # SUMO's class, which is told first
+CALLED = {BUS: "buses", "passenger": "cars"}  # others have SUMO's name
+LEAST_HOURLY = 20  # vehicles an hour of a movement that is called the worst
+
+
+def ranked_rows(plans: Sequence[Runs], shown: Interval, table_: str = "junctions") -> list[RowChange]:
+    """What is told of each row of one table in the interval that is shown: of the last plan, beside the first where
+    there are two; in the order of ranked_changes. table_: junctions, approaches or movements."""
+    rows = [runs.rows.get((table_, *shown), {}) for runs in plans]
+    return ranked_changes(rows[-1], rows[0] if len(plans) == 2 else None)
+
+
+def question_html(question: str, plans: Sequence[Runs], shown: Interval) -> str:
+    """What was asked (a usual question where it is empty), and of which runs, as HTML."""
+    last, made = plans[-1], plans[-1].first.made
+    names = [runs.name for runs in plans]
+    two = len(names) == 2
+    usual = f"What changes if '{names[1]}' takes the place of '{names[0]}'?" if two else f"How does '{names[0]}' flow?"
+    vehicles = made.get("vehicles", len(last.first.mapping.cars))
+    of = (
+        f"{vehicles:,} vehicles from {time_of_day(made.get('start', 0))} to {time_of_day(made.get('until', 0))}; "
+        f"{counted_noun(len(last.rows['junctions', *shown]), 'junction')}, "
+        f"shown from {time_of_day(shown[0])} to {time_of_day(shown[1])}; "
+        f"{counted_noun(len(last.folders), 'run')} of {'each' if two else 'the'} plan, simulated by streetsim."
+    )
+    notes = dict.fromkeys(text for runs in plans for folder in runs.folders.values() for text in folder.notes)
+    told = "".join(f'<p class="doubt">{escape(text)}</p>' for text in notes)
+    asked = f'<p class="asked">What was asked: <b>{escape(question or usual)}</b></p>'
+    return f'{told}{asked}<p class="small">{escape(of)}</p>'
+
+
+def verdict(plans: Sequence[Runs], shown: Interval) -> str:
+    """The verdict in a few sentences, as HTML, with a mark where runs are not to be trusted."""
+    said = change_verdict(plans, shown) if len(plans) == 2 else state_verdict(plans[0], shown)
+    untrusted = [runs.name for runs in plans if doubts_of(runs)]
+    told = f"Not to be trusted: {' and '.join(untrusted)} (why: below)."
+    mark = f'<p class="doubt">{escape(told)}</p>' if untrusted else ""
+    return f'{mark}<p class="verdict">{escape(said)}</p>'
+
+
+def doubts_of(runs: Runs) -> list[str]:
+    """Why the runs of a plan are not to be trusted, each with its seed; empty where they are."""
+    return [f"seed {seed}: {doubt}" for seed, folder in runs.folders.items() for doubt in folder.doubts]
+
+
+def change_verdict(plans: Sequence[Runs], shown: Interval) -> str:
+    """What the second of two plans changes for trips and delays, as plain text."""
+    trip = difference_of(*(runs.mean_trips() for runs in plans))
+    delay = difference_of(*(mean_delays(runs.rows["junctions", *shown].values()) for runs in plans))
+    first, name = "Nothing can be said of trips, as nobody arrived.", plans[1].name
+    if trip:
+        means = f"{trip.after:.1f} s on average, and {trip.before:.1f} s with '{plans[0].name}'"
+        first = f"With '{name}' a trip takes {means}: {change_in_words(trip)}."
+    if not delay:
+        return f"{first} No junction has vehicles with both plans."
+    rows = ranked_rows(plans, shown)
+    sure = sure_changes(rows).values()
+    less, more = (sum((change > 0) == up for change in sure) for up in (False, True))
+    fewer, all_, greater = count_in_words(less), counted_noun(len(rows), "junction"), count_in_words(more)
+    counts = f"at {fewer} of {all_} it is less for sure, at {greater} more"
+    means = f"{delay.after:.1f} s, and {delay.before:.1f} s before"
+    return f"{first} A vehicle's mean delay at a junction is {means}: {change_in_words(delay)}; {counts}."
+
+
+def state_verdict(runs: Runs, shown: Interval) -> str:
+    """How long trips and delays are with one plan, how many junctions are worse than D and which most, plain text."""
+    delays = mean_delays(runs.rows["junctions", *shown].values())
+    rows = ranked_rows([runs], shown)
+    bad = [one for one in rows if one.is_bad]
+    trip = f"A trip takes {mean_told(runs.mean_trips().values())} s on average"
+    first = f"{trip}, and a vehicle's delay at a junction is {mean_told(delays.values())} s."
+    if not bad:
+        return f"{first} All {len(rows):,} junctions have level of service D or better."
+    worst = runs.names.junction_told(bad[0].key[0])
+    have = f"{'has' if len(bad) == 1 else 'have'} a level of service worse than D, most of all {worst}"
+    return f"{first} {count_in_words(len(bad)).capitalize()} of {counted_noun(len(rows), 'junction')} {have}."
+
+
+def service_and_works_map(runs: Runs, shown: Interval, rows: Sequence[RowChange] = (), detailed: int = 0) -> str:
+    """The map of a plan in an interval by level of service, and its road works, with a legend, as HTML. rows: of
+    junctions, which are marked where they change noticeably; the first `detailed` of them are links to their
+    sections."""
+    names, told = runs.names, runs.names.junction_told
+    approaches = {
+        row.key[1]: (row.letter(), f"{row.key[1]} {names.approach(row.key[1])}: {row.delay:.1f} s, {row.letter()}")
+        for row in runs.rows["approaches", *shown].values()
+    }
+    linked = {one.key[0] for one in rows[:detailed]}
+    junctions = {
+        row.key[0]: (row.letter(), f"{told(row.key[0])}: {row.delay:.1f} s, {row.letter()}", row.key[0] in linked)
+        for row in runs.rows["junctions", *shown].values()
+    }
+    signs = sure_changes(rows)
+    closed = page_works.closed_shapes(runs)
+    picture = map_picture(runs.first.mapping, approaches, junctions, signs, closed)
+    marks = f"; &#9650; waits more and &#9660; less than before, for sure; small: by less than {LEAST:g} s"
+    more = marks if signs else ""
+    more += "; black: road works" if closed else ""
+    caption = f"{escape(runs.name)}: approaches and junctions by level of service{more}"
+    return f"<figure>{picture}<figcaption>{caption}{levels_told()}</figcaption></figure>"
+
+
+def levels_told() -> str:
+    """The letters of levels of service on their colours, with the seconds of delay up to which they reach, as HTML."""
+    parts = []
+    for where, bounds in (("at lights", AT_SIGNALS), ("elsewhere", AT_PRIORITY)):
+        reach = [*map(str, bounds), "above"]
+        letters = " ".join(f'<span class="ids">{letter_mark(one)} {up}</span>' for one, up in zip(COLOURS, reach))
+        parts.append(f"{where} {letters}")
+    told = f"Seconds of delay up to which each reaches: {'; '.join(parts)}. Approaches are wider where it is worse."
+    return f'<br><span class="small">{told}</span>'
+
+
+def costs(plans: Sequence[Runs], shown: Interval) -> str:
+    """What a plan costs whom, as HTML: the worst movements, trips by class, and with two plans how trips of the same
+    vehicles change, in all and by flow."""
+    texts = worst_movements(ranked_rows(plans, shown, "movements"), plans[-1])
+    if len(plans) < 2:
+        return bullets(texts) + classes_table(plans)
+    found = costs_of(*plans)
+    return bullets([*trips_told(found), *texts]) + classes_table(plans) + groups_table(found)
+
+
+def classes_table(plans: Sequence[Runs]) -> str:
+    """A table of the trips and delays of buses, cars and other classes, with two plans before and after, as HTML; empty
+    where all that arrived are of one class."""
+    found = [means_by_class(runs) for runs in plans]
+    classes = sorted(found[0].keys() | found[-1].keys(), key=lambda vclass: (vclass != BUS, vclass))
+    if len(classes) < 2:
+        return ""
+    rows = [[escape(CALLED.get(one, one)), *class_row([own.get(one, {}) for own in found])] for one in classes]
+    heads = ["trip, s", "delay, s"]
+    if len(plans) == 2:
+        heads = [f"{what} {when}, s" for what in ("trip", "delay") for when in ("before", "after", "change")]
+    return table(["trips by class", "trips", *heads], rows)
+
+
+def class_row(sides: Sequence[Mapping[int, Means]]) -> list[str]:
+    """The cells, as HTML, of a class in a table of trips: how many arrived in all runs of the last plan, then the mean
+    trip and the mean delay in seconds; with two plans before, after and the change of each, '-' without a common seed.
+    sides: by plan the means of each seed."""
+    cells = [f"{sum(own.arrived for own in sides[-1].values()):,}"]
+    for name in ("trip", "delay"):
+        values = [{seed: getattr(own, name) for seed, own in side.items()} for side in sides]
+        if len(sides) == 1:
+            cells.append(mean_told(values[0].values()))
+            continue
+        one = difference_of(*values)
+        cells += [f"{one.before:.1f}", f"{one.after:.1f}", change_told(one)] if one else ["-", "-", "-"]
+    return cells
+
+
+def trips_told(found: PlanCosts) -> list[str]:
+    """Sentences, plain text, on how many trips become slower or quicker, and how many arrive with one plan alone; one
+    that says so where no trip arrived with both."""
+    told = f"{found.lost:,} trips arrived before and do not now, {found.won:,} the other way round."
+    alone = [told] if found.lost or found.won else []
+    if not (count := len(found.changes)):
+        return ["No trip arrived with both plans.", *alone]
+    quicker, slower = (fmean(sign * change > NOTICED for change in found.changes) for sign in (-1, 1))
+    told = (
+        f"Of {count:,} trips of the same vehicles {100 * quicker:.0f} % become quicker by more than {NOTICED} s, "
+        f"{100 * slower:.0f} % slower by more than {NOTICED} s"
+    )
+    tenth = found.changes[count * 9 // 10]
+    told += f"; one in ten takes {tenth} s longer or more." if tenth > 0 else "."
+    return [told, *alone]
+
+
+def groups_table(found: PlanCosts) -> str:
+    """A table of trips by flow, as HTML, those that lose most first; where there are more than six flows the first and
+    the last three. Empty where there are none."""
+    ranked = sorted(found.groups, key=lambda group: (-found.groups[group][1].change, group))
+    half = MOST_GROUPS // 2
+    told = ranked if len(ranked) <= MOST_GROUPS else [*ranked[:half], *ranked[-half:]]
+    if not told:
+        return ""
+    rows = [
+        [escape(group), f"{count:,}", f"{one.before:.1f}", f"{one.after:.1f}", change_told(one)]
+        for group, (count, one) in ((group, found.groups[group]) for group in told)
+    ]
+    left = f" (those that lose and that win most, of {len(ranked):,})" if len(told) < len(ranked) else ""
+    return table([f"trips by flow{left}", "trips", "before, s", "after, s", "change, s"], rows)
+
+
+def worst_movements(movements: Sequence[RowChange], runs: Runs) -> list[str]:
+    """Sentences, plain text, on the movement that waits longest, and with two plans on the one that loses most for
+    sure, of those with 20 vehicles an hour or more; empty where there is none. runs: of the last plan, for names."""
+    names, busy = runs.names, [one for one in movements if one.row.values["vehicles_per_hour"] >= LEAST_HOURLY]
+    if not busy:
+        return []
+
+    def called(one: RowChange) -> str:
+        """What a movement is called, with its edges and junction."""
+        junction, edge, to = one.key
+        return f"{names.movement(edge, to)} ({edge} to {to}) at {names.junction_told(junction)}"
+
+    worst = max(busy, key=lambda one: one.row.delay)
+    level = f"level of service {worst.row.letter()}"
+    hourly = f"{worst.row.values['vehicles_per_hour']:.0f} vehicles an hour"
+    texts = [f"Longest delay: {called(worst)}, {worst.row.delay:.0f} s, {level}, {hourly}."]
+    losing = [(one.change, one) for one in busy if one.change and one.change.is_sure() and one.change.change > 0]
+    if losing:
+        change, most = max(losing, key=lambda pair: pair[0].change)
+        told = f"{change.after:.0f} s instead of {change.before:.0f} s ({change.told()} s)"
+        texts.append(f"Loses most: {called(most)}, {told}.")
+    elif any(one.change and one.change.half is not None for one in busy):
+        texts.append("No movement loses for sure.")
+    return texts
+
+
+def doubted(plans: Sequence[Runs], more: Sequence[str] = ()) -> str:
+    """What is doubted, as an HTML list; more: what else speaks against the runs, each as plain text."""
+    texts = []
+    for runs in plans:
+        doubts = doubts_of(runs)
+        texts += [f"{runs.name} is not to be trusted: {doubt}" for doubt in doubts]
+        if not doubts:
+            texts.append(f"{runs.name}: nothing that a run checks of itself speaks against it.")
+    texts += more
+    seeds = len(set.intersection(*({*runs.folders} for runs in plans)))
+    if seeds < 2:
+        texts.append("One run says nothing of chance: streetsim-run --seeds 1-5 makes several.")
+    heavy = list(dict.fromkeys(row[1] for runs in plans for row in runs.first.mapping.told if row[0] == HEAVY))
+    if heavy:
+        first = heavy[0] if len(heavy[0]) < LONG else heavy[0][: LONG - 3] + ".."
+        told = f"The import did {counted_noun(len(heavy), 'thing')} otherwise than SUMO that may change results"
+        texts.append(f"{told} (appendix); the first: {first}.")
+    texts.append("These are numbers of a simulation: the street may do otherwise, and nobody here changes the way.")
+    return bullets(texts)

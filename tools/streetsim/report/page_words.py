@@ -1,0 +1,41 @@
+"""Changes and intervals in words."""
+from streetsim.report.plan_differences import PlanDifference
+
+NUMBERS = ("no", "one", "two", "three", "four", "five", "six", "seven", "eight", "nine", "ten", "eleven", "twelve")
+
+
+def count_in_words(count: int) -> str:
+    """A count in words up to twelve, 0 as 'no'; else in digits."""
+    return NUMBERS[count] if count < len(NUMBERS) else f"{count:,}"
+
+
+def counted_noun(count: int, one: str) -> str:
+    """A count with its noun: 'one run', 'five runs'."""
+    return f"{count_in_words(count)} {one}{'' if count == 1 else 's'}"
+
+
+def less_or_more(change: float) -> str:
+    """A change in seconds with its size and direction, one decimal: '17.9 s less'; 0 is 'more'."""
+    return f"{abs(change):.1f} s {'less' if change < 0 else 'more'}"
+
+
+def interval_in_words(one: PlanDifference) -> str:
+    """The 95 % interval of a change in seconds: '17.7 to 18.1 s less', or 'from 0.3 s less to 0.5 s more' where 0 is in
+    it; empty for one seed."""
+    if one.half is None:
+        return ""
+    low, high = one.change - one.half, one.change + one.half
+    if high < 0:
+        return f"{-high:.1f} to {-low:.1f} s less"
+    if low > 0:
+        return f"{low:.1f} to {high:.1f} s more"
+    return f"from {abs(low):.1f} s less to {high:.1f} s more"
+
+
+def change_in_words(one: PlanDifference) -> str:
+    """How great a change in seconds is and how sure, or that it is not shown to differ."""
+    if one.half is None:
+        return f"{less_or_more(one.change)} (of one run, which says nothing of chance)"
+    if one.is_sure():
+        return f"{less_or_more(one.change)} (95 % interval: {interval_in_words(one)})"
+    return f"not shown to differ (95 % interval of the change: {interval_in_words(one)})"

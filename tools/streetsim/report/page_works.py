@@ -1,0 +1,194 @@
+"""Road works on a page: where and when, what passes them, the queue over time, and which streets get the traffic. Fault
+where works.csv, queues.csv or edges.csv cannot be read."""
+import os
+from collections import defaultdict
+from collections.abc import Iterable, Sequence
+from dataclasses import dataclass
+from html import escape
+from statistics import fmean
+
+from streetsim.base.shapes import point_along
+from streetsim.base.words import time_of_day
+from streetsim.model import tables
+from streetsim.model.folder import Folder
+from streetsim.model.mapping import Map, Shape
+from streetsim.report.edge_values import traffic_of
+from streetsim.report.page_markup import change_told, table
+from streetsim.report.plan_differences import PlanDifference, difference_of
+from streetsim.report.run_tables import Runs
+
+LEFT, WIDE, HIGH = 50, 900, 200  # pixels of a picture of queues
+LEAST = 20.0  # vehicles an hour that an edge wins or loses, to be told
+MOST = 6  # edges told that win, and that lose
+# Of works.csv, what stands on the page.
+MEANS = ("vehicles", "capacity_per_hour", "mean_delay_s", "queue_50_m", "queue_95_m")
+GREATEST = ("greatest_delay_s", "queue_max_m", "longest_stand_s")
+Place = tuple[str, str, str, str]  # edge, lane, from and to in metres, as works.csv has them
+
+
+@dataclass(frozen=True, slots=True)
+class SeenWorks:
+    """Works at one place, over all seeds of a plan: rows of works.csv by (begin, end), and metres of queues by
+    clock."""
+
+    place: Place
+    rows: dict[tuple[int, int], list[dict[str, str]]]
+    queues: dict[int, list[float]]  # metres
+
+    def span(self) -> tuple[int, int]:
+        """(begin of its first period, end of its last), seconds."""
+        return min(begin for begin, _ in self.rows), max(end for _, end in self.rows)
+
+
+def seen_in(runs: Runs) -> list[SeenWorks]:
+    """The works of a plan, in the order of works.csv; empty where it had none."""
+    found: dict[Place, SeenWorks] = {}
+    for folder in runs.folders.values():
+        rows = works_rows(folder)
+        for row in rows:
+            place = row["edge"], row["lane"], row["from_m"], row["to_m"]
+            seen = found.setdefault(place, SeenWorks(place, defaultdict(list), defaultdict(list)))
+            seen.rows[int(row["begin"]), int(row["end"])].append(row)
+        if rows:
+            note_queues(folder, list(found.values()))
+    return list(found.values())
+
+
+def works_rows(folder: Folder) -> list[dict[str, str]]:
+    """The rows of a run's works.csv; empty where it has none."""
+    return folder.works() if os.path.exists(f"{folder.path}/{tables.WORKS_FILE}") else []
+
+
+def note_queues(folder: Folder, places: Sequence[SeenWorks]) -> None:
+    """Adds to `queues` of each place of works the metres of the queue before it at each poll of a run while they last;
+    0 where none is listed."""
+    rows = (row for row in folder.queues() if row["before"] == tables.BEFORE_WORKS)
+    queues = {(row["edge"], row["lane"], row["from_m"], int(row["time"])): float(row["metres"]) for row in rows}
+    for seen in places:
+        edge, lane, begin, _ = seen.place
+        for time in poll_clocks(folder, *seen.span()):
+            seen.queues[time].append(queues.get((edge, lane, begin, time), 0.0))
+
+
+def poll_clocks(folder: Folder, first: int, last: int) -> range:
+    """The clocks of polls after a first second and up to a last one, included; empty where nothing was polled."""
+    every = folder.every
+    return range((first // every + 1) * every, last + 1, every) if every else range(0)
+
+
+def closed_shapes(runs: Runs) -> list[Shape]:
+    """The shapes, points (x, y), of what is closed in a plan, for a map."""
+    return [closed_shape(runs.first.mapping, seen.place) for seen in seen_in(runs)]
+
+
+def closed_shape(mapping: Map, place: Place) -> Shape:
+    """The closed piece of an edge's line as three points: begin, middle and end of a place."""
+    edge, lane, begin, end = place
+    links = mapping.links_of[edge]
+    link = mapping.links[next((one for one in links if int(lane) in mapping.links[one].lanes), links[0])]
+    shares = float(begin) / link.metres, float(end) / link.metres
+    return [point_along(link.shape, share) for share in (shares[0], sum(shares) / 2, shares[1])]
+
+
+def section(plans: Sequence[Runs], shown: tuple[int, int]) -> str:
+    """The road works of one plan or two, as HTML, with two also the streets that more or fewer vehicles use; empty
+    where none had any."""
+    parts = [place_told(runs, seen) for runs in plans for seen in seen_in(runs)]
+    if parts and len(plans) == 2:
+        parts.append(other_ways(plans, shown))
+    return "".join(parts)
+
+
+def place_told(runs: Runs, seen: SeenWorks) -> str:
+    """Works at one place, as HTML: where, when, a table by period, and the queue over time."""
+    edge, lane, begin, end = seen.place
+    first, last = seen.span()
+    street = f"{runs.names.street(edge)} ({edge})" if runs.names.street(edge) else edge
+    where = f"{street}, {runs.names.coming_from(edge)}, lane {lane}, {float(begin):.0f} to {float(end):.0f} m"
+    title = f"{runs.name}: {where}, from {time_of_day(first)} to {time_of_day(last)}"
+    head = ["period", "passed", "capacity/h", "mean delay, s", "queue 50 %, m", "95 %", "greatest delay, s"]
+    head += ["greatest queue, m", "longest stand, s"]
+    rows = [
+        [f'<span class="ids">{time_of_day(start)} to {time_of_day(stop)}</span>']
+        + [mean_of(own, name) for name in MEANS]
+        + [most_of(own, name) for name in GREATEST]
+        for (start, stop), own in sorted(seen.rows.items())
+    ]
+    picture = f'<div class="picture">{queues_picture(seen)}</div>' if seen.queues else ""
+    return f'<section class="whole"><h3>{escape(title)}</h3>{table(head, rows)}{picture}</section>'
+
+
+def mean_of(rows: Iterable[dict[str, str]], name: str) -> str:
+    """The mean of a column over seeds, with one decimal or none; empty where no row has it."""
+    values = [float(row[name]) for row in rows if row[name]]
+    return f"{fmean(values):.1f}".removesuffix(".0") if values else ""
+
+
+def most_of(rows: Iterable[dict[str, str]], name: str) -> str:
+    """The greatest of a column over seeds, in whole numbers; empty where no row has it."""
+    values = [float(row[name]) for row in rows if row[name]]
+    return f"{max(values):.0f}" if values else ""
+
+
+def queues_picture(seen: SeenWorks) -> str:
+    """A picture (SVG) of the queue before works over time: the mean over seeds, and the greatest. There must be
+    queues."""
+    times = sorted(seen.queues)
+    most = max(1.0, *(max(own) for own in seen.queues.values()))
+    across, down = (WIDE - LEFT - 10) / max(1, times[-1] - times[0]), (HIGH - 40) / most
+
+    def line(values: Sequence[float], style: str) -> str:
+        """A line (SVG) through one value of metres for each clock; style: its attributes."""
+        points = " ".join(
+            f"{LEFT + (time - times[0]) * across:.1f},{HIGH - 25 - value * down:.1f}"
+            for time, value in zip(times, values, strict=True)
+        )
+        return f'<polyline points="{points}" fill="none" {style}/>'
+
+    means = line([fmean(seen.queues[time]) for time in times], 'stroke="#225588" stroke-width="2"')
+    greatest = line([max(seen.queues[time]) for time in times], 'stroke="#c04000" stroke-dasharray="4 3"')
+    marks = [
+        f'<text x="{LEFT - 6}" y="15" text-anchor="end">{most:.0f} m</text>',
+        f'<text x="{LEFT}" y="{HIGH - 8}">{time_of_day(times[0])}</text>',
+        f'<text x="{WIDE - 10}" y="{HIGH - 8}" text-anchor="end">{time_of_day(times[-1])}</text>',
+        f'<line x1="{LEFT}" x2="{WIDE - 10}" y1="{HIGH - 25}" y2="{HIGH - 25}" stroke="#666"/>',
+        f'<text x="{WIDE / 2:.0f}" y="{HIGH - 8}" text-anchor="middle">queue before the works: mean of the runs, '
+        "and broken the greatest</text>",
+    ]
+    shape = f'viewBox="0 0 {WIDE} {HIGH}" role="img" aria-label="Queue before the works over time"'
+    return f'<svg class="bars" {shape}>{greatest}{means}{"".join(marks)}</svg>'
+
+
+def other_ways(plans: Sequence[Runs], shown: tuple[int, int]) -> str:
+    """A table, as HTML, of the edges that win or lose 20 vehicles an hour or more with the second of two plans, for
+    sure or, with one seed, at all, those that win most first; where they are more than twelve, the first and the last
+    six, these in the other order. A sentence where there are none."""
+    names, found = plans[1].names, flow_changes(plans, shown)
+    ranked = sorted(
+        (one.change, edge)
+        for edge, one in found.items()
+        if abs(one.change) >= LEAST and (one.is_sure() or one.half is None)
+    )[::-1]
+    if not ranked:
+        return "<p>No street has 20 vehicles an hour more or fewer for sure.</p>"
+    told = [*ranked[:MOST], *ranked[-MOST:][::-1]] if len(ranked) > 2 * MOST else ranked
+    rows = [
+        [escape(names.approach(edge)), escape(edge), f"{one.before:.0f}", f"{one.after:.0f}", change_told(one)]
+        for edge, one in ((edge, found[edge]) for _, edge in told)
+    ]
+    head = ["streets with more and fewer vehicles", "edge", "vehicles/h before", "after", "change"]
+    return table(head, rows, names=2)
+
+
+def flow_changes(plans: Sequence[Runs], shown: tuple[int, int]) -> dict[str, PlanDifference]:
+    """By edge the change of vehicles an hour from the first of two plans to the second, in the interval (begin, end)
+    that is shown, paired by seed; edges that one plan has no counts of are left out."""
+    sides = []
+    for runs in plans:
+        flows: defaultdict[str, dict[int, float]] = defaultdict(dict)
+        for seed, folder in runs.folders.items():
+            for edge, one in traffic_of(folder.edges(), *shown).items():
+                flows[edge][seed] = one.flow
+        sides.append(flows)
+    both = {edge: difference_of(sides[0][edge], own) for edge, own in sides[1].items() if edge in sides[0]}
+    return {edge: change for edge, change in both.items() if change}

@@ -1,0 +1,163 @@
+"""Draws the streets of a run by what is known of them: density, delay, level of service, v/c, flow, queue."""
+from collections.abc import Iterable, Sequence
+from dataclasses import dataclass
+from typing import Any
+
+from streetsim.base.files import Fault
+from streetsim.base.words import time_of_day
+from streetsim.model.folder import Folder
+from streetsim.model.mapping import Shape
+from streetsim.model.service import COLOURS, LETTERS, WHITE_LETTERS
+from streetsim.report import run_series
+from streetsim.report.edge_values import Values, intervals_of, values_of
+from streetsim.report.picture_files import Axes, Figure, Lines, Pyplot
+from streetsim.report.run_tables import Runs, read_with_any_tables
+
+WHAT = ("density", "delay", "los", "vc", "flow", "queue")
+MEASURES = {"delay": "control_delay_s", "vc": "v_c", "queue": "queue_95_m"}  # of the junction tables
+LABELS = {
+    "delay": ("Control delay of approaches", "seconds"),
+    "los": ("Level of service of approaches and junctions", ""),
+    "vc": ("Greatest v/c of approaches' movements", "v/c"),
+    "flow": ("Vehicles that leave each edge", "vehicles/h"),
+    "queue": ("95 % queues of approaches", "metres"),
+}
+ROUND = (0.5, 1, 2, 5, 10, 20, 50, 100, 200, 500, 1000, 2000, 5000, 10_000)  # ends of the scale of colours
+
+
+@dataclass(frozen=True, slots=True)
+class Street:
+    """A street in a picture: its shape, and its number or letter; None where it has none."""
+
+    shape: Shape
+    value: Any
+
+
+def draw_measure(pyplot: Pyplot, path: str, what: str, second: int | None) -> Figure:
+    """The streets of a folder's run, or of its seeds, by one of WHAT but the density, in the interval of interval_of
+    (as a rule the busiest where `second` is None). Fault as of that, and where nothing is known of it then."""
+    runs = read_with_any_tables(path)
+    begin, end = interval_of(runs, what, second)
+    values, mapping = values_of(runs, begin, end), runs.first.mapping
+    shown = [
+        Street(mapping.links[links[len(links) // 2]].shape, measure_of(values[edge], what))
+        for edge, links in mapping.links_of.items()
+    ]
+    if all(one.value is None for one in shown):
+        raise Fault(f"{path}: nothing is known of {what} from {begin} to {end} s")
+    figure, axes, beside = canvas(pyplot, [one.shape for one in shown])
+    title, label = LABELS[what]
+    axes.set(title=f"{title}, {time_of_day(begin)} to {time_of_day(end)}")
+    if what == "los":
+        draw_letters(axes, shown, runs, (begin, end))
+    else:
+        figure.colorbar(draw_lines(axes, shown), ax=axes, label=label, extend="max", shrink=0.7, **beside)
+    scale_bar(axes)
+    return figure
+
+
+def interval_of(runs: Runs, what: str, second: int | None) -> tuple[int, int]:
+    """The interval (begin, end), in seconds, that begins at `second`; where that is None the busiest by the junction
+    tables, or without these the first. Fault where none begins then, or `what` needs junction tables and there are
+    none."""
+    if what != "flow" and not runs.rows:
+        raise Fault(f"{runs.first.path}: a map of {what} needs streetsim-run --junctions")
+    found = dict(intervals_of(runs))
+    if not found:
+        raise Fault(f"{runs.first.path}: nothing is known of any interval")
+    if second is None:
+        return runs.busiest() if runs.rows else min(found.items())
+    if second not in found:
+        raise Fault(f"--begin {second}: no interval begins there, of {', '.join(map(str, found))}")
+    return second, found[second]
+
+
+def measure_of(values: Values, what: str) -> float | str | None:
+    """The value of an edge by one of WHAT but the density: a number or a letter; none where it is not known."""
+    if what == "flow":
+        return values.traffic.flow if values.traffic else None
+    if values.row is None:
+        return None
+    return values.row.letter() if what == "los" else values.row.values.get(MEASURES[what])
+
+
+def canvas(pyplot: Pyplot, shapes: Sequence[Shape]) -> tuple[Figure, Axes, dict[str, str | float]]:
+    """(picture of all streets in grey, its axes, settings by which a bar of colours lies beside or below it). shapes:
+    of the streets, one at least."""
+    from matplotlib.collections import LineCollection
+
+    width, height = (max(places) - min(places) for places in zip(*(point for shape in shapes for point in shape)))
+    wide = width > 2 * height
+    figure, axes = pyplot.subplots(figsize=(9, 4) if wide else (9, 8))
+    axes.add_collection(LineCollection(shapes, colors="#bbbbbb", linewidths=2.5))
+    axes.autoscale_view()
+    low, high = axes.get_ylim()
+    more = max(0.0, 0.2 * width - (high - low)) / 2  # a street alone would be too flat a picture
+    axes.set(aspect="equal", ylim=(low - more, high + more), xlabel="x (m)", ylabel="y (m)")
+    return figure, axes, {"orientation": "horizontal", "pad": 0.18} if wide else {}
+
+
+def draw_lines(axes: Axes, shown: Iterable[Street], colours: str = "YlOrRd") -> Lines:
+    """Draws edges by their numbers, wider where they are higher, those with none left out; gives the lines, for a bar
+    of colours. One at least has a number."""
+    from matplotlib.collections import LineCollection
+
+    known = sorted((one for one in shown if one.value is not None), key=lambda one: one.value)
+    most = next((most for most in ROUND if known[-1].value <= most), known[-1].value)
+    values, widths = [one.value for one in known], [1.5 + 5 * one.value / most for one in known]
+    shapes = [one.shape for one in known]
+    lines = LineCollection(shapes, cmap=colours, array=values, clim=(0, most), linewidths=widths)
+    axes.add_collection(lines)
+    return lines
+
+
+def draw_letters(axes: Axes, shown: Sequence[Street], runs: Runs, interval: tuple[int, int]) -> None:
+    """Draws edges and junctions by letter, darker and wider where it is worse, in an interval (begin, end), with the
+    legend; those without a letter stay grey."""
+    from matplotlib.collections import LineCollection
+    from matplotlib.lines import Line2D
+
+    for place, letter in enumerate(LETTERS):
+        shapes = [one.shape for one in shown if one.value == letter]
+        axes.add_collection(LineCollection(shapes, colors="#666666", linewidths=3.5 + place))
+        axes.add_collection(LineCollection(shapes, colors=COLOURS[letter], linewidths=2.5 + place))
+    places = {name: (x, y) for name, x, y, _ in runs.first.mapping.nodes}
+    for (name,), row in runs.rows["junctions", *interval].items():
+        letter = row.letter()
+        axes.plot(*places[name], "o", color=COLOURS[letter], markeredgecolor="black", markersize=12)
+        colour = "white" if letter in WHITE_LETTERS else "black"
+        axes.annotate(letter, places[name], ha="center", va="center", fontsize=8, color=colour)
+    marks = [Line2D([], [], color=COLOURS[letter], linewidth=6, label=letter) for letter in LETTERS]
+    axes.set_xlabel("")  # the legend stands there
+    axes.legend(handles=marks, loc="upper center", bbox_to_anchor=(0.5, -0.1), ncol=6, frameon=False)
+
+
+def draw_density(pyplot: Pyplot, folder: Folder) -> Figure:
+    """The streets by mean density over all polls, vehicles a kilometre and lane, of each link, above 100 as 100; Fault
+    where nothing was polled."""
+    densities = run_series.densities(folder)
+    shown = [Street(link.shape, value) for value, link in zip(densities, folder.mapping.links, strict=True)]
+    figure, axes, beside = canvas(pyplot, [one.shape for one in shown])
+    axes.set(title="Mean density: wider and darker is denser")
+    most = next((most for most in (25, 50) if max(densities) <= most), 100)
+    lines = draw_lines(axes, [Street(one.shape, min(one.value, most)) for one in shown], "viridis_r")
+    lines.set_clim(0, most)
+    figure.colorbar(lines, ax=axes, label="vehicles/km and lane", extend="max", shrink=0.7, **beside)
+    scale_bar(axes)
+    return figure
+
+
+def scale_bar(axes: Axes) -> None:
+    """Draws a bar of a round number of metres, about a fifth of the picture's width, below the streets; the axes'
+    lower limit goes down for it. Called when all else is drawn, as it is placed by the limits."""
+    left, right = axes.get_xlim()
+    width = max(right - left, 1)
+    metres = run_series.round_length(width / 5.5)
+    low, high = axes.get_ylim()
+    low -= 0.06 * (high - low)
+    axes.set_ylim(low, high)
+    begin, place = left + 0.03 * width, low + 0.03 * (high - low)
+    axes.plot((begin, begin + metres), (place, place), color="black", linewidth=4, solid_capstyle="butt")
+    text = f"{metres:g} m" if metres < 1000 else f"{metres / 1000:g} km"
+    axes.text(begin + metres / 2, place + 0.015 * (high - low), text, ha="center", va="bottom")
+    axes.set_xlim(left, right)

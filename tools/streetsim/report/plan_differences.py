@@ -1,0 +1,51 @@
+"""Differences of two plans, before and after, paired by seed."""
+from collections.abc import Iterable, Mapping
+from dataclasses import dataclass
+
+from streetsim.base.seeds import mean_and_half_width
+from streetsim.report.run_tables import ResultRow
+
+
+@dataclass(frozen=True, slots=True)
+class PlanDifference:
+    """A value with both plans, as means over the seeds that both have, the change from before to after, and its 95 %
+    interval."""
+
+    before: float
+    after: float
+    change: float
+    half: float | None  # half the width of the interval; none of one seed
+
+    def told(self) -> str:
+        """The change with its sign and the half of its interval: '-3.2 ± 0.4'; of one seed without the half."""
+        return f"{self.change:+.1f}" + ("" if self.half is None else f" ± {self.half:.1f}")
+
+    def is_sure(self) -> bool:
+        """Whether the 95 % interval leaves no doubt of the sign; never of one seed."""
+        return self.half is not None and abs(self.change) > self.half
+
+
+def difference_of(before: Mapping[int, float], after: Mapping[int, float]) -> PlanDifference | None:
+    """The difference of values, {seed: value}, over the seeds that both have; None where there are none."""
+    seeds = sorted(before.keys() & after.keys())
+    if not seeds:
+        return None
+    change, half = mean_and_half_width([after[seed] - before[seed] for seed in seeds])
+    firsts, seconds = (sum(values[seed] for seed in seeds) / len(seeds) for values in (before, after))
+    return PlanDifference(firsts, seconds, change, half)
+
+
+def values_by_seed(row: ResultRow, name: str) -> dict[int, float]:
+    """{seed: value} of a measure of a row, by its column; seeds that do not have it are left out."""
+    return {seed: values[name] for seed, values in row.by_seed.items() if name in values}
+
+
+def mean_delays(rows: Iterable[ResultRow]) -> dict[int, float]:
+    """{seed: mean control delay, seconds a vehicle, over all vehicles of some rows}; seeds without vehicles are left
+    out."""
+    sums: dict[int, tuple[float, float]] = {}
+    for row in rows:
+        for seed, values in row.by_seed.items():
+            lost, count = sums.get(seed, (0.0, 0.0))
+            sums[seed] = lost + values["vehicles"] * values["control_delay_s"], count + values["vehicles"]
+    return {seed: lost / count for seed, (lost, count) in sums.items() if count}

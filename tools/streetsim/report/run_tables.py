@@ -1,0 +1,157 @@
+"""What reports, maps and exports read: the folders of a run, one for each seed, and their junction tables."""
+import os
+from collections import defaultdict
+from collections.abc import Collection, Mapping
+from dataclasses import dataclass, field
+from statistics import fmean
+from typing import Any
+
+from streetsim.base.files import Fault
+from streetsim.base.report import first_few
+from streetsim.model.folder import NAME, Folder, read_folder, seeds_in
+from streetsim.model.names import Names
+from streetsim.model.service import level
+from streetsim.model.tables import APPROACHES, JUNCTIONS, MOVEMENTS, SEEDS, read_table
+
+TABLES = {"movements": MOVEMENTS, "approaches": APPROACHES, "junctions": JUNCTIONS}
+KEYS = {"movements": ("junction", "approach", "to"), "approaches": ("junction", "approach"), "junctions": ("junction",)}
+MEASURES = (
+    *("vehicles", "vehicles_per_hour", "control_delay_s", "stopped_delay_s", "stops_per_vehicle"),
+    *("queue_50_m", "queue_95_m", "queue_max_m", "storage_m", "v_c", "capacity_per_hour"),
+    "nearly_full",
+)
+
+
+@dataclass(slots=True)
+class ResultRow:
+    """A movement, approach or junction in an interval of the tables: means over seeds, and each seed's values."""
+
+    key: tuple[str, ...]
+    control: str
+    movement: str  # L, T, R or U; empty of an approach or a junction
+    values: dict[str, float]  # measure: mean over the seeds that have it
+    by_seed: dict[int, dict[str, float]]  # seed: {measure: value}
+
+    @property
+    def delay(self) -> float:
+        """Mean control delay over the seeds, seconds a vehicle."""
+        return self.values["control_delay_s"]
+
+    def letter(self) -> str:
+        """Its level of service by its mean delay, A to F; of a movement F also where v/c is above 1."""
+        return level(self.delay, self.control, self.values["v_c"] if self.movement else None)
+
+
+Rows = dict[tuple[str, ...], ResultRow]  # by their key
+
+
+@dataclass(slots=True)
+class Runs:
+    """The runs of one folder, one for each seed."""
+
+    name: str
+    folders: dict[int, Folder]
+    rows: dict[tuple[str, int, int], Rows] = field(default_factory=dict)  # by table, begin and end
+
+    @property
+    def first(self) -> Folder:
+        """The folder of the first seed."""
+        return next(iter(self.folders.values()))
+
+    @property
+    def names(self) -> Names:
+        """The names of its map's streets and junctions."""
+        return Names(self.first.mapping)
+
+    def mean_trips(self) -> dict[int, float]:
+        """{seed: mean trip in seconds of those who arrived}; seeds in which nobody did are left out."""
+        found = {
+            seed: [float(row["duration"]) for row in folder.trips() if row["duration"]]
+            for seed, folder in self.folders.items()
+        }
+        return {seed: fmean(durations) for seed, durations in found.items() if durations}
+
+    def intervals(self) -> list[tuple[int, int]]:
+        """The (begin, end) of the junction tables, in seconds, rising; empty where they were not read."""
+        return sorted({(begin, end) for _, begin, end in self.rows})
+
+    def busiest(self) -> tuple[int, int]:
+        """The interval (begin, end), in seconds, in which most vehicles an hour crossed junctions, the first of equal
+        ones; ValueError where no junction tables were read."""
+        volumes: dict[tuple[int, int], float] = {}
+        for (table, begin, end), rows in self.rows.items():
+            if table == "junctions":
+                volumes[begin, end] = sum(row.values["vehicles_per_hour"] for row in rows.values())
+        return min(volumes, key=lambda interval: (-volumes[interval], interval))
+
+
+def read_folders(path: str) -> Runs:
+    """The runs of a folder that streetsim-run wrote, one or one for each seed, without their junction tables; Fault
+    where it is none, or has what another run left there."""
+    if not os.path.isdir(path):
+        raise Fault(f"{path}: no folder that streetsim-run wrote")
+    if seeds := seeds_in(path):
+        refuse_old(path, seeds)
+        folders = {seed: read_folder(f"{path}/seed-{seed}") for seed in seeds}
+    else:
+        folder = read_folder(path)
+        folders = {folder.made.get("seed", 1): folder}
+    return Runs(os.path.basename(os.path.normpath(path)), folders)
+
+
+def refuse_old(path: str, seeds: Collection[int]) -> None:
+    """Fault where a folder of several seeds, those with folders, also has what another run left there."""
+    advice = "remove what is old, or give each run a folder of its own"
+    if os.path.exists(f"{path}/{NAME}"):
+        raise Fault(f"{path}: a run without --seeds is there beside seeds of another one: {advice}")
+    if os.path.exists(table := f"{path}/seeds.csv"):
+        known = {int(row["seed"]) for row in read_table(table, SEEDS)}
+        if old := [f"seed-{seed}" for seed in seeds if seed not in known]:
+            raise Fault(f"{path}: {first_few(old)}: not of the run that wrote seeds.csv: {advice}")
+
+
+def read_runs(path: str) -> Runs:
+    """The runs of a folder that streetsim-run wrote, one or one for each seed, with their junction tables; Fault as of
+    read_folders, and where a run lacks a table or none has rows."""
+    runs = read_folders(path)
+    for table in TABLES:
+        add_rows(runs, table)
+    if not runs.rows:
+        raise Fault(f"{path}: the junction tables have no rows")
+    return runs
+
+
+def read_with_any_tables(path: str) -> Runs:
+    """The runs of a folder that streetsim-run wrote, one or one for each seed; with their junction tables where the
+    first of them has these, and then Fault as of read_runs, else as of read_folders."""
+    runs = read_folders(path)
+    return read_runs(path) if os.path.exists(f"{runs.first.path}/junctions.csv") else runs
+
+
+def add_rows(runs: Runs, table: str) -> None:
+    """Adds the rows of a junction table, by its key in TABLES, of all seeds to `runs`; Fault where a folder lacks it.
+    Measures that are empty in the table are left out."""
+    # By (begin, end): {(key, control, movement): {seed: measures}}.
+    found: defaultdict[tuple[int, int], dict[Any, Any]] = defaultdict(dict)
+    for seed, folder in runs.folders.items():
+        place = f"{folder.path}/{table}.csv"
+        if not os.path.exists(place):
+            raise Fault(f"{folder.path}: no {table}.csv: a report needs streetsim-run --junctions")
+        for row in read_table(place, TABLES[table]):
+            key = tuple(row[name] for name in KEYS[table]), row["control"], row.get("movement", "")
+            numbers = {name: float(row[name]) for name in MEASURES if row.get(name)}
+            found[int(row["begin"]), int(row["end"])].setdefault(key, {})[seed] = numbers
+    for (begin, end), rows in found.items():
+        runs.rows[table, begin, end] = {
+            key: ResultRow(key, control, movement, means_over_seeds(by_seed), by_seed)
+            for (key, control, movement), by_seed in rows.items()
+        }
+
+
+def means_over_seeds(seeds: Mapping[int, Mapping[str, float]]) -> dict[str, float]:
+    """{measure: its mean over the seeds that have it}, of the greatest queue the greatest."""
+    names = {name for values in seeds.values() for name in values}
+    found = {name: fmean(values[name] for values in seeds.values() if name in values) for name in names}
+    if "queue_max_m" in found:
+        found["queue_max_m"] = max(values["queue_max_m"] for values in seeds.values() if "queue_max_m" in values)
+    return found

@@ -1,1 +1,0 @@
-"""Route plans by feedback between a router and runs: streetsim-route."""

@@ -1,0 +1,104 @@
+"""The files of a search: its iterations, the check by other seeds, movements, trips and the setting."""
+import json
+from collections import Counter
+from collections.abc import Iterator, Sequence
+from statistics import fmean
+
+from streetsim.base.files import Json, whole_file
+from streetsim.base.seeds import mean_and_half_width
+from streetsim.model.tables import write_table
+from streetsim.search.route_diverting import Diverted
+from streetsim.search.route_search import Iteration, JudgedRoutes
+from streetsim.search.route_watching import RunGround
+from streetsim.sumo.trips import Trip
+from streetsim.sumo.way_costs import mean_observed
+from streetsim.sumo.way_graph import END, Graph
+
+NAME = "setting.json"
+ITERATIONS = (
+    *("iteration", "mean_trip_s", "arrived", "rescues", "relative_gap", "mean_way_s", "may_change", "changed"),
+    "taken_back",
+)
+CHECK = ("seed", "mean_trip_s", "arrived", "rescues")
+MOVEMENTS = ("begin", "end", "edge", "next_edge", "vehicles", "mean_s", "free_s")
+FLOWS = ("edge", "case", "trips", "more_than_before")
+TRIPS = ("id", "depart", "edges", "may_change", "mean_trip_s", "way_s", "shortest_s")
+
+
+def write_results(folder: str, one: Diverted, setting: Json) -> None:
+    """Writes iterations.csv, check.csv, movements.csv, trips.csv and setting.json of a search into a folder. setting:
+    what setting.json has beside `check_figures`. Fault where one cannot be written."""
+    write_table(f"{folder}/iterations.csv", ITERATIONS, iteration_rows(one.search.iterations))
+    write_table(f"{folder}/check.csv", CHECK, check_rows(one.judged))
+    write_table(f"{folder}/movements.csv", MOVEMENTS, movement_rows(one.search.ground, one.judged))
+    write_table(f"{folder}/trips.csv", TRIPS, trip_rows(one.trips, one.judged))
+    write_setting(folder, {**setting, **check_figures(one.judged)})
+
+
+def write_setting(folder: str, setting: Json) -> None:
+    """Writes setting.json to a folder. Fault where it cannot be written."""
+    with whole_file(f"{folder}/{NAME}") as file:
+        json.dump(setting, file, indent=1)
+        file.write("\n")
+
+
+def iteration_rows(iterations: Sequence[Iteration]) -> Iterator[tuple]:
+    """The rows of iterations.csv, as ITERATIONS has the columns, one for each iteration."""
+    for one in iterations:
+        ran = one.number, f"{one.mean:.2f}", one.arrived, one.rescues
+        yield (*ran, f"{one.gap:.5f}", f"{one.cost:.2f}", one.may_change, one.changed, int(one.taken_back))
+
+
+def check_rows(judged: JudgedRoutes) -> Iterator[tuple]:
+    """The rows of check.csv, as CHECK has the columns, one for each check seed."""
+    for seed, one in zip(judged.seeds, judged.outcomes, strict=True):
+        yield seed, f"{one.mean:.3f}", one.arrived, one.rescues
+
+
+def movement_rows(ground: RunGround, judged: JudgedRoutes) -> Iterator[tuple]:
+    """The rows of movements.csv, as MOVEMENTS has the columns: for each slice, from clock 0, the last a whole one
+    too, and each movement seen in it, vehicles of a check run by the mean, mean seconds, and those without traffic."""
+    graph, width, observed = ground.graph, ground.width, mean_observed([one.observed for one in judged.outcomes])
+    for slice_ in range(observed.slices):
+        for movement, (edge, following) in enumerate(graph.movements):
+            index = movement * observed.slices + slice_
+            if count := observed.counts[index]:
+                ends = graph.edges[edge], "" if following == END else graph.edges[following]
+                mean, free = observed.seconds[index] / count, judged.loaded.free[movement]
+                period = slice_ * width, (slice_ + 1) * width
+                yield (*period, *ends, f"{count:.2f}", f"{mean:.1f}", f"{free:.1f}")
+
+
+def trip_rows(trips: Sequence[Trip], judged: JudgedRoutes) -> Iterator[tuple]:
+    """The rows of trips.csv, as TRIPS has the columns: each trip's mean seconds over the check runs (empty where it did
+    not arrive in all of them), and the seconds of its way and of the shortest way by the costs of these runs (empty
+    where its way was not searched, or none was found)."""
+    searched = {one.trip: one for one in judged.found}
+    for at, trip in enumerate(trips):
+        ends = [end for one in judged.outcomes if (end := one.arrivals[at]) is not None]
+        mean = "" if len(ends) < len(judged.outcomes) else f"{fmean(ends) - trip.depart:.1f}"
+        found = searched.get(at)
+        ways = (f"{found.own:.1f}", f"{found.least:.1f}") if found and found.path else ("", "")
+        yield trip.name, f"{trip.depart:.2f}", len(trip.path), int(trip.changes), mean, *ways
+
+
+def flow_rows(graph: Graph, all_: Sequence[Diverted]) -> Iterator[tuple]:
+    """The rows of flows.csv, as FLOWS has the columns: for each edge how many trips have it on their ways, before and
+    with each share of drivers who know of the works, and how many more than before."""
+    flows = [Counter(edge for trip in one.trips for edge in set(trip.path)) for one in all_]
+    for edge, name in enumerate(graph.edges):
+        for one, flow in zip(all_, flows, strict=True):
+            yield name, one.label, flow[edge], flow[edge] - flows[0][edge]
+
+
+def check_figures(judged: JudgedRoutes) -> Json:
+    """What the check runs gave, for setting.json: mean_trip_s and half_width_95_s of its interval (None for one run),
+    relative_gap (a share), arrived (the fewest) and rescues (of each run)."""
+    mean, half = mean_and_half_width([one.mean for one in judged.outcomes])
+    return {
+        "mean_trip_s": round(mean, 3),
+        "half_width_95_s": None if half is None else round(half, 3),
+        "relative_gap": round(judged.gap, 5),
+        "arrived": min(one.arrived for one in judged.outcomes),
+        "rescues": [one.rescues for one in judged.outcomes],
+    }

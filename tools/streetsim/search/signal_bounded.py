@@ -1,0 +1,155 @@
+"""What streetsim-signals --bounds does: it finds bounds of actuated and NEMA lights, and the best plan of seconds
+beside it."""
+import sys
+from collections.abc import Iterator, Sequence
+from dataclasses import dataclass, replace
+
+from streetsim.base.files import Fault, whole_file, whole_folder
+from streetsim.base.report import first_few
+from streetsim.base.seeds import seeds_for
+from streetsim.control.actuated_lights import ActuatedLights, driven_lights
+from streetsim.model import trust
+from streetsim.model.tables import Entry, write_table
+from streetsim.search.run_giving_way import giving_session
+from streetsim.search.run_machines import Machines
+from streetsim.search.run_prepared import Outcome, PreparedRun
+from streetsim.search.signal_bounds import (
+    Bounded, bounded_outcome, bounds_text, given_bounds, key_of, lowest_greens, search_bounds,
+)
+from streetsim.search.signal_found import (
+    LAST, BeforeAfter, row_of, sumo_rows, tell_verdict, trips_told, vehicle_doubts, write_search,
+)
+from streetsim.search.signal_in_sumo import Verified
+from streetsim.search.signal_planning import ended_search, refuse_budget
+from streetsim.search.signal_search import PlanSearch
+from streetsim.search.signal_town import CAREFUL, EXACT, Reading, SignalTown
+
+LIGHTS = ("light", "phase", "least_before", "least_after", "most_before", "most_after", "gap_before", "gap_after")
+
+
+@dataclass(frozen=True, slots=True)
+class BoundsSettings:
+    """How long is searched and with what: budget: simulations at most; seeds (empty: as many of the tried ones as their
+    runs of the given bounds say); least: the lowest seconds that a search may give to a least green."""
+
+    budget: int
+    seeds: Sequence[int]
+    least: int
+
+
+@dataclass(frozen=True, slots=True)
+class BoundsGround:
+    """What a search for bounds stands on: the town, its lights that detectors drive, the bounds given, and the
+    sessions."""
+
+    town: SignalTown  # all its lights as of seconds
+    lights: ActuatedLights
+    given: Bounded
+    sessions: list[PreparedRun]  # of the report, of the search
+
+
+def ground_of(reading: Reading, town: SignalTown) -> BoundsGround:
+    """The ground of a search for bounds. Names on standard error the lights that show their listed seconds, with the
+    reasons, and those that detectors drive and whose bounds stay as they are; Fault where no light has bounds that may
+    be changed."""
+    lights = driven_lights(town.run, town.mapping)
+    given = given_bounds(lights, reading.keep)
+    print(*lights.notes(), sep="\n", end="\n" if lights.listed else "", file=sys.stderr)
+    if others := [one.name for one in lights.driven if one.name not in given]:
+        print(
+            f"not changed, as they have no bounds of this kind or --keep says so: {first_few(others)}", file=sys.stderr
+        )
+    if not given:
+        raise Fault(f"{reading.map}: detectors drive no light whose bounds may be changed")
+    settings = replace(town.settings, lights=lights)
+    dawdle = min(1000, town.run.load.command["dawdle"] + reading.reserve)
+    own = reading.program, town.run, town.mapping, settings, reading.rounds
+    sessions = [giving_session(*own), giving_session(*own, dawdle=dawdle)]
+    return BoundsGround(town, lights, given, sessions)
+
+
+def bounded_outcomes(
+    workers: Machines, tried: Sequence[Bounded], seeds: Sequence[int], place: int = EXACT
+) -> Iterator[Outcome]:
+    """What runs under some bounds gave: the outcomes of the first bounds with each seed, then of the second, and so on.
+    workers: with the sessions of a ground; place: of the session that runs them, EXACT or CAREFUL."""
+    tasks = [(f"the run with seed {seed}", bounded_outcome, place, one, seed) for one in tried for seed in seeds]
+    return workers.ordered(tasks)
+
+
+def searched_bounds(
+    asked: BoundsSettings, workers: Machines, ground: BoundsGround, tried: Sequence[int]
+) -> tuple[PlanSearch, bool]:
+    """Searches for bounds; gives (search when it has ended, whether the user ended it). workers: with the sessions of
+    the ground; tried: seeds for first runs of the given bounds, which say how many of them the search uses; used only
+    where asked.seeds is empty. Fault where a run fails, or the budget does not reach for one run of each seed."""
+    cars, seeds = len(ground.town.session.departs), asked.seeds
+    if not seeds:
+        seeds = tried[: seeds_for([one.seconds / cars for one in bounded_outcomes(workers, [ground.given], tried)])]
+    refuse_budget(asked.budget, seeds)
+
+    def trips(tried: Sequence[Bounded]) -> Iterator[float]:
+        """The mean trip, in seconds, under each of some bounds with each seed."""
+        return (one.seconds / cars for one in bounded_outcomes(workers, tried, seeds, CAREFUL))
+
+    def search_from_given(search: PlanSearch) -> None:
+        """Searches from the given bounds."""
+        search_bounds(search, ground.given, lowest_greens(ground.town.mapping, ground.given, asked.least))
+
+    return ended_search(trips, asked.budget, len(seeds), search_from_given, key_of)
+
+
+@dataclass(frozen=True, slots=True)
+class FoundBounds:
+    """What a search for bounds gave, and the runs by seeds that it did not see: under the bounds given (before), under
+    those found (after), and under the best plan of seconds (fixed). sumo: None where SUMO was not run."""
+
+    search: PlanSearch
+    stopped: bool
+    before: list[Outcome]
+    after: list[Outcome]
+    fixed: list[Outcome]
+    sumo: Verified | None
+
+    def before_after_rows(self, cars: int) -> list[BeforeAfter]:
+        """The rows of before-after.csv: mean trips (s) as given and as found, under the best plan of seconds and as
+        found, and those of SUMO where it was run; of two seeds or more. cars: vehicles that depart before the end."""
+        named = {"mean_trip_s": (self.before, self.after), "mean_trip_of_best_fixed_s": (self.fixed, self.after)}
+        pairs = {name: [[one.seconds / cars for one in runs] for runs in pair] for name, pair in named.items()}
+        return [*(row_of(name, *pair) for name, pair in pairs.items()), *sumo_rows(self.sumo)]
+
+    def doubts(self, ground: BoundsGround) -> Iterator[str]:
+        """Why the bounds found are not to be trusted, a text each; nothing where they are."""
+        town, lights = ground.town, ground.lights.listed_lights(ground.town.mapping)
+        yield from vehicle_doubts(town, self.before, self.after)
+        yield from trust.actuated_doubts(town.session.clocks[-1], town.run, town.mapping, lights)
+
+
+def write_found_bounds(output: str, out: str, ground: BoundsGround, found: FoundBounds) -> int:
+    """Writes bounds (to the file output) and tables (into the folder out), and prints what was found. Gives the exit
+    status: 0 where the bounds are shown to be better wherever they were run, else 1."""
+    best, doubts = found.search.best[1], [*found.doubts(ground)]
+    rows = found.before_after_rows(len(ground.town.session.departs))
+    with whole_folder(out, LAST) as folder:
+        write_table(f"{folder}/lights.csv", LIGHTS, bound_rows(ground.given, best))
+        write_search(folder, rows, found.search, doubts, ground.town.session.program)
+        with whole_file(output) as file:
+            file.write(bounds_text(ground.town.mapping, best))
+    return tell_bounds(found, rows, doubts)
+
+
+def bound_rows(before: Bounded, after: Bounded) -> Iterator[Entry]:
+    """The rows of lights.csv, as LIGHTS has the columns, one for each green: bounds and gap as given and as found."""
+    for name, own in sorted(before.items()):
+        for at, ((phase, least, most), (_, low, high)) in enumerate(zip(own.greens, after[name].greens, strict=True)):
+            yield name, phase, least, low, most, high, f"{own.gap_of(at):g}", f"{after[name].gap_of(at):g}"
+
+
+def tell_bounds(found: FoundBounds, rows: Sequence[BeforeAfter], doubts: Sequence[str]) -> int:
+    """Prints what was found, of the rows of before-after.csv; gives the exit status, as tell_verdict."""
+    fixed = rows[1]
+    if found.stopped:
+        print("stopped: the best bounds found so far are written")
+    print(trips_told(rows[0], found.search))
+    print(f"the best plan of seconds: {fixed.before:.1f} s; detectors with the bounds found: {fixed.change_told()}")
+    return tell_verdict(rows[0], found.search, doubts, found.sumo)

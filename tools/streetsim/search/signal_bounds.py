@@ -1,0 +1,252 @@
+"""Bounds and gaps of actuated and NEMA lights, by which their detectors drive them, and a search for better ones: least
+and most seconds of the greens that detectors extend, and the gap that ends one. Offsets, order, yellow and all-red
+stay."""
+from __future__ import annotations
+
+from collections.abc import Callable, Collection, Iterator, Mapping, Sequence
+from dataclasses import dataclass, replace
+from typing import Any
+from xml.sax.saxutils import quoteattr
+
+from streetsim.base import limits
+from streetsim.base.files import Json
+from streetsim.control.actuated_kept import programs_at_begin
+from streetsim.control.actuated_lights import ActuatedLights, Driven, driven_of
+from streetsim.control.nema_lights import DrivenRings, digits
+from streetsim.model.mapping import Map
+from streetsim.search.run_giving_way import outcome_giving_way
+from streetsim.search.run_prepared import Outcome, PreparedRun
+from streetsim.search.signal_plans import PROGRAM, additional_of
+from streetsim.search.signal_search import PlanSearch, SearchEnded, climb
+from streetsim.sumo.constraints import PEDESTRIANS
+
+GAPS = (1.5, 2.0, 2.5, 3.5, 4.0, 5.0)  # seconds that are tried for all lights
+SHORTER, LONGER = 0.7, 1.4  # times each most, tried for all lights
+STEPS = ((1.0, 10, 4), (0.5, 5, 2))  # seconds by which a gap, a most and a least of one light are changed
+GAP_RANGE = (0.5, 8.0)  # seconds
+MAX_GAP = "max-gap"
+
+
+@dataclass(frozen=True, slots=True)
+class Bounds:
+    """The bounds of one light, seconds: (phase, least, most) of greens that detectors extend, with a least below the
+    most, and the gaps that end a green: one for all of them, or of a NEMA light one for each (its vehext). A phase is
+    its place in the program, and of a NEMA light its number in the ring."""
+
+    greens: tuple[tuple[int, int, int], ...]  # phase, least, most
+    gaps: tuple[float, ...]
+
+    def gap_of(self, at: int) -> float:
+        """The gap, seconds, that ends the green at a place of greens."""
+        return self.gaps[at if len(self.gaps) > 1 else 0]
+
+    def with_gap(self, at: int, gap: float) -> Bounds | None:
+        """These bounds with another gap, seconds, at a place of gaps; None where it is outside GAP_RANGE."""
+        gaps = (*self.gaps[:at], gap, *self.gaps[at + 1 :])
+        return replace(self, gaps=gaps) if GAP_RANGE[0] <= gap <= GAP_RANGE[1] else None
+
+    def with_green(self, at: int, least: int, most: int, lowest: int) -> Bounds | None:
+        """These bounds with another least and most, seconds, of the green at a place of greens. None where the least is
+        not below the most, the most is above 600 s, or the least is below both lowest and what it is now."""
+        phase, before, _ = self.greens[at]
+        if not min(lowest, before) <= least < most <= limits.PHASE_STEPS:
+            return None
+        return replace(self, greens=(*self.greens[:at], (phase, least, most), *self.greens[at + 1 :]))
+
+
+Bounded = dict[str, Bounds]  # by light
+
+
+def given_bounds(lights: ActuatedLights, keep: Collection[str]) -> Bounded:
+    """The bounds of the lights that a search may change, by light: of the actuated and NEMA ones that are not in keep
+    and that have one program all day. Greens whose most is above 600 s are left out, and so are lights without a green
+    whose bounds may be changed."""
+    found, keep = {}, {*keep, *(light for _, light, _ in lights.switches)}
+    for one in lights.driven:
+        if one.name not in keep:
+            own = actuated_bounds(one) if isinstance(one, Driven) else ring_bounds(one)
+            if own.greens:
+                found[one.name] = own
+    return found
+
+
+def actuated_bounds(light: Driven) -> Bounds:
+    """The bounds of the greens of an actuated light that detectors extend, without those whose most is above 600 s; its
+    one gap is the greatest of its detectors' gaps."""
+    greens = tuple(
+        (at, phase.least, phase.most)
+        for at, phase in enumerate(light.phases)
+        if phase.is_extended and phase.detectors and phase.most <= limits.PHASE_STEPS
+    )
+    return Bounds(greens, (max(light.gaps),) if greens else ())
+
+
+def ring_bounds(light: DrivenRings) -> Bounds:
+    """The bounds of a NEMA light, in whole seconds, its extensions (vehext) as gaps; without greens that no area
+    extends, as they have none or always last their most (maxRecall), whose most is above 600 s, or is their least."""
+    extended = (one for one in light.rings.phases if one.areas and not one.most_recall)
+    own = [one for one in extended if one.least < one.most <= limits.PHASE_STEPS]
+    return Bounds(
+        tuple((one.number, round(one.least), round(one.most)) for one in own), tuple(one.extension for one in own)
+    )
+
+
+def kept_with(kept: Json, bounds: Bounds) -> Json:
+    """What a map keeps of a program, with other bounds: of an actuated light one max-gap in place of all that it had,
+    those of single lanes too; of a NEMA light the extension (vehext) of each green. The one given stays as it is.
+    bounds: of greens that the program has."""
+    phases, timing = ([list(one) for one in kept.get(key, ())] for key in ("phases", "timing"))
+    names = [digits(text) for text, *_ in timing]
+    for at, (phase, least, most) in enumerate(bounds.greens):
+        place = names.index((phase,)) if timing else phase
+        phases[place][2:4] = [least, most]
+        if timing:
+            timing[place][1] = bounds.gap_of(at)
+    if timing:
+        return {**kept, "phases": phases, "timing": timing}
+    parameters = {name: value for name, value in kept["parameters"].items() if name.partition(":")[0] != MAX_GAP}
+    return {**kept, "phases": phases, "parameters": {**parameters, MAX_GAP: f"{bounds.gap_of(0):g}"}}
+
+
+def with_bounds(lights: ActuatedLights, mapping: Map, bounded: Mapping[str, Bounds]) -> ActuatedLights:
+    """The lights with other bounds, by name; lights without a name there stay. Their detectors lie where SUMO puts them
+    for the new least greens. Listed (a Fault) where one cannot be driven with its gap, from 32 s on."""
+    kept = programs_at_begin(mapping.programs)
+    driven = (
+        driven_of(kept_with(kept[one.name], bounded[one.name]), mapping) if one.name in bounded else one
+        for one in lights.driven
+    )
+    return replace(lights, driven=tuple(driven))
+
+
+def bounded_outcome(session: PreparedRun, bounded: Bounded, seed: int) -> Outcome:
+    """What a run under some bounds gave with a seed; a task of a worker. session.giving must not be None."""
+    giving = session.giving
+    assert giving is not None
+    lights = with_bounds(giving.lights, giving.mapping, bounded)
+    return outcome_giving_way(replace(session, giving=replace(giving, lights=lights)), b"", seed)
+
+
+def key_of(bounded: Bounded) -> tuple[Any, ...]:
+    """What names bounds of lights in a search: equal bounds have equal keys."""
+    return tuple(sorted(bounded.items(), key=lambda item: item[0]))
+
+
+def lowest_greens(mapping: Map, given: Bounded, lowest: int) -> dict[tuple[str, int], int]:
+    """The seconds below which no least green is brought, by light and phase: lowest, or the green of pedestrians that
+    the light's program says, where that is longer."""
+    kept = programs_at_begin(mapping.programs)
+    return {
+        (name, phase): max(lowest, int(kept[name]["parameters"].get(f"{PEDESTRIANS}{phase}", 0)))
+        for name, own in given.items()
+        for phase, _, _ in own.greens
+    }
+
+
+def search_bounds(search: PlanSearch, given: Bounded, lowest: Mapping[tuple[str, int], int]) -> None:
+    """Searches from given bounds: those for all lights at once, then gaps, mosts and leasts light by light, by both of
+    STEPS. Ends there, or where the search has ended; search.best then has (mean trip in seconds, the best bounds).
+    lowest: as of lowest_greens."""
+    try:
+        search.mean_trip("given", given)
+        best = given
+        for step, tried in bounds_for_all_lights(given, lowest):
+            if search.mean_trip(step, tried) < search.mean_trip("best", best):
+                best = tried
+        for gap, most, least in STEPS:
+            for name in given:
+                for at in range(len(given[name].gaps)):
+                    best = climb(search, best, f"gap of {name}", change_of(name, gap_by(at, gap)))
+                for at, (phase, _, _) in enumerate(given[name].greens):
+                    floor = lowest[name, phase]
+                    best = climb(search, best, f"most of {name}", change_of(name, green_by(at, 0, most, floor)))
+                    best = climb(search, best, f"least of {name}", change_of(name, green_by(at, least, 0, floor)))
+    except SearchEnded:
+        pass
+
+
+def bounds_for_all_lights(
+    given: Bounded, lowest: Mapping[tuple[str, int], int]
+) -> Iterator[tuple[str, Bounded]]:
+    """Bounds that are tried for all lights at once, (name of the step, bounds): each gap of GAPS, then all mosts times
+    SHORTER, and times LONGER; a most that Bounds.with_green forbids stays. lowest: as of lowest_greens."""
+    for gap in GAPS:
+        all_ = {name: replace(own, gaps=tuple(gap for _ in own.gaps)) for name, own in given.items()}
+        yield f"gaps of {gap:g} s", all_
+    for share in (SHORTER, LONGER):
+        made = {}
+        for name, own in given.items():
+            for at, (phase, least, most) in enumerate(own.greens):
+                own = own.with_green(at, least, round(share * most), lowest[name, phase]) or own
+            made[name] = own
+        yield f"most by {share:g}", made
+
+
+Change = Callable[[Bounds, int], Bounds | None]
+
+
+def change_of(name: str, change: Change) -> Callable[[Bounded, int], Bounded | None]:
+    """A change of one light's bounds, as one of the bounds of all lights; it gives None where the light's change
+    does."""
+
+    def changed(bounded: Bounded, sign: int) -> Bounded | None:
+        """The bounds of all lights with the light's changed; None where the change gives none."""
+        made = change(bounded[name], sign)
+        return None if made is None else {**bounded, name: made}
+
+    return changed
+
+
+def gap_by(at: int, seconds: float) -> Change:
+    """A change: the gap at a place of gaps longer (sign 1) or shorter (sign -1) by so much; None as of with_gap."""
+    return lambda own, sign: own.with_gap(at, own.gaps[at] + sign * seconds)
+
+
+def green_by(at: int, least: int, most: int, lowest: int) -> Change:
+    """A change: the least and the most of the green at a place of greens longer (sign 1) or shorter (sign -1) by so
+    many seconds (least, most); None, and lowest, as of Bounds.with_green."""
+
+    def change(own: Bounds, sign: int) -> Bounds | None:
+        """The bounds with the green changed; None as of with_green."""
+        _, low, high = own.greens[at]
+        return own.with_green(at, low + sign * least, high + sign * most, lowest)
+
+    return change
+
+
+def bounds_text(mapping: Map, bounded: Mapping[str, Bounds], program: str = PROGRAM) -> str:
+    """The programs of some actuated and NEMA lights of a map with other bounds, as the text of an additional file.
+    program: the programID of each."""
+    kept = programs_at_begin(mapping.programs)
+    programs = []
+    for name, bounds in sorted(bounded.items()):
+        one = kept_with(kept[name], bounds)
+        about = f'type="{one["kind"]}" programID="{program}" offset="{one["offset"]:g}"'
+        programs.append((name, about, program_elements(one)))
+    return additional_of(programs)
+
+
+def program_elements(kept: Json) -> Iterator[str]:
+    """The parameters and phases of a program, of what a map keeps of it, as elements of an additional file."""
+    for key, value in kept["parameters"].items():
+        yield f"<param key={quoteattr(key)} value={quoteattr(value)}/>"
+    for at, phase in enumerate(kept["phases"]):
+        more = ring_words(*kept["timing"][at]) if kept.get("timing") else []
+        yield f"<phase {' '.join([*phase_words(*phase), *more])}/>"
+
+
+def phase_words(
+    seconds: float, state: str, least: float | None, most: float | None, following: Sequence[int]
+) -> list[str]:
+    """The attributes of a <phase> as texts (duration="30" state="GGrr", ..), of what a map keeps of it. least, most:
+    seconds, None where not written; following: places of the phases that may come next, empty: the next one."""
+    words = [f'duration="{seconds:g}" state="{state}"']
+    words += [f'{name}="{value:g}"' for name, value in (("minDur", least), ("maxDur", most)) if value is not None]
+    return words + ([f'next="{" ".join(map(str, following))}"'] if following else [])
+
+
+def ring_words(name: str, extension: float, yellow: float, red: float) -> list[str]:
+    """The further attributes of a <phase> of a NEMA light as texts (name="2", ..), of what a map keeps of it, in
+    seconds."""
+    times = (("vehext", extension), ("yellow", yellow), ("red", red))
+    return [f"name={quoteattr(name)}", *(f'{key}="{value:g}"' for key, value in times)]

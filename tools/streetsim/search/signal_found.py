@@ -1,0 +1,235 @@
+"""What streetsim-signals writes of a search: the plan, tables, pictures, and what is said of it."""
+import sys
+import tempfile
+from bisect import bisect_right
+from collections.abc import Callable, Iterator, Mapping, Sequence
+from dataclasses import dataclass, replace
+from statistics import fmean
+
+from streetsim.base.files import whole_file, whole_folder
+from streetsim.base.report import first_few
+from streetsim.base.seeds import paired
+from streetsim.model import trust
+from streetsim.model.folder import read_folder
+from streetsim.model.freeflow import FreeFlow
+from streetsim.model.tables import Entry, write_table
+from streetsim.observe.making import Making, one_run
+from streetsim.report.picture_files import load_pyplot, save_picture
+from streetsim.report.picture_plots import Corridor, draw_corridor
+from streetsim.search.run_prepared import Outcome
+from streetsim.search.signal_in_sumo import Verified
+from streetsim.search.signal_lines import LightLines
+from streetsim.search.signal_plans import Plan, plan_text
+from streetsim.search.signal_search import PlanSearch
+from streetsim.search.signal_town import SignalTown
+
+LAST = "before-after.csv"
+BEFORE_AFTER = ("figure", "before", "after", "difference", "half_width_95", "runs")
+LIGHTS = ("light", "cycle_before", "cycle_after", "offset_before", "offset_after", "greens_before", "greens_after")
+TRIALS = ("simulations", "step", "mean_trip_s", "best_s")
+
+
+@dataclass(frozen=True, slots=True)
+class BeforeAfter:
+    """A row of before-after.csv: the means of a figure in runs of what was given and of what was found, and their
+    difference with half the width of its 95 % interval."""
+
+    figure: str
+    before: float
+    after: float
+    difference: float
+    half: float
+    runs: int  # of each
+
+    def change_told(self) -> str:
+        """The difference, in seconds, and its interval: '-3.2 s ± 0.4'."""
+        return f"{self.difference:+.1f} s ± {self.half:.1f}"
+
+
+def before_after_rows(
+    town: SignalTown, before: Sequence[Outcome], after: Sequence[Outcome], sumo: Verified | None
+) -> list[BeforeAfter]:
+    """The rows of before-after.csv, of runs of the plan given and the plan found with equal seeds, two or more: mean
+    trip and mean loss, in seconds, of all who depart before the end (one that has not arrived counts until then); how
+    many arrived, and how many waited to enter at the worst minute. With sumo a last row has SUMO's mean trips."""
+    cars, free = len(town.session.departs), free_trip(town)
+    figures: dict[str, Callable[[Outcome], float]] = {
+        "mean_trip_s": lambda one: one.seconds / cars,
+        "mean_loss_s": lambda one: one.seconds / cars - free,
+        "arrived": lambda one: one.arrived,
+        "waited_to_enter": lambda one: one.waiting,
+    }
+    pairs = {name: [[figure(one) for one in runs] for runs in (before, after)] for name, figure in figures.items()}
+    return [*(row_of(name, *pair) for name, pair in pairs.items()), *sumo_rows(sumo)]
+
+
+def row_of(name: str, before: Sequence[float], after: Sequence[float]) -> BeforeAfter:
+    """The row of before-after.csv of a figure, by its values in runs of both with equal seeds, two or more."""
+    difference, half = paired(before, after)
+    assert half is not None
+    return BeforeAfter(name, fmean(before), fmean(after), difference, half, len(before))
+
+
+def sumo_rows(sumo: Verified | None) -> list[BeforeAfter]:
+    """The row of before-after.csv with SUMO's mean trips, in a list; an empty one where SUMO was not run (None)."""
+    return [row_of("sumo_mean_trip_s", sumo.before, sumo.after)] if sumo else []
+
+
+def free_trip(town: SignalTown) -> float:
+    """The mean trip, in seconds, of all who depart before the end, were nobody and no red in the way, by FreeFlow."""
+    free_flow, until = FreeFlow(town.mapping, town.run.load.command["dawdle"] / 1000), town.session.clocks[-1]
+    return fmean(free_flow(line.command["plan"]) for line in town.run.enters if line.command["depart"] < until)
+
+
+@dataclass(frozen=True, slots=True)
+class PlanFiles:
+    """Where what was found goes, and what is drawn of it: the corridor (None: nothing), by runs until a clock."""
+
+    plan: str  # a file
+    folder: str
+    corridor: Corridor | None
+    making: Making  # of the runs that are drawn
+    until: int
+
+
+def write_found(
+    target: PlanFiles, town: SignalTown, search: PlanSearch, rows: Sequence[BeforeAfter], doubts: Sequence[str]
+) -> None:
+    """Writes the plan to its file, and tables into the folder of the target; with a corridor also pictures of it, of
+    runs that it makes. rows: of before-after.csv; doubts: why the result is not to be trusted, empty where it is."""
+    plan = search.best[1]
+    with whole_folder(target.folder, LAST) as folder:
+        write_table(f"{folder}/lights.csv", LIGHTS, light_rows(town, plan))
+        write_search(folder, rows, search, doubts, target.making.program)
+        if corridor := target.corridor:
+            for name, drawn in (("before", town.plan), ("after", plan)):
+                draw_plan(target, corridor, town, drawn, f"{folder}/{name}.png")
+        with whole_file(target.plan) as file:
+            file.write(plan_text(town.lights, plan))
+
+
+def write_search(
+    folder: str, rows: Sequence[BeforeAfter], search: PlanSearch, doubts: Sequence[str], program: str
+) -> None:
+    """Writes before-after.csv, of its rows, search.csv and what speaks against the result (doubts), and against its
+    program, into a folder."""
+    told = [
+        (one.figure, *(f"{value:.3f}" for value in (one.before, one.after, one.difference, one.half)), one.runs)
+        for one in rows
+    ]
+    write_table(f"{folder}/{LAST}", BEFORE_AFTER, told)
+    trials = [(one.simulations, one.step, f"{one.value:.3f}", f"{one.best:.3f}") for one in search.trials]
+    write_table(f"{folder}/search.csv", TRIALS, trials)
+    trust.write_doubts(folder, doubts, program)
+
+
+def light_rows(town: SignalTown, plan: Plan) -> Iterator[Entry]:
+    """The rows of lights.csv, as LIGHTS has the columns: each light's cycle, offset and greens that may be stretched
+    (one text with blanks between), seconds, as given and as found."""
+    for name, light in sorted(town.lights.items()):
+        pair = town.plan[name], plan[name]
+        greens = (" ".join(str(one.durations[at]) for at in light.free) for one in pair)
+        yield (name, *(one.cycle for one in pair), *(one.offset for one in pair), *greens)
+
+
+def draw_plan(target: PlanFiles, corridor: Corridor, town: SignalTown, plan: Plan, path: str) -> None:
+    """Runs a plan as the target says, and draws where the vehicles are along a corridor over time, with the signals, as
+    a picture at path."""
+    run = replace(town.run, first=town.first_lines(plan))
+    until = min(corridor.last + 1, target.until)
+    settings = replace(town.settings, until=until, every=1, edges=tuple(corridor.edges))
+    with tempfile.TemporaryDirectory() as folder:
+        one_run(target.making, run, town.mapping, settings, folder, lambda *_: None)
+        save_picture(draw_corridor(load_pyplot(), read_folder(folder), corridor), path)
+
+
+def tell_found(
+    town: SignalTown, search: PlanSearch, rows: Sequence[BeforeAfter], stopped: bool, doubts: Sequence[str],
+    sumo: Verified | None,
+) -> int:
+    """Prints what was found, of the rows of before-after.csv, and warnings on standard error; gives the exit status, as
+    tell_verdict. stopped: the user ended the search; doubts, sumo: as there."""
+    for text in warnings_of(town, search.best[1]):
+        print(f"warning: {text}", file=sys.stderr)
+    if stopped:
+        print("stopped: the best plan found so far is written")
+    print(trips_told(rows[0], search))
+    return tell_verdict(rows[0], search, doubts, sumo)
+
+
+def trips_told(row: BeforeAfter, search: PlanSearch) -> str:
+    """The line on mean trips as given and as found, of the first row of before-after.csv, and on what the search
+    took."""
+    return (
+        f"mean trip {row.before:.1f} s as given, {row.after:.1f} s as found: {row.change_told()} (95 % interval, "
+        f"{row.runs} seeds that the search did not see); {search.simulations:,} simulations{budget_ended(search)}"
+    )
+
+
+def tell_verdict(row: BeforeAfter, search: PlanSearch, doubts: Sequence[str], sumo: Verified | None) -> int:
+    """Prints SUMO's figures, where it was run (None: it was not), and the last line; gives the exit status: 0 where
+    what was found is shown to be better wherever it was run, else 1. row: the first of before-after.csv; doubts: why
+    the result is not to be trusted, empty where it is."""
+    if sumo:
+        print(sumo.told())
+    found = {"here": (row.difference, row.half), **({"in SUMO": sumo.difference_and_half()} if sumo else {})}
+    worse = [where for where, (mean, width) in found.items() if mean + width >= 0]
+    if text := "; ".join(filter(None, (verdict(found, worse, search), trust.verdict(doubts) if doubts else ""))):
+        print(text)
+    return 1 if worse else 0
+
+
+def budget_ended(search: PlanSearch) -> str:
+    """What a sentence on a search ends with where the budget ended it: after how many plans; nothing where it did
+    not."""
+    return f", where --budget ended the search after {len(search.trials):,} plans" if search.spent else ""
+
+
+def verdict(found: Mapping[str, tuple[float, float]], worse: Sequence[str], search: PlanSearch) -> str:
+    """The last line, before the doubts: whether what was found is shown to be better, and by how much where it was run
+    in SUMO too; where it is not, also that the budget ended the search. Empty where it is, and was run here alone.
+    found: (difference, half width of its 95 % interval), seconds, by where it was run; worse: where it is not shown."""
+    figures = ", ".join(f"{difference:+.1f} s ± {half:.1f} {where}" for where, (difference, half) in found.items())
+    if len(found) == 1:
+        return f"not shown to be better{budget_ended(search)}" if worse else ""
+    if worse:
+        return f"not shown to be better {' or '.join(worse)}: {figures}{budget_ended(search)}"
+    return f"shown to be better here and in SUMO: {figures}"
+
+
+def doubts_of(
+    town: SignalTown, before: Sequence[Outcome], after: Sequence[Outcome], sumo: Verified | None
+) -> Iterator[str]:
+    """Why a result is not to be trusted, of the runs of the plan given and the plan found; nothing where it is. sumo:
+    None where SUMO was not run, so that greens in which turns find their gaps by formula are a doubt."""
+    until = town.session.clocks[-1]
+    yield from vehicle_doubts(town, before, after)
+    yield from trust.length_doubts(until, town.run, town.mapping)
+    yield from trust.actuated_doubts(
+        until, town.run, town.mapping,
+        [one for one in town.settings.lights.listed_lights(town.mapping) if one not in town.lights],
+    )
+    if town.lines.permissive and not sumo:
+        lights = first_few(sorted(town.lines.permissive))
+        yield f"without --verify-sumo, as turns find their gaps in oncoming traffic by formula at {lights}"
+
+
+def vehicle_doubts(town: SignalTown, before: Sequence[Outcome], after: Sequence[Outcome]) -> Iterator[str]:
+    """Doubts where vehicles that had the time to arrive have not, or many waited to enter, in runs of what was given
+    and of what was found; nothing where neither is so."""
+    named = {"as given": before, "as found": after}
+    arrived = {name: fmean(one.arrived for one in runs) for name, runs in named.items()}
+    due = bisect_right(trust.free_arrivals(town.run, town.mapping), town.session.clocks[-1])
+    yield from trust.missing_doubts(arrived, due)
+    waiting = {name: [(one.waiting, one.waiting_at) for one in runs] for name, runs in named.items()}
+    yield from trust.waiting_doubts(waiting, len(town.session.departs))
+
+
+def warnings_of(town: SignalTown, plan: Plan) -> Iterator[str]:
+    """What is to be said of a found plan, a text each: where the simulator cannot show it whole, and where cycles are
+    unequal, so that offsets mean nothing."""
+    lines = LightLines(town.lines.net, town.run, town.mapping)
+    lines.signal_lines(plan, town.lights)
+    yield from lines.report.warnings
+    if len({timing.cycle for timing in plan.values()}) > 1:
+        yield "lights have unequal cycles, between which offsets mean nothing"

@@ -1,0 +1,91 @@
+"""Signal lines of a plan, as streetsim-import makes them of SUMO's programs, made anew only where greens change."""
+import json
+from collections import defaultdict
+from collections.abc import Mapping, Sequence
+from dataclasses import replace
+from typing import NamedTuple
+
+from streetsim.base.report import Report
+from streetsim.model.mapping import Map, MapTurn
+from streetsim.model.runs import Run
+from streetsim.search.signal_plans import PlannedLight, PlannedTiming
+from streetsim.sumo.additional import read_additional
+from streetsim.sumo.crossing import hourly_flows
+from streetsim.sumo.driver_words import measured_of
+from streetsim.sumo.net import LightProgram, SumoNet, connections_of, read_net
+from streetsim.sumo.signals import LitNode, movements_of_junction, signal_command
+from streetsim.sumo.slowing import with_lower_limits
+from streetsim.sumo.types import Types
+
+
+class Flowing(NamedTuple):
+    """A vehicle of a run, as the import counts flows."""
+
+    edges: list[str]
+    depart: int
+
+
+def read_plans(paths: Sequence[str], mapping: Map) -> SumoNet:
+    """The network of the first file, with the signal programs of all files, of which the last of a light counts; edges
+    are in parts as in the map. Fault where a file is wrong, or that network cannot have a lower limit of the map."""
+    report = Report()
+    net = read_net(paths[0], tuple(mapping.options["classes"]), report)
+    types = Types(mapping.options.get("seed", 1), report)
+    for path in paths[1:]:
+        read_additional(path, net, types, report)
+    return with_lower_limits(net, [], mapping.options.get("slow", ()), report)[0]
+
+
+class LightLines:
+    """Makes the signal lines of plans in a network, for the vehicles of a run; phases are kept, so that a light is made
+    anew only where its greens change."""
+
+    def __init__(self, net: SumoNet, run: Run, mapping: Map) -> None:
+        """net: whose programs are replaced by those of plans, in a copy."""
+        self.net, self.mapping = replace(net, programs=dict(net.programs)), mapping
+        names, enters = [link.edge for link in mapping.links], [line.command for line in run.enters]
+        self.flows = hourly_flows([Flowing([names[link] for link in one["plan"]], one["depart"]) for one in enters])
+        self.limits_of = {link.edge: link.limit for link in mapping.links}
+        self.connections = connections_of(net)
+        self.nodes: defaultdict[str, list[int]] = defaultdict(list)
+        for light, node in mapping.signals:
+            self.nodes[light].append(node)
+        self.turns: defaultdict[int, list[tuple[int, int, int, MapTurn]]] = defaultdict(list)
+        for turn in mapping.turns:
+            self.turns[mapping.links[turn.link].end].append((turn.link, turn.lane, turn.next, turn))
+        # By (light, durations): for each node the phases as bytes.
+        self.made: dict[tuple[str, tuple[int, ...]], list[bytes]] = {}
+        self.permissive: set[str] = set()  # lights at which some who drive must find gaps in a green
+        self.report = Report()  # of what was made, where a light needs more phases than there may be
+
+    def signal_lines(self, plan: Mapping[str, PlannedTiming], lights: Mapping[str, PlannedLight]) -> bytes:
+        """The signal lines of a plan as bytes, one for each node of each of its lights; lights: by name. Notes in
+        self.permissive the lights at which turns must find gaps in a green, and in self.report where one needs more
+        phases than there may be. Fault where a program does not fit its light."""
+        lines = []
+        for name, timing in plan.items():
+            key = name, timing.durations
+            if key not in self.made:
+                self.made[key] = [self.phases_json(name, node, timing, lights[name]) for node in self.nodes[name]]
+            for node, phases in zip(self.nodes[name], self.made[key], strict=True):
+                values = node, -timing.offset % timing.cycle, phases
+                lines.append(b'{"cmd":"signal","node":%d,"offset":%d,"phases":%s}\n' % values)
+        return b"".join(lines)
+
+    def phases_json(self, name: str, node: int, timing: PlannedTiming, light: PlannedLight) -> bytes:
+        """The phases of a light at one of its nodes, as the JSON of a signal line's "phases". Puts the program into
+        self.net; self.permissive, self.report and Fault as of signal_lines."""
+        program = LightProgram(0.0, list(zip(timing.durations, light.states, strict=True)), "static")
+        self.net.programs[name] = program
+        junction, permissive = self.mapping.nodes[node][0], self.mapping.options["permissive"]
+        found = {}
+        if permissive is None and self.flows:
+            connections = self.connections[junction]
+            found = movements_of_junction(junction, connections, self.net, self.flows, self.limits_of)
+        if any(movement.runs and movement.foes and movement.flow for movement in found.values()):
+            self.permissive.add(name)
+        turns = self.turns[node]
+        edges = {link: self.mapping.links[link].edge for link, *_ in turns}
+        own = LitNode(node, turns, edges, name, program, permissive, self.report, found, *measured_of(self.mapping))
+        made = signal_command(own)
+        return json.dumps(made["phases"], separators=(",", ":")).encode()

@@ -1,0 +1,71 @@
+"""What a search for signal plans tries, and with which seeds."""
+from collections.abc import Callable, Generator, Iterator, Sequence
+from itertools import islice
+from statistics import fmean
+from typing import Any
+
+from streetsim.base.files import Fault
+from streetsim.base.progress import Meanwhile, Stopping
+from streetsim.search.signal_formulas import StreetFlows, critical_cycle
+from streetsim.search.signal_search import PlanSearch, key_of
+from streetsim.search.signal_town import SignalTown
+
+CHANGES = ("offsets", "splits", "cycle")
+CYCLES = "60-120"  # seconds
+STEP = 10  # seconds from one cycle that is proposed to the next
+TRIED = 10  # runs of the given plan tell how many seeds a search needs
+DRAWN = 500  # seconds of the pictures
+
+
+def tried_seeds(check: Sequence[int]) -> list[int]:
+    """The TRIED seeds with which the given plan is run to tell how many seeds a search needs; seeds of the report
+    (check) are passed over."""
+    return [seed for seed in range(1, TRIED + len(check) + 1) if seed not in check][:TRIED]
+
+
+def proposed_cycles(cycles: range, town: SignalTown, streets: StreetFlows) -> list[int]:
+    """The cycles that are proposed, in seconds, rising: each STEP of the range and its end, and critical_cycle's where
+    it lies within. cycles: a range by single seconds; empty: none is proposed."""
+    made, critical = {*cycles[::STEP], *cycles[-1:]}, critical_cycle(town.lights, town.base, streets)
+    return sorted(made | ({critical} if critical is not None and critical in cycles else set()))
+
+
+def refuse_budget(budget: int, seeds: Sequence[int]) -> None:
+    """Fault where --budget does not reach for one plan, which takes a simulation for each seed."""
+    if budget < len(seeds):
+        raise Fault(f"--budget {budget}: one plan takes {len(seeds)} simulations")
+
+
+def ended_search(
+    trips: Callable[[Sequence[Any]], Iterator[float]], budget: int, seeds: int,
+    search_to_end: Callable[[PlanSearch], None], key: Callable[[Any], Any] = key_of,
+) -> tuple[PlanSearch, bool]:
+    """Makes a search, and shows on the terminal how far it is; gives (search when it has ended, whether the user ended
+    it by Ctrl-C). trips: of plans, gives the mean trip (s) of each with each seed, plan by plan; budget, seeds, key: as
+    PlanSearch has them (key_of); search_to_end: searches until the search has ended."""
+    meanwhile = Meanwhile("simulations", budget)
+
+    def values(plans: Sequence[Any]) -> Generator[float, None, None]:
+        """The mean trip, in seconds, of each plan over the seeds, in the plans' order."""
+        found = trips(plans)
+        for _ in plans:
+            yield fmean(islice(found, seeds))
+
+    with Stopping() as stopping:
+
+        def told(search: PlanSearch) -> bool:
+            """Shows how far the search is; gives whether the user has asked for an end."""
+            meanwhile.show(search.simulations, best_line(search))
+            return stopping.asked
+
+        search = PlanSearch(values, budget, seeds, told, key_of=key)
+        search_to_end(search)
+        meanwhile.end()
+        return search, stopping.asked
+
+
+def best_line(search: PlanSearch) -> str:
+    """For the line of progress: the mean trip of the best plan so far and how much it is above or below that of the
+    given one, the first that was tried; empty where that is 0, as nobody drives."""
+    best, given = search.best[0], search.trials[0].value
+    return f"best {best:.1f} s ({100 * (best / given - 1):+.1f} %)" if given else ""

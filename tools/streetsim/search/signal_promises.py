@@ -1,0 +1,62 @@
+"""What the phases of a town's lights must keep: by their plans, a file of constraints, and the network's crossings."""
+import sys
+from collections.abc import Collection, Sequence
+from typing import Protocol
+
+from streetsim.base.files import Fault
+from streetsim.base.report import first_few
+from streetsim.sumo.constraints import (
+    Constraint, broken_in, constraints_of, read_constraints, read_crossings, with_given, with_walks,
+)
+from streetsim.sumo.net import LightProgram
+
+MEND = "search all the same, from greens that keep it: --mend"
+
+
+class Asked(Protocol):
+    """What is read of the words of a search."""
+
+    @property
+    def plans(self) -> Sequence[str]:
+        """Paths of the plans, the network first."""
+
+    @property
+    def constraints(self) -> str | None:
+        """The path of a file of constraints, or none."""
+
+    @property
+    def mend(self) -> bool:
+        """Whether a plan that breaks its constraints is taken all the same."""
+
+    @property
+    def fixed(self) -> bool:
+        """Whether plans of seconds are found for lights that detectors drive too, beside their bounds."""
+
+
+class Promises:
+    """Gathers what the lights of a town must keep, and what their plans break of it."""
+
+    def __init__(self, asked: Asked, lights: Collection[str]) -> None:
+        """Reads the file of constraints, and the crossings of the network. Fault where one cannot be read, or the file
+        names no light of some lights."""
+        self.asked, self.broken = asked, list[str]()
+        self.given = read_constraints(asked.constraints) if asked.constraints else {}
+        if unknown := sorted(self.given.keys() - {*lights}):
+            raise Fault(f"{asked.constraints}: the map has no light {unknown[0]!r}")
+        self.crossings = read_crossings(asked.plans[0])
+
+    def of(self, light: str, program: LightProgram) -> Sequence[Constraint]:
+        """What the phases of a light's program must keep; notes what the program breaks. Fault where constraints
+        contradict each other."""
+        own = with_given(light, program, constraints_of(light, program), self.given.get(light, {}))
+        own = with_walks(program, own, self.crossings.get(light, {}))
+        self.broken += broken_in(light, program, own)
+        return own
+
+    def tell(self) -> None:
+        """Tells on standard error what the plans given break. Fault where they break anything and no word says to
+        search all the same; the listed seconds of lights that detectors drive are mended without it."""
+        if self.broken and not (self.asked.mend or self.asked.fixed):
+            raise Fault(f"{self.broken[0]}: no plan to search from ({MEND})")
+        if self.broken:
+            print(f"mended before the search: {first_few(self.broken)}", file=sys.stderr)

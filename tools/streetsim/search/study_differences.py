@@ -1,0 +1,78 @@
+"""By how much the variants of a study differ, and how sure that is. Results are, by variant, the outcomes of its runs
+in the order of the seeds."""
+from collections.abc import Iterator, Mapping, Sequence
+from dataclasses import dataclass
+from statistics import fmean, stdev
+
+from streetsim.base.seeds import mean_and_day, paired, paired_day, runs_needed, unpaired_half_width
+from streetsim.model.tables import Entry
+from streetsim.search.run_prepared import Outcome
+from streetsim.search.study_variants import Study
+
+RUNS = (
+    *("variant", "seed", "arrived", "mean_trip_s", "total_s", "end_s", "ended", "waited_to_enter"),
+    *("junctions_giving_way", "signal_lines", "digest"),
+)
+DIFFERENCES = (
+    *("variant", "mean_trip_s", "difference", "half_width_95_paired", "half_width_95_unpaired", "runs"),
+    *("runs_needed_paired", "runs_needed_unpaired", "half_width_95_day", "half_width_95_mean_of_day", "not_trusted"),
+)
+
+
+@dataclass(frozen=True, slots=True)
+class VariantDifference:
+    """A row of differences.csv but for not_trusted: a variant's mean trip and its difference to the base's, with half
+    widths of the 95 % interval; seconds. None for what the base, or one seed, does not have."""
+
+    variant: str
+    mean: float
+    difference: float | None
+    paired: float | None  # half width, of runs with equal seeds
+    unpaired: float | None  # half width, as if their seeds were others
+    runs: int
+    needed: int | None  # paired runs for the precision that is asked for; None too where 2^20 are too few
+    needed_unpaired: int | None
+    day: float | None = None  # half width of the interval of a day's difference, where departures were drawn
+    mean_of_day: float | None = None  # the same of a day's mean trip
+
+
+def means_of(study: Study, results: Mapping[str, Sequence[Outcome]], name: str) -> list[float]:
+    """Of each run of a variant, in the order of the seeds, the mean trip, seconds, of the vehicles that depart before
+    the end: from the wished departure to the arrival, or to the end of the run."""
+    variant = study.variants[name]
+    return [one.seconds / max(1, variant.cars(at)) for at, one in enumerate(results[name])]
+
+
+def run_rows(study: Study, results: Mapping[str, Sequence[Outcome]]) -> Iterator[Entry]:
+    """The rows of runs.csv, as RUNS has the columns: one for each variant and seed."""
+    for name, outcomes in results.items():
+        for seed, one, mean in zip(study.seeds, outcomes, means_of(study, results, name), strict=True):
+            ends = one.seconds, one.end, one.ended.partition(": ")[2] or "until"
+            yield name, seed, one.arrived, f"{mean:.3f}", *ends, one.waiting, one.junctions, one.lines, one.digest
+
+
+def differences(study: Study, results: Mapping[str, Sequence[Outcome]], precision: float) -> list[VariantDifference]:
+    """The row of each variant. precision: the half width that runs are to reach, in percent of the base's mean trip."""
+    base = means_of(study, results, study.base)
+    error = fmean(base) * precision / 100
+    rows: list[VariantDifference] = []
+    for name in study.variants:
+        means = means_of(study, results, name)
+        if name == study.base or len(means) < 2:
+            difference = None if name == study.base else fmean(means) - fmean(base)
+            own = mean_and_day(means)[1] if study.drawn else None
+            nothing = None, None, len(means), None, None, None
+            rows.append(VariantDifference(name, fmean(means), difference, *nothing, own))
+            continue
+        difference, half = paired(base, means)
+        other = unpaired_half_width(base, means)
+        apart = [there - here for here, there in zip(base, means, strict=True)]
+        needed = runs_needed(stdev(apart), error), runs_needed((stdev(base) ** 2 + stdev(means) ** 2) ** 0.5, error)
+        days = (paired_day(base, means)[1], mean_and_day(means)[1]) if study.drawn else (None, None)
+        rows.append(VariantDifference(name, fmean(means), difference, half, other, len(means), *needed, *days))
+    return rows
+
+
+def cell_values(row: Entry) -> Entry:
+    """A row as it is written: None as an empty text, a float with three decimals; all else stays."""
+    return tuple("" if value is None else f"{value:.3f}" if isinstance(value, float) else value for value in row)

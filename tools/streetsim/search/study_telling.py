@@ -1,0 +1,104 @@
+"""What streetsim-study says of its runs: differences, a picture of them, ends, and why a variant is not to be trusted.
+Results are, by variant, the outcomes of its runs in the order of the seeds."""
+from bisect import bisect_right
+from collections.abc import Iterator, Mapping, Sequence
+from statistics import fmean
+
+from streetsim.control.ending import ALL_ARRIVED
+from streetsim.control.works_watched import in_runs
+from streetsim.model import trust
+from streetsim.model.replications import told_of_days
+from streetsim.report.picture_files import pyplot_if_installed, save_picture
+from streetsim.search.run_prepared import Outcome
+from streetsim.search.study_differences import VariantDifference
+from streetsim.search.study_variants import Study
+
+
+def draw_differences(study: Study, rows: Sequence[VariantDifference], path: str) -> None:
+    """Draws the differences to the base with their intervals to a picture at path; nothing without matplotlib (which is
+    said) or with the base alone. Fault where it cannot be written."""
+    shown = [row for row in rows if row.variant != study.base]
+    pyplot = pyplot_if_installed()
+    if pyplot is None or not shown:
+        return
+    figure, axes = pyplot.subplots(figsize=(7, 1.2 + 0.4 * len(shown)))
+    for place, row in enumerate(reversed(shown)):
+        for width, size, label in ((row.unpaired, 1.2, "unpaired"), (row.paired, 4.0, "paired")):
+            if width is not None and row.difference is not None:
+                ends = row.difference - width, row.difference + width
+                named = f"95 % interval, {label}" if place == 0 else None
+                axes.plot(ends, (place, place), color="#225588", linewidth=size, label=named)
+        axes.plot([row.difference], [place], marker="o", color="black", markersize=5)
+    axes.axvline(0, color="black", linewidth=0.8)
+    axes.set_yticks(range(len(shown)), [row.variant for row in reversed(shown)])
+    axes.set(xlabel=f"mean trip less that of {study.base} (s)", ylim=(-0.6, len(shown) - 0.4))
+    axes.set_title(f"{len(study.seeds)} seeds")
+    if len(study.seeds) > 1:
+        axes.legend(frameon=False, fontsize=8)
+    save_picture(figure, path)
+
+
+def doubts(study: Study, name: str, outcomes: Sequence[Outcome]) -> Iterator[str]:
+    """What speaks against the runs of a variant, by its name, a text each; outcomes: of its runs, one at least."""
+    variant = study.variants[name]
+    arrived = fmean(one.arrived for one in outcomes)
+    due = [variant.due_with(at) for at in range(len(outcomes))]
+    in_time = fmean(bisect_right(own, one.end) for own, one in zip(due, outcomes, strict=True))
+    yield from trust.missing_doubts({"": arrived}, in_time)
+    vehicles = round(fmean(map(len, due)))
+    yield from trust.waiting_doubts({"": [(one.waiting, one.waiting_at) for one in outcomes]}, vehicles)
+    early = [one for own, one in zip(due, outcomes, strict=True) if one.ended and one.arrived < len(own)]
+    if early:
+        yield f"{len(early):,} of {len(outcomes):,} runs ended before all had arrived, who count until then"
+    yield from trust.works_doubts(variant.works, [(one.end, one.gone) for one in outcomes])
+    yield from in_runs([one.at_works for one in outcomes])
+    yield from variant.doubts
+
+
+def tell_ends(study: Study, results: Mapping[str, Sequence[Outcome]]) -> None:
+    """Prints how runs without a last second ended: those that ended otherwise than by the arrival of all, or, without
+    any such, from which clock to which all ended. Nothing where the study has a last second."""
+    if study.until is not None:
+        return
+    clocks = []
+    others: dict[tuple[str, str], list[str]] = {}
+    for name, outcomes in results.items():
+        for seed, one in zip(study.seeds, outcomes, strict=True):
+            clocks.append(one.end)
+            if not one.ended.endswith(ALL_ARRIVED):
+                others.setdefault((name, one.ended.partition(": ")[2]), []).append(f"seed {seed} at {one.end:,} s")
+    for (name, why), seeds in others.items():
+        print(f"{name}: {why}: {', '.join(seeds)}")
+    if not others:
+        until = f"{min(clocks):,}" + (f" to {max(clocks):,}" if max(clocks) > min(clocks) else "")
+        print(f"runs ended at {until} s: {ALL_ARRIVED}")
+
+
+def tell_differences(rows: Sequence[VariantDifference]) -> None:
+    """Prints for each variant its mean trip, and the difference to the base with its 95 % interval; and how many paired
+    runs the wanted precision needs, where that is more than were made; nothing of these where 2^20 are too few."""
+    for row in rows:
+        line = f"{row.variant}: mean trip {row.mean:.1f} s"
+        if row.difference is not None:
+            line += f", {row.difference:+.2f} s"
+        if row.paired is not None:
+            half, what = (row.paired, "dawdling alone") if row.day is None else (row.day, "a day")
+            line += f" ± {half:.2f} (95 % interval of {what}, {row.runs} paired runs)"
+        if row.needed is not None and row.needed > row.runs:
+            line += f"; the wanted precision needs {row.needed:,} runs"
+        print(line)
+
+
+def tell_departures(study: Study) -> None:
+    """Prints of what days the intervals are, where there are several seeds."""
+    if len(study.seeds) > 1:
+        print(*told_of_days(study.drawn, len(study.seeds)), sep="\n")
+
+
+def tell_giving_way(results: Mapping[str, Sequence[Outcome]]) -> None:
+    """Prints at how many junctions vehicles give way without a light (in the run with the most), and by how many lines
+    in the mean of the runs; nothing where no run has lines."""
+    outcomes = [one for found in results.values() for one in found]
+    if any(one.lines for one in outcomes):
+        junctions, lines = max(one.junctions for one in outcomes), fmean(one.lines for one in outcomes)
+        print(f"{junctions:,} junctions without a light give way by some {lines:,.0f} signal lines in each run")

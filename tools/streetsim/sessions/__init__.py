@@ -1,1 +1,0 @@
-"""Runs by many seeds and plans: prepared as bytes, on this machine's cores or on others."""

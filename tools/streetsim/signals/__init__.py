@@ -1,1 +1,0 @@
-"""Signal plans: written, reckoned and searched."""

@@ -1,0 +1,53 @@
+"""What a script does to a session, so that another one can do it again."""
+from collections.abc import Callable
+from functools import wraps
+from typing import Concatenate, ParamSpec, TypeVar
+
+Words = ParamSpec("Words")
+Given = TypeVar("Given")
+NAMES: set[str] = set()  # of the methods that are deeds
+
+
+class Doer:
+    """Something whose deeds are noted."""
+
+    part = ""  # how notes name it
+    deeds: "Deeds"
+
+    @property
+    def clock(self) -> int:
+        """The clock of the run."""
+        raise NotImplementedError
+
+
+class Deeds:
+    """The deeds of a script, in their order: (clock, part, name, words), as JSON has them."""
+
+    def __init__(self) -> None:
+        """None is done."""
+        self.done: list[tuple[int, str, str, tuple]] = []
+        self.under_way = False
+
+
+Done = TypeVar("Done", bound=Doer)
+
+
+def deed(method: Callable[Concatenate[Done, Words], Given]) -> Callable[Concatenate[Done, Words], Given]:
+    """A method by which a script changes a run: calls are noted that raise nothing and that no other deed makes."""
+    NAMES.add(method.__name__)
+
+    @wraps(method)
+    def noted(doer: Done, *words: Words.args, **more: Words.kwargs) -> Given:
+        """Calls the method."""
+        deeds, clock = doer.deeds, doer.clock
+        if deeds.under_way:
+            return method(doer, *words, **more)
+        deeds.under_way = True
+        try:
+            found = method(doer, *words, **more)
+        finally:
+            deeds.under_way = False
+        deeds.done.append((clock, doer.part, method.__name__, words))
+        return found
+
+    return noted

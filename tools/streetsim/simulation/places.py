@@ -1,0 +1,127 @@
+"""Where the vehicles of a session are in the plane."""
+from functools import cached_property, lru_cache
+
+from streetsim.base.arrays import Array
+from streetsim.base.arrays import numpy as np
+from streetsim.base.shapes import Line, Point, heading_at, point_along
+from streetsim.model.mapping import Map
+from streetsim.simulation.fleet import OnRoad
+from streetsim.simulation.view import View
+
+KEPT = 1 << 18  # cells whose points are kept
+
+
+class VehiclePlaces:
+    """The points of vehicles, in metres."""
+
+    def __init__(self, view: View, mapping: Map) -> None:
+        """view: of a run on the map."""
+        self.view, self.links, self.nodes = view, mapping.links, mapping.nodes
+        self.in_cell = lru_cache(KEPT)(self.point_in_cell)
+        self.cells = np.array([link.cells for link in self.links], np.int64)
+        self.first = np.append(0, np.cumsum(self.cells + 1))  # by link the place of its first cell in what follows
+        self.known_points, self.known_angles = np.full((self.first[-1], 2), np.nan), np.full(self.first[-1], np.nan)
+        self.stretches_of = lru_cache(KEPT >> 4)(self.stretches)  # of lines that do not move
+        self.of: object = None  # of which look `rising` is
+        self.rising: tuple[Array, Array] = np.zeros((2, 0), np.int64)  # rows by rising place; places
+
+    def point(self, where: OnRoad) -> Point:
+        """The point (x, y) of the front of a vehicle on its link's line, or of its junction."""
+        return self.in_cell(where.link, where.cell)
+
+    def point_in_cell(self, link: int, cell: int | None) -> Point:
+        """What `point` gives for a front in a cell of a link; None: in the junction behind it."""
+        own = self.links[link]
+        if cell is None:
+            x, y = self.nodes[own.end][1:3]
+            return float(x), float(y)
+        return point_along(own.shape, (cell + 1) / own.cells)
+
+    def angle(self, where: OnRoad) -> float:
+        """Degrees clockwise from north; in a junction those at the end of the street from which it came."""
+        return self.angle_in_cell(where.link, where.cell)
+
+    def angle_in_cell(self, link: int, cell: int | None) -> float:
+        """What `angle` gives for a front in a cell of a link; None: in the junction behind it."""
+        own = self.links[link]
+        return heading_at(own.shape, (cell + 1) / own.cells if cell is not None else 1.0)
+
+    def points(self, link: Array, cell: Array) -> Array:
+        """By row the point (x, y) of a front in a cell of a link; cell below 0: in the junction behind it."""
+        at = self.first[link] + np.where(cell < 0, self.cells[link], cell)
+        found = self.known_points[at]
+        if len(new := np.unique(at[np.isnan(found[:, 0])])):
+            places = self.places_at(new)
+            self.known_points[new] = [self.point_in_cell(*place) for place in places]
+            found = self.known_points[at]
+        return found
+
+    def angles(self, link: Array, cell: Array) -> Array:
+        """By row what `angle` gives; link, cell: as `points` has them."""
+        at = self.first[link] + np.where(cell < 0, self.cells[link], cell)
+        if len(new := np.unique(at[np.isnan(self.known_angles[at])])):
+            self.known_angles[new] = [self.angle_in_cell(*place) for place in self.places_at(new)]
+        return self.known_angles[at]
+
+    def places_at(self, at: Array) -> list[tuple[int, int | None]]:
+        """(link, cell; None in the junction behind it) of places in known_points."""
+        link = np.searchsorted(self.first, at, side="right") - 1
+        pairs = zip(link.tolist(), (at - self.first[link]).tolist(), strict=True)
+        return [(one, cell if cell < self.links[one].cells else None) for one, cell in pairs]
+
+    @cached_property
+    def boxes(self) -> Array:
+        """By link the least x and y and the greatest x and y of its line and of the junction behind it, metres."""
+        ends = [[*link.shape, self.nodes[link.end][1:3]] for link in self.links]
+        return np.array([[*np.min(line, axis=0)[:2], *np.max(line, axis=0)[:2]] for line in ends])
+
+    def near(self, line: Line, metres: float) -> list[int]:
+        """The vehicles at most some metres from a line, or from its single point, by their numbers."""
+        return self.view.number[self.rows_near(line, metres)].tolist()
+
+    def rows_near(self, line: Line, metres: float) -> Array:
+        """The rows in the view of the vehicles at most some metres from a line, or from its single point."""
+        return self.rows_in(*self.stretches(tuple((point[0], point[1]) for point in line), metres))[0]
+
+    def rows_in(self, begins: Array, ends: Array) -> tuple[Array, Array]:
+        """(the rows in the view of the vehicles in stretches of places, stretch by stretch; by stretch the number of
+        those in it and in all before it). begins, ends: as `stretches` gives them."""
+        if self.of is not self.view.number:
+            link, cell = self.view.slot >> 1, self.view.cell
+            at = self.first[link] + np.where(cell < 0, self.cells[link], cell)
+            order = np.argsort(at, kind="stable")
+            self.of, self.rising = self.view.number, (order, at[order])
+        order, at = self.rising
+        first, last = np.searchsorted(at, begins), np.searchsorted(at, ends)
+        counts = last - first
+        through = np.cumsum(counts)
+        rows = np.arange(through[-1] if len(through) else 0) + np.repeat(first - through + counts, counts)
+        return order[rows], through
+
+    def stretches(self, line: tuple[Point, ...], metres: float) -> tuple[Array, Array]:
+        """(begins, ends behind the last) of the unbroken stretches of places in known_points that are at most some
+        metres from a line."""
+        x, y = zip(*line)
+        left, low, right, high = self.boxes.T
+        meets = (left <= max(x) + metres) & (right >= min(x) - metres)
+        meets &= (low <= max(y) + metres) & (high >= min(y) - metres)
+        at = [np.arange(self.first[link], self.first[link + 1]) for link in np.flatnonzero(meets).tolist()]
+        if not at:
+            return np.zeros(0, np.int64), np.zeros(0, np.int64)
+        places = np.concatenate(at)
+        link = np.searchsorted(self.first, places, side="right") - 1
+        points = self.points(link, places - self.first[link])
+        near = places[distances(points, np.array(line, float)) <= metres]
+        if not len(near):
+            return near, near
+        breaks = np.flatnonzero(np.diff(near) != 1)
+        return near[np.append(0, breaks + 1)], near[np.append(breaks, -1)] + 1
+
+
+def distances(points: Array, line: Array) -> Array:
+    """Metres from each of some points (x, y) to a line of points, or to its single point."""
+    begin, way = (line[:-1], np.diff(line, axis=0)) if len(line) > 1 else (line, np.zeros((1, 2)))
+    squares = (way**2).sum(axis=1)
+    ahead = ((points[:, None] - begin) * way).sum(axis=2) / np.where(squares, squares, 1.0)
+    off = points[:, None] - (begin + np.clip(ahead, 0, 1)[..., None] * way)
+    return np.hypot(off[..., 0], off[..., 1]).min(axis=1)

@@ -1,0 +1,90 @@
+"""Lanes that are nearly full by the demand, at lights and where lanes become one: SUMO's queues grow there, and may
+grow otherwise here."""
+from collections import Counter, defaultdict
+from collections.abc import Collection, Iterable, Iterator, Mapping, Sequence
+from dataclasses import replace
+from itertools import chain, pairwise
+
+from streetsim.model.fullness import LEFT, MERGING, RIGHT, STRAIGHT, TURNAROUND, FullLane, Fullness
+from streetsim.sumo.crossing import CrossingMovement, EdgePair, Flows, hourly_flows
+from streetsim.sumo.demand import DemandVehicle
+from streetsim.sumo.merges import FAR_FROM_FULL, Merge
+from streetsim.sumo.net import SumoNet
+from streetsim.sumo.network import Network
+from streetsim.sumo.signals import movements
+from streetsim.sumo.yielding import capacity
+
+PART, LEAST_PART = 900, 1 / 8  # seconds that are looked at alone; share of the vehicles, below which these are not
+LEAST = 30.0  # vehicles an hour of a lane
+# Shares of what can pass, from which on a lane is nearly full: where some wait for gaps at a light, and where none do;
+# where a lane ends just behind a light, and where lanes become one elsewhere.
+FULL, FULL_IN_TURN, FULL_BEHIND_LIGHT, FULL_MERGE = 0.8, 1.0, FAR_FROM_FULL, 0.95
+WAYS = {"l": LEFT, "r": RIGHT, "t": TURNAROUND}  # by SUMO's directions; others are STRAIGHT
+Movements = Mapping[str, Mapping[int, CrossingMovement]]  # by junction and request, as `movements` gives them
+Found = tuple[FullLane, Collection[EdgePair]]  # and the edge pairs of those who pass it
+
+
+def fullness(
+    net: SumoNet, network: Network, vehicles: Sequence[DemandVehicle], merges: Sequence[Merge], whole: Movements
+) -> Fullness:
+    """The nearly full lanes of a demand, by its flows and by those of each quarter of an hour in which more than
+    LEAST_PART of the vehicles depart. The flow of an edge is split evenly over the lanes that lead on, as vehicles of
+    SUMO do not see who turns ahead. whole: the movements by the flows of the whole demand."""
+    ways = {(one.source, one.target): WAYS.get(one.direction.lower(), STRAIGHT) for one in net.connections}
+    worst: dict[str, Found] = {}
+    parts = ((flows, movements(net, network, flows)) for flows in flows_of_parts(vehicles))
+    for flows, found in chain([(hourly_flows(vehicles), whole)], parts):
+        at_lights = (full_at_light(name, own.values(), ways) for name, own in found.items())
+        for one, pairs in chain(*at_lights, full_merges(merges, flows)):
+            if one.lane not in worst or worst[one.lane][0].demand < one.demand:
+                worst[one.lane] = one, pairs
+    return counted(worst, vehicles)
+
+
+def flows_of_parts(vehicles: Sequence[DemandVehicle]) -> Iterator[Flows]:
+    """The flows of the parts of a demand that are looked at alone, beside the whole."""
+    parts: defaultdict[int, list[DemandVehicle]] = defaultdict(list)
+    for vehicle in vehicles:
+        parts[int(vehicle.depart // PART)].append(vehicle)
+    if len(parts) > 1:
+        yield from (hourly_flows(own) for own in parts.values() if len(own) >= LEAST_PART * len(vehicles))
+
+
+def full_at_light(junction: str, own: Iterable[CrossingMovement], ways: Mapping[EdgePair, str]) -> Iterator[Found]:
+    """The nearly full lanes of a junction with a light, by its movements; ways: by edge pair."""
+    lanes: defaultdict[tuple[str, int], list[CrossingMovement]] = defaultdict(list)
+    for one in own:
+        lanes[one.lane].append(one)
+    for (edge, index), sharing in lanes.items():
+        wish = sum(one.flow for one in sharing)
+        demand = wish / capacity(sharing, wish) if wish >= LEAST else 0.0
+        waiting = [one for one in sharing if one.waits and one.flow]
+        if demand >= (FULL if waiting else FULL_IN_TURN):
+            source, target = max(waiting or sharing, key=lambda one: one.flow).pair
+            where = junction, f"{edge}_{index}", ways[source, target], source, target
+            yield FullLane(*where, round(demand, 2)), [one.pair for one in sharing]
+
+
+def full_merges(merges: Iterable[Merge], flows: Flows) -> Iterator[Found]:
+    """Where lanes become one and nearly as many vehicles wish to pass as can."""
+    for one in merges:
+        pairs = {pair: flow for pair, flow in flows.items() if pair[0] in one.edges}
+        demand = sum(pairs.values()) / one.capacity
+        if demand >= (FULL_BEHIND_LIGHT if one.after_light else FULL_MERGE):
+            source, target = max(pairs, key=lambda pair: pairs[pair])
+            yield FullLane(one.junction, source, MERGING, source, target, round(demand, 2)), pairs
+
+
+def counted(worst: Mapping[str, Found], vehicles: Iterable[DemandVehicle]) -> Fullness:
+    """The lanes with the vehicles that pass them, the fullest first; worst: by lane."""
+    lanes_of: defaultdict[EdgePair, list[str]] = defaultdict(list)
+    for lane, (_, pairs) in worst.items():
+        for pair in pairs:
+            lanes_of[pair].append(lane)
+    passing, total, everybody = Counter[str](), 0, 0
+    for edges, count in Counter(vehicle.edges for vehicle in vehicles).items():
+        met = {lane for pair in pairwise(edges) for lane in lanes_of.get(pair, ())}
+        passing.update(dict.fromkeys(met, count))
+        total, everybody = total + (count if met else 0), everybody + count
+    lanes = (replace(one, vehicles=passing[lane]) for lane, (one, _) in worst.items())
+    return Fullness(tuple(sorted(lanes, key=lambda one: -one.demand)), total, everybody)

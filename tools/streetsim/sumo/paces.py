@@ -1,0 +1,106 @@
+"""Mean paces of the vehicles of a demand, by edge: how they drive alone in SUMO, lose seconds behind slower ones, and
+start."""
+from __future__ import annotations
+
+from collections import Counter, defaultdict
+from collections.abc import Callable, Collection, Iterable, Mapping
+from types import MappingProxyType
+from typing import Any
+
+from streetsim.sumo.driving import USUAL, Driving
+
+LEAST_SECONDS = 900.0  # as which a demand counts that departs in fewer
+BEGIN = 5.0  # metres from an edge's begin, where a vehicle departs in SUMO
+AT_SPEED = ("max", "desired", "speedLimit", "last", "avg")  # departSpeed with which nobody has to gain speed
+# Of vehicles behind slower ones that nobody overtakes, fitted to a queue of its own, not to trips.
+BUNCHED, LESS = 0.49, 0.36
+
+Started = tuple[Driving, str, str]  # how one drives, its class, its departSpeed
+
+
+class Drivers:
+    """Who drives on an edge, or on some lanes of it: how many in each way. Where nobody does, the usual way counts."""
+
+    def __init__(self, counts: Mapping[Driving, int] | None = None) -> None:
+        """counts: vehicles by how they drive."""
+        self.counts = counts or {USUAL: 1}
+        self.total = sum(counts.values()) if counts else 0
+        self.accel = self.mean(lambda one: one.accel)  # metres a second and second
+        self.mean_accel = self.mean(Driving.mean_accel)  # the same, with what is lost by chance
+        self.most = self.mean(lambda one: one.most)  # metres a second
+
+    def mean(self, value: Callable[[Driving], float]) -> float:
+        """The mean of a value over the vehicles."""
+        return sum(count * value(one) for one, count in self.counts.items()) / sum(self.counts.values())
+
+    def slowness(self, speed: float) -> float:
+        """Mean seconds for a metre where speed is allowed (metres a second, above 0)."""
+        return self.mean(lambda one: one.slowness(speed))
+
+
+class Paces:
+    """Who drives and departs on each edge of a demand."""
+
+    def __init__(
+        self, vehicles: Iterable[Any] = (), drivings: Mapping[str, Driving] = MappingProxyType({}),
+        class_of: Callable[[str], str] = str,
+    ) -> None:  # fmt: skip
+        """vehicles: with edges, type, depart (seconds) and more, as sumo.demand has them; drivings: by type, usual ones
+        where it has none; class_of: gives the class of a type."""
+        self.passing: defaultdict[str, Counter[tuple[Driving, str]]] = defaultdict(Counter)  # with their class
+        self.starts: defaultdict[str, Counter[Started]] = defaultdict(Counter)
+        journeys, first, last = Counter[tuple[tuple[str, ...], str]](), 0.0, 0.0
+        for at, vehicle in enumerate(vehicles):
+            journeys[vehicle.edges, vehicle.type] += 1
+            first, last = (min(first, vehicle.depart), max(last, vehicle.depart)) if at else (vehicle.depart,) * 2
+            own = drivings.get(vehicle.type, USUAL), class_of(vehicle.type)
+            self.starts[vehicle.edges[0]][*own, dict(vehicle.more).get("departSpeed", "0")] += 1
+        self.types_of: defaultdict[tuple[Driving, str], set[str]] = defaultdict(set)
+        for (edges, name), count in journeys.items():
+            own = drivings.get(name, USUAL), class_of(name)
+            self.types_of[own].add(name)
+            for edge in edges:
+                self.passing[edge][own] += count
+        self.seconds = max(LEAST_SECONDS, last - first)
+        self.known: dict[tuple[str, frozenset[str] | None], Drivers] = {}
+
+    def on(self, edge: str, classes: frozenset[str] | None = None) -> Drivers:
+        """Who drives on an edge: of some classes, or all (None)."""
+        if (edge, classes) not in self.known:
+            counts = Counter[Driving]()
+            for (one, own), count in self.passing.get(edge, {}).items():
+                if classes is None or own in classes:
+                    counts[one] += count
+            self.known[edge, classes] = Drivers(counts)
+        return self.known[edge, classes]
+
+    def bunching(self, drivers: Drivers, metres: float, speed: float) -> float:
+        """Mean seconds that vehicles lose behind slower ones on metres of one lane, where nobody overtakes and speed is
+        allowed: for q vehicles a second whose times alone have the deviation s, BUNCHED q s / (1 + LESS q s) of s."""
+        if not drivers.total:
+            return 0.0
+        spread = drivers.mean(lambda one: one.spread(speed)) * metres
+        ahead = drivers.total / self.seconds * spread
+        return BUNCHED * ahead / (1 + LESS * ahead) * spread
+
+    def at_start(
+        self, edge: str, metres: float, speed: float, classes: Collection[str] | None = None
+    ) -> tuple[float, float]:
+        """(how many vehicles depart on an edge of some metres; mean seconds that these lose there, as they gain speed);
+        of some classes, or all (None). speed: that is allowed, metres a second, above 0."""
+        own = {key: count for key, count in self.starts.get(edge, {}).items() if classes is None or key[1] in classes}
+        lost = sum(count * (gained(one, metres, speed, text) - BEGIN / speed) for (one, _, text), count in own.items())
+        total = sum(own.values())
+        return total, lost / total if total else 0.0
+
+
+def gained(one: Driving, metres: float, speed: float, text: str) -> float:
+    """Seconds that one loses on an edge of some metres who departs there, where speed is allowed (metres a second);
+    text: its departSpeed."""
+    if text in AT_SPEED:
+        return 0.0
+    try:
+        first = max(0.0, float(text))
+    except ValueError:
+        first = speed / 2 if text == "random" else 0.0
+    return one.gaining(speed, first, max(0.0, metres - BEGIN))

@@ -1,0 +1,173 @@
+"""Time-dependent shortest paths over edges."""
+from array import array
+from collections.abc import Mapping, Sequence
+from heapq import heappop, heappush
+from itertools import pairwise
+from typing import NamedTuple
+
+from streetsim.sumo.way_costs import Costs, Table
+from streetsim.sumo.way_graph import END, Graph
+
+FAR = 1e12  # seconds: no way; beyond all clocks
+
+Path = tuple[int, ...]
+EdgePair = tuple[int, int]  # an edge and the next
+# By edge, or by movement: from when until when nobody can enter it, or come to the next edge by it.
+Shut = Mapping[int | EdgePair, Sequence[tuple[float, float]]]
+
+
+class Wish(NamedTuple):
+    """What the router is asked: a trip, by its number, from an edge to another (by numbers of the graph) from a clock
+    (seconds) on, and the path that it has (empty: none)."""
+
+    trip: int
+    origin: int
+    target: int
+    clock: float
+    path: Path
+
+
+class FoundPath(NamedTuple):
+    """What the router found for a trip, by its number: the best path (empty: there is no way), its seconds, and those
+    of the trip's own path (FAR: it has none)."""
+
+    trip: int
+    path: Path
+    least: float
+    own: float
+
+
+class Router:
+    """Finds shortest paths by A*. The least seconds to a target are kept until another one is asked for."""
+
+    def __init__(self, graph: Graph, costs: Costs, shut: Shut | None = None) -> None:
+        """costs: seconds of the graph's movements by time; shut: edges and movements, with the clocks (begin, end),
+        begin included, between which they cannot be used; None: none."""
+        self.graph, self.table, self.shut = graph, Table(costs), shut or {}
+        pairs = [one for one in self.shut if isinstance(one, tuple)]
+        # By edge: those to which one may not turn at times.
+        self.barred = {edge: {after for before, after in pairs if before == edge} for edge, _ in pairs}
+        self.least = [costs.least(movement) for movement in range(len(graph.movements))]
+        self.arcs: list[list[tuple[int, array]] | None] = [None] * len(graph.edges)
+        self.target, self.bounds = END, [FAR]
+
+    def arcs_of(self, edge: int) -> list[tuple[int, array]]:
+        """(next edge, the row of seconds of the movement to it, by Table.row) for each edge after an edge."""
+        made = self.arcs[edge]
+        if made is None:
+            made = self.arcs[edge] = [
+                (following, self.table.row(movement)) for following, movement in self.graph.out[edge]
+            ]
+        return made
+
+    def bounds_to(self, target: int) -> list[float]:
+        """For each edge the least seconds from its begin to that of the target; FAR where no way leads there."""
+        if self.target == target:
+            return self.bounds
+        least, into = self.least, self.graph.into
+        found, heap = [FAR] * len(into), [(0.0, target)]
+        found[target] = 0.0
+        while heap:
+            seconds, edge = heappop(heap)
+            if seconds > found[edge]:
+                continue
+            for before, movement in into[edge]:
+                through = seconds + least[movement]
+                if through < found[before]:
+                    found[before] = through
+                    heappush(heap, (through, before))
+        self.target, self.bounds = target, found
+        return found
+
+    def search(self, origin: int, target: int, clock: float) -> tuple[Path, float]:
+        """(the path that is quickest from a clock on, its seconds to the end of the target); an empty path and FAR
+        where there is no way. Nobody waits: an edge or movement that would be reached while it is shut is not used;
+        whether the origin is shut is not looked at."""
+        bounds, inverse, last, shut = self.bounds_to(target), self.table.inverse, self.table.last, self.shut
+        best, before = {origin: clock}, dict[int, int]()
+        # Of equal ones the farthest comes first.
+        heap = [(clock + bounds[origin], -clock, origin)] if bounds[origin] < FAR else []
+        while heap:
+            _, now, edge = heappop(heap)
+            now = -now
+            if edge == target:
+                end = now + self.table.at(self.graph.movement_of[target, END], now)
+                return self.traced(before, origin, target), end - clock
+            if now > best[edge]:
+                continue
+            part = int(now * inverse)
+            if part > last:
+                part = last
+            barred = self.barred.get(edge, ())
+            for following, row in self.arcs_of(edge):
+                then = now + row[part]
+                if then >= best.get(following, FAR):
+                    continue
+                if following in shut or following in barred:
+                    if self.when_open(then, following, (edge, following)) > then:
+                        continue
+                best[following] = then
+                before[following] = edge
+                heappush(heap, (then + bounds[following], -then, following))
+        return (), FAR
+
+    @staticmethod
+    def traced(before: dict[int, int], origin: int, target: int) -> Path:
+        """The path that a search found; before: for each edge the one from which it was reached."""
+        path = [target]
+        while path[-1] != origin:
+            path.append(before[path[-1]])
+        return tuple(reversed(path))
+
+    def clocks(self, path: Path, clock: float) -> list[float]:
+        """The clocks at which one who begins a path at a clock reaches each of its edges, and at last the end of it;
+        where an edge after the first, or a movement, is shut, one waits until it is open. Each pair of edges must be a
+        movement of the graph, else KeyError."""
+        found, movement_of = [clock], self.graph.movement_of
+        for pair in pairwise((*path, END)):
+            reached = found[-1] + self.table.at(movement_of[pair], found[-1])
+            found.append(self.when_open(reached, pair[1], pair))
+        return found
+
+    def when_open(self, clock: float, *those: int | EdgePair) -> float:
+        """The first clock, from the given one on, at which none of some edges and movements is shut."""
+        if self.shut:
+            for begin, end in sorted(span for one in those for span in self.shut.get(one, ())):
+                if begin <= clock < end:
+                    clock = end
+        return clock
+
+    def first_shut(self, path: Path, clock: float) -> int | None:
+        """The index in a path, begun at a clock, of the first edge that is reached while it is shut, or by a movement
+        that is shut; None where the whole path is open."""
+        if self.shut.keys().isdisjoint((*path, *pairwise(path))):
+            return None
+        if self.when_open(clock, path[0]) != clock:
+            return 0
+        clocks, movement_of = self.clocks(path, clock), self.graph.movement_of
+        for at, pair in enumerate(pairwise(path)):
+            reached = clocks[at] + self.table.at(movement_of[pair], clocks[at])
+            if self.when_open(reached, pair[1], pair) != reached:
+                return at + 1
+        return None
+
+    def own_seconds(self, wish: Wish) -> float:
+        """The seconds of the path that a trip has, with waits where it is shut; FAR where it has none."""
+        return self.clocks(wish.path, wish.clock)[-1] - wish.clock if wish.path else FAR
+
+    def found(self, wish: Wish) -> FoundPath:
+        """The best path of a trip with its seconds, and the seconds of the trip's own path (FAR: it has none)."""
+        path, least = self.search(wish.origin, wish.target, wish.clock)
+        return FoundPath(wish.trip, path, least, self.own_seconds(wish))
+
+
+def by_target(wishes: Sequence[Wish]) -> list[Wish]:
+    """Wishes sorted by target, so that bounds are searched once for each."""
+    return sorted(wishes, key=lambda wish: (wish.target, wish.trip))
+
+
+def wish_parts(wishes: Sequence[Wish], count: int) -> list[list[Wish]]:
+    """Wishes in `count` parts (1 or more) at most, sorted by target, so that few targets lie in two parts."""
+    order = by_target(wishes)
+    size = max(1, -(-len(order) // count))
+    return [order[at : at + size] for at in range(0, len(order), size)]

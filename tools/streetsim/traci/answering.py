@@ -1,0 +1,215 @@
+"""Answers commands of TraCI's protocol that tell or change something, by the calls of streetsim.traci."""
+from collections.abc import Callable, Mapping, Sequence
+from functools import cache
+from math import isfinite
+from typing import NamedTuple
+
+import streetsim.traci as traci
+from streetsim.simulation.errors import NotHere, TraCIException
+from streetsim.traci import constants as tc
+from streetsim.traci.advice import advice_on
+from streetsim.traci.protocol import (
+    DOUBLE, ENCODERS, INT, TYPES, BadMessage, Typed, Value, WordReader, command, state_of, text,
+)
+from streetsim.traci.table import DOMAINS, GETS, SETS, Get
+from streetsim.traci.trafficlights import Logic, Phase
+
+GET_OF = {numbers.get: name for name, numbers in DOMAINS.items()}
+SET_OF = {numbers.set: name for name, numbers in DOMAINS.items()}
+OK = [state_of(code) for code in range(256)]
+ANSWER = 16  # by which the code of an answer is above that of its command
+FIXED = {letter: (bytes((TYPES[letter],)), layout.pack) for letter, layout in (("d", DOUBLE), ("i", INT))}
+WITHOUT_OBJECT = ("getIDList", "getIDCount", "getTaxiReservations")  # whose calls take no name
+SHOWN = ("gui", "poi", "polygon")  # domains whose changes only show something
+
+
+@cache
+def call_of(domain: str, name: str) -> Callable[..., Value]:
+    """A call of a domain; NotHere where it is not here."""
+    found: Callable[..., Value] = getattr(getattr(traci, domain), name)
+    return found
+
+
+class AskedCall(NamedTuple):
+    """A command that was read: what it calls, and how its value is packed; repeated as often as its bytes come."""
+
+    code: int
+    call: Callable[..., Value]
+    words: tuple[Value, ...]
+    head: bytes  # of its answer, in front of the value; of a change the whole answer
+    gives: str = ""  # the type of the value; empty for a change
+    fixed: Callable[[Value], bytes] | None = None  # packs a value of fixed size, whose mark `head` has
+
+    def answer(self) -> bytes:
+        """The state and the value, once the call is made; raises what that raises."""
+        value = self.call(*self.words)
+        if self.fixed is not None:
+            return self.head + self.fixed(value)
+        if not self.gives:
+            return self.head
+        return OK[self.code] + command(self.code + ANSWER, self.head + ENCODERS[self.gives](value))
+
+
+def asked_value(code: int, words: WordReader) -> AskedCall:
+    """The call that tells a variable of an object. words: behind the code. NotHere for what is not told here,
+    BadMessage for wrong words."""
+    domain, variable, name = GET_OF[code], words.byte(), words.text()
+    head = bytes((variable,)) + text(name)
+    if (get := GETS.get(domain, {}).get(variable)) is None:
+        if (special := SPECIAL.get((domain, variable))) is None:
+            raise not_here(domain, variable, "get")
+        call, given, gives = special(name, words)
+        return AskedCall(code, call, given, head, gives)
+    objects = () if nameless(domain, get) else (name,)
+    asked = AskedCall(code, call_of(domain, get.call), (*objects, *words.given(get.takes)), head, get.gives)
+    if get.gives not in FIXED:
+        return asked
+    mark, pack = FIXED[get.gives]
+    whole = OK[code] + command(code + ANSWER, head + mark + pack(0))
+    return asked._replace(head=whole[: -len(pack(0))], fixed=pack)
+
+
+def nameless(domain: str, get: Get) -> bool:
+    """Whether a call takes no name of an object."""
+    return get.call in WITHOUT_OBJECT or domain == "simulation" and not get.call.startswith("getParameter")
+
+
+def asked_change(code: int, words: WordReader) -> AskedCall:
+    """The call that makes a change; raises as asked_value does, and TraCIException for words that are no numbers."""
+    domain, variable, name = SET_OF[code], words.byte(), words.text()
+    if domain in SHOWN:
+        return AskedCall(code, getattr(traci, domain).nothing, (), OK[code])
+    if variable not in SETS.get(domain, {}):
+        raise not_here(domain, variable, "set")
+    call, takes = SETS[domain][variable]
+    given = WORDS[call](words) if takes == "*" else words.given(takes)
+    if not all(isfinite(one) for one in given if isinstance(one, float)):
+        raise TraCIException(f"{domain}.{call}: {given} are not all numbers")
+    objects = () if domain == "simulation" and call != "setParameter" else (name,)
+    return AskedCall(code, call_of(domain, call), (*objects, *given), OK[code])
+
+
+def not_here(domain: str, variable: int, how: str) -> NotHere:
+    """What is raised for a variable that nothing here tells or changes: it names the call of SUMO's, where it is known,
+    and what to do instead."""
+    call = f"{domain}.{SUMOS.get((domain, variable, how), f'{how} {variable:#04x}')}"
+    return NotHere(f"{call} is not here: {advice_on(call)}")
+
+
+# Values and words that one variable has in several forms.
+
+def parts_of(words: WordReader) -> list[Typed]:
+    """The parts of the compound that comes next."""
+    letter, parts = words.typed()
+    if letter != "t":
+        raise BadMessage("a compound is awaited")
+    return list(parts)
+
+
+Special = tuple[Callable[..., Value], tuple[Value, ...], str]  # a call, its words, the type of its value
+
+
+def converted(_: str, words: WordReader) -> Special:
+    """What tells simulation.convert2D, convertRoad and convertGeo."""
+    (letter, here), (_mark, wanted), *_more = (*parts_of(words), ("", 0), ("", 0))
+    if letter == "r" and wanted == tc.POSITION_2D:
+        return traci.simulation.convert2D, tuple(here), "o"
+    if letter == "o" and wanted == tc.POSITION_ROADMAP:
+        return traci.simulation.convertRoad, tuple(here), "r"
+    raise NotHere("simulation.convertGeo is not here: neither degrees nor heights; streetsim-export writes degrees")
+
+
+def far(_: str, words: WordReader) -> Special:
+    """What tells simulation.getDistance2D and getDistanceRoad."""
+    words.given("t")
+    (one, begin), (other, end) = words.typed(), words.typed()
+    driving = words.byte() == tc.REQUEST_DRIVINGDIST
+    if (one, other) == ("o", "o"):
+        return traci.simulation.getDistance2D, (*begin[:2], *end[:2], False, driving), "d"
+    if (one, other) == ("r", "r"):
+        return traci.simulation.getDistanceRoad, (*begin[:2], *end[:2], driving), "d"
+    raise NotHere("simulation.getDistance2D: degrees are not here; two points, or two places on edges")
+
+
+def driven_to(name: str, words: WordReader) -> Special:
+    """What tells vehicle.getDrivingDistance."""
+    words.given("t")
+    letter, there = words.typed()
+    words.byte()
+    if letter != "r":
+        raise not_here("vehicle", tc.DISTANCE_REQUEST, "get")
+    return traci.vehicle.getDrivingDistance, (name, *there[:2]), "d"
+
+
+def option(name: str, _: WordReader) -> Special:
+    """What tells simulation.getOption."""
+    return traci.simulation.getOption, (name,), "s"
+
+
+def seconds_of(words: WordReader) -> list[float]:
+    """The words of edge.adaptTraveltime: the seconds, and from when to when they count where that is told."""
+    numbers = [value for letter, value in parts_of(words) if letter == "d"]
+    return [numbers[-1], *numbers[:-1]] if len(numbers) in (1, 3) else wrong("one number or three")
+
+
+def program_of(words: WordReader) -> list[Logic]:
+    """The words of trafficlight.setProgramLogic."""
+    (_, name), (_, kind), (_, index), (_, phases), *_more = shaped(parts_of(words), "siit")
+    found = []
+    for _, parts in phases:
+        (_, duration), (_, state), (_, least), (_, most), (_, following), (_, text) = shaped(parts, "dsddts")
+        found.append(Phase(duration, state, least, most, tuple(number for _, number in following), text))
+    return [Logic(name, kind, index, found)]
+
+
+def shaped(parts: list[Typed], letters: str) -> list[Typed]:
+    """Some parts, the first of which must have types by letters; BadMessage where they do not."""
+    if not isinstance(parts, list) or "".join(letter for letter, _ in parts)[: len(letters)] != letters:
+        wrong(f"values of the types {letters}")
+    return parts
+
+
+def wrong(awaited: str) -> list[float]:
+    """BadMessage: something else is awaited."""
+    raise BadMessage(f"{awaited} are awaited")
+
+
+SPECIAL: Mapping[tuple[str, int], Callable[[str, WordReader], Special]] = {
+    ("simulation", tc.POSITION_CONVERSION): converted, ("simulation", tc.DISTANCE_REQUEST): far,
+    ("vehicle", tc.DISTANCE_REQUEST): driven_to, ("simulation", tc.VAR_OPTION): option,
+}
+WORDS: Mapping[str, Callable[[WordReader], Sequence[Value]]] = {
+    "adaptTraveltime": seconds_of, "setProgramLogic": program_of, "highlight": lambda _: [],
+}
+# SUMO's names of calls that are not here, of which scripts ask most.
+SUMOS: Mapping[tuple[str, int, str], str] = {
+    (domain, variable, how): name for domain, how, names in (
+        ("vehicle", "set", {
+            tc.VAR_SPEED: "setSpeed", tc.CMD_SLOWDOWN: "slowDown", tc.CMD_CHANGELANE: "changeLane",
+            tc.MOVE_TO_XY: "moveToXY", tc.VAR_MOVE_TO: "moveTo", tc.VAR_SPEEDSETMODE: "setSpeedMode",
+            tc.VAR_LANECHANGE_MODE: "setLaneChangeMode", tc.CMD_STOP: "setStop", tc.CMD_RESUME: "resume",
+            tc.VAR_MAXSPEED: "setMaxSpeed", tc.VAR_ACCELERATION: "setAcceleration", tc.VAR_TYPE: "setType",
+            tc.CMD_CHANGESUBLANE: "changeSublane", tc.CMD_OPENGAP: "openGap", tc.VAR_SPEED_FACTOR: "setSpeedFactor",
+        }),
+        ("vehicle", "get", {
+            tc.VAR_ACCEL: "getAccel", tc.VAR_DECEL: "getDecel", tc.VAR_TAU: "getTau",
+            tc.VAR_CO2EMISSION: "getCO2Emission", tc.VAR_FUELCONSUMPTION: "getFuelConsumption",
+            tc.VAR_SPEEDSETMODE: "getSpeedMode", tc.VAR_LANECHANGE_MODE: "getLaneChangeMode",
+            tc.VAR_BEST_LANES: "getBestLanes", tc.VAR_NEIGHBORS: "getNeighbors", tc.VAR_SIGNALS: "getSignals",
+            tc.VAR_POSITION3D: "getPosition3D", tc.VAR_SPEED_FACTOR: "getSpeedFactor",
+            tc.DISTANCE_REQUEST: "getDrivingDistance2D",
+        }),
+        ("lane", "set", {tc.VAR_MAXSPEED: "setMaxSpeed", tc.VAR_LENGTH: "setLength", tc.VAR_FRICTION: "setFriction"}),
+        ("edge", "set", {tc.VAR_MAXSPEED: "setMaxSpeed", tc.VAR_EDGE_EFFORT: "setEffort"}),
+        ("lane", "get", {tc.VAR_FOES: "getFoes", tc.VAR_CO2EMISSION: "getCO2Emission"}),
+        ("edge", "get", {tc.VAR_CO2EMISSION: "getCO2Emission"}),
+        ("inductionloop", "get", {tc.LAST_STEP_VEHICLE_DATA: "getVehicleData"}),
+        ("simulation", "set", {tc.VAR_SCALE: "setScale", tc.CMD_CLEAR_PENDING_VEHICLES: "clearPending"}),
+    ) for variable, name in names.items()
+}  # fmt: skip
+
+
+def subscribed_value(domain: str, get: Get, name: str, words: Sequence[Value]) -> bytes:
+    """The value of a variable that is subscribed to, with the mark of its type; words: behind the name."""
+    objects = () if domain == "simulation" or get.call in WITHOUT_OBJECT else (name,)
+    return ENCODERS[get.gives](call_of(domain, get.call)(*objects, *words))

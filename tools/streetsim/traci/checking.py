@@ -1,0 +1,195 @@
+"""Which of a script's calls of TraCI are here: read of its text, without running it."""
+from __future__ import annotations
+
+import ast
+import re
+from collections import defaultdict
+from collections.abc import Iterator
+from typing import NamedTuple
+
+import streetsim.traci as traci
+from streetsim.base.files import Fault
+from streetsim.traci import constants as tc
+from streetsim.traci.advice import advice_on
+from streetsim.traci.table import DOMAINS, GETS
+
+MODULES = ("traci", "libsumo", "libtraci", "streetsim.traci")
+QUIET = ("gui", "poi", "polygon")
+# By which a call of what may be a domain is known.
+CALL = re.compile(r"(get|set|is|subscribe|unsubscribe|add|remove|change|reroute|slow|move|adapt|open|resume|highlight)")
+TOLD = ("VAR_", "LAST_STEP_", "TL_", "LANE_")  # begins of the names of variables
+# Calls that are done otherwise than in SUMO, and how.
+OTHERWISE = {
+    "vehicle.setRoute": "a vehicle on the road takes it from the next junction on",
+    "vehicle.setRouteID": "a vehicle on the road takes it from the next junction on",
+    "vehicle.changeTarget": "a vehicle on the road turns off at the next junction",
+    "vehicle.rerouteTraveltime": "a vehicle on the road turns off at the next junction",
+    "vehicle.getAccumulatedWaitingTime": "of the whole trip, in SUMO of the last 100 s",
+    "vehicle.getTimeLoss": "2 to 5 s less for each stop, as vehicles brake and start at once",
+    "vehicle.getSpeed": "whole cells a second: steps of some 7.5 m/s",
+    "vehicle.getAcceleration": "whole cells a second squared",
+    "vehicle.getPosition": "on the line of the edge, which its lanes share",
+    "vehicle.getLaneID": "in a junction :JUNCTION_0",
+    "vehicle.add": "departLane, departPos and departSpeed have no effect",
+    "vehicle.addFull": "departLane, departPos and departSpeed have no effect",
+    "vehicle.setColor": "is kept; nothing shows it",
+    "vehicle.highlight": "nothing shows it",
+    "trafficlight.setRedYellowGreenState": "g is shown as G",
+    "trafficlight.setLinkState": "g is shown as G",
+    "trafficlight.setPhaseDuration": "until the phase ends g is shown as G",
+    "lane.setDisallowed": "closes the lane, where the classes are all of the run; else does nothing",
+    "edge.setDisallowed": "closes all lanes, where the classes are all of the run; else does nothing",
+    "simulation.saveState": "has what the script did; loadState makes the run again up to there",
+    "simulation.loadState": "makes the run again up to the state",
+    "simulation.getCollisions": "always empty: nobody collides",
+    "simulation.getStartingTeleportNumber": "always 0: nobody teleports; --rescue SECONDS rescues",
+}
+
+
+class Called(NamedTuple):
+    """A call in a script."""
+
+    domain: str  # empty: of the module itself
+    name: str
+    line: int
+
+    def told(self) -> str:
+        """As it is written behind traci."""
+        return f"{self.domain}.{self.name}" if self.domain else self.name
+
+
+class ScriptNames(ast.NodeVisitor):
+    """What the names of a script stand for: TraCI's module or a connection (an empty text), a domain, constants."""
+
+    def __init__(self) -> None:
+        """None is known."""
+        self.modules: set[str] = set()
+        self.domains: dict[str, str] = {}
+        self.sure: set[str] = set()  # the names of domains that are such for sure
+        self.constants: set[str] = set()
+        self.calls: list[Called] = []
+        self.variables: list[tuple[str, int]] = []
+
+    def visit_Import(self, node: ast.Import) -> None:
+        """Notes modules by their names."""
+        for one in node.names:
+            base, _, last = one.name.rpartition(".")
+            if last == "constants" and base in MODULES and one.asname:
+                self.constants.add(one.asname)
+            elif one.name in MODULES or base in MODULES:
+                self.modules.add(one.asname or one.name.split(".")[0])
+
+    def visit_ImportFrom(self, node: ast.ImportFrom) -> None:
+        """Notes domains, constants and TraCI itself."""
+        for one in node.names:
+            own = one.asname or one.name
+            if node.module == "streetsim" and one.name == "traci":
+                self.modules.add(own)
+            elif node.module in MODULES and one.name == "constants":
+                self.constants.add(own)
+            elif node.module in MODULES and one.name in DOMAINS:
+                self.domains[own] = one.name
+                self.sure.add(own)
+
+    def visit_Assign(self, node: ast.Assign) -> None:
+        """Notes names of connections and domains."""
+        for target in node.targets:
+            name = written(target)
+            if name and self.is_module(node.value):
+                self.modules.add(name)
+            elif name and (domain := self.domain_of(node.value)):
+                self.domains[name] = domain
+        self.generic_visit(node)
+
+    def visit_Attribute(self, node: ast.Attribute) -> None:
+        """Notes the call of a domain or of the module, and a variable."""
+        domain = self.domain_of(node.value)
+        if domain and (self.is_sure(node.value) or CALL.match(node.attr)):
+            self.calls.append(Called(domain, node.attr, node.lineno))
+        elif self.is_module(node.value) and node.attr not in DOMAINS and node.attr[:1].islower():
+            self.calls.append(Called("", node.attr, node.lineno))
+        if node.attr.startswith(TOLD) and (written(node.value) in self.constants or self.is_constants(node.value)):
+            self.variables.append((node.attr, node.lineno))
+        self.generic_visit(node)
+
+    def is_module(self, node: ast.expr) -> bool:
+        """Whether an expression is TraCI's module or a connection."""
+        if isinstance(node, ast.Call):
+            return isinstance(node.func, ast.Attribute) and node.func.attr in ("getConnection", "connect")
+        return written(node) in self.modules or written(node) in MODULES and written(node).split(".")[0] in self.modules
+
+    def is_constants(self, node: ast.expr) -> bool:
+        """Whether an expression is the module of constants."""
+        return isinstance(node, ast.Attribute) and node.attr == "constants" and self.is_module(node.value)
+
+    def domain_of(self, node: ast.expr) -> str:
+        """The domain that an expression is, or may be, as that of a connection that a function is given; empty where it
+        is none."""
+        if isinstance(node, ast.Attribute) and node.attr in DOMAINS:
+            return node.attr
+        return self.domains.get(written(node), "")
+
+    def is_sure(self, node: ast.expr) -> bool:
+        """Whether an expression that may be a domain is one for sure."""
+        return not isinstance(node, ast.Attribute) and written(node) in self.sure or (
+            isinstance(node, ast.Attribute) and self.is_module(node.value)
+        )
+
+
+def written(node: ast.expr) -> str:
+    """A name, or names with dots between, as it is written; empty for another expression."""
+    if isinstance(node, ast.Attribute):
+        before = written(node.value)
+        return f"{before}.{node.attr}" if before else ""
+    return node.id if isinstance(node, ast.Name) else ""
+
+
+def checked(path: str) -> int:
+    """Prints which calls of a script are here; gives 1 where some are not, else 0. Fault where it cannot be read."""
+    try:
+        with open(path, encoding="utf-8") as file:
+            tree = ast.parse(file.read())
+    except (SyntaxError, ValueError) as fault:
+        raise Fault(f"{path}: is no script of Python: {fault}") from None
+    found = ScriptNames()
+    for node in ast.walk(tree):  # names first, as functions may stand before them
+        if isinstance(node, (ast.Import, ast.ImportFrom)):
+            found.visit(node)
+    found.visit(tree)
+    kinds: dict[str, dict[str, list[int]]] = {kind: defaultdict(list) for kind in ("here", "otherwise", "not here")}
+    for call in found.calls:
+        kind, told = judged(call)
+        kinds[kind][told].append(call.line)
+    for told, line in variables_not_here(found):
+        kinds["not here"][told].append(line)
+    for kind, calls in kinds.items():
+        print(f"{len(calls)} {kind}{':' if calls else ''}")
+        for told, lines in sorted(calls.items()):
+            print(f"  {told} (line {', '.join(map(str, sorted(set(lines))))})")
+    return int(bool(kinds["not here"]))
+
+
+def judged(call: Called) -> tuple[str, str]:
+    """(whether a call is here, otherwise or not here; the call, and how else or what to do instead)."""
+    told = call.told()
+    if call.domain in QUIET:
+        own = getattr(traci, call.domain)
+        return ("otherwise", f"{told}: shows nothing") if call.name in own.calls else ("not here", advised(told))
+    owner = type(vars(traci)[call.domain]) if call.domain in vars(traci) else None
+    if hasattr(owner, call.name) if call.domain else call.name in vars(traci):
+        how = OTHERWISE.get(told)
+        return ("otherwise", f"{told}: {how}") if how else ("here", told)
+    return "not here", advised(told)
+
+
+def advised(told: str) -> str:
+    """A call, and what to do instead."""
+    return f"{told}: {advice_on(told)}"
+
+
+def variables_not_here(found: ScriptNames) -> Iterator[tuple[str, int]]:
+    """(name of a variable that no domain tells, line)."""
+    known = {variable for table in GETS.values() for variable in table}
+    for name, line in found.variables:
+        if getattr(tc, name, None) not in known:
+            yield f"{name}: cannot be subscribed to", line

@@ -1,0 +1,155 @@
+"""streetsim-sumo: SUMO's command line over streetsim: a run to its end, or TraCI's protocol for clients."""
+import argparse
+import sys
+import time
+from collections.abc import Mapping, Sequence
+from math import inf
+
+import streetsim.traci as traci
+from streetsim.base.client import ProgramEnded, Refused
+from streetsim.base.files import Fault, seconds
+from streetsim.base.words import Parser
+from streetsim.model import trust
+from streetsim.simulation.errors import FatalTraCIError
+from streetsim.simulation.opening import is_on
+from streetsim.simulation.options import IMPORTED, options_of
+from streetsim.simulation.session import TraciSession
+from streetsim.simulation.statistics import Waited, doubts_of, statistics_of
+from streetsim.traci.checking import checked
+from streetsim.traci.server import HOST, Server, listen, turn_away
+
+PORTS, CLIENTS, CHECK = "remote-port", "num-clients", "--check"
+MINUTE, MOST_CLIENTS = 60, 64
+ALL_LEFT = "All vehicles have left the simulation."
+RUN_WORDS = ("departures", "lights", "merge", "close", "stops", "priority", "seen")
+# SUMO's words and those of the tools that are done, as --help, the manual page and the completion tell them.
+WORDS = (
+    ("-c, --configuration-file FILE", "a configuration, whose options count behind those of the command line"),
+    ("-n, --net-file FILE", "the network"),
+    ("-r, --route-files FILES", "vehicles, flows and trips, with commas between"),
+    ("-a, --additional-files FILES", "additional files, with commas between"),
+    ("-b, --begin TIME", "the time at which the run begins"),
+    ("-e, --end TIME", "the time at which it ends; without effect under a client, as in SUMO"),
+    ("--seed NUMBER", "of all draws; equal seeds give equal runs"),
+    ("--remote-port PORT", "serves TraCI's protocol at a port of the loopback address"),
+    ("--num-clients NUMBER", "waits for so many clients, which tell their places by setOrder (1)"),
+    ("--tripinfo-output FILE", "a row for each vehicle that arrived"),
+    ("--summary-output FILE", "a row for each second"),
+    ("--queue-output FILE", "the queues of each second"),
+    ("--fcd-output FILE", "each vehicle in each second"),
+    ("--output-prefix TEXT", "stands before the name of each file that is written"),
+    ("-t, --duration-log.statistics", "tells the means of all trips at the end"),
+    ("-v, --verbose", "tells begin and end"),
+    ("-W, --no-warnings", "tells no warnings"),
+    ("-l, --log FILE", "the file for warnings"),
+    ("--ignore-route-errors", "leaves vehicles out whose route cannot be driven"),
+    ("--rescue SECONDS", "rescues who stands so long, in place of --time-to-teleport"),
+    ("--rounds NUMBER", "of runs before, by which vehicles give way without a light (2)"),
+    *((f"--{name} ..", "as of streetsim-import") for name in sorted(IMPORTED - {"seed", "begin"})),
+    *((f"--{name} ..", "as of streetsim-run") for name in RUN_WORDS),
+    ("--check SCRIPT.py", "reads a script for TraCI, and says which of its calls are here"),
+)
+
+
+def parser() -> argparse.ArgumentParser:
+    """The parser that tells the words; they are read by options_of, as SUMO reads them."""
+    made = Parser(
+        prog="streetsim-sumo",
+        formatter_class=argparse.RawDescriptionHelpFormatter,
+        examples=(
+            "streetsim-sumo -c day.sumocfg --tripinfo-output trips.xml",
+            "streetsim-sumo -n town.net.xml -r town.rou.xml --end 3600 --remote-port 8813",
+        ),
+        description="Takes SUMO's command line: runs to the end, or serves TraCI's protocol to scripts in any language",
+        epilog="SUMO's other words have no effect, which a line tells, or are refused by name (tools/PYTHON.md).\n"
+        "SUMO_BINARY=streetsim-sumo has scripts that ask sumolib.checkBinary('sumo') start it.",
+    )
+    for names, told in WORDS:
+        flags = [word for word in names.replace(",", "").split() if word.startswith("-")]
+        value = names.split()[-1]
+        if value in flags:
+            made.add_argument(*flags, help=told, action="store_true")
+        else:
+            made.add_argument(*flags, help=told, metavar=value)
+    return made
+
+
+def main(arguments: list[str]) -> int:
+    """Runs streetsim-sumo; gives 0, or 1 where a client went away without closing or a script has calls that are not
+    here. Fault for wrong words, files that cannot be read, and a port that is taken."""
+    if not arguments or {"-h", "--help", "-?"} & set(arguments):
+        parser().print_help()
+        return 0
+    if {"-V", "--version"} & set(arguments):
+        parser().parse_args(["--version"])
+    if arguments[0].partition("=")[0] == CHECK:
+        words = parser().parse_args(arguments)
+        return checked(words.check)
+    try:
+        return run_by(arguments, options_of(arguments))
+    except (FatalTraCIError, Refused, ProgramEnded) as fault:
+        raise Fault(str(fault)) from None
+
+
+def run_by(arguments: Sequence[str], options: Mapping[str, str]) -> int:
+    """Makes the run that SUMO's words ask for, which have these options, by clients or alone; gives the status."""
+    count, port = number_in(options, CLIENTS, 1, 1, MOST_CLIENTS), number_in(options, PORTS, 0, 0, (1 << 16) - 1)
+    listening = listen(port) if port else None
+    loud, began = "verbose" in options and is_on(options["verbose"]), time.monotonic()
+    if listening is not None:
+        print(f"streetsim-sumo listens at port {port} of {HOST} for {count} clients", flush=True)
+    try:
+        traci.start(["sumo", *arguments])
+    except BaseException:
+        if listening is not None:
+            turn_away(listening)
+        raise
+    session, first = traci.simulation.now(), traci.simulation.getTime()
+    if loud:
+        print(f"Loading done.\nSimulation version streetsim started with time: {first:.2f}.", flush=True)
+    lost, why, waited = 0, "TraCI requested termination.", list[Waited]()
+    try:
+        if listening is not None:
+            lost = Server(listening, count, lambda text: print(text, file=sys.stderr)).serve()
+            session = traci.simulation.now()
+        else:
+            why, waited = to_end(session, seconds(options["end"]) if "end" in options else inf)
+    except BaseException:
+        session.kill()
+        raise
+    tell_end(session, options, why, time.monotonic() - began, waited)
+    traci.close()
+    return int(lost > 0)
+
+
+def number_in(options: Mapping[str, str], name: str, default: int, least: int, most: int) -> int:
+    """The whole number of an option; Fault where it is none from least to most."""
+    text = options.get(name, str(default))
+    if not text.isdecimal() or len(text) > 9 or not least <= int(text) <= most:
+        raise Fault(f"--{name} {text}: is not {least} to {most:,}")
+    return int(text)
+
+
+def to_end(session: TraciSession, end: float) -> tuple[str, list[Waited]]:
+    """Makes a run to its end: until no vehicle is left, or to a clock; gives (why it has ended, in SUMO's words; how
+    many waited to enter at each minute)."""
+    waited, last = [], max((line.command["depart"] for line in session.source.enters), default=0)
+    while session.clock < end and session.count_not_ended() > 0:
+        minute = session.clock - session.clock % MINUTE + MINUTE
+        session.step(min(minute, end) if session.clock < last else 0)
+        if session.clock % MINUTE == 0:
+            waited.append(Waited(session.clock, len(session.waiting_to_depart())))
+    return "The final simulation step has been reached." if session.clock >= end else ALL_LEFT, waited
+
+
+def tell_end(
+    session: TraciSession, options: Mapping[str, str], why: str, spent: float, waited: Sequence[Waited]
+) -> None:
+    """Prints SUMO's last lines, as far as the options ask for them, and that a run is not to be trusted, if so."""
+    means = is_on(options.get("duration-log.statistics", "false"))
+    if means or is_on(options.get("verbose", "false")):
+        print(f"Simulation ended at time: {session.clock:.2f}\nReason: {why}")
+        print(f"Performance:\n Duration: {spent:.2f}s")
+        print(*statistics_of(session).lines(means), sep="\n")
+    if found := doubts_of(session, waited):
+        print(trust.verdict(found), flush=True)

@@ -1,0 +1,292 @@
+"""The bytes of TraCI's protocol: values by the letters of their types, commands and states.
+
+Letters: i, d whole number and number; b, B byte with and without sign; s text; l texts; o point; O point and height;
+p line of points; c colour; r place on a lane (edge, metres, index); g point in degrees; t beginning of a compound, of
+so many parts; u byte without the mark of a type. Others, by whole words, are compounds of values."""
+import struct
+from collections.abc import Callable, Iterable, Sequence
+from typing import Any
+
+from streetsim.traci import constants as tc
+
+MOST = 1 << 24  # bytes of a message that are taken, at most
+DEEP = 8  # compounds within each other that are taken, at most
+SHORT = 255  # bytes of a command whose length is one byte, at most
+INT, DOUBLE, BYTE, UBYTE, POINT, SPACE, COLOUR = (
+    struct.Struct(f"!{letters}") for letters in ("i", "d", "b", "B", "dd", "ddd", "4B")
+)
+TYPED_INT, TYPED_DOUBLE, TYPED_POINT, LONG_HEAD = (struct.Struct(f"!{one}") for one in ("Bi", "Bd", "Bdd", "BiB"))
+PLACE_END = struct.Struct("!dB")
+TYPES = {
+    "i": tc.TYPE_INTEGER, "d": tc.TYPE_DOUBLE, "b": tc.TYPE_BYTE, "B": tc.TYPE_UBYTE, "s": tc.TYPE_STRING,
+    "l": tc.TYPE_STRINGLIST, "f": tc.TYPE_DOUBLELIST, "o": tc.POSITION_2D, "O": tc.POSITION_3D, "p": tc.TYPE_POLYGON,
+    "c": tc.TYPE_COLOR, "r": tc.POSITION_ROADMAP, "g": tc.POSITION_LON_LAT, "t": tc.TYPE_COMPOUND,
+}
+LETTERS = {number: letter for letter, number in TYPES.items()}
+Value = Any  # that bytes carry, of a type by its letters
+Typed = tuple[str, Value]  # the letter of its type, the value; of a compound the parts, each as this
+
+
+class BadMessage(Exception):
+    """Bytes that are no value, command or message of the protocol."""
+
+
+class WordReader:
+    """Reads values from bytes, and nothing beyond their end: BadMessage there, and for what is no value."""
+
+    def __init__(self, data: bytes, at: int, end: int) -> None:
+        """at, end: of the bytes that are read."""
+        self.data, self.at, self.end = data, at, end
+
+    def take(self, layout: struct.Struct) -> tuple[Value, ...]:
+        """The next values of a layout."""
+        if self.at + layout.size > self.end:
+            raise BadMessage("a command ends before its values do")
+        found = layout.unpack_from(self.data, self.at)
+        self.at += layout.size
+        return found
+
+    def count(self) -> int:
+        """The next number of things, each of which takes at least a byte."""
+        (found,) = self.take(INT)
+        if not 0 <= found <= self.end - self.at:
+            raise BadMessage(f"{found:,} are announced, where {self.end - self.at:,} bytes are left")
+        return int(found)
+
+    def text(self) -> str:
+        """The next text."""
+        size = self.count()
+        self.at += size
+        return self.data[self.at - size : self.at].decode("latin1")
+
+    def byte(self) -> int:
+        """The next byte without sign."""
+        return int(self.take(UBYTE)[0])
+
+    def bytes_left(self) -> int:
+        """How many bytes are not read."""
+        return self.end - self.at
+
+    def typed(self, deep: int = 0) -> Typed:
+        """The next value by the mark of its type; deep: the compounds around it."""
+        letter = LETTERS.get(number := self.byte(), "")
+        if letter == "t":
+            return "t", [self.typed(deep + 1) for _ in range(self.parts(deep))]
+        if not letter:
+            raise BadMessage(f"{number:#x} is no type of a value")
+        return letter, self.value(letter)
+
+    def parts(self, deep: int) -> int:
+        """How many parts the next compound has, which is within so many others."""
+        if deep >= DEEP:
+            raise BadMessage(f"more than {DEEP} compounds within each other")
+        return self.count()
+
+    def value(self, letter: str) -> Value:
+        """The next value of a type by its letter, behind the mark."""
+        if letter == "s":
+            return self.text()
+        if letter == "l":
+            return [self.text() for _ in range(self.count())]
+        if letter == "f":
+            return [self.take(DOUBLE)[0] for _ in range(self.count())]
+        if letter == "r":
+            return self.text(), *self.take(PLACE_END)
+        if letter == "p":
+            return [self.take(POINT) for _ in range(self.byte() or self.count())]
+        layout = LAYOUTS[letter]
+        found = self.take(layout)
+        return found[0] if len(found) == 1 else found
+
+    def given(self, letters: str) -> list[Value]:
+        """The next values, of types by their letters; BadMessage where others come."""
+        found = []
+        for letter in letters:
+            if letter == "u":
+                found.append(self.byte())
+                continue
+            if (number := self.byte()) != TYPES[letter]:
+                raise BadMessage(f"a value has the type {number:#x}, where {TYPES[letter]:#x} is awaited")
+            if letter == "t":
+                self.count()
+            else:
+                found.append(self.value(letter))
+        return found
+
+
+LAYOUTS = {"i": INT, "d": DOUBLE, "b": BYTE, "B": UBYTE, "o": POINT, "O": SPACE, "c": COLOUR, "g": POINT}
+
+
+def text(value: str) -> bytes:
+    """A text, without the mark of its type; what Latin-1 does not have is "?"."""
+    data = value.encode("latin1", "replace")
+    return INT.pack(len(data)) + data
+
+
+def integer(value: int) -> bytes:
+    """A whole number."""
+    return TYPED_INT.pack(tc.TYPE_INTEGER, value)
+
+
+def double(value: float) -> bytes:
+    """A number."""
+    return TYPED_DOUBLE.pack(tc.TYPE_DOUBLE, value)
+
+
+def ubyte(value: int) -> bytes:
+    """A byte without sign."""
+    return bytes((tc.TYPE_UBYTE, int(value)))
+
+
+def string(value: str) -> bytes:
+    """A text."""
+    return bytes((tc.TYPE_STRING,)) + text(value)
+
+
+def strings(values: Iterable[str]) -> bytes:
+    """Texts."""
+    parts = [text(one) for one in values]
+    return TYPED_INT.pack(tc.TYPE_STRINGLIST, len(parts)) + b"".join(parts)
+
+
+def point(value: Sequence[float]) -> bytes:
+    """A point (x, y)."""
+    return TYPED_POINT.pack(tc.POSITION_2D, *value[:2])
+
+
+def line(values: Sequence[Sequence[float]]) -> bytes:
+    """A line of points."""
+    size = len(values)
+    head = bytes((tc.TYPE_POLYGON, size)) if 0 < size <= SHORT else struct.pack("!BBi", tc.TYPE_POLYGON, 0, size)
+    return head + b"".join(POINT.pack(*one[:2]) for one in values)
+
+
+def place(value: tuple[str, float, int]) -> bytes:
+    """A place on a lane: (edge, metres from its begin, index of the lane)."""
+    return bytes((tc.POSITION_ROADMAP,)) + text(value[0]) + PLACE_END.pack(*value[1:])
+
+
+def colour(value: Sequence[int]) -> bytes:
+    """A colour (red, green, blue, opacity; 0 to 255)."""
+    return bytes((tc.TYPE_COLOR, *value))
+
+
+def compound(count: int, *parts: bytes) -> bytes:
+    """A compound that has so many parts."""
+    return TYPED_INT.pack(tc.TYPE_COMPOUND, count) + b"".join(parts)
+
+
+def counted(count: int, each: int, parts: Iterable[bytes]) -> bytes:
+    """A compound of a number of things and, of each, so many parts."""
+    return compound(1 + each * count, integer(count), *parts)
+
+
+def neighbour(value: tuple[str, float] | None) -> bytes:
+    """(vehicle, metres) before or behind another one; None: nobody."""
+    name, metres = value or ("", -1.0)
+    return compound(2, string(name), double(metres))
+
+
+def lights_ahead(values: Sequence[tuple[str, int, float, str]]) -> bytes:
+    """What vehicle.getNextTLS gives."""
+    parts = (string(name) + integer(index) + double(far) + ubyte(ord(state)) for name, index, far, state in values)
+    return counted(len(values), 4, parts)
+
+
+def stops(values: Sequence[Value]) -> bytes:
+    """What vehicle.getStops gives."""
+    return counted(len(values), 16, map(stop, values))
+
+
+def stop(one: Value) -> bytes:
+    """The sixteen parts of a stop; of what is not told SUMO's value for "none"."""
+    begin = string(one.lane) + double(one.endPos) + string(one.stoppingPlaceID) + integer(one.stopFlags)
+    times = map(double, (one.duration, one.until, one.startPos, *3 * (tc.INVALID_DOUBLE_VALUE,)))
+    return begin + b"".join(times) + 5 * string("") + double(0.0)
+
+
+def stops_shortly(values: Sequence[Value]) -> bytes:
+    """As `stops`, of each the six parts that vehicle.getNextStops gives."""
+    parts = (
+        string(one.lane) + double(one.endPos) + string(one.stoppingPlaceID) + integer(one.stopFlags)
+        + double(one.duration) + double(one.until) for one in values
+    )  # fmt: skip
+    return counted(len(values), 6, parts)
+
+
+def turns(values: Sequence[Sequence[Value]]) -> bytes:
+    """What lane.getLinks gives."""
+    return counted(len(values), 8, map(turn, values))
+
+
+def turn(one: Sequence[Value]) -> bytes:
+    """The eight parts of a connection of a lane."""
+    lane, first, green, foes, via, state, direction, metres = one
+    marks = ubyte(first) + ubyte(green) + ubyte(foes)
+    return string(lane) + string(via) + marks + string(state) + string(direction) + double(metres)
+
+
+def signals(values: Sequence[Sequence[tuple[str, str, str]]]) -> bytes:
+    """What trafficlight.getControlledLinks gives."""
+    each = (integer(len(ways)) + b"".join(strings(one) for one in ways) for ways in values)
+    return compound(1 + len(values) + sum(map(len, values)), integer(len(values)), *each)
+
+
+def logics(values: Sequence[Value]) -> bytes:
+    """What trafficlight.getAllProgramLogics gives."""
+    return compound(len(values), *map(logic, values))
+
+
+def logic(one: Value) -> bytes:
+    """A program of a light."""
+    phases = compound(len(one.phases), *map(phase, one.phases))
+    more = compound(len(one.subParameter), *map(strings, one.subParameter.items()))
+    head = string(one.programID) + integer(one.type) + integer(one.currentPhaseIndex)
+    return compound(5, head, phases, more)
+
+
+def phase(one: Value) -> bytes:
+    """A phase of a program."""
+    shown = double(one.duration) + string(one.state) + double(one.minDur) + double(one.maxDur)
+    return compound(6, shown, compound(len(one.next), *map(integer, one.next)), string(one.name))
+
+
+def stage(one: Value) -> bytes:
+    """What simulation.findRoute gives."""
+    who = integer(one.type) + b"".join(map(string, (one.vType, one.line, one.destStop))) + strings(one.edges)
+    how = b"".join(map(double, (one.travelTime, one.cost, one.length))) + string(one.intended)
+    where = b"".join(map(double, (one.depart, one.departPos, one.arrivalPos)))
+    return compound(13, who, how, where, string(one.description))
+
+
+def pair(value: tuple[str, str]) -> bytes:
+    """(key, text) of a parameter."""
+    return compound(2, *map(string, value))
+
+
+def nothing_counted(_: object) -> bytes:
+    """A compound of no things."""
+    return counted(0, 0, ())
+
+
+ENCODERS: dict[str, Callable[[Value], bytes]] = {
+    "i": integer, "d": double, "B": ubyte, "s": string, "l": strings, "o": point, "p": line, "c": colour, "r": place,
+    "neighbour": neighbour, "lights": lights_ahead, "stops": stops, "next stops": stops_shortly, "turns": turns,
+    "signals": signals, "logics": logics, "stage": stage, "pair": pair, "none": nothing_counted,
+}
+
+
+def told_command(code: int, body: bytes) -> bytes:
+    """An answer to a subscription, whose length is a whole number however short it is."""
+    return LONG_HEAD.pack(0, len(body) + 6, code) + body
+
+
+def command(code: int, body: bytes) -> bytes:
+    """A command, or the answer to one, with its length before it."""
+    size = len(body) + 2
+    return bytes((size, code)) + body if size <= SHORT else LONG_HEAD.pack(0, size + 4, code) + body
+
+
+def state_of(code: int, result: int = tc.RTYPE_OK, why: str = "") -> bytes:
+    """The state of a command: RTYPE_OK, RTYPE_NOTIMPLEMENTED or RTYPE_ERR, and why."""
+    return command(code, bytes((result,)) + text(why))

@@ -1,0 +1,325 @@
+"""Serves TraCI's protocol on the loopback address: clients in their order drive the one run of streetsim.traci."""
+import os
+import socket
+from collections.abc import Callable
+from dataclasses import dataclass, field
+
+import streetsim.traci as traci
+from streetsim.base import limits
+from streetsim.base.files import Fault
+from streetsim.base.client import ProgramEnded, Refused
+from streetsim.simulation.errors import FatalTraCIError, NotHere, TraCIException
+from streetsim.simulation.options import options_of
+from streetsim.traci import constants as tc
+from streetsim.traci.answering import GET_OF, OK, SET_OF, AskedCall, asked_change, asked_value
+from streetsim.traci.protocol import DOUBLE, INT, MOST, BadMessage, WordReader, command, state_of, text
+from streetsim.traci.subscribing import CONTEXT_OF, SUBSCRIBE_OF, Subscriptions
+
+HOST = "127.0.0.1"
+MOST_TOLD = 1 << 27  # bytes of the answer to one message, at most
+MOST_KNOWN = 1 << 16  # messages whose meaning is kept
+LAST_CLOCK = limits.CLOCK  # to which a client may step
+WAIT = 3.0  # seconds for a client of a run that could not begin
+LAST = 1 << 30  # the place in the order of a client that told none
+ENDS = (FatalTraCIError, Fault, ProgramEnded, Refused)  # after which the run cannot go on
+CALLS = (TraCIException, KeyError, TypeError, ValueError, OverflowError, LookupError)  # after which the run goes on
+
+
+class Gone(Exception):
+    """A client went away, or was cut off."""
+
+
+@dataclass(eq=False)
+class TraciClient:
+    """A client, what it has sent, and what it asked to be told after each step."""
+
+    socket: socket.socket
+    order: int = LAST
+    target: float = -1.0  # the clock at which it is answered
+    steps: bool = False  # it waits for the answer to a step
+    subscriptions: Subscriptions = field(default_factory=Subscriptions)
+    left: bytes = b""  # sent, and not read
+    rest: list[tuple[int, int]] = field(default_factory=list)  # commands of the last message, behind a step
+    message: bytes = b""
+    answer: bytearray = field(default_factory=bytearray)
+
+    def next_message(self) -> None:
+        """Waits for the next message. Gone where the client goes away; BadMessage for a length that none has."""
+        (size,) = INT.unpack(self.exactly(INT.size))
+        if not INT.size + 2 <= size <= MOST:
+            raise BadMessage(f"a message of {size:,} bytes: {INT.size + 2} to {MOST:,} are taken")
+        self.message, self.answer = self.exactly(size - INT.size), bytearray()
+        self.rest = commands_in(self.message)
+
+    def receive(self) -> None:
+        """Waits for bytes; Gone where the client goes away."""
+        try:
+            part = self.socket.recv(1 << 16)
+        except OSError:
+            part = b""
+        if not part:
+            raise Gone
+        self.left += part
+
+    def exactly(self, size: int) -> bytes:
+        """So many bytes of what the client sends; Gone where it goes away before."""
+        if len(self.left) < size:
+            parts, have = [self.left], len(self.left)
+            while have < size:
+                self.left = b""
+                self.receive()
+                parts.append(self.left)
+                have += len(self.left)
+            self.left = b"".join(parts)
+        data, self.left = self.left[:size], self.left[size:]
+        return data
+
+    def send(self, answer: bytes | bytearray) -> None:
+        """Sends the answer to its message; Gone where it does not take it."""
+        try:
+            self.socket.sendall(INT.pack(len(answer) + INT.size) + answer)
+        except OSError:
+            raise Gone from None
+
+    def refuse(self, why: str) -> None:
+        """Answers that a message is none, as far as the client takes that."""
+        try:
+            self.send(state_of(self.message[1] if len(self.message) > 1 else 0, tc.RTYPE_ERR, why))
+        except Gone:
+            pass
+
+
+def commands_in(message: bytes) -> list[tuple[int, int]]:
+    """The first byte, from its code on, and the end of each command of a message, the last one first. BadMessage where
+    their lengths are not its own."""
+    found, at = [], 0
+    while at < len(message):
+        size, head = message[at], 1
+        if not size:
+            if at + 1 + INT.size > len(message):
+                raise BadMessage("a message ends in the length of a command")
+            (size,), head = INT.unpack_from(message, at + 1), 1 + INT.size
+        if size <= head or at + size > len(message):
+            raise BadMessage(f"a command of {size:,} bytes, where {len(message) - at:,} are left")
+        found.append((at + head, at + size))
+        at += size
+    return found[::-1]
+
+
+class Server:
+    """Serves the run that streetsim.traci has under way to a number of clients, until all have closed."""
+
+    def __init__(self, listening: socket.socket, count: int, tell: Callable[[str], None]) -> None:
+        """listening: a socket that listens; count: of clients; tell: takes lines for the user."""
+        self.listening, self.count, self.tell = listening, count, tell
+        self.clients: list[TraciClient] = []
+        self.lost = 0  # clients that went away without closing
+        self.known: dict[bytes, AskedCall] = {}  # what messages ask for, by their bytes
+
+    def serve(self) -> int:
+        """Waits for all clients, and serves them until all have closed; gives how many went away without that."""
+        self.meet()
+        while self.clients:
+            for client in self.due():
+                self.attend(client)
+            if self.clients:
+                self.go_on()
+        return self.lost
+
+    def meet(self) -> None:
+        """Waits until all clients are there. Where there are several, each tells its place in their order first."""
+        while len(self.clients) < self.count:
+            accepted, _ = self.listening.accept()
+            accepted.setsockopt(socket.IPPROTO_TCP, socket.TCP_NODELAY, 1)
+            self.clients.append(TraciClient(accepted))
+        self.listening.close()
+        if self.count > 1:
+            for client in list(self.clients):
+                self.attend(client, ordering=True)
+        self.clients.sort(key=lambda client: client.order)
+
+    def due(self) -> list[TraciClient]:
+        """The clients that are to be heard at the clock, in their order."""
+        clock = traci.simulation.getTime()
+        return [client for client in self.clients if client.target <= clock]
+
+    def go_on(self) -> None:
+        """Goes on to the next clock at which a client is to be heard."""
+        clock = traci.simulation.getTime()
+        target = min(client.target for client in self.clients)
+        if target > clock:
+            traci.simulationStep(target)
+        elif len(self.clients) == 1:
+            traci.simulationStep(-1)  # no step, after which nobody has departed or arrived
+
+    def attend(self, client: TraciClient, ordering: bool = False) -> None:
+        """Hears a client until it asks for a step, closes or, where ordering, tells its place."""
+        try:
+            heard = self.answer_step(client)
+            while heard and not (ordering and client.order != LAST):
+                heard = self.hear(client)
+        except Gone:
+            self.lost += 1
+            self.tell(f"warning: a client went away without closing; {len(self.clients) - 1} go on")
+            self.drop(client)
+        except BadMessage as fault:
+            self.lost += 1
+            client.refuse(str(fault))
+            self.tell(f"warning: a client was cut off: {fault}")
+            self.drop(client)
+        except ENDS as fault:
+            client.refuse(str(fault))
+            raise
+
+    def drop(self, client: TraciClient) -> None:
+        """Ends the conversation with a client."""
+        client.socket.close()
+        self.clients.remove(client)
+
+    def answer_step(self, client: TraciClient) -> bool:
+        """Answers the step that a client waits for, where it does; gives as `hear` does."""
+        if not client.steps:
+            return True
+        client.steps = False
+        client.answer += OK[tc.CMD_SIMSTEP] + client.subscriptions.told_after_step()
+        return self.obey(client)
+
+    def hear(self, client: TraciClient) -> bool:
+        """Hears the next message of a client; gives whether it is to be heard further at this clock."""
+        if not client.left:
+            client.receive()
+        if (asked := self.known.get(client.left)) is not None:
+            client.left = b""
+            client.send(self.made(asked.code, asked.answer))
+            return True
+        before = client.left
+        client.next_message()
+        self.learn(before, client)
+        return self.obey(client)
+
+    def learn(self, data: bytes, client: TraciClient) -> None:
+        """Keeps what a message asks for by its bytes (data), where these are of it alone, and it has one command that
+        tells or changes something, whose words nobody changes."""
+        if client.left or len(client.rest) != 1 or len(data) != INT.size + len(client.message):
+            return
+        (at, end), = client.rest
+        code = client.message[at]
+        asking = asked_value if code in GET_OF else asked_change if code in SET_OF else None
+        if asking is None:
+            return
+        try:
+            asked = asking(code, WordReader(client.message, at + 1, end))
+            if all(isinstance(word, (str, int, float)) for word in asked.words):
+                if len(self.known) >= MOST_KNOWN:
+                    self.known.clear()
+                self.known[data] = asked
+        except (BadMessage, *CALLS):
+            pass  # which is told when the command is done
+
+    def obey(self, client: TraciClient) -> bool:
+        """Does the rest of a client's message, and answers it where no step is asked for; gives as `hear` does."""
+        while client.rest:
+            at, end = client.rest.pop()
+            code = client.message[at]
+            words = WordReader(client.message, at + 1, end)
+            if code == tc.CMD_SIMSTEP:
+                if self.asked_step(client, words):
+                    return False
+                continue
+            if code == tc.CMD_CLOSE:
+                client.send(client.answer + OK[code])
+                self.drop(client)
+                return False
+            client.answer += self.answered(client, code, words)
+            if len(client.answer) > MOST_TOLD:
+                raise BadMessage(f"the answer to one message would have more than {MOST_TOLD:,} bytes")
+        client.send(client.answer)
+        return not client.steps
+
+    def asked_step(self, client: TraciClient, words: WordReader) -> bool:
+        """Notes until when a client steps; gives whether it does: not for a clock beyond the machine's."""
+        (until,) = words.take(DOUBLE)
+        clock = traci.simulation.getTime()
+        if not until <= LAST_CLOCK:
+            client.answer += state_of(tc.CMD_SIMSTEP, tc.RTYPE_ERR, f"{until:g} s is beyond the last clock")
+            return False
+        client.target, client.steps = clock + 1 if until == 0 else max(until, clock), True
+        return True
+
+    def answered(self, client: TraciClient, code: int, words: WordReader) -> bytes:
+        """The answer to a command: its state, and what it tells."""
+        return self.made(code, lambda: self.done(client, code, words))
+
+    def made(self, code: int, answer: Callable[[], bytes]) -> bytes:
+        """An answer, or the state of a command that cannot be done."""
+        try:
+            return answer()
+        except NotHere as fault:
+            return state_of(code, tc.RTYPE_NOTIMPLEMENTED, str(fault))
+        except (BadMessage, *CALLS) as fault:
+            why = str(fault) if isinstance(fault, (BadMessage, TraCIException)) else repr(fault)
+            return state_of(code, tc.RTYPE_ERR, why)
+
+    def done(self, client: TraciClient, code: int, words: WordReader) -> bytes:
+        """As `answered`; raises what a call raises, and BadMessage for wrong words."""
+        if code in GET_OF or code in SET_OF:
+            return (asked_value if code in GET_OF else asked_change)(code, words).answer()
+        if code in SUBSCRIBE_OF:
+            return OK[code] + client.subscriptions.subscribe(code, words)
+        if code in CONTEXT_OF:
+            return OK[code] + client.subscriptions.subscribe_context(code, words)
+        return self.base(client, code, words)
+
+    def base(self, client: TraciClient, code: int, words: WordReader) -> bytes:
+        """The answer to a command that is of no domain; NotHere for an unknown one."""
+        if code == tc.CMD_GETVERSION:
+            number, name = traci.getVersion()
+            return OK[code] + command(code, INT.pack(number) + text(name))
+        if code == tc.CMD_SETORDER:
+            (order,) = words.take(INT)
+            if any(other.order == order for other in self.clients if other is not client):
+                raise TraCIException(f"another client has the place {order} in the order")
+            client.order = order
+            return OK[code]
+        if code == tc.CMD_LOAD:
+            self.load(words)
+            return OK[code]
+        raise NotHere(f"command {code:#04x} is not here")
+
+    def load(self, words: WordReader) -> None:
+        """Begins the run anew, by other words. TraCIException where these are wrong, FatalTraCIError where it cannot
+        begin."""
+        (given,) = words.given("l")
+        try:
+            net = options_of(given).get("net-file", "")
+        except FatalTraCIError as fault:
+            raise TraCIException(str(fault)) from None
+        if not os.path.exists(net):
+            raise TraCIException(f"load: no network {net!r}")
+        traci.load(given)
+        for one in self.clients:
+            one.subscriptions, one.target = Subscriptions(), -1.0
+
+
+def turn_away(listening: socket.socket) -> None:
+    """Closes the connection of the first client, where one comes within WAIT seconds: it then knows that no run has
+    begun, and begins none anew."""
+    listening.settimeout(WAIT)
+    try:
+        listening.accept()[0].close()
+    except OSError:
+        pass
+    listening.close()
+
+
+def listen(port: int) -> socket.socket:
+    """A socket that listens on a port of the loopback address; Fault where the port is taken."""
+    listening = socket.socket()
+    listening.setsockopt(socket.SOL_SOCKET, socket.SO_REUSEADDR, 1)
+    try:
+        listening.bind((HOST, port))
+        listening.listen()
+    except (OSError, OverflowError) as fault:
+        listening.close()
+        raise Fault(f"--remote-port {port}: {fault}") from None
+    return listening

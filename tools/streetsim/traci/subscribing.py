@@ -1,0 +1,214 @@
+"""What a client of TraCI's protocol is told after each step: variables of objects, and of the vehicles around them."""
+from __future__ import annotations
+
+from collections import defaultdict
+from collections.abc import Collection, Iterable, Iterator, Mapping, Sequence
+from dataclasses import dataclass, field
+from functools import lru_cache
+from math import inf
+from typing import NamedTuple
+
+import streetsim.traci as traci
+from streetsim.base.arrays import numpy as np
+from streetsim.simulation.errors import NotHere
+from streetsim.traci import constants as tc
+from streetsim.traci.advice import advice_on
+from streetsim.traci.answering import subscribed_value
+from streetsim.traci.domain import Domain, Outlined
+from streetsim.traci.packing_rows import packed_rows
+from streetsim.traci.protocol import DOUBLE, INT, LONG_HEAD, BadMessage, Value, WordReader, text, told_command
+from streetsim.traci.table import ALONE, DOMAINS, GETS, Get
+
+SUBSCRIBE_OF = {numbers.subscribe: name for name, numbers in DOMAINS.items()}
+CONTEXT_OF = {numbers.context: name for name, numbers in DOMAINS.items()}
+ANSWER = 16  # by which the code of an answer is above that of its command
+SIMULATION = "simulation"
+name_text = lru_cache(1 << 16)(text)
+
+
+class Time(NamedTuple):
+    """From which clock to which one something is told."""
+
+    begin: float
+    end: float
+
+
+class Subscription(NamedTuple):
+    """What is told of objects of a domain: variables by number, those that have words with these, and when."""
+
+    code: int  # of the command
+    variables: tuple[int, ...]
+    words: tuple[tuple[Value, ...], ...]
+    time: Time
+
+
+class Around(NamedTuple):
+    """What is told of the vehicles at most some metres from an object, and when."""
+
+    metres: float
+    variables: tuple[int, ...]
+    time: Time
+
+
+@dataclass
+class Subscriptions:
+    """The subscriptions of a client, by code of their command and object."""
+
+    wishes: dict[tuple[int, str], Subscription] = field(default_factory=dict)
+    # By object its name and how many variables are told, as bytes.
+    groups: dict[Subscription, dict[str, bytes]] = field(default_factory=dict)
+    around: dict[tuple[int, str], Around] = field(default_factory=dict)
+
+    def subscribe(self, code: int, words: WordReader) -> bytes:
+        """Notes a subscription, or ends it where it names no variable; gives what it tells now. BadMessage for wrong
+        words, TraCIException for an unknown object, NotHere for a variable that cannot be told."""
+        time, name, domain = time_of(words), words.text(), SUBSCRIBE_OF[code]
+        own = [(variable, tuple(words.given(get_of(domain, variable).takes))) for variable in variables_of(words)]
+        if not own:
+            self.end(code, name)
+            return b""
+        if domain != SIMULATION:
+            domain_of(domain).check_subject(name)
+        wish = Subscription(code, tuple(one for one, _ in own), tuple(given for _, given in own), time)
+        answer = told_alone(name, wish)
+        self.end(code, name)
+        self.wishes[code, name] = wish
+        self.groups.setdefault(wish, {})[name] = text(name) + bytes((len(own),))
+        return answer
+
+    def end(self, code: int, name: str) -> None:
+        """Ends a subscription, where there is one."""
+        if (wish := self.wishes.pop((code, name), None)) is not None:
+            del self.groups[wish][name]
+            if not self.groups[wish]:
+                del self.groups[wish]
+
+    def subscribe_context(self, code: int, words: WordReader) -> bytes:
+        """As `subscribe`, of the vehicles around an object."""
+        time, name, domain = time_of(words), words.text(), CONTEXT_OF[code]
+        kind, (metres,) = words.byte(), words.take(DOUBLE)
+        variables = tuple(variables_of(words))
+        if not variables:
+            self.around.pop((code, name), None)
+            return b""
+        own = domain_of(domain)
+        if not isinstance(own, Outlined):
+            raise NotHere(f"{domain}.subscribeContext is not here: {advice_on(f'{domain}.subscribeContext')}")
+        own.check_context(name, kind, variables)
+        if not 0 <= metres < inf:
+            raise BadMessage(f"{metres} m are no distance")
+        around = Around(metres, variables, time)
+        answer = self.told_around({(code, name): around})[0]
+        self.around[code, name] = around
+        return answer
+
+    def told_after_step(self) -> bytes:
+        """What is told after a step: how many answers, and these. Those of objects that have ended are forgotten."""
+        clock, answers = traci.simulation.getTime(), list[bytes]()
+        for wish, names in list(self.groups.items()):
+            if wish.time.end < clock:
+                for name in list(names):
+                    self.end(wish.code, name)
+            elif wish.time.begin <= clock:
+                there = names if SUBSCRIBE_OF[wish.code] == SIMULATION else there_of(wish, names)
+                if len(there) < len(names):
+                    self.forget_ended(wish, names, there)
+                answers += told_of_all(there, names, wish)
+        if self.around:
+            now = {key: one for key, one in self.around.items() if one.time.begin <= clock <= one.time.end}
+            answers += self.told_around({key: one for key, one in now.items() if is_there(CONTEXT_OF[key[0]], key[1])})
+        return INT.pack(len(answers)) + b"".join(answers)
+
+    def forget_ended(self, wish: Subscription, names: Collection[str], there: Iterable[str]) -> None:
+        """Forgets the subscriptions, of some alike, to objects that are not there and never will be."""
+        own = domain_of(SUBSCRIBE_OF[wish.code])
+        for name in set(names).difference(there):
+            if not own.is_subject(name):
+                self.end(wish.code, name)
+
+    def told_around(self, around: Mapping[tuple[int, str], Around]) -> list[bytes]:
+        """The answers of contexts; each vehicle is packed once."""
+        groups: defaultdict[tuple[int, ...], list[tuple[int, str, float]]] = defaultdict(list)
+        for (code, name), one in around.items():
+            groups[one.variables].append((code, name, one.metres))
+        return [one for variables, contexts in groups.items() for one in told_near(variables, contexts)]
+
+
+def told_near(variables: tuple[int, ...], contexts: Sequence[tuple[int, str, float]]) -> Iterator[bytes]:
+    """The answers of contexts, (code, object, metres), with equal variables."""
+    session, stretches = traci.simulation.now(), []
+    for code, name, metres in contexts:
+        own = domain_of(CONTEXT_OF[code])
+        assert isinstance(own, Outlined)
+        stretches.append(own.stretches_near(name, metres))
+    rows, through = session.places.rows_in(*(np.concatenate(parts) for parts in zip(*stretches)))
+    once, places = np.unique(rows, return_inverse=True)
+    names = session.names_of(session.view.number[once].tolist())
+    values = rows_of("vehicle", variables, names)
+    packed = [name_text(name) + value for name, value in zip(names, values, strict=True)]
+    all_ = [packed[at] for at in places.tolist()]
+    ends = np.append(0, through)[np.cumsum([len(begins) for begins, _ in stretches])].tolist()
+    kind = bytes((DOMAINS["vehicle"].get, len(variables)))
+    for (code, name, _), first, last in zip(contexts, [0, *ends], ends):
+        yield told_command(code + ANSWER, name_text(name) + kind + INT.pack(last - first) + b"".join(all_[first:last]))
+
+
+def time_of(words: WordReader) -> Time:
+    """From when to when something is to be told; SUMO's value for "none" is always."""
+    begin, end = words.take(DOUBLE)[0], words.take(DOUBLE)[0]
+    return Time(begin, inf if end == tc.INVALID_DOUBLE_VALUE else end)
+
+
+def variables_of(words: WordReader) -> Iterable[int]:
+    """The numbers of variables, so many as the next byte says; what stands between two of them is read by the user."""
+    return (words.byte() for _ in range(words.byte()))
+
+
+def get_of(domain: str, variable: int) -> Get:
+    """What tells a variable that is subscribed to; NotHere where nothing does."""
+    get = GETS.get(domain, {}).get(variable)
+    if get is None or get.call in ALONE or get.takes not in ("", "d", "s", "i"):
+        raise NotHere(f"{domain}: variable {variable:#x} cannot be subscribed to here")
+    return get
+
+
+def domain_of(name: str) -> Domain:
+    """A domain of calls by its name; NotHere where it is not here."""
+    found: Domain = getattr(traci, name)
+    return found
+
+
+def is_there(domain: str, name: str) -> bool:
+    """Whether an object is there, of which something is told."""
+    return bool(domain_of(domain).there([name]))
+
+
+def there_of(wish: Subscription, names: Iterable[str]) -> list[str]:
+    """Of some objects those that are there."""
+    return domain_of(SUBSCRIBE_OF[wish.code]).there(names)
+
+
+def told_alone(name: str, wish: Subscription) -> bytes:
+    """What a subscription to one object tells now, call by call."""
+    domain, body = SUBSCRIBE_OF[wish.code], b""
+    for variable, words in zip(wish.variables, wish.words, strict=True):
+        body += bytes((variable, tc.RTYPE_OK)) + subscribed_value(domain, GETS[domain][variable], name, words)
+    return told_command(wish.code + ANSWER, text(name) + bytes((len(wish.variables),)) + body)
+
+
+def told_of_all(there: Collection[str], names: Mapping[str, bytes], wish: Subscription) -> list[bytes]:
+    """What equal subscriptions tell of some objects that are there; names: as `groups` has
+    them."""
+    domain = SUBSCRIBE_OF[wish.code]
+    if domain == SIMULATION or any(wish.words):
+        return [told_alone(name, wish) for name in there]
+    code, rows, head = wish.code + ANSWER, rows_of(domain, wish.variables, list(there)), LONG_HEAD.pack
+    begins = [names[name] for name in there]
+    return [head(0, len(begin) + len(row) + 6, code) + begin + row for begin, row in zip(begins, rows, strict=True)]
+
+
+def rows_of(domain: str, variables: Sequence[int], names: Sequence[str]) -> list[bytes]:
+    """By object, of some that are all there, the bytes of its variables."""
+    own = domain_of(domain)
+    kinds = [(variable, GETS[domain][variable].gives) for variable in variables]
+    return packed_rows(kinds, own.columns(variables, names), len(names))

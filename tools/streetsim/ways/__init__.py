@@ -1,1 +1,0 @@
-"""Ways through a network: its graph, what ways cost, the shortest ones."""

@@ -1,1 +1,0 @@
-"""Road works: stretches of lanes that are closed for a time."""

@@ -1,0 +1,25 @@
+"""The model's own error on pages and lines, as the page of calibration has it."""
+import re
+import unittest
+
+from support import TOOLS
+from streetsim.report.forecast_errors import ERRORS, PAGE, error_lines, errors_table
+
+
+class Errors(unittest.TestCase):
+    def test_the_page_has_the_same(self):
+        """Shares of the changes, in percent, by kind: those of the table of the page."""
+        text = (TOOLS.parent / PAGE).read_text(encoding="utf-8")
+        for one, kind in zip(ERRORS, ("a wave", "a split", "growth by a tenth", "a lane removed"), strict=True):
+            cells = f"{100 * one.uncalibrated:.0f}% | {100 * one.calibrated:.0f}%"
+            self.assertRegex(text, rf"\| error of {kind}, of {one.streets} streets, in % of the changes \| {cells} \|")
+
+    def test_a_table_and_a_line(self):
+        [line] = error_lines()
+        for one in ERRORS:
+            self.assertIn(f"{one.kind} {100 * one.uncalibrated:.0f} % ({100 * one.calibrated:.0f} %)", line)
+        self.assertEqual(len(re.findall("<tr>", errors_table())), len(ERRORS) + 1)
+
+
+if __name__ == "__main__":
+    unittest.main()
