@@ -9,6 +9,7 @@ from pathlib import Path
 from package.asking import Said
 
 WORD = re.compile(r"^  \S.*$(?:\n {3,}\S.*$)*", re.MULTILINE)  # of a help, with what is told of it
+CUT = re.compile(r"(\\fB[^ \n]*)\\fR(\.\w[\w.]*)")  # help2man ends a word in bold before its point
 SPEAKS = "#!/bin/sh\ncat <<'END_OF_THE_HELP'\n{text}\nEND_OF_THE_HELP\n"
 ALSO = """[SEE ALSO]
 All commands, with examples and a walk of ten minutes:
@@ -60,4 +61,4 @@ def page(said: Said, version: str) -> str:
         done = subprocess.run(words, capture_output=True, text=True, check=False)
     if done.returncode:
         raise SystemExit(f"package: help2man has no page of {said.name}: {done.stderr.strip()}")
-    return done.stdout
+    return CUT.sub(r"\1\2\\fR", done.stdout)

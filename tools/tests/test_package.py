@@ -26,8 +26,8 @@ from test_install import PIP
 
 import built
 import proved
-from package import debian, wheel
-from package.asking import options
+from package import debian, manuals, wheel
+from package.asking import Said, options
 from streetsim.base.program import MARK
 
 TOP = TOOLS.parent
@@ -141,6 +141,12 @@ class Parts(Case):
     def test_options_of_a_help(self):
         text = "usage: x\n\noptions:\n  -h, --help  show\n  -o OUTPUT, --output OUTPUT\n  --every S    --no, seconds\n"
         self.assertEqual(options(text), ["--help", "--output", "--every"])
+
+    @needs_package("help2man", NEEDED["help2man"])
+    def test_a_word_with_a_point_is_whole_in_its_manual_page(self):
+        text = "usage: x\n\noptions:\n  -t, --log-of.means\n                  shows them\n"
+        page = manuals.page(Said("streetsim-x", text, {}), VERSION)
+        self.assertIn("\n\\fB\\-t\\fR, \\fB\\-\\-log\\-of.means\\fR\n", page)
 
 
 class Links(HTMLParser):
