@@ -4,7 +4,9 @@ const SPEED_COLOURS = ["#a50026", "#f08000", "#3b7fc4"], SPEED_WORDS = ["standin
 const SPEED_WIDTHS = [1.3, 1, .7]; // of vehicles, so that who sees no colours tells them apart
 const GREEN = "#1a9641", RED = "#d7191c", LANE_METRES = 3.2;
 // What a picture is drawn with; a page may have others.
-const LIGHT = { ground: "#fff", street: "#ccc", mark: "#fff", ink: "#222", label: "#ffffe0", green: GREEN, red: RED, speeds: SPEED_COLOURS };
+const LIGHT = { ground: "#fff", street: "#ccc", mark: "#fff", ink: "#222", name: "#333", label: "#ffffe0", green: GREEN, red: RED, speeds: SPEED_COLOURS };
+const APART = 1.5; // pixels at least from the line of a street to that of each direction
+const LEAST_NAME = 60, NAME_AWAY = 9; // pixels of a street that bears its name, and from its edge to the name's middle
 const FARTHEST_HOP = 60; // metres between two places of a vehicle that it is drawn between
 const clockText = seconds => [seconds / 3600, seconds / 60 % 60, seconds % 60].map(part => String(Math.floor(part)).padStart(2, "0")).join(":");
 const metresText = metres => metres < 1000 ? `${metres} m` : `${metres / 1000} km`;
@@ -29,13 +31,23 @@ function distance([x, y], [ax, ay], [bx, by]) {
   return Math.hypot(x - ax - share * (bx - ax), y - ay - share * (by - ay));
 }
 
-// The point and the direction at a share of a link's length, moved to the lane's side.
-function placeOnLane(link, lane, share) {
+// The point and the direction at a share of a link's length, moved to the lane's side, and `aside` metres to the right.
+function placeOnLane(link, lane, share, aside = 0) {
   let left = share * link.total, i = 0;
   while (i < link.lengths.length - 1 && left > link.lengths[i]) left -= link.lengths[i++];
   const [a, b] = [link.points[i], link.points[i + 1]], size = link.lengths[i] || 1, dx = (b[0] - a[0]) / size, dy = (b[1] - a[1]) / size;
-  const side = ((link.lanes - 1) / 2 - lane) * LANE_METRES;
+  const side = ((link.lanes - 1) / 2 - lane) * LANE_METRES + aside;
   return [a[0] + dx * left + dy * side, a[1] + dy * left - dx * side, dx, dy];
+}
+
+// A line moved to its right by some metres, at bends too, but for those that turn back.
+function movedAside(points, aside) {
+  if (!aside) return points;
+  const sides = points.slice(1).map(([x, y], i) => { const [ax, ay] = points[i], size = Math.hypot(x - ax, y - ay) || 1; return [(y - ay) / size, (ax - x) / size]; });
+  return points.map(([x, y], i) => {
+    const [ax, ay] = sides[Math.max(0, i - 1)], [bx, by] = sides[Math.min(i, sides.length - 1)], size = ((ax + bx) ** 2 + (ay + by) ** 2) / 2;
+    return size < .5 ? [x + aside * bx, y + aside * by] : [x + aside * (ax + bx) / size, y + aside * (ay + by) / size];
+  });
 }
 
 // Links on a canvas, seen from a place at a scale (pixels a metre).
@@ -79,7 +91,10 @@ class Scene {
     return box[0] < this.x + wide && box[2] > this.x - wide && box[1] < this.y + high && box[3] > this.y - high;
   }
 
-  place(link, lane, share) { return placeOnLane(link, lane, share); }
+  // Metres by which a link is drawn to its right, so that both directions of a street are seen from far away.
+  aside(link) { return Math.max(0, APART / this.scale - LANE_METRES * link.lanes / 2); }
+
+  place(link, lane, share) { return placeOnLane(link, lane, share, this.aside(link)); }
 
   // The link whose line is nearest to a place, within some pixels; none where there is none.
   nearestLink(point, pixels = 12) {
@@ -99,7 +114,7 @@ class Scene {
     this.pen.stroke();
   }
 
-  drawLink(link, colour = this.colours.street) { this.line(link.points, colour, Math.max(1, LANE_METRES * link.lanes * this.scale)); }
+  drawLink(link, colour = this.colours.street) { this.line(movedAside(link.points, this.aside(link)), colour, Math.max(1, LANE_METRES * link.lanes * this.scale)); }
 
   // A stretch of cells of a lane, ends included.
   drawCells(link, lane, first, last, colour, width = Math.max(4, 2.6 * this.scale)) {
@@ -138,10 +153,33 @@ class Scene {
     return [5, 2, 1].map(times => times * power).find(metres => metres <= most);
   }
 
+  // A bar of so many metres, and behind it an arrow to the north.
   drawScale() {
-    const metres = this.scaleMetres(), y = this.canvas.height - 16;
-    this.pen.fillStyle = this.colours.ink; this.pen.fillRect(16, y, metres * this.scale, 4);
-    this.pen.font = "12px sans-serif"; this.pen.fillText(metresText(metres), 20, y - 5);
+    const { pen } = this, metres = this.scaleMetres(), wide = metres * this.scale, y = this.canvas.height - 16, x = wide + 40;
+    pen.fillStyle = this.colours.ink; pen.fillRect(16, y, wide, 4);
+    pen.font = "12px sans-serif"; pen.fillText(metresText(metres), 20, y - 5);
+    pen.beginPath();
+    for (const [across, down] of [[0, -18], [-6, 4], [0, -1], [6, 4]]) pen.lineTo(x + across, y + down);
+    pen.fill(); pen.fillText("N", x + 10, y + 2);
+  }
+
+  // The name of each street once, beside the longest link in view that bears it, where that is long enough, and where it lies on none of the texts
+  // that are written, [left, base line, width].
+  drawNames(links, written = []) {
+    const { pen, scale } = this, longest = new Map();
+    for (const link of links) if (link.street && !(longest.get(link.street)?.total >= link.total)) longest.set(link.street, link);
+    pen.font = "12px sans-serif"; pen.textAlign = "center";
+    for (const [name, link] of longest) {
+      const wide = pen.measureText(name).width;
+      if (link.total * scale < Math.max(LEAST_NAME, wide + 8)) continue;
+      const [x, y, dx, dy] = this.place(link, -.5 - NAME_AWAY / scale / LANE_METRES, .5), [left, top] = this.screen(x, y), turned = Math.atan2(-dy, dx);
+      const across = Math.abs(dx) * wide / 2 + 8, down = Math.abs(dy) * wide / 2 + 8; // of half its box
+      if (written.some(([l, t, w]) => left + across > l && left - across < l + w && top + down > t - 12 && top - down < t)) continue;
+      pen.save(); pen.translate(left, top); pen.rotate(Math.abs(turned) > Math.PI / 2 ? turned + Math.PI : turned);
+      pen.strokeStyle = this.colours.ground; pen.lineWidth = 3; pen.fillStyle = this.colours.name;
+      pen.strokeText(name, 0, 4); pen.fillText(name, 0, 4); pen.restore();
+    }
+    pen.textAlign = "start";
   }
 
   // A name beside a place.

@@ -9,7 +9,8 @@ from streetsim.base.words import time_of_day
 from streetsim.model.service import AT_PRIORITY, AT_SIGNALS, COLOURS
 from streetsim.report import page_works
 from streetsim.report.page_choice import LEAST, RowChange, ranked_changes, sure_changes
-from streetsim.report.page_drawings import letter_mark, map_picture
+from streetsim.report.page_drawings import letter_mark, service_keys, service_map
+from streetsim.report.page_map import map_figure
 from streetsim.report.page_markup import bullets, change_told, mean_told, table
 from streetsim.report.page_words import change_in_words, count_in_words, counted_noun
 from streetsim.report.plan_costs import NOTICED, Means, PlanCosts, costs_of, means_by_class
@@ -113,12 +114,11 @@ def service_and_works_map(runs: Runs, shown: Interval, rows: Sequence[RowChange]
     }
     signs = sure_changes(rows)
     closed = page_works.closed_shapes(runs)
-    picture = map_picture(runs.first.mapping, approaches, junctions, signs, closed)
+    picture = service_map(runs.first.mapping, approaches, junctions, signs, closed)
     marks = f"; &#9650; waits more and &#9660; less than before, for sure; small: by less than {LEAST:g} s"
-    more = marks if signs else ""
-    more += "; black: road works" if closed else ""
-    caption = f"{escape(runs.name)}: approaches and junctions by level of service{more}"
-    return f"<figure>{picture}<figcaption>{caption}{levels_told()}</figcaption></figure>"
+    caption = f"{escape(runs.name)}: approaches and junctions by level of service{marks if signs else ''}"
+    keys = service_keys({letter for letter, _ in approaches.values()}, bool(closed))
+    return map_figure(picture, caption + levels_told(), keys)
 
 
 def levels_told() -> str:
