@@ -96,7 +96,7 @@ def surroundings_of(args):
 def main():
     parser = argparse.ArgumentParser(description=__doc__, formatter_class=argparse.RawTextHelpFormatter)
     parser.add_argument("program", nargs="?")
-    parser.add_argument("--installed", action="store_true", help="run the commands that are installed, in place of these")
+    parser.add_argument("--installed", action="store_true", help="run the installed commands, in place of these")
     parser.add_argument("--work", required=True, help="a folder for what is made")
     parser.add_argument("--only", default=",".join(SECTIONS), help="names of pages, with commas between")
     args = parser.parse_args()

@@ -335,7 +335,8 @@ class Player(Given):
         """The address that the page has after a zoom opens it there, and the junction of the signal is named."""
         page = self.page()
         zoom = "canvas.dispatchEvent(new WheelEvent('wheel', {deltaY: -500, cancelable: true}))"
-        note = "document.body.dataset.told = location.hash; document.body.dataset.names = sides[0].drawJunctions().length"
+        names = "document.body.dataset.names = sides[0].drawJunctions().length"
+        note = f"document.body.dataset.told = location.hash; {names}"
         script = f"setTimeout(() => {{ {zoom}; setTimeout(() => {{ {note} }}, 1000) }}, 1000)"
         page.write_text(page.read_text().replace("</html>", f"<script>{script}</script></html>"))
         text = self.dom(page, "3,75,0")

@@ -747,7 +747,7 @@ class BadInput(Commands):
         self.given(two_ways(), flow(10, 60))
         for words, told in (
             (("--run", self.folder / "run.jsonl"), "--run and --map are given together or not at all"),
-            (("--seeds", "100-102"), "--seeds 100-102 and --check 101-103 overlap"),
+            (("--seeds", "100-102"), "--seeds 100-102 and --check-seeds 101-103 overlap"),
             (("--until", 20), "--until 20: the last trip departs at 54 s"),
             (("--program", self.folder / "none"), "none: no program that can be run"),
             (("--classes", "tank"), "SUMO has no vehicle class 'tank'"),

@@ -36,7 +36,7 @@ def write_page(path: str, folder: str, run: str) -> None:
     known. Fault where the folder cannot be read, or the page not be written."""
     try:
         runs = read_runs(folder)
-        shown = interval_of([runs], argparse.Namespace(begin=None))
+        shown = interval_of([runs], argparse.Namespace(interval=None))
         more = list(sections(runs, shown[0], run))
         wishes = PageWishes(runs.name, "", DETAIL, False, clashes(timings_of(runs), runs), first=more)
         text = report_of([runs], shown, wishes)

@@ -69,7 +69,7 @@ def interval_of(runs: Runs, what: str, second: int | None) -> tuple[int, int]:
     if second is None:
         return runs.busiest() if runs.rows else min(found.items())
     if second not in found:
-        raise Fault(f"--begin {second}: no interval begins there, of {', '.join(map(str, found))}")
+        raise Fault(f"--interval {second}: no interval begins there, of {', '.join(map(str, found))}")
     return second, found[second]
 
 
