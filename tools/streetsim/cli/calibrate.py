@@ -38,7 +38,7 @@ FREE = ("dawdle", "speed", "lost")
 # Words of the import, which go to streetsim-demand too.
 OWN = {
     "net", "additional", "counts", "times", "saturation", "queues", "routes", "validate", "free", "runs", "seeds",
-    "check", "output", "out", "force", "jobs", "rounds", "program",
+    "check_seeds", "output", "out", "force", "jobs", "rounds", "program",
 }
 # All files of its folder.
 WRITTEN = {LAST, "segments.csv", "runs.csv", "report.html", f"{FITTED}.rou.xml", f"{OTHER}.rou.xml"}

@@ -41,7 +41,8 @@ def parser() -> Parser:
         ("greens", "how long the greens of lights that detectors drive lasted, over time"),
         ("arrivals", "departures and arrivals over time"),
     ):
-        one = kinds.add_parser(kind, help=words, description=words, old=OLD.get(kind))
+        one = kinds.add_parser(kind, help=words, description=words)
+        one.old = OLD.get(kind, {})
         often = "?" if kind == "fundamental" else None
         # argparse takes None too, which is its default.
         told = "what streetsim-run wrote"

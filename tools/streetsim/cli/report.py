@@ -31,7 +31,7 @@ from streetsim.report.timing_sheets import Timings, changed, clashes, sheets
 
 ALL = "all"  # --sheets without a value
 # Words that say where a page is and what it is of; plans' names, --names and --counts are sealed beside the words.
-ELSEWHERE = ("runs", "output", "csv", "names", "plans", "sealed", "counts")
+ELSEWHERE = ("runs", "output", "csv", "names", "plan_names", "sealed", "counts")
 DETAIL = 8  # junctions told with all movements
 PICTURE = {"first": 0, "last": 600}  # seconds of the corridor's picture
 

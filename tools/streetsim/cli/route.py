@@ -31,8 +31,8 @@ from streetsim.sumo.trips import connected_trips, read_trips
 
 # Words that the setting keeps.
 KEPT = (
-    "net", "additional", "trips", "anew", "slice", "iterations", "gap", "share", "tried", "rounds", "seeds", "check",
-    "priority", "seen",
+    "net", "additional", "trips", "anew", "slice", "iterations", "gap", "share", "tried", "rounds", "seeds",
+    "check_seeds", "priority", "seen",
 )
 
 
