@@ -490,7 +490,7 @@ class Equilibria(Commands):
         )
         self.assertRegex(said, r"0: mean trip [\d.]+ s, gap [\d.]+ %, \d+ of 720 change, 0 rescues\n")
         setting = json.loads((self.folder / "out/setting.json").read_text())
-        self.assertEqual((setting["arrived"], setting["check"]), (720, "101-103"))
+        self.assertEqual((setting["arrived"], setting["check_seeds"]), (720, "101-103"))
         means = [float(row["mean_trip_s"]) for row in self.table("check.csv")]
         self.assertAlmostEqual(setting["mean_trip_s"], sum(means) / 3, delta=0.01)
         counted = sum(
