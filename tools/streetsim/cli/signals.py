@@ -187,7 +187,7 @@ def changes_and_cycles(words: argparse.Namespace) -> tuple[list[str], range]:
     words name others, and for --cycle where cycles stay or that is no S-S."""
     changed = names_in(words.vary)
     if unknown := [name for name in changed if name not in CHANGES]:
-        raise Fault(f"--change: {unknown[0]!r} is none of {', '.join(CHANGES)}")
+        raise Fault(f"--vary: {unknown[0]!r} is none of {', '.join(CHANGES)}")
     if words.cycle and "cycle" not in changed:
         raise Fault(f"--cycle {words.cycle}: --vary {words.vary} leaves the cycles as they are")
     first, _, last = (words.cycle or CYCLES).partition("-")
