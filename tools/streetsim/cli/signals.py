@@ -251,7 +251,7 @@ def check_cycles(words: argparse.Namespace, town: SignalTown) -> None:
         needed = sum(least for least, _ in light.bounds)
         if words.cycle and needed > cycles[-1] and any(one.low for one in light.constraints):
             told = f"light {name!r}: its phases must last {needed} s together"
-            raise Fault(f"--cycle {words.cycle}: {told} (leave it as it is: --keep {name})")
+            raise Fault(f"--cycle {words.cycle}: {told} (leave it as it is: --fixed {name})")
 
 
 def corridor_of(words: argparse.Namespace, town: SignalTown) -> Corridor | None:
