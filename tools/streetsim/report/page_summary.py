@@ -92,7 +92,8 @@ def state_verdict(runs: Runs, shown: Interval) -> str:
     trip = f"A trip takes {mean_told(runs.mean_trips().values())} s on average"
     first = f"{trip}, and a vehicle's delay at a junction is {mean_told(delays.values())} s."
     if not bad:
-        return f"{first} All {len(rows):,} junctions have level of service D or better."
+        all_ = f"All {len(rows):,} junctions have" if len(rows) != 1 else "The one junction has"
+        return f"{first} {all_} level of service D or better."
     worst = runs.names.junction_told(bad[0].key[0])
     have = f"{'has' if len(bad) == 1 else 'have'} a level of service worse than D, most of all {worst}"
     return f"{first} {count_in_words(len(bad)).capitalize()} of {counted_noun(len(rows), 'junction')} {have}."
