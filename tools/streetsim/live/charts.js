@@ -6,7 +6,7 @@ function drawComparison(canvas, { now, was, watched }) {
     { words: "mean delay so far, s", of: ([, mean]) => mean, digits: 1 }, { words: "arrived", of: ([, , ended]) => ended, digits: 0 },
     ...(watched === null ? [] : [{ words: `standing before ${shortened(junctionText(watched), 24)}`, of: ([, , , queue]) => queue, digits: 0 }]),
   ];
-  fitCanvas(canvas, canvas.parentElement.clientWidth - 4, bands.length * BAND + 14);
+  Object.assign(canvas, { width: canvas.parentElement.clientWidth - 4, height: bands.length * BAND + 14 });
   const pen = canvas.getContext("2d"), own = colours(), wide = canvas.width;
   pen.fillStyle = own.ground; pen.fillRect(0, 0, wide, canvas.height);
   if (now.points.length < 2) return;

@@ -13,16 +13,11 @@ function drawBand(pen, { band, left = 0, top, wide, sides, span, ink, now = Infi
   if (now <= span[1]) pen.fillRect(x(now), top + 18, 1, high);
   sides.forEach(({ colour, dashes, word }, i) => {
     pen.strokeStyle = pen.fillStyle = colour; pen.setLineDash(dashes); pen.lineWidth = 1.5; pen.beginPath();
-    for (const point of thinned(points[i], wide)) pen.lineTo(x(point[0]), y(band.of(point)));
+    const own = points[i], each = Math.ceil(own.length / wide), isDrawn = (_, at) => (own.length - 1 - at) % each === 0;
+    for (const point of own.filter(isDrawn)) pen.lineTo(x(point[0]), y(band.of(point)));
     pen.stroke();
     const last = points[i].findLast(([clock]) => clock <= now), text = last ? `${word} ${band.of(last).toFixed(band.digits)}` : "";
     pen.fillText(text, left + wide - 4 - pen.measureText(text).width - (sides.length - 1 - i) * 110, top + 11);
   });
   pen.setLineDash([]);
-}
-
-// Not more points than there are pixels, the last one among them.
-function thinned(points, most) {
-  const each = Math.ceil(points.length / most);
-  return each > 1 ? points.filter((_, i) => (points.length - 1 - i) % each === 0) : points;
 }
