@@ -334,7 +334,10 @@ class Player(Given):
         """The address that the page has after a zoom opens it there, and the junction of the signal is named."""
         page = self.page()
         zoom = "sides[0].canvas.dispatchEvent(new WheelEvent('wheel', {deltaY: -500, cancelable: true}))"
-        note = "document.body.dataset.told = location.hash; document.body.dataset.names = sides[0].drawJunctions()"
+        note = (
+            "const { dataset } = document.body; dataset.told = location.hash; dataset.names = 0; "
+            "sides[0].scene.pen.strokeText = () => dataset.names++; draw();"
+        )
         script = f"setTimeout(() => {{ {zoom}; setTimeout(() => {{ {note} }}, 1000) }}, 1000)"
         page.write_text(page.read_text().replace("</html>", f"<script>{script}</script></html>"))
         text = self.dom(page, "3,75,0")
