@@ -117,14 +117,16 @@ const setPlan = (name, command) => change(`plan of ${name}`, command, `set: a cy
 async function chooseCar(car) {
   const [reply] = await session.ask({ cmd: "vehicle", car }), name = session.data.cars[session.now.owners[car]] ?? car;
   const where = reply.link === undefined ? "" : ` on ${laneText(links.get(reply.link), reply.lane ?? 0)}`;
+  const state = { cell: reply.speed ? "drives" : "stands", buffer: "is to leave", waiting: "waits to enter" }[reply.state] ?? reply.state;
   const speed = reply.speed === undefined ? "" : `, ${reply.speed * KMH} km/h`;
   const way = (reply.plan ?? []).map(link => streetName(links.get(link)));
   const streets = way.filter((street, i) => street !== way[i - 1]).join(", "), command = { cmd: "takeout", car };
   const takeOut = () => change(`vehicle ${name} taken out`, command, "taken out");
   showChosen(
     `Vehicle ${name}`,
-    element("div", {}, reply.state + where + speed), element("div", {}, streets && `its way: ${streets}`),
-    button("Follow it", async () => { followed = car; }), button("Take it out", takeOut));
+    element("div", {}, state + where + speed), element("div", {}, streets && `its way: ${streets}`),
+    element("button", { textContent: "Follow it", onclick: () => { followed = car; } }),
+    element("button", { textContent: "Take it out", onclick: () => guarded(takeOut) }));
 }
 
 function chooseStretch(what) {

@@ -3,8 +3,6 @@
 const KMH = 27; // of a cell in a second
 const links = new Map(), junctions = new Map(); // by number
 
-const button = (text, act) => element("button", { textContent: text, onclick: () => guarded(act) });
-
 // A copy of a template of the page, and its parts by their ids.
 function fromTemplate(id) {
   const made = at(id).content.firstElementChild.cloneNode(true);

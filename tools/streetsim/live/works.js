@@ -39,7 +39,7 @@ async function closeOrOpen(cmd, what, from, until) {
   if (begin >= end) throw new Error("works end behind their begin");
   if (last !== null && last <= Math.max(first, session.clock)) throw new Error("works end behind their begin, and after now");
   const place = `${wayText(link)}, ${begin} to ${end} m, ${lanes.length === link.lanes ? "all lanes" : lanes.map(lane => link.words[lane]).join(" and ")}`;
-  const turns = cmd === "close" && link.lanes === 2 && lanes.length === 1 ? "; before them the lanes take turns" : "";
+  const turns = cmd === "close" && link.lanes === 2 && lanes.length === 1 ? "; before the works the lanes take turns" : "";
   const when = first > session.clock ? ` at ${clockText(first)}` : "", back = last === null ? "" : ` until ${clockText(last)}`;
   const text = `${cmd === "close" ? "works" : "reopened"}: ${place}${when}${back}`;
   const asked = { cmd, link: link.number, lanes, begin, end, from: first, until: last, text };

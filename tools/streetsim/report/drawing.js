@@ -76,9 +76,9 @@ const placeOfCar = ([link, lane, rear, front]) => placeOnLane(link, lane, (rear 
 function legendOf({ speeds, closed, red, green }) {
   const vehicles = SPEED_WORDS.map((word, i) => [word, speeds[i], 9 * SPEED_WIDTHS[i]]);
   const keys = [...vehicles, ["closed", closed, 9], ["red light", red, 4], ["green light", green, 4, "gaps"]];
-  return keys.flatMap(([word, colour, high, more = ""]) => [
-    element("i", { className: `key ${more}`, style: `height:${high}px;--key:${colour}` }), word,
-  ]);
+  const styled = (colour, high) => `height:${high}px;--key:${colour}`;
+  return keys.map(([word, colour, high, more = ""]) =>
+    element("span", {}, element("i", { className: `key ${more}`, style: styled(colour, high) }), word));
 }
 
 // Links on a canvas, seen from a place at a scale (pixels a metre).
