@@ -17,7 +17,13 @@ class RunClient(Client):
         self.program, self.process = program, program.process
         self.ended: tuple[int, str] | None = None
         self.changes: list[bytes] = []
-        self.later: list[bytes] = []  # lines of the run's lights that are sent ahead of the next ones
+        self.later: list[bytes] = []  # what send_soon has taken and is still to be sent
+
+    def send_soon(self, lines: Iterable[bytes]) -> None:
+        """Sends lines ahead of the next ones, or before the next step."""
+        more = list(lines)
+        self.later += more
+        self.changes += more
 
     def exchange(self, lines: Iterable[bytes]) -> Iterator[bytes]:
         """As Client does. ValueError for steps; what a refusal of a line of `later` is, where one is refused."""
@@ -25,7 +31,7 @@ class RunClient(Client):
         if any(line.startswith(ADVANCE) for line in sent):
             raise ValueError("the steps of a run are made by simulationStep")
         ahead, self.later = self.later, []
-        self.changes += [*ahead, *(line for line in sent if not line.startswith(ASKING))]
+        self.changes += [line for line in sent if not line.startswith(ASKING)]
         replies = Program.ask(self.program, [*ahead, *sent])
         for reply in replies[: len(ahead)]:
             if b'"error"' in reply or b'"starved"' in reply:

@@ -30,7 +30,7 @@ class ScriptKernel(Kernel):
 
     def send_soon(self, lines: Sequence[Line]) -> None:
         """Sends lines of a controller's own before the next step, or ahead of the next line that is sent."""
-        self.program.client.later += [line.text.encode() + b"\n" for line in lines]
+        self.program.client.send_soon(line.text.encode() + b"\n" for line in lines)
         self.sent += [KernelSent(self.clock, line, False) for line in lines]
 
     def refusal(self, line: Line, reply: bytes) -> Exception:

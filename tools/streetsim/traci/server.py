@@ -17,7 +17,7 @@ from streetsim.traci.subscribing import CONTEXT_OF, SUBSCRIBE_OF, Subscriptions
 
 HOST = "127.0.0.1"
 MOST_TOLD = 1 << 27  # bytes of the answer to one message, at most
-MOST_KNOWN = 1 << 16  # messages whose meaning is kept
+MOST_KNOWN, SHORT = 1 << 16, 256  # messages whose meaning is kept; bytes of one, at most
 LAST_CLOCK = limits.CLOCK  # to which a client may step
 WAIT = 3.0  # seconds for a client of a run that could not begin
 LAST = 1 << 30  # the place in the order of a client that told none
@@ -218,7 +218,7 @@ class Server:
     def learn(self, data: bytes, client: TraciClient) -> None:
         """Keeps what a message asks for by its bytes (data), where these are of it alone, and it has one command that
         tells or changes something, whose words nobody changes."""
-        if client.left or len(client.rest) != 1 or len(data) != INT.size + len(client.message):
+        if client.left or len(client.rest) != 1 or len(data) != INT.size + len(client.message) or len(data) > SHORT:
             return
         (at, end), = client.rest
         code = client.message[at]
