@@ -133,7 +133,8 @@ def refuse_crowded(text: str, size: int = 0) -> None:
 
 def lines_of(file: IO[str], most: int = LONGEST) -> Iterator[str]:
     """The lines of a file; TooMuch for one of more than so many letters."""
-    while line := file.readline(-1 if lifted() else most + 1):
-        if len(line) > most and not lifted():
+    limit = -1 if lifted() else most + 1
+    while line := file.readline(limit):
+        if limit == len(line):
             raise TooMuch(f"has a line of more than {most:,} letters")
         yield line
