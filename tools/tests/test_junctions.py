@@ -135,10 +135,9 @@ class Definitions(unittest.TestCase):
 
     def test_letters(self):
         """Exhibits 18-4 and 19-1 of the Highway Capacity Manual 2010: a bound belongs to the better letter."""
-        at = {SIGNALS: {10: "A", 10.1: "B", 20: "B", 35: "C", 55: "D", 80: "E", 80.1: "F"}}
-        at[PRIORITY] = {10: "A", 15: "B", 15.1: "C", 25: "C", 35: "D", 50: "E", 51: "F"}
-        for control, letters in at.items():
-            self.assertEqual({delay: level(delay, control) for delay in letters}, letters)
+        for control, bounds in ((SIGNALS, (10, 20, 35, 55, 80)), (PRIORITY, (10, 15, 25, 35, 50))):
+            for better, worse, bound in zip("ABCDE", "BCDEF", bounds):
+                self.assertEqual((level(bound, control), level(bound + 0.1, control)), (better, worse))
         self.assertEqual((level(5.0, SIGNALS, 1.01), level(5.0, SIGNALS, 1.0)), ("F", "A"))
 
     def test_percentiles(self):
