@@ -6,10 +6,12 @@ test at work to coverage, and by the environment to all processes that the test 
 
 import json
 import os
+import re
 import shutil
 import signal
 import subprocess
 import sys
+import tempfile
 import time
 from concurrent.futures import ThreadPoolExecutor
 
@@ -67,20 +69,25 @@ def copy_of(top):
 
 
 def tested(top, names, most, more=None):
-    """Whether tests pass in a copy at `top`; those that take more than `most` seconds do not."""
+    """What fails of some tests in a copy at `top`: the first one's name, or those that were run where none is told, as
+    they took more than `most` seconds; nothing where all pass."""
     words = [sys.executable, "-W", "ignore", "-m", "unittest", *(() if more else ("-f",)), *names]
     env = {**os.environ, "STREETSIM_PROGRAM": str(shared.PROGRAM), "PYTHONDONTWRITEBYTECODE": "1", **(more or {})}
-    quiet = {"stdin": subprocess.DEVNULL, "stdout": subprocess.DEVNULL, "stderr": subprocess.DEVNULL}
-    with subprocess.Popen(words, cwd=top / "tools/tests", env=env, start_new_session=True, **quiet) as process:
-        try:
-            return process.wait(most) == 0
-        except subprocess.TimeoutExpired:
-            return False
-        finally:
-            try:  # also what the tests left behind
-                os.killpg(process.pid, signal.SIGKILL)
-            except ProcessLookupError:
-                pass
+    with tempfile.TemporaryFile("w+") as told:
+        streams = {"stdin": subprocess.DEVNULL, "stdout": subprocess.DEVNULL, "stderr": told}
+        with subprocess.Popen(words, cwd=top / "tools/tests", env=env, start_new_session=True, **streams) as process:
+            try:
+                status = process.wait(most)
+            except subprocess.TimeoutExpired:
+                status = None
+            finally:
+                try:  # also what the tests left behind
+                    os.killpg(process.pid, signal.SIGKILL)
+                except ProcessLookupError:
+                    pass
+        told.seek(0)
+        found = re.search(r"^(?:FAIL|ERROR): \S+ \((\S+)\)", told.read(), re.MULTILINE)
+    return () if status == 0 else (found[1],) if found and found[1].count(".") == 2 else tuple(names)
 
 
 def noted(top, module, most):

@@ -296,6 +296,20 @@ class ByHand(unittest.TestCase):
             found = self.crossings([*enumerate(frames, 1)], [[1, 2, 0], [0, 2, 0, 1, 2]], mapping, interval)
             self.assertEqual(found, [(("e", "g"), 3), (("e", "g"), 7)])
 
+    def test_an_edge_before_the_approach_counts(self):
+        """Edge e continues f alone. Who goes along both at full speed, 5 seconds each and one across, loses nothing but
+        parts of a second; who stands for 4 s on f loses these, and what a stop costs."""
+        mapping, found = street(f=(0, 1), e=(1, 2), g=(2, 3), also={"signals": [["L", 2]]}), []
+        for wait in (0, 4):
+            way = [[[0, 0, [[0, cell, 2]], []]] for cell in (1, 3, 5, 7, 9)] + wait * [[[0, 0, [[0, 9, 0]], []]]]
+            way += [[[0, 0, [], [0]]], *([[1, 0, [[0, cell, 2]], []]] for cell in (1, 3, 5, 7, 9)), [[1, 0, [], [0]]]]
+            seen = passages_of([*enumerate([*way, [[2, 0, [[0, 1, 2]], []]]], 1)], [[0, 1, 2]], mapping)
+            movements = Movements(seen)
+            [(_, done)] = seen.done(900, {})
+            found += Crossings(PlanPlaces(movements, seen.kernel.plans), done).delay.tolist()
+        self.assertAlmostEqual(found[0], 0, delta=1)
+        self.assertAlmostEqual(found[1] - found[0], 4 + STOP_LOSS[0])
+
     def test_a_stop_of_its_own_is_no_delay(self):
         """The first vehicle stands for 3 s at a bus stop, 2 of them with open doors: it loses 2 s of its 4, has not
         stopped for the junction, and stood nowhere else."""

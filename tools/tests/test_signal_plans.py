@@ -103,6 +103,11 @@ class Bounds(unittest.TestCase):
         self.assertEqual(rounded_durations([10.4, 10.4, 10.4]), (10, 11, 10))
 
 
+    def test_an_offset_stays_within_the_cycle(self):
+        timing = PlannedTiming(10, (30, 20))
+        self.assertEqual([timing.shifted(by).offset for by in (0, 39, 40, 45, -10, -20)], [10, 49, 0, 5, 0, 40])
+
+
 class Formulas(unittest.TestCase):
     def test_webster(self):
         # Webster 1958: (1.5 L + 5) / (1 - Y), for 10 s lost and Y = 0.75.
