@@ -23,9 +23,11 @@ TEXTS = """
 const found = [];
 for (const one of document.querySelectorAll("body *")) {
   const own = [...one.childNodes].filter(node => node.nodeType === 3).map(node => node.data.trim()).join("");
-  if (!own || one.closest("option, script, style, title") || !one.checkVisibility({ visibilityProperty: true })) continue;
+  if (!own || one.closest("option, script, style, title")) continue;
+  if (!one.checkVisibility({ visibilityProperty: true })) continue;
   const style = getComputedStyle(one), behind = [], drawn = one instanceof SVGElement;
-  if (drawn && one.previousElementSibling?.tagName === "circle") behind.push(getComputedStyle(one.previousElementSibling).fill);
+  const below = one.previousElementSibling;
+  if (drawn && below?.tagName === "circle") behind.push(getComputedStyle(below).fill);
   for (let at = one; at; at = at.parentElement) behind.push(getComputedStyle(at).backgroundColor);
   found.push([own, drawn ? style.fill : style.color, behind, parseFloat(style.fontSize), +style.fontWeight]);
 }
@@ -183,14 +185,16 @@ class Seen(PageCase, test_forged.Page):
                 told = self.told(browser)
                 if name == "player":
                     buttons = [("button", one) for one in ("Play", "nearer", "farther", "Copy link")]
-                    more = [("combobox", "Speed"), ("slider", "time"), ("checkbox", "junctions"), ("checkbox", "charts")]
+                    more = [("combobox", "Speed"), ("slider", "time")]
+                    more += [("checkbox", one) for one in ("junctions", "charts")]
                     pictures = ("streets and vehicles of zero", "streets and vehicles of other")
                     more += [("image", one) for one in (*pictures, "vehicles, standing and arrived over time")]
                     self.assertEqual(sorted(told), sorted([*buttons, *more]))
                 if name == "live":
                     wanted = {("button", "Play"), ("combobox", "Steps a second"), ("textbox", "Back to")}
                     self.assertLessEqual(wanted | {("image", "the network"), ("button", "Set the plan")}, {*told})
-                    browser.execute_script("choose(stretchOf({ link: session.data.links[0], lane: 0, metres: 30 }, 20, 40))")
+                    place = "{ link: session.data.links[0], lane: 0, metres: 30 }"
+                    browser.execute_script(f"choose(stretchOf({place}, 20, 40))")
                     wanted = {("textbox", "closed from"), ("spinbutton", "from metre"), ("button", "Close")}
                     self.assertLessEqual(wanted, {*self.told(browser)})
                 if name == "report":

@@ -126,7 +126,7 @@ class Counts(Given):
             self.assertIn(said, self.tool("report", run, *words, "-o", self.folder / "x.html", status=2)[1])
 
     def test_points_of_the_scatter(self):
-        """A count that fits and one that does not have other colours and shapes; the axis goes to 1.08 of the greatest."""
+        """A count that fits and one that does not have other colours and shapes; the axis goes to 1.08 of the most."""
         shutil.rmtree(self.folder / "after")
         counts = [Count(0, 3600, ("a",), 100, "x"), Count(0, 3600, ("b",), 100, "x")]
         runs = read_runs(str(self.folder / "before"))

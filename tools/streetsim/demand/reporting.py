@@ -98,5 +98,8 @@ def scatter(fit: JudgedCounts) -> str:
 def differences_map(fit: JudgedCounts, mapping: Map) -> str:
     """A map of how many vehicles an hour more or fewer passed than were counted, of an edge, else of its turns
     together, as HTML."""
-    told = "Vehicles an hour more (red) or fewer (blue, broken) in the run than counted; dark grey: as many; light: not counted"
+    told = (
+        "Vehicles an hour more (red) or fewer (blue, broken) in the run than counted; dark grey: as many; light: not "
+        "counted"
+    )
     return f"<figure>{difference_map(mapping, differences_of(fit.hourly))}<figcaption>{told}</figcaption></figure>"

@@ -66,8 +66,9 @@ def placing_and_height(mapping: Map) -> tuple[Callable[..., str], float]:
 
 
 def difference_map(mapping: Map, values: Mapping[str, float]) -> str:
-    """The streets, as SVG; edges with a value red above 0 and blue and broken below, but dark grey within 0.5 of it, wider where
-    it is farther from 0; others thin and light grey. values: by edge, shown in whole numbers without a unit."""
+    """The streets, as SVG; edges with a value red above 0 and blue and broken below, but dark grey within 0.5 of it,
+    wider where it is farther from 0; others thin and light grey. values: by edge, shown in whole numbers without a
+    unit."""
     at, tall = placing_and_height(mapping)
     most = max([1.0, *(abs(value) for value in values.values())])
     parts = [f'<svg class="map" viewBox="0 0 {WIDE} {tall:.0f}" role="img" aria-label="Map of differences">']
