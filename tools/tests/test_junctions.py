@@ -21,7 +21,7 @@ from streetsim.observe.junction_capacity import usual_flow
 from streetsim.observe.junction_facing import junctions_with_facing_streets
 from streetsim.observe.junction_layout import Approach, Greens, approaches_of, movements_that_stop, turn_name
 from streetsim.observe.junction_measures import Losses, stop_loss, weighted_mean_losses
-from streetsim.observe.junction_rows import JunctionTables
+from streetsim.observe.junction_rows import JunctionTables, queue_columns, queue_figures
 from streetsim.observe.passages import Passages
 from streetsim.observe.shown import ShownPlans
 
@@ -139,6 +139,13 @@ class Definitions(unittest.TestCase):
             for better, worse, bound in zip("ABCDE", "BCDEF", bounds):
                 self.assertEqual((level(bound, control), level(bound + 0.1, control)), (better, worse))
         self.assertEqual((level(5.0, SIGNALS, 1.01), level(5.0, SIGNALS, 1.0)), ("F", "A"))
+
+    def test_the_lane_of_a_row(self):
+        """That of the greatest 95 % value, of equal ones that of the greatest queue; nothing of no lane."""
+        lanes = (10.0, 20.0, 5.0), (10.0, 25.0, 1.0), (9.0, 40.0, 9.0)
+        self.assertEqual(queue_columns(lanes, 75.0), ("1.0", "10.0", "25.0", "75.0"))
+        self.assertEqual(queue_columns([], 75.0), ("0.0", "0.0", "0.0", "75.0"))
+        self.assertEqual((queue_figures([]), queue_figures([0.0, 4.0])), ((0.0,) * 3, (3.8, 4.0, 2.0)))
 
     def test_percentiles(self):
         self.assertEqual([percentile([4, 1, 3, 2, 5], share) for share in (0, 0.5, 0.95, 1)], [1, 3, 4.8, 5])
