@@ -1,11 +1,13 @@
 """Vehicles that leave in each green of a lone cross, beside SUMO 1.15 on the same demand; who gives way to whom."""
 import unittest
+from types import SimpleNamespace
 
 from crosses import LAST, a_green, cases, demand
 from support import DATA, PROGRAM, Case, lane, needs_simulator, net
 from streetsim.base.report import Report
 from streetsim.model.folder import read_folder
 from streetsim.report.beside_sumo import trip_times_of
+from streetsim.sumo.across import may_turn_on_red
 from streetsim.sumo.crossing import CrossingMovement, set_heads, set_lane, wait_together
 from streetsim.sumo.gaps import gap_capacity, gap_wait, until_first
 from streetsim.sumo.greens import green_here, hidden_middle, hidden_start, leaving, passing_here
@@ -84,6 +86,13 @@ class Formulas(unittest.TestCase):
         self.assertEqual([request_of(name) for name in ("", "x", ":c_1")], [None, None, None])
         # Lanes of crossings and of places to walk have no request of vehicles.
         self.assertEqual([request_of(name) for name in (":c_c0_0", ":c_w1_0")], [None, None])
+
+    def test_who_turns_on_red(self):
+        """The connection whose letter is SUMO's s in some phase: goes after a stop."""
+        net_ = SumoNet(programs={"L": SimpleNamespace(phases=[(30, "Grs"), (30, "rGr")])})
+        found = [may_turn_on_red(NetConnection("a", "b", 0, 0, "L", at, "m"), net_) for at in range(3)]
+        self.assertEqual(found, [False, False, True])
+        self.assertFalse(may_turn_on_red(NetConnection("a", "b", 0, 0, None, 2, "m"), net_))
 
     def test_who_turns_into_one_street_waits_inside(self):
         """At a cross the left turn from the south and the right turn from the north lead to the west; in SUMO one waits
