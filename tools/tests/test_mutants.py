@@ -54,6 +54,7 @@ class Noticed(unittest.TestCase):
             tops = [Path(folder) / str(at) for at in range(AT_ONCE)]
             for top in tops:
                 shutil.copytree(TOOLS, top / "tools", ignore=shutil.ignore_patterns("__pycache__", "*.pyc"))
+                shutil.copy(TOOLS.parent / "SECURITY.md", top)  # which a test of limits reads
             self.assertEqual(failing(tops[0] / "tools", *sorted({test for *_, test in LIST}), longest=ALL), "")
 
             def lived(at):
