@@ -326,6 +326,11 @@ class ByHand(unittest.TestCase):
         stops = {0: [Dwell(1, 4, 6, 3), Dwell(0, 90, 96, 6)]}
         [(_, elsewhere)] = passages_of(FRAMES, self.plans).done(900, stops)
         self.assertEqual(elsewhere["dwell"].tolist(), [0, 0, 0])
+        # Who stops at the bus stop and then in a queue has stopped once for the junction.
+        speeds = enumerate((2, 0, 0, 1, 0, 0), 1)
+        frames = [*((clock, [[0, 0, [[0, 5, speed]], []]]) for clock, speed in speeds), (7, [[0, 0, [], [0]]])]
+        [(_, both)] = passages_of(frames, [[0, 1]]).done(900, {0: [Dwell(0, 2, 2, 2)]})
+        self.assertEqual((self.passage(frames)[0], both["stops"].tolist()), (2, [1]))
 
     def passage(self, frames):
         """(stops, seconds of standing) of the only passage."""
