@@ -26,8 +26,7 @@ function junctionAt(point, { scale }) {
 }
 
 // The streets that lead to a junction, each with its links.
-const linksTo = node => session.data.links.filter(({ end }) => end === node);
-const approaches = node => [...groupsOf(linksTo(node), ({ name }) => name).values()];
+const approaches = node => [...groupsOf(session.data.links.filter(one => one.end === node), one => one.name).values()];
 
 // The lane that is nearest to a place, and how far along: {link, lane, metres}.
 function laneAt(point, scene) {

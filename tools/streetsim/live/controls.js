@@ -123,7 +123,7 @@ class Pointers {
 }
 
 async function setOffset(command) {
-  const name = junctionText(command.node);
+  const name = junctions.get(command.node).name;
   if (chosen?.node !== command.node) choose({ node: command.node });
   await setPlan(name, command);
   choose(chosen); showWave();

@@ -23,7 +23,7 @@ class Wave {
   // A junction more on the path.
   pick(node) {
     const last = this.nodes.at(-1), way = last === undefined ? [] : wayBetween(last, node, session.data.links);
-    if (last !== undefined && !way.length) throw new Error(`no way leads from ${junctionText(last)} to ${junctionText(node)}`);
+    if (last !== undefined && !way.length) throw new Error(`no way leads from ${junctions.get(last).name} to ${junctions.get(node).name}`);
     this.nodes.push(node);
     for (const link of way) {
       const from = this.path.at(-1)?.to ?? 0;
@@ -41,8 +41,7 @@ class Wave {
       const part = parts.get(link.name), points = this.lines.get(car) ?? [];
       if (part) this.lines.set(car, [...points, [clock, part.from + (front + 1) / link.cells * part.link.metres]]);
     }
-    for (const [car, points] of this.lines) this.lines.set(car, points.filter(([at]) => at >= clock - PAST));
-    for (const [car, points] of this.lines) if (!points.length) this.lines.delete(car);
+    for (const [car, points] of this.lines) if (points.at(-1)[0] < clock - PAST) this.lines.delete(car);
   }
 
   // The lights of the path: where each stands, and whether it lets the path through at a clock.
@@ -111,7 +110,7 @@ class Wave {
   drawVehicles(pen) {
     pen.strokeStyle = colours().now; pen.lineWidth = 1; pen.beginPath();
     for (const points of this.lines.values()) points.forEach(([clock, metres], i) => {
-      const isNext = i && clock - points[i - 1][0] <= 2 && metres >= points[i - 1][1];
+      const isNext = i && this.x(clock) > WAVE_LEFT && clock - points[i - 1][0] <= 2 && metres >= points[i - 1][1];
       if (isNext) pen.lineTo(this.x(clock), this.y(metres)); else pen.moveTo(this.x(clock), this.y(metres));
     });
     pen.stroke();

@@ -5,8 +5,8 @@ const SPEED_WIDTHS = [1.3, 1, .7]; // of vehicles, so that who sees no colours t
 const LANE_METRES = 3.2;
 // What a picture is drawn with; a page may have others.
 const LIGHT = {
-  ground: "#fff", street: "#ccc", mark: "#fff", ink: "#222", label: "#ffffe0", closed: "#000", green: "#1a9641",
-  red: "#d7191c", speeds: SPEED_COLOURS,
+  ground: "#fff", street: "#ccc", mark: "#fff", ink: "#222", label: "#ffffe0", closed: "#000", green: "#0a8f6a",
+  red: "#b3001b", speeds: SPEED_COLOURS, was: "#8a6d00", now: "#0055b8",
 };
 const MOVES = { ArrowLeft: [60, 0], ArrowRight: [-60, 0], ArrowUp: [0, 60], ArrowDown: [0, -60] }; // pixels
 const FARTHEST_HOP = 60; // metres between two places of a vehicle that it is drawn between

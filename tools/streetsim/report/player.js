@@ -7,6 +7,7 @@ class Side {
   constructor(run, place) {
     this.run = run;
     const name = element("div", { className: "name", textContent: run.name, hidden: place === null });
+    name.style.borderBottom = place ? `3px solid ${LIGHT.now}` : `3px dashed ${LIGHT.was}`; // as its lines in the charts
     this.canvas = element("canvas", { tabIndex: 0, role: "img", ariaLabel: `streets and vehicles of ${run.name}` });
     at("sides").append(element("div", { className: "side" }, this.canvas, name));
     this.scene = new Scene(this.canvas, run.links);
@@ -63,12 +64,12 @@ class Side {
 
 // What charts show of each run, and how its line is drawn.
 const BANDS = ["vehicles", "standing", "arrived"].map((words, i) => ({ words, of: point => point[i + 1], digits: 0 }));
-const LINES = [{ colour: "#0055b8", dashes: [] }, { colour: "#8a6d00", dashes: [5, 3] }];
+const LINES = [{ colour: LIGHT.was, dashes: [5, 3] }, { colour: LIGHT.now, dashes: [] }]; // the last one alone of one run
 
 // The charts beside one another below the sides.
 function drawCharts(now) {
   const { width, height } = at("chart"), pen = at("chart").getContext("2d"), wide = width / BANDS.length;
-  const own = sides.map(({ run }, i) => ({ ...LINES[i], points: run.chart, word: sides.length > 1 ? run.name : "" })), span = [clocks[0], clocks.at(-1)];
+  const own = sides.map(({ run }, i) => ({ ...LINES.at(i - sides.length), points: run.chart, word: sides.length > 1 ? run.name : "" })), span = [clocks[0], clocks.at(-1)];
   pen.fillStyle = "#fff"; pen.fillRect(0, 0, width, height);
   BANDS.forEach((band, i) => drawBand(pen, { band, left: i * wide, top: 2, wide, sides: own, span, ink: "#222", now }));
 }
