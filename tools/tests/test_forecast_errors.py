@@ -18,7 +18,11 @@ class Errors(unittest.TestCase):
         [line] = error_lines()
         for one in ERRORS:
             self.assertIn(f"{one.kind} {100 * one.uncalibrated:.0f} % ({100 * one.calibrated:.0f} %)", line)
-        self.assertEqual(len(re.findall("<tr>", errors_table())), len(ERRORS) + 1)
+        rows = [re.findall("<t[hd][^>]*>([^<]*)", row) for row in errors_table().split("<tr>")[1:]]
+        for place, one in enumerate(ERRORS, 1):
+            head, *cells = (row[place] for row in rows)
+            self.assertEqual(head, f"{one.kind} ({one.streets})")
+            self.assertEqual(cells, [f"{100 * one.uncalibrated:.0f} %", f"{100 * one.calibrated:.0f} %"])
 
 
 if __name__ == "__main__":

@@ -82,6 +82,7 @@ class Tables(Studies):
             r"given: mean trip [\d.]+ s\nwave: mean trip [\d.]+ s, [-+][\d.]+ s ± [\d.]+ \(95 % interval of "
             r"dawdling alone, 4 paired runs\); the wanted",
         )
+        self.assertIn("so nothing is sure of another day\nbeside chance, forecasts were off by", told)
         if find_spec("matplotlib"):
             self.assertTrue((self.folder / "out/differences.png").exists())
 
