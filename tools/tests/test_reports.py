@@ -58,16 +58,16 @@ class Numbers(unittest.TestCase):
     def test_paired_differences(self):
         """Changes of -2, -4 and -3 s: mean -3, deviation 1, quantile of two degrees of freedom 4.303."""
         values = {1: 10.0, 2: 12.0, 3: 11.0, 9: 99.0}, {1: 8.0, 2: 8.0, 3: 8.0}
-        one = difference_of(*values, False)
+        one = difference_of(*values, drawn=False)
         self.assertEqual((one.before, one.after, one.change), (11.0, 8.0, -3.0))
         self.assertAlmostEqual(one.half, 4.303 / 3**0.5)
         self.assertTrue(one.stands_out())
         # Of a day: t s sqrt(1 + 1/n), within which is 0.
-        day = difference_of(*values, True)
+        day = difference_of(*values, drawn=True)
         self.assertEqual((day.change, day.of_days, day.stands_out()), (-3.0, True, False))
         self.assertAlmostEqual(day.half, 4.303 * (4 / 3) ** 0.5)
-        self.assertEqual(difference_of({1: 1.0}, {1: 3.0}, False).told(), "+2.0")
-        self.assertIsNone(difference_of({1: 1.0}, {2: 1.0}, True))
+        self.assertEqual(difference_of({1: 1.0}, {1: 3.0}, drawn=False).told(), "+2.0")
+        self.assertIsNone(difference_of({1: 1.0}, {2: 1.0}, drawn=True))
 
     def test_who_arrives_with_one_plan_alone_is_told(self):
         # Where no trip arrived with both plans, too.

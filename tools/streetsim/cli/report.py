@@ -146,7 +146,8 @@ def read_plans(words: argparse.Namespace) -> list[Runs]:
         runs.name = name
     if len({runs.is_drawn for runs in plans}) > 1:
         listed, drawn = sorted((runs.is_drawn, runs.name) for runs in plans)
-        raise Fault(f"departures of {listed[1]!r} are as listed, those of {drawn[1]!r} drawn: other vehicles drive there")
+        told = f"departures of {listed[1]!r} are as listed, those of {drawn[1]!r} drawn"
+        raise Fault(f"{told}: other vehicles drive there")
     for runs in plans if words.names else ():
         read_own(words.names, runs.first.mapping)
     return plans

@@ -32,9 +32,11 @@ ERRORS: tuple[ForecastError, ...] = (
 
 def errors_told() -> str:
     """What a page of a forecast says of the model's own error, as HTML."""
-    said = "Beside chance the model has an error of its own: by so much of the true change such forecasts were off, on so"
-    told = f"{said} many streets of SUMO's drivers (a lane removed: with its lefts surveyed). Measured in {PAGE}, {CHAPTER}."
-    return f'<p class="small">{escape(told)}</p>{errors_table()}'
+    said = (
+        "Beside chance the model has an error of its own: by so much of the true change such forecasts were off, on so "
+        f"many streets of SUMO's drivers (a lane removed: with its lefts surveyed). Measured in {PAGE}, {CHAPTER}."
+    )
+    return f'<p class="small">{escape(said)}</p>{errors_table()}'
 
 
 def errors_table() -> str:

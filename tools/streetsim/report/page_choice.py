@@ -55,6 +55,6 @@ def ranked_changes(after: Rows, before: Rows | None, drawn: bool) -> list[RowCha
     for key, row in after.items():
         first = before.get(key) if before is not None else None
         delays = [values_by_seed(one, "control_delay_s") for one in (first, row) if one]
-        change = difference_of(*delays, drawn) if first else None
+        change = difference_of(*delays, drawn=drawn) if first else None
         found.append(RowChange(key, row, first, change))
     return sorted(found, key=lambda one: (not (one.changes_noticeably or one.is_bad), -one.weight, one.key))

@@ -61,8 +61,8 @@ def full_lanes(runs: Runs, name: str) -> str:
 
 def movement_changes(rows: Sequence[RowChange], names: Names, drawn: bool) -> str:
     """A table of the movements with both plans that change noticeably or are worse than D, as HTML, at most 25; a
-    sentence where there are none. rows: movements as ranked_rows of council gives them, whose order stays; drawn: whether
-    departures were."""
+    sentence where there are none. rows: movements as ranked_rows of council gives them, whose order stays; drawn:
+    whether departures were."""
     those = [one for one in rows if one.change and one.before and (one.changes_noticeably or one.is_bad)]
     made = []
     for one in those[:MOST_MOVEMENTS]:

@@ -89,8 +89,8 @@ def doubts_of(runs: Runs) -> list[str]:
 def change_verdict(plans: Sequence[Runs], shown: Interval) -> str:
     """What the second of two plans changes for trips and delays, as plain text."""
     drawn = are_drawn(plans)
-    trip = difference_of(*(runs.mean_trips() for runs in plans), drawn)
-    delay = difference_of(*(mean_delays(runs.rows["junctions", *shown].values()) for runs in plans), drawn)
+    trip = difference_of(*(runs.mean_trips() for runs in plans), drawn=drawn)
+    delay = difference_of(*(mean_delays(runs.rows["junctions", *shown].values()) for runs in plans), drawn=drawn)
     first, name = "Nothing can be said of trips, as nobody arrived.", plans[1].name
     if trip:
         means = f"{trip.after:.1f} s on average, and {trip.before:.1f} s with '{plans[0].name}'"
@@ -192,7 +192,7 @@ def class_row(sides: Sequence[Mapping[int, Means]], drawn: bool) -> list[str]:
         if len(sides) == 1:
             cells.append(mean_told(values[0].values(), drawn))
             continue
-        one = difference_of(*values, drawn)
+        one = difference_of(*values, drawn=drawn)
         cells += [f"{one.before:.1f}", f"{one.after:.1f}", change_told(one)] if one else ["-", "-", "-"]
     return cells
 

@@ -192,5 +192,5 @@ def flow_changes(plans: Sequence[Runs], shown: tuple[int, int]) -> dict[str, Pla
                 flows[edge][seed] = one.flow
         sides.append(flows)
     drawn = all(runs.is_drawn for runs in plans)
-    both = {edge: difference_of(sides[0][edge], own, drawn) for edge, own in sides[1].items() if edge in sides[0]}
+    both = {edge: difference_of(sides[0][edge], own, drawn=drawn) for edge, own in sides[1].items() if edge in sides[0]}
     return {edge: change for edge, change in both.items() if change}

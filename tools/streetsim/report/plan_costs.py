@@ -42,7 +42,7 @@ def costs_of(before: Runs, after: Runs) -> PlanCosts:
                 sides[seed] = fmean(values[name] for name in names)
     found.changes.sort()
     drawn = before.is_drawn and after.is_drawn
-    differences = {group: difference_of(*sides, drawn) for group, sides in sums.items()}
+    differences = {group: difference_of(*sides, drawn=drawn) for group, sides in sums.items()}
     found.groups = {group: (counts[group], one) for group, one in differences.items() if one}
     return found
 

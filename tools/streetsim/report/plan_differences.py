@@ -27,7 +27,7 @@ class PlanDifference:
         return self.half is not None and abs(self.change) > self.half
 
 
-def difference_of(before: Mapping[int, float], after: Mapping[int, float], drawn: bool) -> PlanDifference | None:
+def difference_of(before: Mapping[int, float], after: Mapping[int, float], *, drawn: bool) -> PlanDifference | None:
     """The difference of values, {seed: value}, over the seeds that both have; None where there are none. drawn:
     whether the departures were, by each seed, so that the interval is of a day."""
     seeds = sorted(before.keys() & after.keys())
