@@ -149,11 +149,23 @@ class CompareTimes(Case):
         other = self.write("other.csv", "segment,time,mean,sd,n\nwc>ce,0,1,1,30\nwc>cn,0,1,1,30\n")
         told, _ = self.tool("compare", out, "--times", other, status=1)
         self.assertIn("segments: 0 % of 2", told)
+        self.sumos_own_formats(run, mapping)
         none = self.write("none.csv", "segment,time,mean,sd,n\nwc>cw,0,1,1,30\n")
         _, said = self.tool("compare", out, "--times", none, status=2)
         self.assertIn("no way and period is common to the run and the times", said)
         _, said = self.tool("compare", out, "--times", none, "--counts", none, status=2)
         self.assertIn("--sumo, --counts and --times are comparisons of their own: one at a time", said)
+
+    def sumos_own_formats(self, run, mapping):
+        """Of a run, with departures as listed and drawn: its trips and edges in SUMO's formats are those of its tables."""
+        for name, *drawn in (("listed",), ("drawn", "--departures", "drawn")):
+            out = self.folder / name
+            words = ["--until", 1200, "--sumo-output", "tripinfo,edgedata", "--out", out, "--program", PROGRAM, *drawn]
+            self.tool("run", run, "--map", mapping, *words)
+            told, _ = self.tool("compare", out, "--times", out / "sumo/tripinfo.xml")
+            self.assertIn("trips: 100 % of 4 within 15 % or a minute (held by 85 %), off by 0.0 % (rms)", told)
+            told, _ = self.tool("compare", out, "--times", out / "sumo/edgedata.xml")
+            self.assertRegex(told, r"edges, without waits to depart and junctions: 100 % of \d within 15 % \(held by")
 
     def test_edges_that_are_not_there(self):
         net = self.write("x.net.xml", FORK)
