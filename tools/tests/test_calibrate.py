@@ -17,7 +17,8 @@ from streetsim.demand.calibration_field import (
 )
 from streetsim.demand.calibration_fit import CUT, DAWDLE, SPEED, Fit, FittedValue, classes_of, values_of
 from streetsim.demand.calibration_model import FittedDrivers, MeasuredRun
-from streetsim.demand.calibration_survey import SurveyedLane, discharge, drivers_of, flow_here
+from streetsim.demand.calibration_survey import SurveyedLane, discharge, drivers_of
+from streetsim.model.saturation import flow_here
 from streetsim.sumo.driver_words import cut_at, factor_of, with_cut
 
 CORRIDOR = TOOLS / "examples/corridor"
@@ -275,6 +276,20 @@ class Fitting(unittest.TestCase):
         self.assertEqual([one.name for one in result.untold], [DAWDLE])
         self.assertEqual(result.drivers.dawdle, 0.17)
         self.assertAlmostEqual(dict(result.drivers.speeds)[""], 0.8, delta=0.02)
+
+    def test_what_they_hardly_tell_moves_only_beyond_its_error(self):
+        """Two ways, of whose 50 s some 30 depend on the speed: the standard error is above half of the prior's 0.1. A
+        field that is 1 s off moves the speed by less than that, one that is 13 s off by more."""
+        def seconds_of(drivers):
+            return [20 + 30 / dict(drivers.speeds)[""]] * 2
+
+        one = value(SPEED, 1.0, 0.1, 0.04)
+        result = self.fit(self.day([51.0] * 2), seconds_of).solve([one])
+        self.assertEqual(([two.name for two in result.untold], dict(result.drivers.speeds)[""]), ([SPEED], 1.0))
+        result = self.fit(self.day([63.0] * 2), seconds_of).solve([one])
+        self.assertGreater(result.told[0], 0.05)
+        self.assertGreater(1.0 - dict(result.drivers.speeds)[""], result.errors[0])
+        self.assertEqual(result.untold, [])
 
     def test_runs_are_no_more_than_asked_for(self):
         def seconds_of(drivers):

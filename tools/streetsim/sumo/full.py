@@ -25,7 +25,7 @@ Movements = Mapping[str, Mapping[int, CrossingMovement]]  # by junction and requ
 Found = tuple[FullLane, Collection[EdgePair]]  # and the edge pairs of those who pass it
 
 
-class Driving(Protocol):
+class OnWay(Protocol):
     """A vehicle of a demand, or of a run."""
 
     @property
@@ -51,7 +51,7 @@ def fullness(
     return counted(worst, vehicles)
 
 
-def full_lanes_at_lights(net: SumoNet, vehicles: Sequence[Driving], limits_of: Mapping[str, int]) -> list[FullLane]:
+def full_lanes_at_lights(net: SumoNet, vehicles: Sequence[OnWay], limits_of: Mapping[str, int]) -> list[FullLane]:
     """The nearly full lanes at lights under the programs of a network, as `fullness` finds them. limits_of: cells a
     step, by edge."""
     ways, worst = ways_of(net), dict[str, Found]()
@@ -78,9 +78,9 @@ def full_at_lights(found: Movements, ways: Mapping[EdgePair, str]) -> Iterator[F
         yield from full_at_light(name, own.values(), ways)
 
 
-def flows_of_parts(vehicles: Sequence[Driving]) -> Iterator[Flows]:
+def flows_of_parts(vehicles: Sequence[OnWay]) -> Iterator[Flows]:
     """The flows of the parts of a demand that are looked at alone, beside the whole."""
-    parts: defaultdict[int, list[Driving]] = defaultdict(list)
+    parts: defaultdict[int, list[OnWay]] = defaultdict(list)
     for vehicle in vehicles:
         parts[int(vehicle.depart // PART)].append(vehicle)
     if len(parts) > 1:
