@@ -16,7 +16,9 @@ from statistics import fmean
 from xml.etree import ElementTree
 
 import shared
-from field_streets import END, LAST, WARM, drawn_street, full_approach, make_field, the_ten, truth_of
+from field_streets import (
+    END, LAST, WARM, drawn_street, full_approach, make_field, mean_of_trips, the_ten, truth_of,
+)
 
 from streetsim.base.arrays import numpy as np
 from streetsim.base.report import Report
@@ -125,13 +127,14 @@ def calibrate(program, net, folder):
 def judged(program, street, base):
     """What a street's calibration gains, as a dict that is kept."""
     folder = make_field(street, base)
-    kept = folder / "judged.json"
+    kept, day = folder / "judged.json", mean_of_trips(folder / "sumoA/trips.xml")
     if kept.exists():
-        return json.loads(kept.read_text(encoding="utf-8"))
+        return {**json.loads(kept.read_text(encoding="utf-8")), "day": day}
     top, routes = base / street.name, folder / "calibrated" / "fitted.rou.xml"
     criteria = calibrate(program, top / "net.net.xml", folder)
     before, changes = truth_of(folder)
-    found = {"name": f"{street.name} {street.driver}", "truth": before, "true": changes, "criteria": criteria}
+    found = {"name": f"{street.name} {street.driver}", "truth": before, "true": changes, "day": day}
+    found["criteria"] = criteria
     for which, drivers in zip(BOTH, (None, folder / "drivers.json")):
         usual = mean_trip(program, top / "net.net.xml", [], routes, options(drivers))
         found[which] = {"base": usual}
@@ -168,6 +171,11 @@ def segments(one, which):
     return next(float(row["percent"]) for row in one["criteria"] if tuple(row[name] for name in names) == own)
 
 
+def off_by(pairs):
+    """By how much the first values are off the second ones, root of the mean square, as text."""
+    return f"{fmean((here / true - 1) ** 2 for here, true in pairs) ** 0.5:.1%}"
+
+
 def errors_of(streets, kinds, which):
     """(sum of the errors of some kinds of changes, sum of the true changes), seconds, over streets."""
     own = [(one[which][what], one["true"][what]) for one in streets for what in kinds if what in one["true"]]
@@ -176,8 +184,11 @@ def errors_of(streets, kinds, which):
 
 def cells_of(streets):
     """The rows of the table for some streets: (what, cells without and with calibration, their ratio)."""
-    off = [fmean((one[which]["base"] / one["truth"] - 1) ** 2 for one in streets) ** 0.5 for which in BOTH]
-    yield "mean trip of the base off (rms)", *(f"{one:.1%}" for one in off), ""
+    off = [off_by([(one[which]["base"], one["truth"]) for one in streets]) for which in BOTH]
+    yield "mean trip of the base off (rms)", *off, ""
+    yield "the counted day itself off (rms)", "", off_by([(one["day"], one["truth"]) for one in streets]), ""
+    off = [off_by([(one[which]["base"], one["day"]) for one in streets]) for which in BOTH]
+    yield "mean trip of the base off from the counted day (rms)", *off, ""
     held = [sum(segments(one, which) >= 85 for one in streets) for which in BOTH]
     yield "85 % of segments within 15 % on the other day", *(f"{one} of {len(streets)}" for one in held), ""
     for kind, kinds in KINDS.items():
