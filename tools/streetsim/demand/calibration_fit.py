@@ -126,7 +126,7 @@ class Fit:
     def solve(self, values: Sequence[FittedValue]) -> FitResult:
         """Fits values, and then again without those that the data do not tell, which stay where they began."""
         found = self.climb(values)
-        untold = [one for at, one in enumerate(found.values) if is_untold(found, at)]
+        untold = [one for one, error in zip(values, found.told) if error > TOLD * one.usual_spread]
         if untold and len(untold) < len(values):
             again = self.climb([one for one in values if one not in untold])
             return replace(again, untold=untold)
@@ -197,15 +197,6 @@ class Fit:
             else:
                 speeds[one.street] = value
         return replace(found, speeds=tuple(sorted(speeds.items())))
-
-
-def is_untold(found: FitResult, at: int) -> bool:
-    """Whether data do not tell a value, by its place: its error is above half of what is known before anything is
-    measured, and no smaller than what the data move it. A value that is moved by more than its error is nearer to the
-    truth there than where it began."""
-    one = found.values[at]
-    shift = abs(value_in(found.drivers, one) - one.center)
-    return found.told[at] > TOLD * one.usual_spread and shift <= found.errors[at]
 
 
 def moved(x: Array, values: Sequence[FittedValue], at: int) -> tuple[Array, float]:

@@ -23,10 +23,10 @@ class ForecastError:
 
 # Made by bench/calibrated.py, beside SUMO's drivers.
 ERRORS: tuple[ForecastError, ...] = (
-    ForecastError("a green wave", 0.30, 0.28, 10),
-    ForecastError("seconds of green moved", 0.50, 0.28, 10),
-    ForecastError("a tenth more vehicles", 0.58, 0.61, 5),
-    ForecastError("a lane removed", 1.59, 0.11, 5),
+    ForecastError("a green wave", 0.19, 0.23, 14),
+    ForecastError("seconds of green moved", 0.46, 0.31, 14),
+    ForecastError("a tenth more vehicles", 0.51, 0.60, 8),
+    ForecastError("a lane removed", 1.48, 0.13, 6),
 )
 
 
