@@ -109,6 +109,12 @@ class Pages(Case):
         self.assertGreater(len(named), 20)
         self.assertEqual(sorted(named - edits - {"once"}), [])
 
+    def test_each_script_of_bench_is_in_its_table(self):
+        text = (TOP / "bench/README.md").read_text(encoding="utf-8")
+        scripts = {re.sub(r"/.*", "", path.removeprefix("bench/")) for path in listed(TOP) if path.startswith("bench/")}
+        written = ("README.md", "RESULTS.md", "tables.json")
+        self.assertEqual([name for name in sorted(scripts.difference(written)) if name not in text], [])
+
     def test_what_is_lost_is_found(self):
         links = "[a](#one-head) [b](#two) [c](page.md#one-head) [d](x.md)"
         text = f"# One head\n{links} `y/z.py` `z.py` `Yard::lost` `Yard::at()`\n"
