@@ -157,7 +157,7 @@ class CompareTimes(Case):
         self.assertIn("--sumo, --counts and --times are comparisons of their own: one at a time", said)
 
     def sumos_own_formats(self, run, mapping):
-        """With departures as listed and drawn the trips and edges of a run in SUMO's formats are those of its tables."""
+        """As listed and drawn, the trips and edges of a run in SUMO's formats are those of its tables."""
         for name, *drawn in (("listed",), ("drawn", "--departures", "drawn")):
             out = self.folder / name
             words = ["--until", 1200, "--sumo-output", "tripinfo,edgedata", "--out", out, "--program", PROGRAM, *drawn]
