@@ -16,6 +16,7 @@ sys.path.insert(0, str(TOOLS))
 BUILT = TOOLS.parent / "crates/street_sim/out/street_sim"
 # Tests that start no program, as ./test --quick runs them.
 QUICK = bool(os.environ.get("STREETSIM_QUICK"))
+os.environ.setdefault("STREETSIM_CACHE", "off")  # no import of a test is kept, but in tests of that
 PROGRAM = None if QUICK else os.environ.get("STREETSIM_PROGRAM") or (str(BUILT) if BUILT.exists() else None)
 needs_simulator = unittest.skipIf(PROGRAM is None, "no simulator: build streetsim, or set STREETSIM_PROGRAM")
 

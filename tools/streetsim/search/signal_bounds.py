@@ -6,10 +6,9 @@ from __future__ import annotations
 from collections.abc import Callable, Collection, Iterator, Mapping, Sequence
 from dataclasses import dataclass, replace
 from typing import Any
-from xml.sax.saxutils import quoteattr
 
 from streetsim.base import limits
-from streetsim.base.files import Json
+from streetsim.base.files import Json, quoteattr
 from streetsim.control.actuated_kept import programs_at_begin
 from streetsim.control.actuated_lights import ActuatedLights, Driven, driven_of
 from streetsim.control.nema_lights import DrivenRings, digits
