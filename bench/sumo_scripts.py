@@ -5,13 +5,17 @@ Usage: bench/sumo_scripts.py PROGRAM --work FOLDER [--seconds N] [--times N] [SC
 
 The scripts of bench/sumo_scripts run on the samples' grid and on the corridor, every 20th vehicle of which is a bus. \
 What is told are the vehicles that arrived (of the last episode), and the processor seconds of all processes of the
-simulator, from its start to its end, without the script's own; each is run three times, and the least counts. The
-networks' files are in FOLDER.
+simulator, from its start to its end, without the script's own: of SUMO, of streetsim-sumo at a first start, which
+imports, and at a later one, for which the import is kept. These three take turns, three times, and the medians count,
+as other work on the machine changes all of them. Python's bytecode is there before, as an installation has it. The
+networks' files are in FOLDER, and so are kept imports.
 """
 import argparse
 import gzip
 import os
 import re
+import shutil
+import statistics
 import subprocess
 import sys
 from pathlib import Path
@@ -62,12 +66,29 @@ def run(script: Path, binary: str, asked: argparse.Namespace, words: list[str]) 
     """(arrived vehicles, processor seconds of the simulator) of a script."""
     variables = {**os.environ, "PYTHONPATH": f"{SUMO_HOME}/tools", "SUMO_HOME": SUMO_HOME}
     variables["STREETSIM_PROGRAM"] = os.path.abspath(asked.program)
+    variables |= {"XDG_CACHE_HOME": str(kept(asked)), "PYTHONPYCACHEPREFIX": str(asked.work.resolve() / "bytecode")}
+    variables.pop("PYTHONDONTWRITEBYTECODE", None)
     done = subprocess.run(
         [sys.executable, "-c", RUN, script, binary, str(asked.seconds), *words], env=variables, capture_output=True,
         text=True, check=True,
     )  # fmt: skip
     *_, told, spent = [line for line in done.stdout.splitlines() if re.match(r"\d|seconds ", line)]
     return int(told.split()[0]), float(spent.split()[1])
+
+
+def kept(asked: argparse.Namespace) -> Path:
+    """The folder of kept imports."""
+    return asked.work.resolve() / "kept"
+
+
+def figures(script: Path, ours: str, asked: argparse.Namespace, words: list[str]) -> list[tuple[int, float]]:
+    """(arrived vehicles, median of processor seconds) over SUMO, at first starts and at later ones."""
+    found: list[list[tuple[int, float]]] = [[], [], []]
+    for _ in range(asked.times):
+        shutil.rmtree(kept(asked), ignore_errors=True)
+        for place, binary in zip(found, ("sumo", ours, ours)):
+            place.append(run(script, binary, asked, words))
+    return [(own[0][0], statistics.median(seconds for _, seconds in own)) for own in found]
 
 
 def main() -> None:
@@ -81,13 +102,17 @@ def main() -> None:
     asked.work.mkdir(parents=True, exist_ok=True)
     scripts = sorted(path for path in SCRIPTS.glob("*.py") if not asked.scripts or path.stem in asked.scripts)
     ours = os.environ.get("STREETSIM_SUMO", str(TOP / "tools/streetsim-sumo"))
-    print("| Script | Network | arrived in SUMO | here | processor seconds of SUMO | here |\n|---|---|---|---|---|---|")
+    heads = "Script|Network|arrived in SUMO|here|processor seconds of SUMO|here, first start|later starts"
+    print(f"| {heads.replace('|', ' | ')} |")
+    print("|---|---|---|---|---|---|---|", flush=True)
     for script in scripts:
         for name in NETS:
             words = files_of(name, asked.work)
-            found = [[run(script, binary, asked, words) for _ in range(asked.times)] for binary in ("sumo", ours)]
-            (there, theirs), (here, own) = (min(one, key=lambda pair: pair[1]) for one in found)
-            print(f"| {script.stem} | {name} | {there:,} | {here:,} | {theirs:.1f} | {own:.1f} |", flush=True)
+            if script == scripts[0]:
+                run(script, ours, asked, words)  # which writes the bytecode
+            (there, theirs), (here, first), (_, later) = figures(script, ours, asked, words)
+            seconds = f"{theirs:.2f} | {first:.2f} | {later:.2f}"
+            print(f"| {script.stem} | {name} | {there:,} | {here:,} | {seconds} |", flush=True)
 
 
 if __name__ == "__main__":

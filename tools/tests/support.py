@@ -16,6 +16,7 @@ sys.path.insert(0, str(TOOLS))
 BUILT = TOOLS.parent / "crates/street_sim/out/street_sim"
 # Tests that start no program, as ./test --quick runs them.
 QUICK = bool(os.environ.get("STREETSIM_QUICK"))
+os.environ.setdefault("STREETSIM_CACHE", "off")  # no import of a test is kept, but in tests of that
 PROGRAM = None if QUICK else os.environ.get("STREETSIM_PROGRAM") or (str(BUILT) if BUILT.exists() else None)
 needs_simulator = unittest.skipIf(PROGRAM is None, "no simulator: build streetsim, or set STREETSIM_PROGRAM")
 
@@ -79,10 +80,12 @@ class Case(unittest.TestCase):
         return str(path)
 
     def tool(self, name, *words, status=0):
-        """Runs a tool; gives its standard output and error. status: that it is to have; None: any."""
-        done = subprocess.run(
-            [TOOLS / f"streetsim-{name}", *map(str, words)], capture_output=True, text=True, check=False
-        )
+        """Runs a tool; gives its standard output and error. status: that it is to have; None: any. Of each run the
+        segments have to add up to the trips."""
+        command = [TOOLS / f"streetsim-{name}", *map(str, words)]
+        if name == "run":
+            command = ["/usr/bin/python3", TOOLS / "tests/adding.py", *command]
+        done = subprocess.run(command, capture_output=True, text=True, check=False)
         if status is not None:
             self.assertEqual(done.returncode, status, done.stderr)
         return done.stdout, done.stderr

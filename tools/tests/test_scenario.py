@@ -246,14 +246,14 @@ class LongPrograms(Case):
         first, second = (name for name, _ in mapping.signals[:2])
         shown = SignalsInForce(mapping, [])
         long, short = [(700.0, "r" * 64), (9100.0, "G" * 64)], [(60.0, "G" * 64)]
-        shown.program_commands(first, long, 0.0, 0)
+        shown.program_lines(first, long, 0.0, 0)
         coming = shown.next_clock(5000)
         self.assertLess(coming, 5000)
-        shown.program_commands(second, short, 0.0, 0)
+        shown.program_lines(second, short, 0.0, 0)
         self.assertEqual(shown.next_clock(5000), coming)
-        shown.constant_commands(second, "r" * 64, 10.0)
+        shown.constant_lines(second, "r" * 64, 10.0)
         self.assertEqual(shown.next_clock(5000), coming)
-        shown.program_commands(first, short, 0.0, 0)
+        shown.program_lines(first, short, 0.0, 0)
         self.assertEqual(shown.next_clock(5000), 5000)
 
 

@@ -20,7 +20,7 @@ import streetsim.traci as traci
 from streetsim.base.files import Fault
 from streetsim.simulation.errors import FatalTraCIError
 from streetsim.simulation.options import options_of
-from streetsim.traci import constants as tc, server
+from streetsim.traci import constants as tc, domain, server
 from streetsim.traci.protocol import MOST, BadMessage, WordReader, command, double, string, strings, text
 from streetsim.traci.server import OK, Server, TraciClient, listen
 from streetsim.traci.table import DOMAINS, GETS, SETS
@@ -187,6 +187,25 @@ class Protocol(Served):
         with patch.object(server, "MOST_TOLD", 1000):
             [*_, states] = answers(self.talk(message(*100 * [asked("lane", tc.TRACI_ID_LIST)])))
         self.assertIn("would have more than 1,000 bytes", states[-1][2])
+
+    def test_parameters_are_bounded(self):
+        """What a domain keeps is bounded: more is an error, and nothing changes; what is replaced makes room."""
+        traci.start(["sumo", *WORDS])
+
+        def setting(key, value):
+            words = b"\x0f\0\0\0\x02" + string(key) + string(value)
+            return DOMAINS["lane"].set, bytes((tc.VAR_PARAMETER,)) + text("WJ_0") + words
+
+        with patch.object(domain, "MOST_LETTERS", 1000 + 2 * domain.OVERHEAD):
+            said = self.talk(message(
+                setting("a", "x" * 900), setting("b", "y" * 900), setting("a", "z"), setting("b", "y" * 900),
+                setting("a", "x" * 900),
+            ))  # fmt: skip
+            [states] = answers(said)
+            self.assertEqual([result for _, result, _ in states], [0, tc.RTYPE_ERR, 0, 0, tc.RTYPE_ERR])
+            self.assertIn("lane: parameters of more than 1,200 letters are not kept", states[1][2])
+            self.assertEqual([traci.lane.getParameter("WJ_0", key) for key in "ab"], ["z", "y" * 900])
+        self.assertLessEqual(domain.MOST_LETTERS, 1 << 24)
 
     def test_two_thousand_random_conversations(self):
         """Random bytes, random commands, random words behind known ones, and recorded commands with changed bytes: the

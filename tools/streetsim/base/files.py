@@ -23,6 +23,8 @@ from streetsim.base.halves import half_file, half_folder, is_half
 from streetsim.base.unpacking import PIPE, RATIO, Chunks, Nesting, lifted, refuse_bomb, refuse_crowded
 
 GZIP = b"\x1f\x8b"  # with which a gzip file begins
+# What stands in the value of an attribute for letters that may not.
+ESCAPED = (("&", "&amp;"), (">", "&gt;"), ("<", "&lt;"), ("\n", "&#10;"), ("\r", "&#13;"), ("\t", "&#9;"))
 Json = dict[str, Any]  # an object of JSON
 FilePath = str | os.PathLike[str]
 Value = TypeVar("Value")
@@ -227,9 +229,18 @@ def above_zero(convert: Callable[[str], Number]) -> Callable[[str], Number]:
 
 def attributes_of(values: Mapping[str, str]) -> str:
     """Attributes of an element, {name: text}, as the text of a tag, escaped, each with a blank before it."""
-    from xml.sax.saxutils import quoteattr  # loads urllib, which takes longer than all else that a client imports
-
     return "".join(f" {name}={quoteattr(value)}" for name, value in values.items())
+
+
+def quoteattr(text: str) -> str:
+    """The value of an attribute as it stands in a tag, escaped and quoted, as xml.sax.saxutils has it: that loads
+    urllib, which takes longer than most of what the tools import."""
+    for letter, told in ESCAPED:
+        text = text.replace(letter, told)
+    if '"' not in text:
+        return f'"{text}"'
+    quoted = text.replace('"', "&quot;")
+    return f'"{quoted}"' if "'" in text else f"'{text}'"
 
 
 def filled(text: str) -> str:
@@ -243,7 +254,8 @@ def seconds(text: str) -> float:
     """The seconds that a text writes as SUMO's times: 3.5, or 01:30:00, or 1:01:30:00 with days; ValueError where it is
     none, or not between -10^9 and 10^12 s, both excluded. Minutes and seconds may be 60 or more."""
     parts = text.split(":")
-    value = sum(float(part) * scale for part, scale in zip(reversed(parts), (1, 60, 3600, 86400), strict=False))
+    scaled = zip(reversed(parts), (1, 60, 3600, 86400), strict=False)
+    value = 0 + float(text) if len(parts) == 1 else sum(float(part) * scale for part, scale in scaled)
     if len(parts) not in (1, 3, 4) or not -1e9 < value < 1e12:
         raise ValueError(text)
     return value

@@ -128,9 +128,12 @@ class Driver:
                 NodesOfLight(one, mapping) if isinstance(one, Driven) else ShownRings(one, mapping)
             )
             self.controllers.append(DrivenProgram(one, one.new_logic(), shown, meters, in_force=in_force))
+        self.lights = {one.name for one in self.controllers}
 
     def controller_of(self, light: str, program: str | None = None) -> DrivenProgram | None:
         """The controller of a light's program, or of the one in force where none is named; none where there is none."""
+        if light not in self.lights:
+            return None
         own = (one for one in self.controllers if one.name == light)
         return next((one for one in own if (one.in_force if program is None else one.light.program == program)), None)
 

@@ -2,9 +2,8 @@
 from collections import Counter
 from collections.abc import Iterator, Sequence
 from itertools import pairwise
-from xml.sax.saxutils import quoteattr
 
-from streetsim.base.files import whole_file
+from streetsim.base.files import quoteattr, whole_file
 from streetsim.demand.candidates import Way
 from streetsim.demand.checking import Contradiction
 from streetsim.demand.correcting import Attempt

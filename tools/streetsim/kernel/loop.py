@@ -123,8 +123,9 @@ class Kernel:
     def make_steps(self, until: int) -> None:
         """Makes the steps to the next clock at which a controller is due, one at least and none beyond `until`.
         Controllers that are due now must have acted. Fault where a vehicle is refused."""
-        target = min(until, self.clock + self.most, *(one.next_clock() for one in self.controllers))
-        target = max(self.clock + 1, target)
+        target = self.clock + 1
+        if until > target:
+            target = max(target, min(until, self.clock + self.most, *(one.next_clock() for one in self.controllers)))
         self.enter_due(target)
         self.program.begin(target - self.clock)
         self.hand_over(ROWS)

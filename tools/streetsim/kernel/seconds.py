@@ -66,7 +66,7 @@ class Block:
         rows = np.frombuffer(data, "<i4", (end - begin) // 4, begin).reshape(-1, 4)
         self.gone, rows = int(rows[0, 2]), rows[1:]  # gone: how many have arrived in all
         over = rows[:, 2] == LEFT
-        some = bool(over.any())
+        some = np.count_nonzero(over) > 0
         self.car, self.slot, self.cell, self.speed = (rows[~over] if some else rows).T  # cell: below 0 in the buffer
         self.arrived = (rows[over, :3] if some else rows[:0, :3]).T  # who arrived: car, slot, LEFT
 

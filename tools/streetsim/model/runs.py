@@ -58,6 +58,15 @@ def read_run(path: FilePath) -> Run:
         return run_of_texts(path, lines_of(file, LINE))
 
 
+def read_own_run(path: FilePath) -> Run:
+    """The run of a file that the tools have just written, which is not looked at further. Fault where it cannot be
+    read."""
+    with reading(path), open_text(path) as file:
+        texts = file.read().splitlines()
+        commands = json.loads(f"[{','.join(texts)}]")
+    return run_of(path, [Line(at, *both) for at, both in enumerate(zip(texts, commands, strict=True), 1)])
+
+
 def read_with_map(run_path: FilePath, map_path: FilePath) -> tuple[Run, Map]:
     """(run, map of its names); Fault where a file is none of its kind, a line closes or opens a link that is not there,
     or the map is of another run: by links, by naming more vehicles, or by where they begin and end, if it has that."""

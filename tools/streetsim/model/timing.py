@@ -1,7 +1,9 @@
 """The programs of lights as they stand at the road: states over the cycle, movements, and which of these conflict."""
 import re
+from collections import Counter
 from collections.abc import Iterable, Iterator, Sequence
 from dataclasses import dataclass
+from functools import lru_cache
 from itertools import combinations, product
 
 from streetsim.base.files import Json
@@ -54,11 +56,12 @@ class Timing:
 
     def clashes(self) -> Iterator[tuple[SignalMovement, SignalMovement, int]]:
         """(movement, other, seconds) for those of `pairs` that have main greens (G) on conflicting indexes together."""
-        states = self.states()
+        states = Counter(self.states())
         for one, other in self.pairs():
             both = self.crossings(one, other)
-            if count := sum(any(state[a] == state[b] == MAIN for a, b in both) for state in states):
-                yield one, other, count
+            clashing = (count for state, count in states.items() if any(state[a] == state[b] == MAIN for a, b in both))
+            if seconds := sum(clashing):
+                yield one, other, seconds
 
     def written(self) -> Json:
         """The program as a dict to be dumped as JSON, which `timing_of` reads."""
@@ -94,11 +97,17 @@ def states_of(phases: Iterable[tuple[float, str]]) -> list[str]:
 def spans_of(signs: str, those: str) -> list[tuple[int, int]]:
     """The (begin, seconds) of each run of letters that are in `those`; signs: a letter for each second of a cycle. A
     run may go on over the cycle's end."""
+    return list(known_spans(signs, those))
+
+
+@lru_cache(1 << 12)
+def known_spans(signs: str, those: str) -> tuple[tuple[int, int], ...]:
+    """What spans_of gives."""
     runs = [(found.start(), len(found[0])) for found in re.finditer(f"[{those}]+", signs)]
     if len(runs) > 1 and runs[0][0] == 0 and sum(runs[-1]) == len(signs):
         (_, further), *runs, (begin, seconds) = runs
         runs.append((begin, seconds + further))
-    return runs
+    return tuple(runs)
 
 
 def intergreen(first: str, second: str) -> int | None:

@@ -1,10 +1,9 @@
 """SUMO's output files that are made second by second: each class writes one, from what a second shows."""
 from bisect import bisect_right
 from collections.abc import Mapping, Sequence
-from xml.sax.saxutils import quoteattr
 
 from streetsim.base import limits
-from streetsim.base.files import TextFile
+from streetsim.base.files import TextFile, quoteattr
 from streetsim.control.bus_fleet import Dwell
 from streetsim.model.mapping import Place
 from streetsim.observe.sumo_places import LanePlaces

@@ -2,6 +2,7 @@
 from collections.abc import Collection, Mapping, Sequence
 from html import escape
 
+from streetsim.base.colours import LESS, MORE, STREET
 from streetsim.model.mapping import Map, Shape
 from streetsim.model.service import COLOURS, WHITE_LETTERS, fills
 from streetsim.report.page_choice import LEAST
@@ -38,7 +39,7 @@ def service_stroke(letter: str, text: str) -> Stroke:
     """How an approach is drawn by the letter of its level of service, wider where that is worse; thin and grey where it
     has none. text: what it says when pointed at."""
     if not letter:
-        return Stroke("#bbb", 2, text)
+        return Stroke(STREET, 2, text)
     return Stroke(COLOURS[letter], 4 + "ABCDEF".index(letter), text, rimmed=True, broken=letter == "F")
 
 
@@ -50,24 +51,25 @@ def service_keys(letters: Collection[str], closed: bool) -> list[str]:
 
 
 def difference_map(mapping: Map, values: Mapping[str, float]) -> str:
-    """The streets, as SVG; edges with a value red above 0 and blue below, but dark grey within 0.5 of it, wider where
-    it is farther from 0; others thin and light grey. values: by edge, shown in whole numbers without a unit."""
+    """The streets, as SVG; edges with a value red above 0 and blue and broken below, but dark grey within 0.5 of it,
+    wider where it is farther from 0; others thin and light grey. values: by edge, shown in whole numbers without a
+    unit."""
     most = max([1.0, *(abs(value) for value in values.values())])
     strokes = {}
     for edge in mapping.links_of:
         value = values.get(edge)
         text = edge if value is None else f"{edge}: {value:+.0f}"
-        strokes[edge] = Stroke(*difference_stroke(value, most), text)
+        strokes[edge] = difference_stroke(value, most, text)
     return street_map(mapping, strokes, "Map of differences")
 
 
-def difference_stroke(value: float | None, most: float) -> tuple[str, float]:
-    """The colour and the width, in pixels, of an edge with a value, none where it has none; most: the greatest value
-    that there is, up or down."""
+def difference_stroke(value: float | None, most: float, text: str) -> Stroke:
+    """How an edge with a value is drawn, none where it has none; most: the greatest value that there is, up or down;
+    text: what it says when pointed at."""
     if value is None:
-        return "#bbb", 1.5
-    colour = "#777" if abs(value) < 0.5 else "#b2182b" if value > 0 else "#2166ac"
-    return colour, 2 + 6 * abs(value) / most
+        return Stroke(STREET, 1.5, text)
+    colour = "#777" if abs(value) < 0.5 else MORE if value > 0 else LESS
+    return Stroke(colour, 2 + 6 * abs(value) / most, text, gaps=value <= -0.5)
 
 
 def junction_mark(letter: str, text: str) -> str:

@@ -26,6 +26,7 @@ class Stroke:
     text: str  # what it says when pointed at
     rimmed: bool = False  # with a dark rim
     broken: bool = False  # with white dashes on it
+    gaps: bool = False  # of dashes, with gaps between them
 
 
 class Plane:
@@ -151,7 +152,8 @@ def stroke_drawn(way: Way, stroke: Stroke) -> str:
     line = f'<polyline points="{points_told(way)}" class='
     rim = f'{line}"edge-line" stroke="#666" stroke-width="{stroke.width + 2:g}"/>' if stroke.rimmed else ""
     told = f"><title>{escape(stroke.text)}</title></polyline>"
-    own = f'{line}"edge-line" stroke="{stroke.colour}" stroke-width="{stroke.width:.3g}"{told}'
+    gaps = f' stroke-dasharray="{stroke.width:.1f} {2 * stroke.width:.1f}"' if stroke.gaps else ""
+    own = f'{line}"edge-line" stroke="{stroke.colour}" stroke-width="{stroke.width:.3g}"{gaps}{told}'
     return rim + own + (f'{line}"over"/>' if stroke.broken else "")
 
 

@@ -8,9 +8,9 @@ from __future__ import annotations
 from collections.abc import Collection, Iterable, Mapping, Sequence
 from dataclasses import dataclass
 from typing import TypeVar
-from xml.sax.saxutils import quoteattr
 
 from streetsim.base import limits
+from streetsim.base.files import quoteattr
 from streetsim.sumo.constraints import PEDESTRIANS, Constraint, constraints_of
 from streetsim.sumo.net import STATIC, LightProgram
 

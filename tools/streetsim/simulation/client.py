@@ -1,7 +1,7 @@
 """The program of a run under a script, which may send it lines of its own between two steps."""
 from collections.abc import Iterable, Iterator, Sequence
 
-from streetsim.base.client import Client
+from streetsim.base.client import Client, NoReply, read_reply
 from streetsim.kernel.kept import ASKING
 from streetsim.kernel.program import Program
 
@@ -17,14 +17,27 @@ class RunClient(Client):
         self.program, self.process = program, program.process
         self.ended: tuple[int, str] | None = None
         self.changes: list[bytes] = []
+        self.later: list[bytes] = []  # what send_soon has taken and is still to be sent
+
+    def send_soon(self, lines: Iterable[bytes]) -> None:
+        """Sends lines ahead of the next ones, or before the next step."""
+        more = list(lines)
+        self.later += more
+        self.changes += more
 
     def exchange(self, lines: Iterable[bytes]) -> Iterator[bytes]:
-        """As Client does. ValueError for steps."""
+        """As Client does. ValueError for steps; what a refusal of a line of `later` is, where one is refused."""
         sent = list(lines)
         if any(line.startswith(ADVANCE) for line in sent):
             raise ValueError("the steps of a run are made by simulationStep")
+        ahead, self.later = self.later, []
         self.changes += [line for line in sent if not line.startswith(ASKING)]
-        return iter(Program.ask(self.program, sent))
+        replies = Program.ask(self.program, [*ahead, *sent])
+        for reply in replies[: len(ahead)]:
+            if b'"error"' in reply or b'"starved"' in reply:
+                fault = read_reply(reply)
+                raise fault if isinstance(fault, Exception) else NoReply(reply.decode(errors="replace"))
+        return iter(replies[len(ahead) :])
 
     def end(self) -> tuple[int, str]:
         """Ends the input and waits for the program; gives (its status, its standard error), later the same."""
@@ -47,5 +60,7 @@ class OwnProgram(Program):
 
     def begin(self, steps: int) -> None:
         """As Program does."""
+        if self.client.later:
+            self.ask([])
         self.client.changes.append(b'%s,"steps":%d}\n' % (ADVANCE, steps))
         super().begin(steps)

@@ -35,11 +35,18 @@ class LightShow:
     programs: dict[str, tuple[Phases, list[str]]] = field(default_factory=dict)  # to choose from: phases, names
     scripted: set[str] = field(default_factory=set)  # those of them that a script has set, which detectors do not drive
     since: int = 0
+    summed: tuple[Phases, float] = ([], 0.0)  # phases, and the seconds that these last together
+
+    def cycle(self) -> float:
+        """Seconds that its phases last together."""
+        if self.summed[0] is not self.phases:
+            self.summed = self.phases, seconds_of(self.phases)
+        return self.summed[1]
 
     def phase_at(self, clock: float) -> tuple[int, float]:
         """(index of the phase in the step that ends at a clock, or begins there if that is `since`; seconds, at a
         clock, that are left of it, 0 where the next one begins)."""
-        elapsed, last = (clock - self.begin) % seconds_of(self.phases), len(self.phases) - 1
+        elapsed, last = (clock - self.begin) % self.cycle(), len(self.phases) - 1
         if elapsed == 0 and clock != self.since:
             return last, 0.0
         for index, (duration, _) in enumerate(self.phases):
@@ -93,10 +100,11 @@ class Control(Controller, Doer):
 
     def light(self, name: str) -> LightShow:
         """A light by its name, with the program that it has by time of day."""
-        self.note_switches(self.simulation.clock - 1)
-        if name not in self.lights:
+        if self.changes:
+            self.note_switches(self.simulation.clock - 1)
+        if (light := self.lights.get(name)) is None:
             raise TraCIException(f"Traffic light '{name}' is not known")
-        return self.lights[name]
+        return light
 
     def driven(self, name: str) -> Driven | None:
         """What drives a light by detectors now; None where it has a program of seconds, or one of the script."""
@@ -132,9 +140,13 @@ class Control(Controller, Doer):
     def present_phase(self, name: str) -> tuple[int, float]:
         """(index of a light's phase in the last step, or since a script has set it at this clock; seconds left of it),
         by its program and the end that a script has set; not of a light that detectors drive."""
-        light, clock = self.light(name), self.simulation.clock
-        if name in self.timers:
-            end, index = self.timers[name]
+        return self.phase_of(name, self.light(name))
+
+    def phase_of(self, name: str, light: LightShow) -> tuple[int, float]:
+        """What present_phase gives for a light of a name."""
+        clock = self.simulation.clock
+        if (timer := self.timers.get(name)) is not None:
+            end, index = timer
             return (index - 1) % len(light.phases), end - clock
         return light.phase_at(clock)
 
@@ -207,9 +219,11 @@ class Control(Controller, Doer):
         if (driven := self.driven(name)) is not None:
             actuated_of(name, driven).end_at(clock)
             return
-        index, _ = self.present_phase(name)
-        if name not in self.timers:  # else it is shown so already
-            self.show(name, [(CONSTANT, light.phases[index][1])], 0)
+        if (timer := self.timers.get(name)) is not None:  # it is shown so already
+            self.timers[name] = clock, timer[1]
+            return
+        index, _ = self.phase_of(name, light)
+        self.show(name, [(CONSTANT, light.phases[index][1])], 0)
         self.timers[name] = clock, (index + 1) % len(light.phases)
 
     @deed

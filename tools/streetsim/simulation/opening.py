@@ -9,15 +9,14 @@ from tempfile import TemporaryDirectory
 
 from streetsim.base.files import whole_file
 from streetsim.base.words import ROUNDS, names_in
-from streetsim.cli import import_ as importing
 from streetsim.model.replications import DRAWN
 from streetsim.simulation.asked import ScriptSettings
 from streetsim.simulation.errors import FatalTraCIError
+from streetsim.simulation.kept_imports import KeptImport, keep, key_of, read_kept
 from streetsim.simulation.options import IMPORTED, LOGS, NO_FILE, options_of, warnings_of
 from streetsim.simulation.session import TraciSession
 from streetsim.simulation.street_facts import Facts, read_facts
 from streetsim.simulation.writing import SERVED
-from streetsim.sumo.demand import Unrouted
 
 Options = Mapping[str, str]
 PERIOD = 900  # seconds of the rows of edgeData without a period
@@ -39,19 +38,19 @@ def imported_session(folder: Path, options: Options) -> TraciSession:
     routes, additional = ([part.strip() for part in options.get(name, "").split(",") if part.strip()] for name in names)
     if not options.get("net-file"):
         raise FatalTraCIError("no network: give -n NET or -c CONFIGURATION")
-    words = [options["net-file"], *additional, "-o", f"{folder}/run.jsonl", "--map", f"{folder}/map.json"]
+    words = [options["net-file"], *additional]
     words += [word for name in sorted(IMPORTED & options.keys()) for word in (f"--{name}", options[name])]
     words += ["--ignore-route-errors"] if is_on(options.get("ignore-route-errors", "false")) else []
-    with redirect_stderr(StringIO()) as said:
-        import_files(words, routes)
+    files = [options["net-file"], *additional, *routes, *filter(None, [options.get("drivers")])]
+    said = imported(folder, words, routes, files)
     try:
         facts = read_facts(options["net-file"], additional, routes)
         session = TraciSession(folder, facts, options, asked_by(options))
     except Exception:
-        write_warnings(said.getvalue(), options)
+        write_warnings(said, options)
         raise
     try:
-        write_warnings(said.getvalue() + notes_of(session), options)
+        write_warnings(said + notes_of(session), options)
         if paths := output_paths(options, facts):
             session.write(paths, int(facts.edgedata[0][1]) or PERIOD if facts.edgedata else PERIOD)
     except Exception:
@@ -60,9 +59,29 @@ def imported_session(folder: Path, options: Options) -> TraciSession:
     return session
 
 
+def imported(folder: Path, words: Sequence[str], routes: Sequence[str], files: Sequence[str]) -> str:
+    """Imports into a folder, as run.jsonl and map.json, or takes the import of equal words and files that is kept;
+    gives what was said. files: all that the words and routes name. Fault where the import cannot be made."""
+    all_words = [str(folder.parent.resolve()), *words, "--routes", *routes]
+    run, mapping, key = folder / "run.jsonl", folder / "map.json", key_of(all_words, files)
+    if key is not None and (kept := read_kept(key)) is not None:
+        run.write_text(kept.run, encoding="utf-8", newline="")
+        mapping.write_text(kept.map, encoding="utf-8", newline="")
+        return kept.said
+    with redirect_stderr(StringIO()) as said:
+        import_files([*words, "-o", str(run), "--map", str(mapping)], routes)
+    if key is not None and key == key_of(all_words, files):  # no file has changed meanwhile
+        run_text, map_text = (path.read_text(encoding="utf-8") for path in (run, mapping))
+        keep(key, KeptImport(run_text, map_text, said.getvalue()))
+    return said.getvalue()
+
+
 def import_files(words: Sequence[str], routes: Sequence[str]) -> None:
     """Imports by the words of streetsim-import and the files of routes; trips, and vehicles and flows without a route,
     get ways, which is told on standard error. Fault where the import cannot be made."""
+    from streetsim.cli import import_ as importing  # which a start with a kept import does not need
+    from streetsim.sumo.demand import Unrouted
+
     try:
         importing.main([*words, *(["--routes", *routes] if routes else [])])
     except Unrouted:

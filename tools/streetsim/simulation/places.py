@@ -1,4 +1,5 @@
 """Where the vehicles of a session are in the plane."""
+from collections.abc import Hashable
 from functools import cached_property, lru_cache
 
 from streetsim.base.arrays import Array
@@ -22,6 +23,8 @@ class VehiclePlaces:
         self.first = np.append(0, np.cumsum(self.cells + 1))  # by link the place of its first cell in what follows
         self.known_points, self.known_angles = np.full((self.first[-1], 2), np.nan), np.full(self.first[-1], np.nan)
         self.stretches_of = lru_cache(KEPT >> 4)(self.stretches)  # of lines that do not move
+        # Of groups of objects that do not move: begins and ends of their stretches, and how many of each.
+        self.joined: dict[Hashable, tuple[Array, Array, Array]] = {}
         self.of: object = None  # of which look `rising` is
         self.rising: tuple[Array, Array] = np.zeros((2, 0), np.int64)  # rows by rising place; places
 

@@ -10,7 +10,7 @@ from streetsim.control.works_sites import with_works
 from streetsim.kernel.loop import NEVER, Controller, Kernel, own_line
 from streetsim.kernel.seconds import Block
 from streetsim.model.mapping import read_map
-from streetsim.model.runs import Line, read_run
+from streetsim.model.runs import Line, read_own_run
 from streetsim.model.stops import STANDING, Visit
 from streetsim.observe.sumo_writing import Outputs
 from streetsim.simulation.asked import ScriptSettings
@@ -44,10 +44,10 @@ class TraciSession(Simulation, Doer):
     kernel_of, part = SessionKernel, "session"
 
     def __init__(self, folder: Path, facts: Facts, options: Mapping[str, str], asked: ScriptSettings) -> None:
-        """folder: has run.jsonl and map.json; facts: of SUMO's files; options: of SUMO's command line, with works as
-        --close of streetsim-run has them. Fault where the run or the map cannot be read, the works cannot be made, the
-        program not started, or a round fails."""
-        run, mapping = read_run(folder / "run.jsonl"), read_map(folder / "map.json")
+        """folder: has run.jsonl and map.json, as the import wrote them; facts: of SUMO's files; options: of SUMO's
+        command line, with works as --close of streetsim-run has them. Fault where the run or the map cannot be read,
+        the works cannot be made, the program not started, or a round fails."""
+        run, mapping = read_own_run(folder / "run.jsonl"), read_map(folder / "map.json")
         works = all_works([options.get("close", "")], mapping, run.start(), None)
         run, mapping, self.told = with_works(run, mapping, folder / "map.json", works)
         self.facts, self.options, self.inside = facts, options, Inside(mapping, facts)

@@ -1,12 +1,12 @@
 """What is shown at the nodes of lights: programs as one plan, and long ones phase by phase."""
-from collections.abc import Collection, Iterable, Iterator, Sequence
+from collections.abc import Callable, Collection, Iterable, Iterator, Sequence
 
 from streetsim.base import limits
 from streetsim.base.report import Report
-from streetsim.kernel.loop import NEVER, Controller, Kernel
+from streetsim.kernel.loop import NEVER, Controller, Kernel, own_line
 from streetsim.kernel.seconds import Block
 from streetsim.model.mapping import Map, MapTurn
-from streetsim.model.runs import Command
+from streetsim.model.runs import Command, Line
 from streetsim.sumo.crossing import GREEN
 from streetsim.sumo.driver_words import measured_of
 from streetsim.sumo.net import LightProgram
@@ -14,6 +14,7 @@ from streetsim.sumo.signals import LitNode, TooLong, cycle_told, phase_lines, si
 
 NOTHING: Command = {}
 Cycle = Sequence[tuple[float, str]]  # phases: seconds, state
+Shown = str | tuple[tuple[float, str], ...]  # a state, or phases
 CONSTANT = 600  # seconds of a phase that is shown until the next is set
 
 
@@ -32,13 +33,7 @@ class LongProgram:
             self.clock, self.command = next(self.lines, (limits.CLOCK + 1, NOTHING))
 
 
-MOST_MADE = 1 << 12  # programs whose commands are kept
-
-
-def with_offset(command: Command, offset: float) -> Command:
-    """A signal command with another offset, as in a tlLogic, seconds."""
-    cycle = sum(duration for duration, _ in command["phases"])
-    return {**command, "offset": round(-offset) % cycle}
+MOST_MADE = 1 << 12  # programs whose commands are kept, and what is shown whose lines are
 
 
 class SignalsInForce(Controller):
@@ -51,9 +46,14 @@ class SignalsInForce(Controller):
         self.signals = {command["node"]: command for command in first if command["cmd"] == "signal"}  # by node
         self.forgotten: set[int] = set()  # nodes for which lines of the file are no longer sent
         self.coming: dict[int, LongProgram] = {}  # by node, of the programs that are sent phase by phase
+        self.nodes_of: dict[str, list[int]] = {}  # by light
+        for light, node in mapping.signals:
+            self.nodes_of.setdefault(light, []).append(node)
         self.turns_by_node: dict[int, list[MapTurn]] = {}  # what turns_at gave
-        # By light and phases what program_commands gave, where it fits in one plan.
-        self.made: dict[tuple[str, tuple[tuple[float, str], ...]], tuple[list[Command], tuple[str, ...]]] = {}
+        # By light and phases the commands that show them and warnings, where they fit in one plan; by light, what it
+        # shows and offset the lines of these.
+        self.made: dict[tuple[str, Shown], tuple[list[Command], tuple[str, ...]]] = {}
+        self.lines: dict[tuple[str, Shown, int], list[Line]] = {}
 
     def begin(self, kernel: Kernel) -> None:
         """Nothing is to be sent yet."""
@@ -70,7 +70,7 @@ class SignalsInForce(Controller):
 
     def nodes(self, light: str) -> list[int]:
         """The nodes of a light; empty for an unknown one."""
-        return [node for name, node in self.map.signals if name == light]
+        return self.nodes_of.get(light, [])
 
     def turns_at(self, node: int) -> list[MapTurn]:
         """The turns at a node: of all links that end there."""
@@ -78,15 +78,15 @@ class SignalsInForce(Controller):
             self.turns_by_node[node] = [turn for turn in self.map.turns if self.map.links[turn.link].end == node]
         return self.turns_by_node[node]
 
-    def program_commands(self, light: str, phases: Cycle, offset: float, clock: int) -> tuple[list[Command], list[str]]:
-        """(commands that show a cycle of (seconds, state) at a light from a clock on; warnings); forgets what was still
+    def program_lines(self, light: str, phases: Cycle, offset: float, clock: int) -> tuple[list[Line], list[str]]:
+        """(lines that show a cycle of (seconds, state) at a light from a clock on; warnings); forgets what was still
         to be sent for the light. offset: as in a tlLogic, seconds. Of permissive greens the usual share is
         shown, as flows are not known here. Fault, before anything is forgotten, where a state is shorter than the
         light's signals, or the cycle rounds to 0 s or is longer than 200,000 s."""
-        key = light, tuple((seconds, state) for seconds, state in phases)
-        if (made := self.made.get(key)) is not None:
+        shown = tuple([(seconds, state) for seconds, state in phases])
+        if (made := self.made.get((light, shown))) is not None:
             self.forget(light)
-            return [with_offset(command, offset) for command in made[0]], list(made[1])
+            return self.lines_with_offset(light, shown, offset), list(made[1])
         report, commands, coming = Report(), [], {}
         for node in self.nodes(light):
             own = self.lit_node(light, node, phases, offset, report)
@@ -101,8 +101,22 @@ class SignalsInForce(Controller):
         if not coming:
             if len(self.made) >= MOST_MADE:
                 self.made.clear()
-            self.made[key] = commands, tuple(report.warnings)
-        return commands, report.warnings
+            self.made[light, shown] = commands, tuple(report.warnings)
+        return list(map(own_line, commands)), report.warnings
+
+    def lines_with_offset(self, light: str, shown: Shown, offset: float) -> list[Line]:
+        """The lines of a program of a light that was made before, with another offset, as in a tlLogic, seconds."""
+        commands, _ = self.made[light, shown]
+        cycle = sum(duration for duration, _ in commands[0]["phases"]) if commands else 1
+        return self.lines_known((light, shown, round(-offset) % cycle), lambda: commands)
+
+    def lines_known(self, key: tuple[str, Shown, int], make: Callable[[], list[Command]]) -> list[Line]:
+        """The lines of a light, what it shows and the offset (key); make: gives the commands, whatever their offset."""
+        if (lines := self.lines.get(key)) is None:
+            if len(self.lines) >= MOST_MADE:
+                self.lines.clear()
+            lines = self.lines[key] = [own_line({**command, "offset": key[2]}) for command in make()]
+        return lines
 
     def lit_node(self, light: str, node: int, phases: Cycle, offset: float, report: Report) -> LitNode:
         """A light's program at one of its nodes, in the form of which signal lines are made; report: gets warnings."""
@@ -113,23 +127,27 @@ class SignalsInForce(Controller):
         permissive = self.map.options["permissive"]
         return LitNode(node, turns, edges, light, program, permissive, report, cut=cut, shares=shares)
 
-    def constant_commands(self, light: str, state: str, begin: float) -> list[Command]:
-        """The commands that show a state without permissive greens from the clock begin on; forgets what was to
-        come."""
+    def constant_lines(self, light: str, state: str, begin: float) -> list[Line]:
+        """The lines that show a state without permissive greens from the clock begin on; forgets what was to come."""
         self.forget(light)
+        offset = round(-(begin % CONSTANT)) % CONSTANT
+        return self.lines_known((light, state, offset), lambda: self.constant_commands(light, state))
+
+    def constant_commands(self, light: str, state: str) -> list[Command]:
+        """The commands that show a state without permissive greens, whatever their offset."""
         commands = []
         for node in self.nodes(light):
             turns = (turn for turn in self.turns_at(node) if turn.light != light or state[turn.index] in GREEN)
             green = sorted([turn.link, turn.lane, turn.next] for turn in turns)
-            offset = round(-(begin % CONSTANT)) % CONSTANT
-            commands.append({"cmd": "signal", "node": node, "offset": offset, "phases": [[CONSTANT, green]]})
+            commands.append({"cmd": "signal", "node": node, "offset": 0, "phases": [[CONSTANT, green]]})
         return commands
 
     def forget(self, light: str) -> None:
         """Has nothing more sent of what the file, or a long program, has for a light."""
         own = self.nodes(light)
         self.forgotten.update(own)
-        self.coming = {node: phases for node, phases in self.coming.items() if node not in own}
+        if self.coming:
+            self.coming = {node: phases for node, phases in self.coming.items() if node not in own}
 
     def commands_due(self, clock: int) -> list[Command]:
         """The commands of the phases of long programs that have begun by a clock; each is given once."""

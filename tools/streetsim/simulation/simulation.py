@@ -8,7 +8,7 @@ from streetsim.base.program import find_program
 from streetsim.control.actuated_driver import Driver
 from streetsim.control.merging_links import Merges
 from streetsim.control.steering import Steering
-from streetsim.kernel.loop import NEVER, Controller, Kernel, own_line
+from streetsim.kernel.loop import NEVER, Controller, Kernel, Sent as KernelSent, own_line
 from streetsim.kernel.seconds import Block
 from streetsim.kernel.serving import serving_program
 from streetsim.model.mapping import Map, Place
@@ -25,6 +25,13 @@ from streetsim.simulation.view import FleetSecond, Looker, View
 
 class ScriptKernel(Kernel):
     """The kernel of a run under a script."""
+
+    program: OwnProgram
+
+    def send_soon(self, lines: Sequence[Line]) -> None:
+        """Sends lines of a controller's own before the next step, or ahead of the next line that is sent."""
+        self.program.client.send_soon(line.text.encode() + b"\n" for line in lines)
+        self.sent += [KernelSent(self.clock, line, False) for line in lines]
 
     def refusal(self, line: Line, reply: bytes) -> Exception:
         """The reply itself as an exception."""
@@ -50,7 +57,7 @@ class Simulation:
         rounds = partial(serving_program, program, source.path, workers)
         self.source, self.yielding = giving_way(source, mapping, self.settings, asked.rounds, rounds, lambda *_: None)
         self.notes = [*self.settings.lights.notes(), *self.settings.buses.notes()]
-        self.connections = Connections(mapping)
+        self.connections, self.edges = Connections(mapping), [link.edge for link in mapping.links]
         self.lane_of = {mapping.lane_name(link, lane): (link, lane) for link, lane in mapping.lanes()}
         self.words = find_program(program), workers
         self.start()
@@ -154,15 +161,15 @@ class Simulation:
     def show_program(self, light: str, phases: Sequence[tuple[float, str]], offset: float) -> list[str]:
         """Shows a cycle of (seconds, state) at a light from the next step on; lines of the file for the light are no
         longer sent, and detectors drive it no more. offset: as in a tlLogic, seconds. Gives warnings. Fault as of
-        SignalsInForce.program_commands, after which all is as before."""
-        commands, told = self.shown.program_commands(light, phases, offset, self.clock)
-        self.kernel.send(commands)
+        SignalsInForce.program_lines, after which all is as before."""
+        lines, told = self.shown.program_lines(light, phases, offset, self.clock)
+        self.kernel.send_soon(lines)
         self.driver.release(light, self.clock)
         return told
 
     def show_constant(self, light: str, state: str, begin: float) -> None:
         """As show_program, but a state without permissive greens, from the clock begin on until another is shown."""
-        self.kernel.send(self.shown.constant_commands(light, state, begin))
+        self.kernel.send_soon(self.shown.constant_lines(light, state, begin))
         self.driver.release(light, self.clock)
 
     # Vehicles
@@ -202,7 +209,8 @@ class Simulation:
 
     def edge_names(self, links: Iterable[int]) -> tuple[str, ...]:
         """SUMO's name of the edge of each link."""
-        return tuple(self.map.links[link].edge for link in links)
+        edges = self.edges
+        return tuple([edges[link] for link in links])
 
     # Lanes
 

@@ -1,6 +1,6 @@
 """What is noted of each second: how long vehicles have stood, how far they have come, and who passed induction
 loops."""
-from collections.abc import Sequence
+from collections.abc import Iterable, Sequence
 from typing import NamedTuple
 
 from streetsim.base import limits
@@ -35,8 +35,8 @@ class Tally(Looker):
         self.lost_so_far, self.metres_behind = (np.zeros(limits.VEHICLES) for _ in range(2))  # seconds; metres
         self.reached = np.zeros(limits.VEHICLES, np.int64)  # 1 more than the position in the plan of the link
         self.slot = np.zeros(limits.VEHICLES, np.int64)  # 1 more than that of a second ago; 0: not seen
-        # Seconds that are not summed up yet, by what they are summed up to.
-        self.kept: dict[str, list[SecondRows]] = {name: [] for name in ("now", "ever", "lost", "ways")}
+        self.kept: list[SecondRows] = []  # the seconds that are not all summed up yet
+        self.summed = dict.fromkeys(("now", "ever", "lost", "ways"), 0)  # how many of them are, by what they sum up to
 
     def see(self, now: FleetSecond) -> None:
         """Takes the next second."""
@@ -46,25 +46,28 @@ class Tally(Looker):
             held = held.reshape(-1, 2)
             number, slot = np.append(number, held[:, 0]), np.append(slot, held[:, 1])
             speed = np.append(speed, np.zeros(len(held), int))
-        rows = SecondRows(number, slot, speed)
-        for kept in self.kept.values():
-            kept.append(rows)
-            if len(kept) >= MOST_KEPT:
-                self.sum_all()
+        self.kept.append(SecondRows(number, slot, speed))
+        if len(self.kept) >= MOST_KEPT:
+            self.sum_all()
 
     def sum_all(self) -> None:
         """Sums up all that is kept."""
         for one in (self.sum_now, self.sum_ever, self.sum_lost, self.sum_ways):
             one()
+        self.kept, self.summed = [], dict.fromkeys(self.summed, 0)
+
+    def is_due(self, name: str) -> bool:
+        """Whether seconds are kept that are not summed up to something."""
+        return self.summed[name] < len(self.kept)
 
     def take(self, name: str) -> SecondRows:
-        """The seconds that are kept for something, behind each other; they are kept no more."""
-        kept, self.kept[name] = self.kept[name], []
+        """The seconds that are not summed up to something, behind each other; now they count as summed up."""
+        kept, self.summed[name] = self.kept[self.summed[name] :], len(self.kept)
         return kept[0] if len(kept) == 1 else SecondRows(*map(np.concatenate, zip(*kept)))
 
     def sum_now(self) -> None:
         """Sums up for how long each has stood without a break."""
-        if self.kept["now"]:
+        if self.is_due("now"):
             number, _, speed = self.take("now")
             order = np.argsort(number, kind="stable")
             number, moves = number[order], speed[order] != 0
@@ -76,27 +79,42 @@ class Tally(Looker):
 
     def sum_ever(self) -> None:
         """Sums up for how long each has stood in all."""
-        if self.kept["ever"]:
+        if self.is_due("ever"):
             number, _, speed = self.take("ever")
-            np.add.at(self.standing_ever, number[speed == 0], 1)
+            standing = np.bincount(number[speed == 0])
+            self.standing_ever[: len(standing)] += standing
 
     def sum_lost(self) -> None:
         """Sums up what was lost, second by second, so that it does not hang on when it is asked for."""
-        if self.kept["lost"]:
+        if self.is_due("lost"):
+            alone = self.summed["lost"] == len(self.kept) - 1
             number, slot, speed = self.take("lost")
-            np.add.at(self.lost_so_far, number, 1 - speed / self.free[slot])
+            if alone:  # each vehicle has one row
+                self.lost_so_far[number] += 1 - speed / self.free[slot]
+            else:
+                np.add.at(self.lost_so_far, number, 1 - speed / self.free[slot])
 
     def sum_ways(self) -> None:
         """Sums up who came to another lane."""
-        if self.kept["ways"]:
+        if self.summed["ways"] == len(self.kept) - 1:  # one second alone, in which each vehicle has one row
+            number, slot, _ = self.take("ways")
+            before = self.slot[number] - 1
+            self.slot[number] = slot + 1
+            self.note_ways(number, before, slot)
+        elif self.is_due("ways"):
             number, slot, _ = self.take("ways")
             order = np.argsort(number, kind="stable")
             number, slot = number[order], slot[order]
             first = np.append(True, number[1:] != number[:-1])[: len(number)]
             before = np.where(first, self.slot[number] - 1, np.append(0, slot[:-1])[: len(slot)])
             self.slot[number] = slot + 1  # of each vehicle the last one counts
-            for row in (before >> 1 != slot >> 1).nonzero()[0].tolist():
-                self.go_on(int(number[row]), int(before[row]), int(slot[row]))
+            self.note_ways(number, before, slot)
+
+    def note_ways(self, number: Array, before: Array, slot: Array) -> None:
+        """Notes which vehicles came to another lane, by rows of the lanes where they were and are; as of go_on."""
+        rows = (before >> 1 != slot >> 1).nonzero()[0]
+        for one in zip(number[rows].tolist(), before[rows].tolist(), slot[rows].tolist()):
+            self.go_on(*one)
 
     @property
     def waiting(self) -> Array:
@@ -136,37 +154,88 @@ class Tally(Looker):
 
 
 class LoopTally(Looker):
-    """Who was on induction loops in the last second, and when anybody was last."""
+    """Who was on induction loops in the last second, and when anybody was last. Seconds are kept as they come, and
+    looked at when it is asked for."""
 
     def __init__(self, detectors: Sequence[Detector]) -> None:
         """detectors: the loops, by cells."""
         self.detectors = sorted(detectors, key=key_of)
         self.keys = np.array([key_of(one) for one in self.detectors], np.int64)
-        self.passed: dict[str, list[int]] = {one.name: [] for one in detectors}  # vehicles, by the fleet's numbers
-        self.last: dict[str, int] = {}  # the clocks at which one was last on them
+        self.place = {one.name: at for at, one in enumerate(self.detectors)}
+        self.lasts = np.zeros(len(detectors), np.int64)  # by place the clock at which one was last on it; 0: none was
+        self.clocks: dict[str, int] | None = None  # the same by name, once it was asked for
+        self.passing: dict[str, list[int]] = {}  # vehicles of the last second, by the fleet's numbers, by loop
+        self.kept: list[FleetSecond] = []
         # By vehicle where it was a second ago: 1 more than its lane, as twice the link and the lane, 0: on none; cell.
         self.slot, self.cell = (np.zeros(limits.VEHICLES, np.int64) for _ in range(2))
 
     def see(self, now: FleetSecond) -> None:
         """Takes the next second."""
         if self.detectors:
-            self.passed = {one.name: [] for one in self.detectors}
-            number, slot = np.append(now.number, now.gone), np.append(now.slot, now.left)
-            self.note(now.clock, number, slot, np.append(now.cell, np.full(len(now.gone), -1)))
+            self.kept.append(now)
+            if len(self.kept) >= MOST_KEPT:
+                self.look()
 
-    def note(self, clock: int, number: Array, slot: Array, cell: Array) -> None:
-        """Notes who stands on a loop at a clock, or drove over it in the second before, by where vehicles are; a cell
-        below 0 is behind the stop line."""
-        on = cell >= 0
-        before = np.where((self.slot[number] - 1) >> 1 == slot >> 1, self.cell[number], BEYOND)
+    def passed(self, name: str) -> list[int]:
+        """The vehicles, by the fleet's numbers, that were on a loop in the last second."""
+        self.look()
+        return self.passing.get(name, [])
+
+    def last(self, name: str) -> int:
+        """The clock at which anybody was last on a loop; 0 where nobody was."""
+        if self.kept:
+            self.look()
+        if self.clocks is None:
+            self.clocks = dict(zip(self.place, self.lasts.tolist()))
+        return self.clocks[name]
+
+    def look(self) -> None:
+        """Looks at the seconds that are kept."""
+        if self.kept:
+            kept, self.kept, self.passing, self.clocks = self.kept, [], {}, None
+            number, slot, cell = (np.concatenate(parts) for parts in zip(*map(rows_with_gone, kept)))
+            clocks = np.repeat([one.clock for one in kept], [len(one.number) + len(one.gone) for one in kept])
+            order, low, high = self.loops_passed(number, slot, cell)
+            for row, loop in self.passed_last(order, low, high, clocks) if len(clocks) else ():
+                if clocks[row] == kept[-1].clock:
+                    self.passing.setdefault(self.detectors[loop].name, []).append(int(number[row]))
+
+    def loops_passed(self, number: Array, slot: Array, cell: Array) -> tuple[Array, Array, Array]:
+        """(the order of rows by vehicle and clock; in this order the first loop on which each stands or over which it
+        drove in the second before, and the one behind the last). Rows: of where vehicles are, by clock; a cell below 0
+        is behind the stop line."""
+        order = np.argsort(number, kind="stable")
+        number, slot, cell, on = number[order], slot[order], cell[order], cell[order] >= 0
+        again = np.append(False, number[1:] == number[:-1])[: len(number)]
+        known = np.where(on, slot + 1, 0)
+        old_slot = np.where(again, np.append(0, known[:-1])[: len(known)], self.slot[number])
+        old_cell = np.where(again, np.append(0, cell[:-1])[: len(cell)], self.cell[number])
+        self.slot[number], self.cell[number] = known, cell  # of each vehicle the last row counts
+        before = np.where((old_slot - 1) >> 1 == slot >> 1, old_cell, BEYOND)
         front = np.where(on, cell, BEYOND - 1)
         begin = slot * BEYOND + np.minimum(before, front + ~on)
         low, high = np.searchsorted(self.keys, begin), np.searchsorted(self.keys, slot * BEYOND + front, side="right")
-        for row in np.flatnonzero(low < high).tolist():
-            for one in self.detectors[low[row] : high[row]]:
-                self.passed[one.name].append(int(number[row]))
-                self.last[one.name] = clock
-        self.slot[number], self.cell[number] = np.where(on, slot + 1, 0), cell
+        return order, low, high
+
+    def passed_last(self, order: Array, low: Array, high: Array, clocks: Array) -> Iterable[tuple[int, int]]:
+        """Notes when loops were passed, by what loops_passed gives and the clock of each row, one at least; gives
+        (row, a loop that it passed) of the last clock, by rows."""
+        passing = np.flatnonzero(low < high)
+        passing = passing[np.argsort(order[passing])]
+        counts, rows = (high - low)[passing], order[passing]
+        loops = np.repeat(low[passing] - np.cumsum(counts) + counts, counts) + np.arange(counts.sum())
+        rows = np.repeat(rows, counts)
+        np.maximum.at(self.lasts, loops, clocks[rows])
+        now = clocks[rows] == clocks[-1]
+        return zip(rows[now].tolist(), loops[now].tolist())
+
+
+def rows_with_gone(second: FleetSecond) -> tuple[Array, Array, Array]:
+    """(vehicles, lanes, cells) of a second, those among them that arrived, who are behind their stop line."""
+    if not len(second.gone):
+        return second.number, second.slot, second.cell
+    number, slot = np.append(second.number, second.gone), np.append(second.slot, second.left)
+    return number, slot, np.append(second.cell, np.full(len(second.gone), -1))
 
 
 def key_of(detector: Detector) -> int:

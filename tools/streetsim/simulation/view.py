@@ -9,6 +9,9 @@ from streetsim.model.mapping import Map, Place
 from streetsim.simulation.fleet import OnRoad
 
 IN_JUNCTION = -1  # in place of a cell
+FEW = 8  # vehicles that are looked for in one second, row by row
+# What a view has of its rows, once it was asked for.
+KNOWN = frozenset(("there", "there_before", "numbers", "bounds", "rows", "row_bounds", "speeds"))
 
 
 class FleetSecond(NamedTuple):
@@ -82,8 +85,9 @@ class View(Looker):
     def show(self, number: Array, slot: Array, cell: Array, speed: Array) -> None:
         """Sets the rows."""
         self.number, self.slot, self.cell, self.speed = number, slot, cell, speed
-        for known in ("there", "there_before", "numbers", "bounds", "rows", "row_bounds", "speeds"):
-            self.__dict__.pop(known, None)
+        self.sought = 0  # vehicles that `where` has looked for
+        for known in self.__dict__.keys() & KNOWN:
+            del self.__dict__[known]
 
     @cached_property
     def numbers(self) -> list[int]:
@@ -99,6 +103,17 @@ class View(Looker):
     def speeds(self) -> list[int]:
         """By row cells a step."""
         return self.speed.tolist()
+
+    def where(self, number: int) -> OnRoad | None:
+        """Where a vehicle is; None where it is not on the road. Where many are looked for, all are."""
+        if self.sought >= FEW:
+            return self.there.get(number)
+        self.sought += 1
+        rows = (self.number == number).nonzero()[0].tolist()
+        if not rows:
+            return None
+        slot, cell, speed = (int(one[rows[-1]]) for one in (self.slot, self.cell, self.speed))
+        return OnRoad(slot >> 1, slot & 1, None if cell < 0 else cell, speed)
 
     @cached_property
     def there(self) -> dict[int, OnRoad]:

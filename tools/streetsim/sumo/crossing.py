@@ -7,8 +7,9 @@ from __future__ import annotations
 from collections import Counter, defaultdict
 from collections.abc import Collection, Iterable, Mapping, Sequence
 from dataclasses import dataclass, field
-from itertools import pairwise
-from typing import Any
+from functools import lru_cache
+from itertools import chain, pairwise
+from typing import Any, NamedTuple
 
 from streetsim.model.timing import spans_of
 from streetsim.sumo.greens import USUAL_SPEED, headway
@@ -95,13 +96,14 @@ def movements_of(
         own = least_reserved[connection.source, connection.target]
         if not own or own[0].reserved == connection.reserved:
             own.append(connection)
-    found = {}
+    found, signs = {}, ["".join(each) for each in zip(*states)]  # by index
     for connection in connections:
         pair = connection.source, connection.target
         own = least_reserved[pair]
         flow = flows.get(pair, 0.0) / len(own) if connection in own else 0.0
         assert connection.request is not None
-        found[connection.request] = movement_of(connection, states, flow, limits_of[connection.source])
+        own_signs = GREEN[0] * len(states) if connection.light is None else signs[connection.index]
+        found[connection.request] = movement_of(connection, own_signs, flow, limits_of[connection.source])
     for request, movement in found.items():
         before = (foe for foe in sorted(yields.get(request, ())) if foe in found and found[foe].flow)
         movement.foes = [found[foe] for foe in before if not wait_together(request, foe, found, yields)]
@@ -173,26 +175,47 @@ def set_lane(movement: CrossingMovement, movements: Collection[CrossingMovement]
     movement.beside = sum(one.flow * one.headway for one in going) / free if free else movement.headway
 
 
-def movement_of(connection: NetConnection, states: Sequence[str], flow: float, limit: int) -> CrossingMovement:
-    """The movement of one connection, still without others; one without a light is green throughout. states: of its
-    light, one for each second; flow: vehicles an hour; limit: of its link, cells a step."""
-    lit, cycle = connection.light is not None, len(states)
-    own = "".join(state[connection.index] for state in states) if lit else "G" * cycle
+class SignTimes(NamedTuple):
+    """What the letters of a connection over a cycle say; fields: as of CrossingMovement."""
+
+    sure: int
+    green: int
+    begins: list[tuple[int, int]]
+    runs: dict[int, int]
+    stops: dict[int, int]
+
+
+@lru_cache(1 << 12)
+def times_of(signs: str) -> SignTimes:
+    """The times of a connection by its letters, one for each second of a cycle. Nobody may change them."""
+    return SignTimes(
+        sure=bits_of_states(signs, GREEN),
+        green=bits_of_states(signs, SHOWN),
+        begins=[(at, red_before(signs, at)) for at, _ in spans_of(signs, SHOWN) if signs[at - 1] not in SHOWN],
+        runs=dict(spans_of(signs, OPEN)),
+        stops=dict(spans_of(signs, STOPPED)),
+    )
+
+
+def movement_of(connection: NetConnection, signs: str, flow: float, limit: int) -> CrossingMovement:
+    """The movement of one connection, still without others. signs: its letter in each second of the cycle; one without
+    a light is green throughout; flow: vehicles an hour; limit: of its link, cells a step."""
+    times = times_of(signs)
     return CrossingMovement(
         pair=(connection.source, connection.target),
         lane=(connection.source, connection.source_lane),
         target=(connection.target, connection.target_lane),
-        index=connection.index if lit else None,
-        cycle=cycle,
-        sure=bits_of_states(own, GREEN),
-        green=bits_of_states(own, SHOWN),
-        begins=[(start, red_before(own, start)) for start, _ in spans_of(own, SHOWN) if own[start - 1] not in SHOWN],
+        index=None if connection.light is None else connection.index,
+        cycle=len(signs),
+        sure=times.sure,
+        green=times.green,
+        begins=times.begins,
         flow=flow,
         passing=flow,
         headway=headway(connection.speed or USUAL_SPEED),
         limit=limit,
-        runs=dict(spans_of(own, OPEN)),
-        stops=dict(spans_of(own, STOPPED)),
+        runs=times.runs,
+        stops=times.stops,
     )
 
 
@@ -208,9 +231,17 @@ def red_before(states: str, start: int) -> int:
 
 def meetings(movement: CrossingMovement, start: int, length: int) -> list[Meeting]:
     """The seconds of a permissive green, or of a red in which one may go after a stop, of length seconds from start, by
-    which of the movement's foes have green in them."""
-    found: defaultdict[tuple[CrossingMovement, ...], int] = defaultdict(int)
-    for second in range(start, start + length):
-        place = second % movement.cycle
-        found[tuple(foe for foe in movement.foes if foe.green >> place & 1)] |= 1 << place
-    return [(seconds, foes) for foes, seconds in found.items()]
+    which of the movement's foes have green in them; those that come first in it are first."""
+    cycle, seconds = movement.cycle, (1 << length) - 1 << start
+    parts: list[Meeting] = [((seconds | seconds >> cycle) & (1 << cycle) - 1, ())]
+    for foe in movement.foes:
+        green = ((own & foe.green, (*foes, foe)) for own, foes in parts)
+        others = ((own & ~foe.green, foes) for own, foes in parts)
+        parts = [one for one in chain(green, others) if one[0]]
+
+    def first(part: Meeting) -> int:
+        """The first of a part's seconds, as a bit, from start on."""
+        turned = part[0] >> start | part[0] << cycle - start
+        return turned & -turned
+
+    return sorted(parts, key=first)

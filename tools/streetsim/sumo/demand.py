@@ -27,6 +27,7 @@ READ |= {"number", "period", "probability", "vehsPerHour", "perHour", "repeat", 
 READ_INSIDE = {"route", "routeDistribution", "stop"}  # elements in a vehicle, flow or trip
 KEPT = {"departSpeed"}  # of the further attributes, those that count
 ENDS = {"from", "to", "fromTaz", "toTaz", "via"}
+READ_OR_END = READ | ENDS
 DEPARTS = {"vehicle": "depart", "trip": "depart", "flow": "begin"}  # by element, the attribute by which SUMO sorts
 NO_TIMES = ("triggered", "containerTriggered", "now", "split", "begin")  # in place of a depart
 NOT_DRIVEN = {
@@ -73,6 +74,10 @@ class Demand:
         # (vehicle, file and element): routes may be told after the vehicles.
         self.later: list[tuple[DemandVehicle, str]] = []
         self.unsorted: list[str] = []  # vehicles and flows behind later ones in a file of routes
+        self.readers = {
+            "route": self.read_route, "routeDistribution": self.read_mix, "vehicle": self.read_vehicle,
+            "flow": self.read_flow, "vType": types.read_element, "vTypeDistribution": types.read_element,
+        }  # fmt: skip
 
     def read_file(self, path: FilePath) -> None:
         """Adds what a file of routes has; Fault where it cannot be read or read_element raises one."""
@@ -81,27 +86,19 @@ class Demand:
             self.read_element(path, element)
             text = element.get(DEPARTS.get(element.tag, ""), "0")
             if element.tag in DEPARTS and text not in NO_TIMES:
-                if seconds(text) < last:
+                if (clock := seconds(text)) < last:
                     self.unsorted.append(element.get("id", ""))
-                last = max(last, seconds(text))
+                last = max(last, clock)
 
     def read_element(self, path: FilePath, element: Element) -> None:
         """Adds an element of a file of routes or an additional file. Unrouted for a trip, or a vehicle or flow without
         a route; persons and containers are reported as skipped, unknown elements as ignored."""
-        readers = {
-            "route": self.read_route,
-            "routeDistribution": self.read_mix,
-            "vehicle": self.read_vehicle,
-            "flow": self.read_flow,
-            "vType": self.types.read_element,
-            "vTypeDistribution": self.types.read_element,
-        }
         if element.tag == "trip":
             raise Unrouted(f"{element_told(path, element)} {ROUTED_FIRST}")
         if element.tag in NOT_DRIVEN:
             self.report.skipped[f"{NOT_DRIVEN[element.tag]}, which streetsim does not have"] += 1
-        elif element.tag in readers:
-            readers[element.tag](path, element)
+        elif element.tag in self.readers:
+            self.readers[element.tag](path, element)
         else:
             self.report.ignored[f"<{element.tag}> of route files"] += 1
 
@@ -254,7 +251,7 @@ class Demand:
 
 def further_attributes(element: Element) -> tuple[tuple[str, str], ...]:
     """The attributes, (name, value), of a vehicle, trip or flow that are neither in READ nor in ENDS."""
-    return tuple((name, value) for name, value in element.items() if name not in READ | ENDS)
+    return tuple((name, value) for name, value in element.items() if name not in READ_OR_END)
 
 
 def enters(

@@ -3,11 +3,13 @@ grow otherwise here."""
 from collections import Counter, defaultdict
 from collections.abc import Collection, Iterable, Iterator, Mapping, Sequence
 from dataclasses import replace
-from itertools import chain, pairwise
+from itertools import chain, groupby, pairwise
+from typing import Protocol
 
 from streetsim.model.fullness import LEFT, MERGING, RIGHT, STRAIGHT, TURNAROUND, FullLane, Fullness
 from streetsim.sumo.crossing import CrossingMovement, EdgePair, Flows, hourly_flows
 from streetsim.sumo.demand import DemandVehicle
+from streetsim.sumo.gaps import until_first
 from streetsim.sumo.merges import FAR_FROM_FULL, Merge
 from streetsim.sumo.net import SumoNet
 from streetsim.sumo.network import Network
@@ -24,26 +26,62 @@ Movements = Mapping[str, Mapping[int, CrossingMovement]]  # by junction and requ
 Found = tuple[FullLane, Collection[EdgePair]]  # and the edge pairs of those who pass it
 
 
+class OnWay(Protocol):
+    """A vehicle of a demand, or of a run."""
+
+    @property
+    def edges(self) -> Sequence[str]:
+        """Its way."""
+
+    @property
+    def depart(self) -> float:
+        """When it departs, seconds."""
+
+
 def fullness(
     net: SumoNet, network: Network, vehicles: Sequence[DemandVehicle], merges: Sequence[Merge], whole: Movements
 ) -> Fullness:
     """The nearly full lanes of a demand, by its flows and by those of each quarter of an hour in which more than
     LEAST_PART of the vehicles depart. The flow of an edge is split evenly over the lanes that lead on, as vehicles of
     SUMO do not see who turns ahead. whole: the movements by the flows of the whole demand."""
-    ways = {(one.source, one.target): WAYS.get(one.direction.lower(), STRAIGHT) for one in net.connections}
+    ways, limits_of = ways_of(net), {link.edge: link.limit for link in network.links}
     worst: dict[str, Found] = {}
-    parts = ((flows, movements(net, network, flows)) for flows in flows_of_parts(vehicles))
+    parts = ((flows, movements(net, limits_of, flows)) for flows in flows_of_parts(vehicles))
     for flows, found in chain([(hourly_flows(vehicles), whole)], parts):
-        at_lights = (full_at_light(name, own.values(), ways) for name, own in found.items())
-        for one, pairs in chain(*at_lights, full_merges(merges, flows)):
-            if one.lane not in worst or worst[one.lane][0].demand < one.demand:
-                worst[one.lane] = one, pairs
+        note_worst(worst, chain(full_at_lights(found, ways), full_merges(merges, flows)))
     return counted(worst, vehicles)
 
 
-def flows_of_parts(vehicles: Sequence[DemandVehicle]) -> Iterator[Flows]:
+def full_lanes_at_lights(net: SumoNet, vehicles: Sequence[OnWay], limits_of: Mapping[str, int]) -> list[FullLane]:
+    """The nearly full lanes at lights under the programs of a network, as `fullness` finds them. limits_of: cells a
+    step, by edge."""
+    ways, worst = ways_of(net), dict[str, Found]()
+    for flows in chain([hourly_flows(vehicles)], flows_of_parts(vehicles)):
+        note_worst(worst, full_at_lights(movements(net, limits_of, flows), ways))
+    return [one for one, _ in worst.values()]
+
+
+def ways_of(net: SumoNet) -> dict[EdgePair, str]:
+    """How one turns, by edge pair."""
+    return {(one.source, one.target): WAYS.get(one.direction.lower(), STRAIGHT) for one in net.connections}
+
+
+def note_worst(worst: dict[str, Found], found: Iterable[Found]) -> None:
+    """Keeps of each lane what is fullest of what was known and what was found."""
+    for one, pairs in found:
+        if one.lane not in worst or worst[one.lane][0].demand < one.demand:
+            worst[one.lane] = one, pairs
+
+
+def full_at_lights(found: Movements, ways: Mapping[EdgePair, str]) -> Iterator[Found]:
+    """The nearly full lanes of all junctions with lights."""
+    for name, own in found.items():
+        yield from full_at_light(name, own.values(), ways)
+
+
+def flows_of_parts(vehicles: Sequence[OnWay]) -> Iterator[Flows]:
     """The flows of the parts of a demand that are looked at alone, beside the whole."""
-    parts: defaultdict[int, list[DemandVehicle]] = defaultdict(list)
+    parts: defaultdict[int, list[OnWay]] = defaultdict(list)
     for vehicle in vehicles:
         parts[int(vehicle.depart // PART)].append(vehicle)
     if len(parts) > 1:
@@ -57,12 +95,21 @@ def full_at_light(junction: str, own: Iterable[CrossingMovement], ways: Mapping[
         lanes[one.lane].append(one)
     for (edge, index), sharing in lanes.items():
         wish = sum(one.flow for one in sharing)
-        demand = wish / capacity(sharing, wish) if wish >= LEAST else 0.0
+        demand = wish / min(capacity(sharing, wish), by_greens(sharing, wish)) if wish >= LEAST else 0.0
         waiting = [one for one in sharing if one.waits and one.flow]
         if demand >= (FULL if waiting else FULL_IN_TURN):
             source, target = max(waiting or sharing, key=lambda one: one.flow).pair
             where = junction, f"{edge}_{index}", ways[source, target], source, target
             yield FullLane(*where, round(demand, 2)), [one.pair for one in sharing]
+
+
+def by_greens(sharing: Sequence[CrossingMovement], wish: float) -> float:
+    """Vehicles an hour that a lane lets pass, of wish that want to (above 0), if nobody waited for gaps: where only
+    some of its movements have green, those before the first vehicle of another one."""
+    cycle, each = sharing[0].cycle, sum(one.flow * one.headway for one in sharing) / wish
+    held = [sum(one.flow for one in sharing if not one.green >> second & 1) / wish for second in range(cycle)]
+    queues = ((share, len(list(seconds)) / each) for share, seconds in groupby(held))
+    return sum(until_first(queue, share) if share else queue for share, queue in queues) * 3600 / cycle
 
 
 def full_merges(merges: Iterable[Merge], flows: Flows) -> Iterator[Found]:

@@ -112,15 +112,25 @@ class Network:
         self.add_connections(net, report)
         if not options.strict_turns:
             self.open_both_lanes(report)
+        # The lanes of a link that have a turn to a next link, by both; rising.
+        self.lanes_to: defaultdict[tuple[int, int], list[int]] = defaultdict(list)
+        for source, lane, behind in sorted(self.turns):
+            self.lanes_to[source, behind].append(lane)
+        self.open_by_class: dict[tuple[str, str], list[int]] = {}  # links of an edge, as open_links gives them
         self.leads = {(link, self.links[following].edge) for link, _, following in self.turns}
         self.unlike = self.edges_with_shared_targets() & {edge for edge, _ in self.waiting}
+        # By link what one more vehicle costs there (weight), its lanes, and the links of its edge.
+        self.beside = [
+            (CROWDING_BESIDE if link.edge in self.unlike else CROWDING, len(link.lanes), self.links_of[link.edge])
+            for link in self.links
+        ]
         self.residences = residences(net, self.nodes, self.links, options.residence, dawdle, self.paces, flows)
         pacing = Pacing(net, self.links, flows, self.paces, self.residences, dawdle)
         for link, users in zip(self.links, self.users, strict=True):
             pacing.set_cells(link, users)
             link.cells = max(1, round(link.cells / factor_of(options.speeds, link.speed)))
         self.buffers = buffer_sizes(self.links, len(self.nodes), options)
-        self.use: Counter[int] = Counter()
+        self.use: list[float] = [0] * len(self.links)  # vehicles that a link carries, as `equivalents` counts them
         # (edge, next edge): in how many others' place a vehicle counts that waits for a gap
         self.equivalents: Mapping[tuple[str, str], float] = {}
         self.joined: set[tuple[int, int]] = set()
@@ -192,18 +202,19 @@ class Network:
 
     def serves(self, link: int, following: int) -> list[int]:
         """The lanes of a link that have a turn to a next link; empty where none has."""
-        return [lane for lane in range(len(self.links[link].lanes)) if (link, lane, following) in self.turns]
+        return self.lanes_to.get((link, following), [])
 
     def connect_links(self, link: int, following: int) -> None:
         """Adds turns from all lanes of a link to a next link, of an edge that its edge leads to, each with the signal
         of the nearest connection between these edges, and notes the pair in joined; none where it has a turn there."""
-        if self.serves(link, following):
+        if (link, following) in self.lanes_to:
             return
         connections = self.connections_between[self.links[link].edge, self.links[following].edge]
         for lane, index in enumerate(self.links[link].lanes):
             nearest = min(connections, key=lambda connection: abs(connection.source_lane - index))
             next_lane = min(lane, len(self.links[following].lanes) - 1)
             self.turns[link, lane, following] = self.turn(link, next_lane, nearest, True)
+            self.lanes_to[link, following].append(lane)
         self.joined.add((link, following))
 
     def open_beside_works(self) -> None:
@@ -226,37 +237,42 @@ class Network:
         missing between them are added. None, and nothing is counted, where two edges that follow each other have no
         connection, or one has no link for its class. edges: kept ones, one at least; stops: the lane that it must go
         over, by the edge's position; vclass: its class, of the options' ones, FREE or empty: any."""
-        if any(pair not in self.connections_between for pair in pairwise(edges)):
+        pairs = list(pairwise(edges))
+        if any(pair not in self.connections_between for pair in pairs):
             return None
-        links = [self.links_of[edge] for edge in edges]
+        links = [self.open_links(edge, vclass) for edge in edges]
         for at, key in stops.items():
-            links[at] = [self.place_of[key][0]]
-        links = [[link for link in some if vclass not in self.links[link].closed] for some in links]
+            link, _ = self.place_of[key]
+            links[at] = [] if vclass in self.links[link].closed else [link]
         if not all(links):
             return None
         plan = tuple(some[0] for some in links)
         if any(len(some) > 1 for some in links):
             plan = self.cheapest(links, vclass)
         self.use[plan[-1]] += 1
-        for link, following in pairwise(plan):
-            more = self.equivalents.get((self.links[link].edge, self.links[following].edge), 1)
-            self.use[link] += more  # type: ignore[assignment]  # the stubs have whole counts alone
+        for link, following, pair in zip(plan, plan[1:], pairs):
+            self.use[link] += self.equivalents.get(pair, 1)
             self.connect_links(link, following)
         return plan
 
+    def open_links(self, edge: str, vclass: str) -> list[int]:
+        """The links of an edge that are open to a class; empty where none is."""
+        if (edge, vclass) not in self.open_by_class:
+            own = [link for link in self.links_of[edge] if vclass not in self.links[link].closed]
+            self.open_by_class[edge, vclass] = own
+        return self.open_by_class[edge, vclass]
+
     def cheapest(self, links: Sequence[Sequence[int]], vclass: str) -> tuple[int, ...]:
         """The plan of least cost of a vehicle of a class, by one of some links for each of its edges."""
-        best: dict[int, tuple[float, tuple[int, ...]]]
-        best = {link: (self.cost(link, vclass), (link,)) for link in links[0]}
+        best: list[tuple[float, tuple[int, ...]]] = [(self.cost(link, vclass), (link,)) for link in links[0]]
         for some in links[1:]:
-            best = {
-                link: min(
-                    (cost + self.cost(link, vclass) + self.change_cost(path[-1], link), (*path, link))
-                    for cost, path in best.values()
-                )
-                for link in some
-            }
-        return min(best.values())[1]
+            further = []
+            for link in some:
+                own = self.cost(link, vclass)
+                cost, path = min([(cost + own + self.change_cost(path[-1], link), path) for cost, path in best])
+                further.append((cost, (*path, link)))
+            best = further
+        return min(best)[1]
 
     def edges_with_shared_targets(self) -> set[str]:
         """The edges of which two links or more lead to one next edge."""
@@ -265,23 +281,19 @@ class Network:
 
     def change_cost(self, link: int, following: int) -> float:
         """The cost of going from a link to a next one to which it has no turn; 0 where it has one, added or not."""
-        if self.serves(link, following):
+        if (link, following) in self.lanes_to:
             return 0.0
         edge, target = self.links[link].edge, self.links[following].edge
         wrong = (edge, target) in self.waiting and (link, target) not in self.leads
         return WRONG_LANE if wrong else MISSING_TURN
 
     def cost(self, link: int, vclass: str) -> float:
-        """The cost of a link to a vehicle of a class."""
-        users = self.users[link]
-        return self.crowding(link) + (OTHERS_LANE if users is not None and vclass not in users else 0.0)
-
-    def crowding(self, link: int) -> float:
-        """The cost of a link for what each of its lanes carries so far, against the mean of its edge's links."""
-        links = self.links_of[self.links[link].edge]
-        total = sum(self.use[other] for other in links)
-        weight = CROWDING_BESIDE if self.links[link].edge in self.unlike else CROWDING
-        return weight * self.use[link] / len(self.links[link].lanes) * len(links) / total if total else 0.0
+        """The cost of a link to a vehicle of a class: for what each of its lanes carries so far, against the mean of
+        its edge's links, and where it is open to more classes than others of the edge."""
+        (weight, lanes, links), use, users = self.beside[link], self.use, self.users[link]
+        total = sum([use[other] for other in links])
+        crowding = weight * use[link] / lanes * len(links) / total if total else 0.0
+        return crowding + (OTHERS_LANE if users is not None and vclass not in users else 0.0)
 
     def load_command(self) -> Command:
         """The load command of this network."""

@@ -47,20 +47,29 @@ class Paces:
     ) -> None:  # fmt: skip
         """vehicles: with edges, type, depart (seconds) and more, as sumo.demand has them; drivings: by type, usual ones
         where it has none; class_of: gives the class of a type."""
-        self.passing: defaultdict[str, Counter[tuple[Driving, str]]] = defaultdict(Counter)  # with their class
-        self.starts: defaultdict[str, Counter[Started]] = defaultdict(Counter)
         journeys, first, last = Counter[tuple[tuple[str, ...], str]](), 0.0, 0.0
+        departing = Counter[tuple[str, str, str]]()  # by edge, type and departSpeed
         for at, vehicle in enumerate(vehicles):
             journeys[vehicle.edges, vehicle.type] += 1
             first, last = (min(first, vehicle.depart), max(last, vehicle.depart)) if at else (vehicle.depart,) * 2
-            own = drivings.get(vehicle.type, USUAL), class_of(vehicle.type)
-            self.starts[vehicle.edges[0]][*own, dict(vehicle.more).get("departSpeed", "0")] += 1
+            speed = dict(vehicle.more).get("departSpeed", "0") if vehicle.more else "0"
+            departing[vehicle.edges[0], vehicle.type, speed] += 1
+        own = {name: (drivings.get(name, USUAL), class_of(name)) for _, name in journeys}
         self.types_of: defaultdict[tuple[Driving, str], set[str]] = defaultdict(set)
+        for name, one in own.items():
+            self.types_of[one].add(name)
+        self.starts: defaultdict[str, Counter[Started]] = defaultdict(Counter)
+        for (edge, name, speed), count in departing.items():
+            self.starts[edge][*own[name], speed] += count
+        on_edge: defaultdict[str, dict[str, int]] = defaultdict(dict)  # by type
         for (edges, name), count in journeys.items():
-            own = drivings.get(name, USUAL), class_of(name)
-            self.types_of[own].add(name)
             for edge in edges:
-                self.passing[edge][own] += count
+                counts = on_edge[edge]
+                counts[name] = counts.get(name, 0) + count
+        self.passing: defaultdict[str, Counter[tuple[Driving, str]]] = defaultdict(Counter)  # with their class
+        for edge, counts in on_edge.items():
+            for name, count in counts.items():
+                self.passing[edge][own[name]] += count
         self.seconds = max(LEAST_SECONDS, last - first)
         self.known: dict[tuple[str, frozenset[str] | None], Drivers] = {}
 

@@ -5,10 +5,9 @@ from dataclasses import dataclass
 from itertools import pairwise
 from math import ceil
 from xml.etree import ElementTree
-from xml.sax.saxutils import quoteattr
 
 from streetsim.base import limits
-from streetsim.base.files import Fault, FilePath, attributes_of, element_told, whole_file
+from streetsim.base.files import Fault, FilePath, attributes_of, element_told, quoteattr, whole_file
 from streetsim.base.report import Report
 from streetsim.sumo.demand import ENDS, READ, Demand, DemandVehicle
 from streetsim.sumo.net import SumoNet

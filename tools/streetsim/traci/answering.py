@@ -40,6 +40,15 @@ class AskedCall(NamedTuple):
     gives: str = ""  # the type of the value; empty for a change
     fixed: Callable[[Value], bytes] | None = None  # packs a value of fixed size, whose mark `head` has
 
+    def message(self) -> Callable[[], bytes]:
+        """What makes the call and gives the state and the value as a message of their own; it raises what the call
+        raises."""
+        if self.fixed is None:
+            return lambda: whole_message(self.answer())
+        call, words, pack = self.call, self.words, self.fixed
+        head = INT.pack(INT.size + len(self.head) + len(pack(0))) + self.head
+        return lambda: head + pack(call(*words))
+
     def answer(self) -> bytes:
         """The state and the value, once the call is made; raises what that raises."""
         value = self.call(*self.words)
@@ -48,6 +57,11 @@ class AskedCall(NamedTuple):
         if not self.gives:
             return self.head
         return OK[self.code] + command(self.code + ANSWER, self.head + ENCODERS[self.gives](value))
+
+
+def whole_message(answer: bytes | bytearray) -> bytes:
+    """A message of an answer: its length stands before it."""
+    return INT.pack(len(answer) + INT.size) + answer
 
 
 def asked_value(code: int, words: WordReader) -> AskedCall:

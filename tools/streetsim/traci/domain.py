@@ -15,6 +15,8 @@ from streetsim.traci.protocol import Value
 from streetsim.traci.table import told_by
 
 Values = dict[int, Value]  # what is told, by variable
+# Letters of the parameters that scripts keep in a domain, at most; as how many a parameter counts beside its own.
+MOST_LETTERS, OVERHEAD = 1 << 24, 100
 
 
 class Domain(CallGroup[TraciSession]):
@@ -29,6 +31,7 @@ class Domain(CallGroup[TraciSession]):
         self.subscribed: dict[str, tuple[int, ...]] = {}  # variables by object
         self.around: dict[str, tuple[float, tuple[int, ...]]] = {}  # by object: metres, and variables of the vehicles
         self.parameters: dict[tuple[str, str], str] = {}  # that scripts keep, by object and key
+        self.letters = 0  # of their keys and texts, with OVERHEAD for each
 
     @cached_property
     def variables(self) -> dict[int, str]:
@@ -51,10 +54,20 @@ class Domain(CallGroup[TraciSession]):
     # Parameters that a script keeps with an object
 
     def setParameter(self, objectID: str, param: str, value: object) -> None:
-        """Keeps a text under a key (param), for getParameter. TraCIException for an unknown object, NotHere for keys of
-        SUMO's models."""
+        """Keeps a text under a key (param), for getParameter. TraCIException for an unknown object, and where the
+        domain would keep more than MOST_LETTERS; NotHere for keys of SUMO's models."""
         self.check_key(objectID, param)
-        self.parameters[objectID, param] = str(value)
+        text, before = str(value), self.parameters.get((objectID, param))
+        more = len(text) - len(before) if before is not None else len(param) + len(text) + OVERHEAD
+        if self.letters + more > MOST_LETTERS:
+            raise TraCIException(f"{self.name}: parameters of more than {MOST_LETTERS:,} letters are not kept")
+        self.letters += more
+        self.parameters[objectID, param] = text
+
+    def forget_parameters(self, name: str) -> None:
+        """Forgets the parameters that a script keeps with an object."""
+        for key in [key for key in self.parameters if key[0] == name]:
+            self.letters -= len(key[1]) + len(self.parameters.pop(key)) + OVERHEAD
 
     def getParameter(self, objectID: str, param: str) -> str:
         """The text that was kept under a key (param), else empty; raises as setParameter does."""
@@ -152,6 +165,7 @@ class Domain(CallGroup[TraciSession]):
         self.subscribed.clear()
         self.around.clear()
         self.parameters.clear()
+        self.letters = 0
 
 
 class Outlined(Domain):

@@ -5,6 +5,7 @@ p line of points; c colour; r place on a lane (edge, metres, index); g point in 
 so many parts; u byte without the mark of a type. Others, by whole words, are compounds of values."""
 import struct
 from collections.abc import Callable, Iterable, Sequence
+from functools import lru_cache
 from typing import Any
 
 from streetsim.traci import constants as tc
@@ -143,9 +144,12 @@ def string(value: str) -> bytes:
     return bytes((tc.TYPE_STRING,)) + text(value)
 
 
+known_text = lru_cache(1 << 16)(text)
+
+
 def strings(values: Iterable[str]) -> bytes:
     """Texts."""
-    parts = [text(one) for one in values]
+    parts = [known_text(one) for one in values]
     return TYPED_INT.pack(tc.TYPE_STRINGLIST, len(parts)) + b"".join(parts)
 
 

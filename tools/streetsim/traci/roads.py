@@ -317,7 +317,7 @@ class InductionLoopDomain(DetectorDomain):
 
     def numbers(self, name: str) -> list[int]:
         """The numbers of the vehicles that stood on it or drove over it in the last step."""
-        return self.now().loops.passed[self.detector(name).name]
+        return self.now().loops.passed(self.detector(name).name)
 
     def getLastStepOccupancy(self, name: str) -> float:
         """The percentage of the last step in which a vehicle covered it: 100 where one stands there, else by the
@@ -333,7 +333,10 @@ class InductionLoopDomain(DetectorDomain):
 
     def getTimeSinceDetection(self, name: str) -> float:
         """Seconds since a vehicle was on it; the clock where none was."""
-        return float(self.now().clock - self.now().loops.last.get(self.detector(name).name, 0))
+        session = self.now()
+        if name not in session.loops.place:
+            self.detector(name)  # which says that it is not known
+        return float(session.clock - session.loops.last(name))
 
 
 class LaneAreaDomain(Stretches, DetectorDomain):
@@ -391,6 +394,10 @@ class JunctionDomain(Outlined):
     def getIDList(self) -> tuple[str, ...]:
         """The junctions of the network, without the inner ones, where vehicles wait to turn."""
         return tuple(self.now().facts.junctions)
+
+    def is_subject(self, name: str) -> bool:
+        """Whether the network has a junction of a name."""
+        return name in self.now().facts.junctions
 
     def getPosition(self, name: str) -> Point:
         """Its point (x, y), metres."""

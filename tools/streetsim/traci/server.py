@@ -11,18 +11,20 @@ from streetsim.base.client import ProgramEnded, Refused
 from streetsim.simulation.errors import FatalTraCIError, NotHere, TraCIException
 from streetsim.simulation.options import options_of
 from streetsim.traci import constants as tc
-from streetsim.traci.answering import GET_OF, OK, SET_OF, AskedCall, asked_change, asked_value
+from streetsim.traci.answering import GET_OF, OK, SET_OF, asked_change, asked_value, whole_message
 from streetsim.traci.protocol import DOUBLE, INT, MOST, BadMessage, WordReader, command, state_of, text
 from streetsim.traci.subscribing import CONTEXT_OF, SUBSCRIBE_OF, Subscriptions
 
 HOST = "127.0.0.1"
 MOST_TOLD = 1 << 27  # bytes of the answer to one message, at most
-MOST_KNOWN = 1 << 16  # messages whose meaning is kept
+MOST_KNOWN, SHORT = 1 << 16, 256  # messages whose meaning is kept; bytes of one, at most
 LAST_CLOCK = limits.CLOCK  # to which a client may step
 WAIT = 3.0  # seconds for a client of a run that could not begin
 LAST = 1 << 30  # the place in the order of a client that told none
+AT_ONCE = 1 << 16  # bytes that are read of a client at once, at most
 ENDS = (FatalTraCIError, Fault, ProgramEnded, Refused)  # after which the run cannot go on
-CALLS = (TraCIException, KeyError, TypeError, ValueError, OverflowError, LookupError)  # after which the run goes on
+# After which the run goes on.
+HEARD = (BadMessage, TraCIException, KeyError, TypeError, ValueError, OverflowError, LookupError)
 
 
 class Gone(Exception):
@@ -54,7 +56,7 @@ class TraciClient:
     def receive(self) -> None:
         """Waits for bytes; Gone where the client goes away."""
         try:
-            part = self.socket.recv(1 << 16)
+            part = self.socket.recv(AT_ONCE)
         except OSError:
             part = b""
         if not part:
@@ -77,7 +79,7 @@ class TraciClient:
     def send(self, answer: bytes | bytearray) -> None:
         """Sends the answer to its message; Gone where it does not take it."""
         try:
-            self.socket.sendall(INT.pack(len(answer) + INT.size) + answer)
+            self.socket.sendall(whole_message(answer))
         except OSError:
             raise Gone from None
 
@@ -114,7 +116,8 @@ class Server:
         self.listening, self.count, self.tell = listening, count, tell
         self.clients: list[TraciClient] = []
         self.lost = 0  # clients that went away without closing
-        self.known: dict[bytes, AskedCall] = {}  # what messages ask for, by their bytes
+        # What messages ask for, by their bytes: the code of the command, and what makes the answer.
+        self.known: dict[bytes, tuple[int, Callable[[], bytes]]] = {}
 
     def serve(self) -> int:
         """Waits for all clients, and serves them until all have closed; gives how many went away without that."""
@@ -185,22 +188,37 @@ class Server:
         return self.obey(client)
 
     def hear(self, client: TraciClient) -> bool:
-        """Hears the next message of a client; gives whether it is to be heard further at this clock."""
+        """Hears a client's messages that are known, and the next other one; gives whether it is to be heard further at
+        this clock."""
         if not client.left:
-            client.receive()
-        if (asked := self.known.get(client.left)) is not None:
-            client.left = b""
-            client.send(self.made(asked.code, asked.answer))
-            return True
+            self.answer_known(client)
         before = client.left
         client.next_message()
         self.learn(before, client)
         return self.obey(client)
 
+    def answer_known(self, client: TraciClient) -> None:
+        """Answers messages of a client that are known, as they come, until there is another one. Gone where it goes
+        away."""
+        receive, send, known = client.socket.recv, client.socket.sendall, self.known.get
+        try:
+            while (asked := known(data := receive(AT_ONCE))) is not None:
+                code, answer = asked
+                try:
+                    told = answer()
+                except HEARD as fault:
+                    told = whole_message(state_after(code, fault))
+                send(told)
+        except OSError:
+            data = b""
+        if not data:
+            raise Gone
+        client.left = data
+
     def learn(self, data: bytes, client: TraciClient) -> None:
         """Keeps what a message asks for by its bytes (data), where these are of it alone, and it has one command that
         tells or changes something, whose words nobody changes."""
-        if client.left or len(client.rest) != 1 or len(data) != INT.size + len(client.message):
+        if client.left or len(client.rest) != 1 or len(data) != INT.size + len(client.message) or len(data) > SHORT:
             return
         (at, end), = client.rest
         code = client.message[at]
@@ -212,8 +230,8 @@ class Server:
             if all(isinstance(word, (str, int, float)) for word in asked.words):
                 if len(self.known) >= MOST_KNOWN:
                     self.known.clear()
-                self.known[data] = asked
-        except (BadMessage, *CALLS):
+                self.known[data] = code, asked.message()
+        except HEARD:
             pass  # which is told when the command is done
 
     def obey(self, client: TraciClient) -> bool:
@@ -248,17 +266,10 @@ class Server:
 
     def answered(self, client: TraciClient, code: int, words: WordReader) -> bytes:
         """The answer to a command: its state, and what it tells."""
-        return self.made(code, lambda: self.done(client, code, words))
-
-    def made(self, code: int, answer: Callable[[], bytes]) -> bytes:
-        """An answer, or the state of a command that cannot be done."""
         try:
-            return answer()
-        except NotHere as fault:
-            return state_of(code, tc.RTYPE_NOTIMPLEMENTED, str(fault))
-        except (BadMessage, *CALLS) as fault:
-            why = str(fault) if isinstance(fault, (BadMessage, TraCIException)) else repr(fault)
-            return state_of(code, tc.RTYPE_ERR, why)
+            return self.done(client, code, words)
+        except HEARD as fault:
+            return state_after(code, fault)
 
     def done(self, client: TraciClient, code: int, words: WordReader) -> bytes:
         """As `answered`; raises what a call raises, and BadMessage for wrong words."""
@@ -299,6 +310,14 @@ class Server:
         traci.load(given)
         for one in self.clients:
             one.subscriptions, one.target = Subscriptions(), -1.0
+
+
+def state_after(code: int, fault: Exception) -> bytes:
+    """The state of a command that cannot be done."""
+    if isinstance(fault, NotHere):
+        return state_of(code, tc.RTYPE_NOTIMPLEMENTED, str(fault))
+    why = str(fault) if isinstance(fault, (BadMessage, TraCIException)) else repr(fault)
+    return state_of(code, tc.RTYPE_ERR, why)
 
 
 def turn_away(listening: socket.socket) -> None:

@@ -4,26 +4,27 @@ from __future__ import annotations
 from collections import defaultdict
 from collections.abc import Collection, Iterable, Iterator, Mapping, Sequence
 from dataclasses import dataclass, field
-from functools import lru_cache
 from math import inf
 from typing import NamedTuple
 
 import streetsim.traci as traci
-from streetsim.base.arrays import numpy as np
+from streetsim.base.arrays import Array, numpy as np
 from streetsim.simulation.errors import NotHere
 from streetsim.traci import constants as tc
 from streetsim.traci.advice import advice_on
 from streetsim.traci.answering import subscribed_value
 from streetsim.traci.domain import Domain, Outlined
 from streetsim.traci.packing_rows import packed_rows
-from streetsim.traci.protocol import DOUBLE, INT, LONG_HEAD, BadMessage, Value, WordReader, text, told_command
+from streetsim.traci.protocol import (
+    DOUBLE, INT, LONG_HEAD, BadMessage, Value, WordReader, known_text, text, told_command,
+)  # fmt: skip
 from streetsim.traci.table import ALONE, DOMAINS, GETS, Get
 
 SUBSCRIBE_OF = {numbers.subscribe: name for name, numbers in DOMAINS.items()}
 CONTEXT_OF = {numbers.context: name for name, numbers in DOMAINS.items()}
 ANSWER = 16  # by which the code of an answer is above that of its command
 SIMULATION = "simulation"
-name_text = lru_cache(1 << 16)(text)
+MOST_JOINED = 64  # groups of contexts whose stretches are kept
 
 
 class Time(NamedTuple):
@@ -136,21 +137,35 @@ class Subscriptions:
 
 def told_near(variables: tuple[int, ...], contexts: Sequence[tuple[int, str, float]]) -> Iterator[bytes]:
     """The answers of contexts, (code, object, metres), with equal variables."""
-    session, stretches = traci.simulation.now(), []
-    for code, name, metres in contexts:
-        own = domain_of(CONTEXT_OF[code])
-        assert isinstance(own, Outlined)
-        stretches.append(own.stretches_near(name, metres))
-    rows, through = session.places.rows_in(*(np.concatenate(parts) for parts in zip(*stretches)))
+    session = traci.simulation.now()
+    begins, ends_of, counts = stretches_of(contexts)
+    rows, through = session.places.rows_in(begins, ends_of)
     once, places = np.unique(rows, return_inverse=True)
     names = session.names_of(session.view.number[once].tolist())
     values = rows_of("vehicle", variables, names)
-    packed = [name_text(name) + value for name, value in zip(names, values, strict=True)]
+    packed = [known_text(name) + value for name, value in zip(names, values, strict=True)]
     all_ = [packed[at] for at in places.tolist()]
-    ends = np.append(0, through)[np.cumsum([len(begins) for begins, _ in stretches])].tolist()
+    ends = np.append(0, through)[counts].tolist()
     kind = bytes((DOMAINS["vehicle"].get, len(variables)))
     for (code, name, _), first, last in zip(contexts, [0, *ends], ends):
-        yield told_command(code + ANSWER, name_text(name) + kind + INT.pack(last - first) + b"".join(all_[first:last]))
+        yield told_command(code + ANSWER, known_text(name) + kind + INT.pack(last - first) + b"".join(all_[first:last]))
+
+
+def stretches_of(contexts: Sequence[tuple[int, str, float]]) -> tuple[Array, Array, Array]:
+    """The stretches of places, as Places has them, of contexts behind each other: (begins, ends, by context how many
+    there are of it and of those before it). They are kept where all objects stand."""
+    domains = {code: domain_of(CONTEXT_OF[code]) for code in {code for code, *_ in contexts}}
+    outlined = {code: own for code, own in domains.items() if isinstance(own, Outlined)}
+    key, kept = tuple(contexts), traci.simulation.now().places.joined
+    if (found := kept.get(key)) is None:
+        each = [outlined[code].stretches_near(name, metres) for code, name, metres in contexts]
+        begins, ends = (np.concatenate(parts) for parts in zip(*each))
+        found = begins, ends, np.cumsum([len(one) for one, _ in each])
+        if all(own.stands for own in outlined.values()):
+            if len(kept) >= MOST_JOINED:
+                kept.clear()
+            kept[key] = found
+    return found
 
 
 def time_of(words: WordReader) -> Time:

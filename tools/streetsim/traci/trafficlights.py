@@ -58,10 +58,12 @@ class TrafficLightDomain(Domain):
 
     def present_phase(self, name: str) -> tuple[LightShow, int, float]:
         """(the light, the index of its present phase, the seconds left of it by what is known now)."""
-        light, clock = self.now().control.light(name), self.now().clock
-        if (driven := self.now().control.driven(name)) is not None:
+        control = self.now().control
+        light = control.light(name)
+        if (driven := control.driven(name)) is not None:
+            clock = control.clock
             return light, driven.logic.index(), float(driven.logic.next_switch(clock) - clock)
-        return light, *self.now().control.present_phase(name)
+        return light, *control.phase_of(name, light)
 
     def getRedYellowGreenState(self, name: str) -> str:
         """The light's state now, SUMO's letter for each signal; g also where it is held and shown as G."""
@@ -70,7 +72,8 @@ class TrafficLightDomain(Domain):
 
     def getPhase(self, name: str) -> int:
         """The index of the present phase in the program."""
-        return self.present_phase(name)[1]
+        _, index, _ = self.present_phase(name)
+        return index
 
     def getPhaseDuration(self, name: str) -> float:
         """Seconds that the present phase lasts by the program; 600 for a state that is held."""

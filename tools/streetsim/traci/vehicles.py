@@ -65,7 +65,7 @@ class VehicleDomain(VehicleCalls[TraciSession], Looking, Outlined):
         self.unsubscribe(name)
         self.around.pop(name, None)
         self.colours.pop(name, None)
-        self.parameters = {key: text for key, text in self.parameters.items() if key[0] != name}
+        self.forget_parameters(name)
 
     def getIDList(self) -> tuple[str, ...]:
         """The vehicles on lanes and in junctions, in no certain order (in SUMO sorted by name)."""
@@ -98,7 +98,7 @@ class VehicleDomain(VehicleCalls[TraciSession], Looking, Outlined):
         is not known."""
         session = self.now()
         number = session.fleet.numbers.get(name, -1)
-        where = session.view.there.get(number)
+        where = session.view.where(number)
         if where is None and (number < 0 or session.view.ended[number]):
             raise TraCIException(f"Vehicle '{name}' is not known.")
         return number, where
