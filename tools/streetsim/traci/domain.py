@@ -54,8 +54,8 @@ class Domain(CallGroup[TraciSession]):
     # Parameters that a script keeps with an object
 
     def setParameter(self, objectID: str, param: str, value: object) -> None:
-        """Keeps a text under a key (param), for getParameter. TraCIException for an unknown object, and where the domain
-        would keep more than MOST_LETTERS; NotHere for keys of SUMO's models."""
+        """Keeps a text under a key (param), for getParameter. TraCIException for an unknown object, and where the
+        domain would keep more than MOST_LETTERS; NotHere for keys of SUMO's models."""
         self.check_key(objectID, param)
         text, before = str(value), self.parameters.get((objectID, param))
         more = len(text) - len(before) if before is not None else len(param) + len(text) + OVERHEAD

@@ -15,7 +15,9 @@ from streetsim.traci.advice import advice_on
 from streetsim.traci.answering import subscribed_value
 from streetsim.traci.domain import Domain, Outlined
 from streetsim.traci.packing_rows import packed_rows
-from streetsim.traci.protocol import DOUBLE, INT, LONG_HEAD, BadMessage, Value, WordReader, known_text, text, told_command
+from streetsim.traci.protocol import (
+    DOUBLE, INT, LONG_HEAD, BadMessage, Value, WordReader, known_text, text, told_command,
+)
 from streetsim.traci.table import ALONE, DOMAINS, GETS, Get
 
 SUBSCRIBE_OF = {numbers.subscribe: name for name, numbers in DOMAINS.items()}
