@@ -102,8 +102,8 @@ def main() -> None:
     asked.work.mkdir(parents=True, exist_ok=True)
     scripts = sorted(path for path in SCRIPTS.glob("*.py") if not asked.scripts or path.stem in asked.scripts)
     ours = os.environ.get("STREETSIM_SUMO", str(TOP / "tools/streetsim-sumo"))
-    columns = "Script", "Network", "arrived in SUMO", "here", "processor seconds of SUMO", "here, first start", "later"
-    print(f"| {' | '.join(columns)} |")
+    heads = "Script|Network|arrived in SUMO|here|processor seconds of SUMO|here, first start|later starts"
+    print(f"| {heads.replace('|', ' | ')} |")
     print("|---|---|---|---|---|---|---|", flush=True)
     for script in scripts:
         for name in NETS:

@@ -23,6 +23,16 @@ from rows import Row
 from unseen_nets import KINDS, USUAL, Made, make
 
 BEFORE = "e31c1129"  # the last commit of version 1.0.0
+PASSING_OVER = """#!/usr/bin/python3
+import os
+import sys
+
+words = sys.argv[1:]
+if "--departures" in words:
+    at = words.index("--departures")
+    del words[at : at + 2]
+os.execv({own!r}, [{own!r}, *words])
+"""
 WORSE, FAR = 0.015, 0.06  # of SUMO's mean trip
 HEADS = (
     *("Load", "tools", "mean of the differences", "largest", "worse by more than 1.5 points", "beyond 6 % in silence"),
@@ -56,7 +66,16 @@ def tools_of(commit: str, folder: Path) -> Path:
         words = ["git", "archive", commit, "tools", "bench"]
         files = subprocess.run(words, cwd=shared.TOP, check=True, capture_output=True).stdout
         subprocess.run(["tar", "-x", "-C", str(top)], input=files, check=True)
+        if "--departures" not in shared.run([top / "tools/streetsim-run", "--help"], folder):
+            take_departures(top / "tools/streetsim-run")
     return top / "tools"
+
+
+def take_departures(command: Path) -> None:
+    """Has a command that knows no --departures, as its departures are always the listed ones, pass over that word."""
+    own = command.rename(command.with_name("streetsim-run-without"))
+    command.write_text(PASSING_OVER.format(own=str(own)), encoding="utf-8")
+    command.chmod(0o755)
 
 
 def pair_of(made: Made, old: Path, args: argparse.Namespace) -> Pair:

@@ -1,5 +1,7 @@
 #!/usr/bin/python3
-"""Runs the walks of the pages of tools/ and says where a command prints other lines than the page shows.
+"""Runs the walks of the pages of tools/ and says where a command prints other lines than the page shows; then checks
+what was made: streetsim-check must say of each page of streetsim-report, sealed, and of each folder of a run or a
+study that it is that of the runs.
 
 Usage: bench/walks.py PROGRAM --work FOLDER [--only README,WORKS,SIGNALS,ROUTES,COUNTS]
 
@@ -7,13 +9,15 @@ The commands of a page's sections are run in one folder, in the page's order and
 of the text that
 a page shows right after a command each line must be printed, in that order ('..' stands for any line, \
 and within one for any
-text). It needs Debian's sumo. The status is 1 where a line is lacking or a command fails.
+text). It needs Debian's sumo. The status is 1 where a line is lacking, a command fails, or a check says other.
 """
 
+import json
 import os
 import re
 import subprocess
 import sys
+import time
 
 import shared
 from shared import CORRIDOR, TOP
@@ -27,6 +31,7 @@ SECTIONS = {  # of pages: the headings of their walks
 }
 INSTALLING = "mkdir "  # a block with it is left out: the tools are run as they are here, in the folder of this call
 EXAMPLES = ("corridor", "town")  # whose files the walks take
+EQUAL = re.compile(r"each of the [\d,]+ numbers (on the page|in [\d,]+ files) is that of a run")
 
 
 def blocks(page, heading):
@@ -76,6 +81,31 @@ def walk(page, heading, runs):
     return wrong
 
 
+def to_check(folder, bodies, begin):
+    """The commands that check what the commands of a page made since a moment: of each page of streetsim-report, which
+    is made again with a seal where it has none, and of each folder of a run or a study."""
+    for line in (line for body in bodies for line in body.replace("\\\n", " ").splitlines()):
+        if found := re.match(r"streetsim-report .* -o (\S+)$", line):
+            yield f"{'true' if '--sealed' in line else f'{line} --sealed'}; streetsim-check {found[1]}"
+    for top in sorted(path for path in folder.iterdir() if path.is_dir() and path.stat().st_mtime >= begin):
+        if (top / "made.json").exists():
+            yield f"streetsim-check {top.name} --study {json.loads((top / 'made.json').read_text())['study']}"
+        elif (top / "run.jsonl.gz").exists():
+            yield f"streetsim-check {top.name}"
+
+
+def checked(page, folder, runs, begin):
+    """Checks what the walks of a page made since a moment; gives how many are other."""
+    bodies, wrong = [body for heading in SECTIONS[page] for body, _ in blocks(page, heading)], 0
+    for body in to_check(folder, bodies, begin):
+        done = runs(body)
+        last = done.stdout.splitlines()[-1:]
+        equal = done.returncode == 0 and last and EQUAL.search(last[0])
+        wrong += not equal
+        print(f"{page}.md: {body.split('; ')[-1]}: {'equal' if equal else 'OTHER: ' + done.stdout}", flush=True)
+    return wrong
+
+
 def main():
     parser = shared.parser_of(__doc__)
     parser.add_argument("--work", required=True, help="a folder for what is made")
@@ -92,8 +122,12 @@ def main():
             (folder / path.name).unlink(missing_ok=True)
         subprocess.run(["streetsim-example", name, "--out", "."], cwd=folder, env=surroundings, check=True)
     runs = runner(folder, surroundings)
-    wrong = sum(walk(page, heading, runs) for page in args.only.split(",") for heading in SECTIONS[page])
-    print("each walk prints what its page says" if not wrong else f"{wrong} commands print other lines, or fail")
+    wrong = 0
+    for page in args.only.split(","):
+        begin = time.time()
+        wrong += sum(walk(page, heading, runs) for heading in SECTIONS[page]) + checked(page, folder, runs, begin)
+    good = "each walk prints what its page says, and what it makes is checked to be equal"
+    print(good if not wrong else f"{wrong} commands print other lines, or fail, or are not equal")
     sys.exit(1 if wrong else 0)
 
 

@@ -1,17 +1,19 @@
 """Vehicles that leave in each green of a lone cross, beside SUMO 1.15 on the same demand; who gives way to whom."""
 import unittest
+from types import SimpleNamespace
 
 from crosses import LAST, a_green, cases, demand
 from support import DATA, PROGRAM, Case, lane, needs_simulator, net
 from streetsim.base.report import Report
 from streetsim.model.folder import read_folder
 from streetsim.report.beside_sumo import trip_times_of
+from streetsim.sumo.across import may_turn_on_red
 from streetsim.sumo.crossing import CrossingMovement, set_heads, set_lane, wait_together
 from streetsim.sumo.gaps import gap_capacity, gap_wait, until_first
 from streetsim.sumo.greens import green_here, hidden_middle, hidden_start, leaving, passing_here
 from streetsim.sumo.heads import Heads, passing_heads
 from streetsim.sumo.import_files import convert
-from streetsim.sumo.net import request_of
+from streetsim.sumo.net import NetConnection, NetEdge, SumoNet, request_of, wait_inside
 from streetsim.sumo.network import Options
 from streetsim.sumo.yielding import lane_here, lane_queue, lane_there, seconds_for, settle, time_of
 
@@ -82,6 +84,32 @@ class Formulas(unittest.TestCase):
         # The lanes of one inner edge follow each other: ":c_13_1" is the connection after ":c_13_0".
         self.assertEqual([request_of(name) for name in (":c_9_0", ":c_13_1", ":a_b_2_0")], [9, 14, 2])
         self.assertEqual([request_of(name) for name in ("", "x", ":c_1")], [None, None, None])
+        # Lanes of crossings and of places to walk have no request of vehicles.
+        self.assertEqual([request_of(name) for name in (":c_c0_0", ":c_w1_0")], [None, None])
+
+    def test_who_turns_on_red(self):
+        """The connection whose letter is SUMO's s in some phase: goes after a stop."""
+        net_ = SumoNet(programs={"L": SimpleNamespace(phases=[(30, "Grs"), (30, "rGr")])})
+        found = [may_turn_on_red(NetConnection("a", "b", 0, 0, "L", at, "m"), net_) for at in range(3)]
+        self.assertEqual(found, [False, False, True])
+        self.assertFalse(may_turn_on_red(NetConnection("a", "b", 0, 0, None, 2, "m"), net_))
+
+    def test_who_turns_into_one_street_waits_inside(self):
+        """At a cross the left turn from the south and the right turn from the north lead to the west; in SUMO one waits
+        for the other inside. Not where one gives way already, at no light, or into another street."""
+
+        def waiting(foe="north", direction="r", target="west", light="L", yields=()):
+            left = NetConnection("south", "west", 0, 0, "L", 0, "M", 3, direction="l")
+            right = NetConnection(foe, target, 0, 0, light, 1, "M", 5, direction=direction)
+            made = SumoNet(connections=[left, right], yields={"c": {3: {*yields}}}, waits_inside={"c": {3: {5}}})
+            made.edges = {name: NetEdge(name, "", "c", 1, []) for name in ("north", "south")}
+            wait_inside(made)
+            return made.yields["c"][3]
+
+        self.assertEqual(waiting(), {5})
+        for more in ({"foe": "south"}, {"direction": "s"}, {"target": "east"}, {"light": None}):
+            self.assertEqual(waiting(**more), set(), more)
+        self.assertEqual(waiting(yields=[7]), {5, 7})
 
 
 # The lanes to which ways lead.

@@ -1,4 +1,6 @@
 """Hostile files of each kind that a user can be sent: each ends in time, takes little memory, and is told in a line."""
+import gzip
+import io
 import json
 import subprocess
 import sys
@@ -6,9 +8,13 @@ import unittest
 from itertools import groupby
 
 import hostile
-from support import Case, needs_simulator
+from support import TOOLS, Case, needs_simulator
 from streetsim.base import unpacking
 from streetsim.base.files import Fault, elements, open_bytes
+from streetsim.base.unpacking import lines_of, refuse_bomb, refuse_crowded
+from streetsim.cli.check import MOST_PAGE
+from streetsim.report.page_seal import MOST
+from streetsim.search.study_variants import MOST_DOTS, MOST_VARIANTS
 
 
 @needs_simulator
@@ -27,6 +33,52 @@ class Hostile(unittest.TestCase):
                     self.assertLess(high - peak, hostile.MOST_BYTES)
                     self.assertLess(seconds, hostile.MOST_SECONDS)
         self.assertGreater(len(tried), 300)
+
+
+class Limits(Case):
+    """Those that SECURITY.md says, in its words: what has as much is read, and what has one more is not."""
+
+    def test_the_page_has_them(self):
+        text = (TOOLS.parent / "SECURITY.md").read_text(encoding="utf-8")
+        for told in (
+            f"| {unpacking.ALLOWED >> 20} MB and {unpacking.RATIO} times its size |",
+            f"polls of a run {unpacking.STREAMED:,} times",
+            f"| {unpacking.LONGEST >> 20} MB without the begin or end of an element; {unpacking.DEEPEST} elements in "
+            f"one another; {unpacking.MOST_BELOW:,} elements or {unpacking.MOST_KEPT >> 20} MB in one below the root;",
+            f"| {unpacking.BRACKETS:,} objects and lists, and a quarter of the bytes of the file more, in one text |",
+            f"| {unpacking.LONGEST >> 20} MB a line, 131,072 letters a cell |", f"| {unpacking.LINE >> 20} MB a line |",
+            f"| 4 MB, {MOST_DOTS} dots a line, {MOST_VARIANTS:,} variants |",
+            f"| {MOST_PAGE >> 20} MB, and all that is sealed together {MOST >> 20} MB |",
+        ):  # fmt: skip
+            self.assertIn(told, text)
+
+    def test_what_is_packed(self):
+        """16 MB and 100 times the size of the packed file."""
+        # Zeros behind the packed bytes count as its bytes, and unpack to nothing.
+        for size, more, is_refused in ((20_000, 0, False), (20_000, 1, True), (200_000, 0, False), (200_000, 1, True)):
+            packed = gzip.compress(bytes((16 << 20) + 100 * size + more), 9).ljust(size, b"\0")
+            self.assertEqual(len(packed), size)
+            self.assertEqual(self.refused(refuse_bomb, io.BytesIO(packed), size), is_refused)
+
+    def test_elements(self):
+        for deep in (100, 101):
+            path = self.write("x.net.xml", f"<net>{'<a>' * (deep - 1)}{'</a>' * (deep - 1)}</net>")
+            self.assertEqual(self.refused(lambda path: [*elements(path)], path), deep > 100)
+
+    def test_lines_and_brackets(self):
+        for more, is_refused in ((0, False), (1, True)):
+            line = io.StringIO("x" * ((4 << 20) + more))
+            self.assertEqual(self.refused(lambda file: [*lines_of(file)], line), is_refused)
+            text = "[" * (2_000_000 + 1000 + more)
+            self.assertEqual(self.refused(refuse_crowded, text, 4000), is_refused)
+
+    def refused(self, act, *words):
+        """Whether a limit is passed."""
+        try:
+            act(*words)
+        except (unpacking.TooMuch, Fault):
+            return True
+        return False
 
 
 class Lifted(Case):

@@ -124,6 +124,10 @@ class Networks(Case):
             ],
         )
 
+    def test_an_edge_of_one_cell_is_not_short(self):
+        self.one_street(speed=50 / 3.6, metres=7.5)
+        self.assertEqual([told for told in self.said.warnings if "shorter" in told], [])
+
     def test_warnings_of_lengths_and_merges(self):
         # 12 m are two cells, a quarter longer; 75 m are ten. On a motorway two roads become one,
         # on a street of 50 km/h too.

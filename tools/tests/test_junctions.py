@@ -21,7 +21,7 @@ from streetsim.observe.junction_capacity import usual_flow
 from streetsim.observe.junction_facing import junctions_with_facing_streets
 from streetsim.observe.junction_layout import Approach, Greens, approaches_of, movements_that_stop, turn_name
 from streetsim.observe.junction_measures import Losses, stop_loss, weighted_mean_losses
-from streetsim.observe.junction_rows import JunctionTables
+from streetsim.observe.junction_rows import JunctionTables, queue_columns, queue_figures
 from streetsim.observe.passages import Passages
 from streetsim.observe.shown import ShownPlans
 
@@ -135,11 +135,17 @@ class Definitions(unittest.TestCase):
 
     def test_letters(self):
         """Exhibits 18-4 and 19-1 of the Highway Capacity Manual 2010: a bound belongs to the better letter."""
-        at = {SIGNALS: {10: "A", 10.1: "B", 20: "B", 35: "C", 55: "D", 80: "E", 80.1: "F"}}
-        at[PRIORITY] = {10: "A", 15: "B", 15.1: "C", 25: "C", 35: "D", 50: "E", 51: "F"}
-        for control, letters in at.items():
-            self.assertEqual({delay: level(delay, control) for delay in letters}, letters)
+        for control, bounds in ((SIGNALS, (10, 20, 35, 55, 80)), (PRIORITY, (10, 15, 25, 35, 50))):
+            for better, worse, bound in zip("ABCDE", "BCDEF", bounds):
+                self.assertEqual((level(bound, control), level(bound + 0.1, control)), (better, worse))
         self.assertEqual((level(5.0, SIGNALS, 1.01), level(5.0, SIGNALS, 1.0)), ("F", "A"))
+
+    def test_the_lane_of_a_row(self):
+        """That of the greatest 95 % value, of equal ones that of the greatest queue; nothing of no lane."""
+        lanes = (10.0, 20.0, 5.0), (10.0, 25.0, 1.0), (9.0, 40.0, 9.0)
+        self.assertEqual(queue_columns(lanes, 75.0), ("1.0", "10.0", "25.0", "75.0"))
+        self.assertEqual(queue_columns([], 75.0), ("0.0", "0.0", "0.0", "75.0"))
+        self.assertEqual((queue_figures([]), queue_figures([0.0, 4.0])), ((0.0,) * 3, (3.8, 4.0, 2.0)))
 
     def test_percentiles(self):
         self.assertEqual([percentile([4, 1, 3, 2, 5], share) for share in (0, 0.5, 0.95, 1)], [1, 3, 4.8, 5])
@@ -297,6 +303,20 @@ class ByHand(unittest.TestCase):
             found = self.crossings([*enumerate(frames, 1)], [[1, 2, 0], [0, 2, 0, 1, 2]], mapping, interval)
             self.assertEqual(found, [(("e", "g"), 3), (("e", "g"), 7)])
 
+    def test_an_edge_before_the_approach_counts(self):
+        """Edge e continues f alone. Who goes along both at full speed, 5 seconds each and one across, loses nothing but
+        parts of a second; who stands for 4 s on f loses these, and what a stop costs."""
+        mapping, found = street(f=(0, 1), e=(1, 2), g=(2, 3), also={"signals": [["L", 2]]}), []
+        for wait in (0, 4):
+            way = [[[0, 0, [[0, cell, 2]], []]] for cell in (1, 3, 5, 7, 9)] + wait * [[[0, 0, [[0, 9, 0]], []]]]
+            way += [[[0, 0, [], [0]]], *([[1, 0, [[0, cell, 2]], []]] for cell in (1, 3, 5, 7, 9)), [[1, 0, [], [0]]]]
+            seen = passages_of([*enumerate([*way, [[2, 0, [[0, 1, 2]], []]]], 1)], [[0, 1, 2]], mapping)
+            movements = Movements(seen)
+            [(_, done)] = seen.done(900, {})
+            found += Crossings(PlanPlaces(movements, seen.kernel.plans), done).delay.tolist()
+        self.assertAlmostEqual(found[0], 0, delta=1)
+        self.assertAlmostEqual(found[1] - found[0], 4 + STOP_LOSS[0])
+
     def test_a_stop_of_its_own_is_no_delay(self):
         """The first vehicle stands for 3 s at a bus stop, 2 of them with open doors: it loses 2 s of its 4, has not
         stopped for the junction, and stood nowhere else."""
@@ -306,6 +326,11 @@ class ByHand(unittest.TestCase):
         stops = {0: [Dwell(1, 4, 6, 3), Dwell(0, 90, 96, 6)]}
         [(_, elsewhere)] = passages_of(FRAMES, self.plans).done(900, stops)
         self.assertEqual(elsewhere["dwell"].tolist(), [0, 0, 0])
+        # Who stops at the bus stop and then in a queue has stopped once for the junction.
+        speeds = enumerate((2, 0, 0, 1, 0, 0), 1)
+        frames = [*((clock, [[0, 0, [[0, 5, speed]], []]]) for clock, speed in speeds), (7, [[0, 0, [], [0]]])]
+        [(_, both)] = passages_of(frames, [[0, 1]]).done(900, {0: [Dwell(0, 2, 2, 2)]})
+        self.assertEqual((self.passage(frames)[0], both["stops"].tolist()), (2, [1]))
 
     def passage(self, frames):
         """(stops, seconds of standing) of the only passage."""

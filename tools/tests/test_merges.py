@@ -50,6 +50,16 @@ def lit_street(lanes):
     return requests_of(net(edges, ways).replace("<edge", light, 1), "B", ["0" * len(lanes)] * len(lanes))
 
 
+def shared_lane(*states):
+    """A street a of one lane, which goes straight on as b and to the right as c, behind a light with phases of 30 s."""
+    phases = "".join(f'<phase duration="30" state="{state}"/>' for state in states)
+    light = f'<tlLogic id="L" programID="0" type="static" offset="0">{phases}</tlLogic>'
+    edges = [(name, *ends, [lane(name, 0, 300)]) for name, ends in (("a", "AB"), ("b", "BC"), ("c", "BD"))]
+    told = 'via=":B_{0}_0" dir="{1}" tl="L" linkIndex="{0}"'
+    ways = [("a", 0, name, 0, told.format(at, turn)) for at, (name, turn) in enumerate((("b", "s"), ("c", "r")))]
+    return requests_of(net(edges, ways, light), "B", ["00", "00"])
+
+
 class Made(Case):
     def made(self, text, types="", options=Options(), **hourly):
         """(the network, the signals' commands) of a demand; types: an element of vehicle types, of which "t" is theirs;
@@ -137,6 +147,12 @@ class Fulls(Made):
         self.assertEqual((one.junction, one.lane, one.way, one.vehicles), ("B", "a_0", "right", 900))
         self.assertTrue(1.2 < one.demand < 1.6, one.demand)
         self.assertFalse(self.made(text, ab=450)[0].full)
+
+    def test_a_green_of_some_of_a_lane_ends_with_the_first_of_the_others(self):
+        # A third of an hour of green passes some 600, and what turns right in the next third only a few more.
+        [one] = self.made(shared_lane("GG", "rG", "rr"), ab=600, ac=106)[0].full.lanes
+        self.assertTrue(1.0 < one.demand < 1.3, one.demand)
+        self.assertFalse(self.made(shared_lane("GG", "GG", "rr"), ab=600, ac=106)[0].full)
 
     def test_a_bus_lane_has_no_share_of_the_cars(self):
         # Of 1,200 that two lanes would pass, cars have half.

@@ -113,7 +113,8 @@ class Counts(Given):
             "from the west to the east a to b 0:00 80 20 12.0",
         ):
             self.assertIn(words, text)
-        self.assertEqual(page.read_text().count('r="3"'), 2)
+        text = page.read_text()  # a point that fits, and one that does not
+        self.assertEqual((text.count('r="3"'), text.count('width="6" height="6"')), (1, 1))
 
     def test_faults(self):
         for words, said in (
@@ -125,7 +126,7 @@ class Counts(Given):
             self.assertIn(said, self.tool("report", run, *words, "-o", self.folder / "x.html", status=2)[1])
 
     def test_points_of_the_scatter(self):
-        """A count that fits and one that does not have other colours; the axis goes to 1.08 of the greatest."""
+        """A count that fits and one that does not have other colours and shapes; the axis goes to 1.08 of the most."""
         shutil.rmtree(self.folder / "after")
         counts = [Count(0, 3600, ("a",), 100, "x"), Count(0, 3600, ("b",), 100, "x")]
         runs = read_runs(str(self.folder / "before"))

@@ -9,6 +9,7 @@ import unittest
 from support import FORK, MAP, NUMBERED, PROGRAM, RED, TOOLS, Case, lane, needs_simulator, net
 from streetsim.base.files import Fault
 from streetsim.base.seeds import mean_and_half_width
+from streetsim.cli.running import mean_told
 from streetsim.model.folder import read_folder
 from streetsim.model.runs import read_run, read_with_map
 from streetsim.scenario import Scenario
@@ -237,6 +238,9 @@ class Reading(Runs):
         mean, half = mean_and_half_width([1, 2, 3])
         self.assertEqual((mean, round(half, 3)), (2, 2.484))
         self.assertEqual(mean_and_half_width([5]), (5, None))
+        # 100, 110 and 120 deviate by 10, and t is 4.303: 24.8 to each side; of another day twice as much.
+        self.assertIn(" 85.2 to 134.8 s", mean_told([100, 110, 120], False))
+        self.assertIn(" 60.3 to 159.7 s", mean_told([100, 110, 120], True))
 
 
 @needs_simulator

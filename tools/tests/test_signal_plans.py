@@ -10,6 +10,7 @@ import time
 import unittest
 import xml.etree.ElementTree as ElementTree
 from collections import Counter
+from math import exp, lgamma, pi, sqrt
 from unittest import mock
 from unittest.mock import Mock
 
@@ -102,6 +103,11 @@ class Bounds(unittest.TestCase):
         self.assertEqual(rounded_durations([10.4, 10.4, 10.4]), (10, 11, 10))
 
 
+    def test_an_offset_stays_within_the_cycle(self):
+        timing = PlannedTiming(10, (30, 20))
+        self.assertEqual([timing.shifted(by).offset for by in (0, 39, 40, 45, -10, -20)], [10, 49, 0, 5, 0, 40])
+
+
 class Formulas(unittest.TestCase):
     def test_webster(self):
         # Webster 1958: (1.5 L + 5) / (1 - Y), for 10 s lost and Y = 0.75.
@@ -114,6 +120,15 @@ class Formulas(unittest.TestCase):
             (1, 12.706), (19, 2.093), (30, 2.042), (40, 2.021), (60, 2.000), (120, 1.980), (1000, 1.962),
         ):
             self.assertAlmostEqual(student(degrees), quantile, delta=0.0006)
+
+    def test_student_by_its_density(self):
+        """Between 0 and each quantile lies 0.475 of the density (1 + x^2 / n)^(-(n + 1) / 2), by Simpson's rule."""
+        for degrees in range(1, 60):
+            power, end, steps = -(degrees + 1) / 2, student(degrees), 2000
+            whole = exp(lgamma((degrees + 1) / 2) - lgamma(degrees / 2)) / sqrt(pi * degrees)
+            values = [(1 + (end * at / steps) ** 2 / degrees) ** power for at in range(steps + 1)]
+            area = (values[0] + 4 * sum(values[1::2]) + 2 * sum(values[2:-1:2]) + values[-1]) * end / steps / 3
+            self.assertAlmostEqual(whole * area, 0.475, delta=3e-5, msg=degrees)
 
     def test_runs_that_a_precision_needs(self):
         # s = 1, e = 0.5: 18 runs reach 2.110 / sqrt(18) = 0.497, and 17 reach 2.120 / sqrt(17) = 0.514.

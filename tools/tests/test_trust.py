@@ -29,6 +29,12 @@ class Marks(unittest.TestCase):
         self.assertEqual(self.trips(row(0, 20)).told(), "1 vehicles, 1 arrived, mean trip 20.0 s")
         self.assertEqual(self.trips(row(0)).told(), "1 vehicles, 0 arrived, no trip, 1000.0 s to date of 1 under way")
 
+    def test_when_all_had_arrived(self):
+        """At the last arrival; never where one is under way; at the begin where nobody departs."""
+        self.assertEqual(self.trips(row(0, 20), row(10, 50), row(1000)).all_arrived(), 50)
+        self.assertIsNone(self.trips(row(0, 20), row(10)).all_arrived())
+        self.assertEqual(trust.trips_at(1000, 300, []).all_arrived(), 300)
+
     def test_nearly_full_streets(self):
         """Above one passage of them in ten vehicles; most of all those that most pass."""
         self.assertEqual(list(trust.crowding_doubts(300, {"a": 30})), [])

@@ -53,15 +53,14 @@ def refuse_bomb(file: IO[bytes], size: int, ratio: int = RATIO) -> None:
     most = most_unpacked(size, ratio)
     if lifted() or 1032 * size <= most:  # no stream of zlib unpacks to more than 1,032 times its size
         return
-    found, member = 0, zlib.decompressobj(31)
+    found, member = 0, None
     while data := file.read(CHUNK):
-        while data:
-            found += len(member.decompress(data, MEGA))
+        while data := data if member else data.lstrip(b"\0"):  # zeros may stand behind a member
+            one = member or zlib.decompressobj(31)
+            found += len(one.decompress(data, MEGA))
             if found > most:
                 raise TooMuch(f"unpacks to more than {most:,} bytes, and has {size:,}")
-            data = member.unconsumed_tail or member.unused_data.lstrip(b"\0")
-            if member.eof:
-                member = zlib.decompressobj(31)
+            member, data = (None, one.unused_data) if one.eof else (one, one.unconsumed_tail)
 
 
 def inflated(data: bytes, most: int) -> bytes:

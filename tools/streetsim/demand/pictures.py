@@ -1,6 +1,7 @@
 """Pictures of a fit: what passed over what was counted, and a map of the differences."""
 from collections.abc import Sequence
 
+from streetsim.base.colours import LINE, OTHER_LINE
 from streetsim.demand.judging import GOOD, ComparedCount, JudgedCounts, differences_of, volume_at_geh_5
 from streetsim.model.mapping import MapLink
 from streetsim.report import picture_files
@@ -9,7 +10,6 @@ from streetsim.search.route_drawing import draw_flows, middle_point, scale_of_di
 
 POINTS = 60  # of the curve of GEH
 LEAST = 50  # vehicles an hour, up to which colours of differences go at least
-GOOD_COLOUR, BAD_COLOUR = "#225588", "#c04000"
 
 
 def draw_fit(folder: str, fit: JudgedCounts, links: Sequence[MapLink], what: str) -> None:
@@ -26,7 +26,7 @@ def scatter_figure(pyplot: Pyplot, hourly: Sequence[ComparedCount], what: str) -
     """The picture of passed over counted, vehicles an hour: a point for each count of an hour, and the curves on which
     GEH is 5. what: how vehicles passed."""
     figure, axes = pyplot.subplots(figsize=(5.6, 5.4))
-    for good, colour, mark in ((True, GOOD_COLOUR, "o"), (False, BAD_COLOUR, "x")):
+    for good, colour, mark in ((True, LINE, "o"), (False, OTHER_LINE, "x")):
         those = [one.volumes for one in hourly if (one.geh < GOOD) is good]
         label = f"{len(those):,} with GEH {'below 5' if good else '5 and more'}"
         axes.plot(*(zip(*those) if those else ([], [])), mark, color=colour, markersize=4, alpha=0.7, label=label)

@@ -1,6 +1,7 @@
 """Counts beside a run on a page, as HTML: by hour, screen lines, scatter, map of the differences, and the worst."""
 from html import escape
 
+from streetsim.base.colours import LINE, OTHER_LINE
 from streetsim.base.words import time_of_day
 from streetsim.demand.judging import (
     GOOD, JudgedCounts, correlation_and_slope, differences_of, volume_at_geh_5, worst_fits,
@@ -12,7 +13,6 @@ from streetsim.report.page_markup import table
 
 SIDE, EDGE = 420, 45  # pixels of the scatter
 POINTS = 40  # of the curves of GEH
-BAD, GOOD_COLOUR = "#c04000", "#225588"
 
 
 def counts_section(name: str, fit: JudgedCounts, mapping: Map) -> str:
@@ -82,13 +82,14 @@ def scatter(fit: JudgedCounts) -> str:
         parts.append(f'<polyline points="{way}" stroke="#777" stroke-dasharray="4 3" fill="none"/>')
     for counted, passed, good in points:
         x, y = at(counted, passed).split(",")
-        parts.append(f'<circle cx="{x}" cy="{y}" r="3" fill="{GOOD_COLOUR if good else BAD}"/>')
+        square = f'<rect x="{float(x) - 3:.1f}" y="{float(y) - 3:.1f}" width="6" height="6" fill="{OTHER_LINE}"/>'
+        parts.append(f'<circle cx="{x}" cy="{y}" r="3" fill="{LINE}"/>' if good else square)
     low = SIDE - EDGE
     parts += [
         f'<line x1="{EDGE}" x2="{SIDE - 10}" y1="{low}" y2="{low}" stroke="#666"/>',
         f'<line x1="{EDGE}" x2="{EDGE}" y1="10" y2="{low}" stroke="#666"/>',
         f'<text x="{SIDE - 10}" y="{low + 15}" text-anchor="end">counted: {most:.0f} vehicles/h</text>',
-        f'<text x="{EDGE + 4}" y="16">passed in the run; broken: GEH is 5</text>',
+        f'<text x="{EDGE + 4}" y="16">passed in the run; broken: GEH is 5; squares: above</text>',
     ]
     shape = f'viewBox="0 0 {SIDE} {SIDE}" style="max-width: 420px" role="img" aria-label="Passed over counted"'
     return f"<svg {shape}>{''.join(parts)}</svg>"
@@ -97,5 +98,8 @@ def scatter(fit: JudgedCounts) -> str:
 def differences_map(fit: JudgedCounts, mapping: Map) -> str:
     """A map of how many vehicles an hour more or fewer passed than were counted, of an edge, else of its turns
     together, as HTML."""
-    told = "Vehicles an hour more (red) or fewer (blue) in the run than counted; dark grey: as many; light: not counted"
+    told = (
+        "Vehicles an hour more (red) or fewer (blue, broken) in the run than counted; dark grey: as many; light: not "
+        "counted"
+    )
     return f"<figure>{difference_map(mapping, differences_of(fit.hourly))}<figcaption>{told}</figcaption></figure>"

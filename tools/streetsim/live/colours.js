@@ -2,8 +2,8 @@
 
 const PALETTES = {
   light: {
-    ...LIGHT, street: "#c9ccd1", junction: "#d9dbdf", mark: "#fff", closed: "#111", chosen: "#c000e0", detector: "#7b3294", green: "#0a8f6a", red: "#b3001b", name: "#333",
-    was: "#8a6d00", now: "#0055b8", density: [[214, 217, 222], [253, 174, 97], [123, 20, 20]],
+    ...LIGHT, street: "#c9ccd1", junction: "#d9dbdf", mark: "#fff", closed: "#111", chosen: "#c000e0", detector: "#7b3294", name: "#333",
+    density: [[214, 217, 222], [253, 174, 97], [123, 20, 20]],
   },
   dark: {
     ground: "#14171c", street: "#444a54", mark: "#8b93a1", ink: "#e6e9ee", label: "#30343c", junction: "#3a3f48", closed: "#fff", chosen: "#ff7bff", detector: "#d9a6ff",

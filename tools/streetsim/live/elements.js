@@ -10,7 +10,13 @@ function element(tag, words = {}, ...children) {
   return made;
 }
 const button = (text, act) => element("button", { textContent: text, onclick: () => guarded(act) });
-const numberBox = (id, value = "", least = "", most = "") => element("input", { id, className: "number", type: "number", min: least, max: most, value });
+// What boxes are called by who reads the screen aloud, by their ids.
+const BOX_NAMES = {
+  seconds: "seconds of the phase", offset: "offset in seconds", to: "end of the green",
+  first: "from metre", last: "to metre", cell: "metre of the detector", period: "period of the detector in seconds", from: "closed from", until: "closed until",
+};
+const namedBox = (id, words) => element("input", { id, ariaLabel: BOX_NAMES[id], ...words });
+const numberBox = (id, value = "", least = "", most = "") => namedBox(id, { className: "number", type: "number", min: least, max: most, value });
 const rowOf = (cells, tag = "td") => element("tr", {}, ...cells.map(cell => element(tag, {}, cell)));
 
 const streetName = link => link.street || link.name;

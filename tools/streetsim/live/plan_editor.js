@@ -130,7 +130,7 @@ class PlanEditor {
     if (!this.chosen?.green) return [];
     const row = this.bars.rows[this.chosen.row], { begin, length } = this.chosen.green, { cycle } = this.bars;
     const shift = (part, by) => { this.chosen.green = this.bars[part](row, this.chosen.green, by); };
-    const from = this.box("from", value => shift("dragBegin", shortWay(value - begin, cycle)), { min: 0, max: cycle - 1, value: begin });
+    const from = this.box("from", value => shift("dragBegin", shortWay(value - begin, cycle)), { min: 0, max: cycle - 1, value: begin, ariaLabel: "begin of the green" });
     const to = this.box("to", value => shift("dragEnd", shortWay(value - begin - length, cycle)), { min: 0, max: cycle, value: round(begin + length, cycle) });
     return ["; green from ", from, " to ", to];
   }

@@ -24,7 +24,7 @@ function metresAlong(link, lane, [x, y]) {
 
 // The panel of a stretch. tools: session, redraw(), put(lane, cell, period) for a detector.
 function stretchPanel(what, { session, redraw, put }) {
-  const { link } = what, clock = (id, value) => element("input", { id, className: "clock", value });
+  const { link } = what, clock = (id, value) => namedBox(id, { className: "clock", value });
   const [begin, end] = [numberBox("first", what.begin, 0, Math.ceil(link.metres)), numberBox("last", what.end, 0, Math.ceil(link.metres))];
   for (const [box, key] of [[begin, "begin"], [end, "end"]]) box.oninput = () => { what[key] = Math.max(0, Math.min(Math.ceil(link.metres), +box.value)); redraw(); };
   const lanes = Array.from({ length: link.lanes }, (_, lane) => laneBox(what, lane, redraw)), from = clock("from", clockText(session.clock)), until = clock("until", "");

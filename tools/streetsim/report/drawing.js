@@ -2,9 +2,9 @@
 "use strict";
 const SPEED_COLOURS = ["#a50026", "#f08000", "#3b7fc4"], SPEED_WORDS = ["standing", "27 km/h", "54 km/h and more"]; // by cells a second
 const SPEED_WIDTHS = [1.3, 1, .7]; // of vehicles, so that who sees no colours tells them apart
-const GREEN = "#1a9641", RED = "#d7191c", LANE_METRES = 3.2;
+const GREEN = "#0a8f6a", RED = "#b3001b", LANE_METRES = 3.2;
 // What a picture is drawn with; a page may have others.
-const LIGHT = { ground: "#fff", street: "#ccc", mark: "#fff", ink: "#222", label: "#ffffe0", green: GREEN, red: RED, speeds: SPEED_COLOURS };
+const LIGHT = { ground: "#fff", street: "#ccc", mark: "#fff", ink: "#222", label: "#ffffe0", green: GREEN, red: RED, speeds: SPEED_COLOURS, was: "#8a6d00", now: "#0055b8" };
 const FARTHEST_HOP = 60; // metres between two places of a vehicle that it is drawn between
 const clockText = seconds => [seconds / 3600, seconds / 60 % 60, seconds % 60].map(part => String(Math.floor(part)).padStart(2, "0")).join(":");
 const metresText = metres => metres < 1000 ? `${metres} m` : `${metres / 1000} km`;

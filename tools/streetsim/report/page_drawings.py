@@ -3,6 +3,7 @@ from collections.abc import Callable, Mapping, Sequence
 from html import escape
 from math import hypot
 
+from streetsim.base.colours import LESS, MORE, STREET
 from streetsim.model.mapping import Map, Shape
 from streetsim.model.service import COLOURS, WHITE_LETTERS, fills
 from streetsim.report.page_choice import LEAST
@@ -28,7 +29,7 @@ def map_picture(
     parts = [f'<svg class="map" viewBox="0 0 {WIDE} {tall:.0f}" role="img" aria-label="Map by delay">']
     for link in mapping.links:
         letter, text = approaches.get(link.edge, ("", link.edge))
-        colour, width = (COLOURS[letter], 4 + "ABCDEF".index(letter)) if letter else ("#bbbbbb", 2)
+        colour, width = (COLOURS[letter], 4 + "ABCDEF".index(letter)) if letter else (STREET, 2)
         way = " ".join(at(point, shift_to_right(link.shape)) for point in link.shape)
         if letter:
             parts.append(f'<polyline points="{way}" class="edge-line" stroke="#666" stroke-width="{width + 2}"/>')
@@ -65,18 +66,20 @@ def placing_and_height(mapping: Map) -> tuple[Callable[..., str], float]:
 
 
 def difference_map(mapping: Map, values: Mapping[str, float]) -> str:
-    """The streets, as SVG; edges with a value red above 0 and blue below, but dark grey within 0.5 of it, wider where
-    it is farther from 0; others thin and light grey. values: by edge, shown in whole numbers without a unit."""
+    """The streets, as SVG; edges with a value red above 0 and blue and broken below, but dark grey within 0.5 of it,
+    wider where it is farther from 0; others thin and light grey. values: by edge, shown in whole numbers without a
+    unit."""
     at, tall = placing_and_height(mapping)
     most = max([1.0, *(abs(value) for value in values.values())])
     parts = [f'<svg class="map" viewBox="0 0 {WIDE} {tall:.0f}" role="img" aria-label="Map of differences">']
     for link in mapping.links:
         way = " ".join(at(point, shift_to_right(link.shape)) for point in link.shape)
         value = values.get(link.edge)
-        colour = "#bbb" if value is None else "#777" if abs(value) < 0.5 else "#b2182b" if value > 0 else "#2166ac"
+        colour = STREET if value is None else "#777" if abs(value) < 0.5 else MORE if value > 0 else LESS
         width = 1.5 if value is None else 2 + 6 * abs(value) / most
         text = link.edge if value is None else f"{link.edge}: {value:+.0f}"
-        line = f'<polyline points="{way}" class="edge-line" stroke="{colour}" stroke-width="{width:.1f}">'
+        gaps = f' stroke-dasharray="{width:.1f} {2 * width:.1f}"' if value is not None and value <= -0.5 else ""
+        line = f'<polyline points="{way}" class="edge-line" stroke="{colour}" stroke-width="{width:.1f}"{gaps}>'
         parts.append(f"{line}<title>{escape(text)}</title></polyline>")
     return "".join([*parts, "</svg>"])
 
@@ -103,7 +106,7 @@ def change_mark(change: float, across: float, down: float) -> str:
     half = 5.5 if abs(change) >= LEAST else 4.0
     x, y, tall = across + 14, down, half if change < 0 else -half
     points = f"{x:.1f},{y - tall:.1f} {x + 2 * half:.1f},{y - tall:.1f} {x + half:.1f},{y + tall:.1f}"
-    fill = "#b00" if change > 0 else "#06c"
+    fill = MORE if change > 0 else LESS
     return f'<polygon points="{points}" fill="{fill}" stroke="#fff"><title>{change:+.1f} s</title></polygon>'
 
 

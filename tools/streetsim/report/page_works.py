@@ -7,6 +7,7 @@ from dataclasses import dataclass
 from html import escape
 from statistics import fmean
 
+from streetsim.base.colours import LINE, OTHER_LINE
 from streetsim.base.shapes import point_along
 from streetsim.base.words import time_of_day
 from streetsim.model import tables
@@ -145,8 +146,8 @@ def queues_picture(seen: SeenWorks) -> str:
         )
         return f'<polyline points="{points}" fill="none" {style}/>'
 
-    means = line([fmean(seen.queues[time]) for time in times], 'stroke="#225588" stroke-width="2"')
-    greatest = line([max(seen.queues[time]) for time in times], 'stroke="#c04000" stroke-dasharray="4 3"')
+    means = line([fmean(seen.queues[time]) for time in times], f'stroke="{LINE}" stroke-width="2"')
+    greatest = line([max(seen.queues[time]) for time in times], f'stroke="{OTHER_LINE}" stroke-dasharray="4 3"')
     marks = [
         f'<text x="{LEFT - 6}" y="15" text-anchor="end">{most:.0f} m</text>',
         f'<text x="{LEFT}" y="{HIGH - 8}">{time_of_day(times[0])}</text>',

@@ -4,6 +4,7 @@ import os
 import sys
 from typing import Any
 
+from streetsim.base.arrays import numpy as np
 from streetsim.base.files import Fault, whole_path
 
 # What has no hints: the module pyplot, a picture, its axes, lines on them.
@@ -11,7 +12,8 @@ Pyplot = Any
 Figure = Any
 Axes = Any
 Lines = Any
-DPI, COLOURS = 95, 64  # of a PNG: dots an inch, colours
+Image = Any
+DPI, COLOURS = 95, 64  # of a PNG: dots an inch, colours that are kept, and as many means of others
 DATES = {"svg": {"Date": None}, "pdf": {"CreationDate": None}}  # without: equal runs give equal bytes
 
 
@@ -47,7 +49,7 @@ def picture_format(path: str) -> str:
 
 
 def save_picture(figure: Figure, path: str) -> None:
-    """Writes a picture in the format of its name, whole or not at all; a PNG with 64 colours, which keeps it small.
+    """Writes a picture in the format of its name, whole or not at all; a PNG with few colours, which keeps it small.
     Fault for a name with another ending than png, svg or pdf, or where it cannot be written."""
     ending = picture_format(path)
     with whole_path(path) as half:
@@ -58,4 +60,20 @@ def save_picture(figure: Figure, path: str) -> None:
 
         raw = io.BytesIO()
         figure.savefig(raw, dpi=DPI, bbox_inches="tight", facecolor="white")
-        Image.open(raw).convert("RGB").quantize(COLOURS).save(half, format="PNG", optimize=True)
+        with_few_colours(Image.open(raw).convert("RGB")).save(half, format="PNG", optimize=True)
+
+
+def with_few_colours(image: Image) -> Image:
+    """A picture with few colours: those that most of its pixels have, as they are, and as many means, of which all
+    others take the nearest. So what is drawn in one colour keeps it, however little of it there is."""
+    pixels = np.asarray(image).reshape(-1, 3).astype(np.int64)
+    found, where, counts = np.unique(pixels @ (1 << 16, 1 << 8, 1), return_inverse=True, return_counts=True)
+    known = np.stack([found >> 16, found >> 8 & 255, found & 255], axis=1)
+    most = known[np.argsort(-counts, kind="stable")[:COLOURS]]
+    means = np.array(image.quantize(COLOURS).getpalette()[: 3 * COLOURS]).reshape(-1, 3)
+    kept = np.concatenate([most, means])
+    nearest = ((known[:, None] - kept) ** 2).sum(axis=2).argmin(axis=1).astype(np.uint8)
+    made = image.convert("P")
+    made.putdata(nearest[where].ravel())
+    made.putpalette(kept.astype(np.uint8).tobytes())
+    return made

@@ -3,13 +3,14 @@ from collections import defaultdict
 from collections.abc import Mapping, Sequence
 from math import ceil
 
+from streetsim.base.colours import LINE, OTHER_LINE
 from streetsim.base.files import Fault
 from streetsim.model.folder import Folder
 from streetsim.model.names import Names
 from streetsim.report.picture_files import Axes, Figure, Pyplot
 
 MOST = 6  # lights in one picture
-COLOURS = ("#225588", "#c05020", "#3a8040", "#7a4a9a", "#806010", "#404040")
+COLOURS = (LINE, OTHER_LINE, "#3a8040", "#7a4a9a", "#806010", "#404040")
 MARKERS = "os^Dv*"
 Row = Mapping[str, str]
 

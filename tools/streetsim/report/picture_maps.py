@@ -3,6 +3,7 @@ from collections.abc import Iterable, Sequence
 from dataclasses import dataclass
 from typing import Any
 
+from streetsim.base.colours import STREET
 from streetsim.base.files import Fault
 from streetsim.base.words import time_of_day
 from streetsim.model.folder import Folder
@@ -89,7 +90,7 @@ def canvas(pyplot: Pyplot, shapes: Sequence[Shape]) -> tuple[Figure, Axes, dict[
     width, height = (max(places) - min(places) for places in zip(*(point for shape in shapes for point in shape)))
     wide = width > 2 * height
     figure, axes = pyplot.subplots(figsize=(9, 4) if wide else (9, 8))
-    axes.add_collection(LineCollection(shapes, colors="#bbbbbb", linewidths=2.5))
+    axes.add_collection(LineCollection(shapes, colors=STREET, linewidths=2.5))
     axes.autoscale_view()
     low, high = axes.get_ylim()
     more = max(0.0, 0.2 * width - (high - low)) / 2  # a street alone would be too flat a picture

@@ -5,6 +5,7 @@ from itertools import cycle, pairwise
 from math import inf
 
 from streetsim.base import limits
+from streetsim.base.colours import LINE, OTHER_LINE, SPEEDS as SPEED_COLOURS
 from streetsim.base.files import Fault
 from streetsim.model.folder import Folder
 from streetsim.model.names import Names
@@ -12,10 +13,10 @@ from streetsim.report import ring_diagram, run_series
 from streetsim.report.beside_sumo import read_tripinfo
 from streetsim.report.picture_files import Axes, Figure, Pyplot
 
-SPEEDS = (  # the least speed, in cells a step, its label and colour, as on all pages (drawing.js), and its width
-    (0, "standing", "#a50026", 2.2),
-    (1, "27 km/h", "#f08000", 1.4),
-    (2, "54 km/h and more", "#3b7fc4", 0.8),
+SPEEDS = (  # the least speed, in cells a step, its label, colour and width
+    (0, "standing", SPEED_COLOURS[0], 2.2),
+    (1, "27 km/h", SPEED_COLOURS[1], 1.4),
+    (2, "54 km/h and more", SPEED_COLOURS[2], 0.8),
 )
 MOST_LANES = 25  # in the picture of queues
 MARKERS = "osd^v*"
@@ -120,7 +121,7 @@ def draw_fundamental(pyplot: Pyplot, folder: Folder, edges: Sequence[str], at_st
     counts = points_of(folder, edges)
     where = "Counts of {} s at the stop lines" if at_stop_lines else "Middle third of lanes, means of {} s"
     figure, axes = empty_diagram(pyplot, where.format(folder.period))
-    axes.scatter(*(zip(*counts, strict=True) if counts else ((), ())), s=10, color="#225588", alpha=0.6, linewidths=0)
+    axes.scatter(*(zip(*counts, strict=True) if counts else ((), ())), s=10, color=LINE, alpha=0.6, linewidths=0)
     begin_at_zero(axes)
     return figure
 
@@ -165,11 +166,11 @@ def draw_arrivals(pyplot: Pyplot, folder: Folder, tripinfo: str | None) -> Figur
     departs, arrivals = run_series.arrival_curves(folder)
     figure, (axes, below) = pyplot.subplots(2, figsize=(8, 6.5), sharex=True, height_ratios=(3, 1))
     curves: list[tuple[Sequence[float], str, str, str]]
-    curves = [(departs, "wished departures", "#888888", "--"), (arrivals, "arrivals here", "#225588", "-")]
+    curves = [(departs, "wished departures", "#888888", "--"), (arrivals, "arrivals here", LINE, "-")]
     if tripinfo:
         end = folder.made.get("until", inf)
         sumo = sorted(arrival for _, arrival in read_tripinfo(tripinfo).values() if arrival <= end)
-        curves.append((sumo, "arrivals in SUMO", "#d06000", ":"))
+        curves.append((sumo, "arrivals in SUMO", OTHER_LINE, ":"))
         times, values = run_series.curve_difference(arrivals, sumo)
         below.set(ylabel="here less SUMO")
     else:
@@ -178,7 +179,7 @@ def draw_arrivals(pyplot: Pyplot, folder: Folder, tripinfo: str | None) -> Figur
     for moments, label, colour, style in curves:
         minutes, counts = [moment / 60 for moment in moments], range(1, len(moments) + 1)
         axes.step(minutes, counts, where="post", label=label, color=colour, linestyle=style, linewidth=1.8)
-    below.step([time / 60 for time in times], values, where="post", color="#225588", linewidth=1.4)
+    below.step([time / 60 for time in times], values, where="post", color=LINE, linewidth=1.4)
     below.axhline(0, color="black", linewidth=0.8)
     title = f"{len(arrivals):,} of {len(folder.trips()):,} vehicles arrived"
     axes.set(ylabel="vehicles", title=title, xlim=(0, None), ylim=(0, None))

@@ -1,4 +1,5 @@
 """Draws queues before road works, over time and place."""
+from streetsim.base.colours import LINE
 from streetsim.model.folder import Folder
 from streetsim.model.names import Names
 from streetsim.report.picture_files import Axes, Figure, Lines, Pyplot
@@ -38,7 +39,7 @@ def draw_place(axes: Axes, folder: Folder, place: WorksPlace) -> Lines:
     axes.step([time / 60 for time in times], lengths, where="pre", color="black", linewidth=0.8, label="queue")
     for piece in place.way[:-1]:
         if piece.far < room:
-            axes.axhline(piece.far, color="#225588", linewidth=0.8, linestyle="--")
+            axes.axhline(piece.far, color=LINE, linewidth=0.8, linestyle="--")
             name = folder.mapping.links[piece.link].edge
             text = f" begin of {f'{names.street(name)} {name}'.lstrip()}"
             axes.annotate(text, (place.begin / 60, piece.far), fontsize=8, va="bottom", backgroundcolor="#ffffffcc")

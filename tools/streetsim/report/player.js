@@ -11,6 +11,7 @@ class Side {
     this.canvas.tabIndex = 0;
     this.canvas.setAttribute("role", "img"); this.canvas.setAttribute("aria-label", `streets and vehicles of ${run.name}`);
     box.className = "side"; name.className = "name"; name.textContent = run.name; name.hidden = place === null;
+    name.style.borderBottom = place ? `3px solid ${LIGHT.now}` : `3px dashed ${LIGHT.was}`; // as its lines in the charts
     box.append(this.canvas, name); at("sides").append(box);
     this.scene = new Scene(this.canvas, run.links);
     this.plans = new Map();
@@ -68,12 +69,13 @@ class Side {
 
 // What charts show of each run, and how its line is drawn.
 const BANDS = ["vehicles", "standing", "arrived"].map((words, i) => ({ words, of: point => point[i + 1], digits: 0 }));
-const LINES = [{ colour: "#0055b8", dashes: [] }, { colour: "#8a6d00", dashes: [5, 3] }];
+const LINES = [{ colour: LIGHT.was, dashes: [5, 3] }, { colour: LIGHT.now, dashes: [] }]; // the last one alone of one run
+const lineOf = i => LINES[i + LINES.length - sides.length];
 
 // The charts beside one another below the sides.
 function drawCharts(now) {
   const { width, height } = at("chart"), pen = at("chart").getContext("2d"), wide = width / BANDS.length;
-  const own = sides.map(({ run }, i) => ({ ...LINES[i], points: run.chart, word: sides.length > 1 ? run.name : "" })), span = [clocks[0], clocks.at(-1)];
+  const own = sides.map(({ run }, i) => ({ ...lineOf(i), points: run.chart, word: sides.length > 1 ? run.name : "" })), span = [clocks[0], clocks.at(-1)];
   pen.fillStyle = "#fff"; pen.fillRect(0, 0, width, height);
   BANDS.forEach((band, i) => drawBand(pen, { band, left: i * wide, top: 2, wide, sides: own, span, ink: "#222", now }));
 }

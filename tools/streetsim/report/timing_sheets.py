@@ -2,6 +2,7 @@
 from collections.abc import Mapping, Sequence
 from html import escape
 
+from streetsim.base.colours import GREEN
 from streetsim.model.names import Names
 from streetsim.model.timing import MAIN, PERMISSIVE, YELLOW, SignalMovement, Timing, intergreen, spans_of
 from streetsim.report.page_drawings import anchor
@@ -10,7 +11,7 @@ from streetsim.report.run_tables import Runs
 
 OFF = "oO"  # the light is off, and vehicles drive by the right of way
 KINDS = ("yellow", YELLOW), ("green", MAIN + PERMISSIVE), ("off", OFF)  # of phases, by the first that one has
-COLOURS = ((MAIN, "#1b7837"), (PERMISSIVE, "#a6dba0"), (YELLOW, "#fdd835"), ("s", "#d9f0d3"), ("uoO", "#fdae61"))
+COLOURS = ((MAIN, GREEN), (PERMISSIVE, "#a6dba0"), (YELLOW, "#fdd835"), ("s", "#d9f0d3"), ("uoO", "#fdae61"))
 LEFT, WIDE, ROW = 300, 900, 16  # pixels
 MOST_PAIRS = 5  # of conflicting movements on a sheet
 LEGEND = (

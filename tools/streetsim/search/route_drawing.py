@@ -3,6 +3,7 @@ from collections import Counter
 from collections.abc import Sequence
 from typing import Any, NamedTuple
 
+from streetsim.base.colours import FEWER_TO_MORE, LINE
 from streetsim.model.mapping import MapLink
 from streetsim.report.picture_files import Axes, Figure, Lines, Pyplot, pyplot_if_installed, save_picture
 from streetsim.search.route_diverting import Diverted
@@ -11,7 +12,6 @@ STYLES = ("-", "--", ":", "-.")
 Colours = Any  # matplotlib's, which has no hints
 WIDEST = 5.0  # points, of the greatest flow
 CLASSES = 6  # of flows, at most
-APART = ("#08306b", "#2171b5", "#6baed6", "#d8d8d8", "#fdae6b", "#e6550d", "#7f2704")  # fewer to more
 SMALL = 0.1  # of the greatest difference: less is about equal
 ROOM = 1.3  # of the height of lines, so that names stand above them
 NEAR = 250.0  # metres around what differs, at least
@@ -35,7 +35,7 @@ def gap_figure(pyplot: Pyplot, searches: Sequence[Diverted]) -> Figure:
     for style, one in zip(STYLES, searches):
         numbers = [iteration.number for iteration in one.search.iterations]
         percents = [100 * iteration.gap for iteration in one.search.iterations]
-        axes.plot(numbers, percents, style, color="#225588", label=one.label)
+        axes.plot(numbers, percents, style, color=LINE, label=one.label)
         axes.plot([one.search.best.number], [100 * one.judged.gap], "o", color="black", markersize=5)
     axes.plot([], [], "o", color="black", label="the routes kept, by seeds that the search did not see")
     title = "What all could gain by other ways, of their shortest ways"
@@ -94,13 +94,13 @@ def scale_of_counts(most: int) -> Scale:
 
 
 def scale_of_differences(most: int) -> Scale:
-    """Colours for differences from -most to most: orange for more and blue for fewer, grey for less than SMALL of the
+    """Colours for differences from -most to most: red for more and blue for fewer, grey for less than SMALL of the
     most; the limits of classes are whole numbers."""
     from matplotlib.colors import BoundaryNorm, ListedColormap
 
     steps: list[float] = [round(most * share) for share in (-1.0, -0.6, -0.3, -0.1, 0.1, 0.3, 0.6, 1.0)]
     steps = [step + at * 1e-6 for at, step in enumerate(steps)]  # so that they rise where there are few trips
-    return Scale(ListedColormap(APART), BoundaryNorm(steps, len(APART)), most)
+    return Scale(ListedColormap(FEWER_TO_MORE), BoundaryNorm(steps, len(FEWER_TO_MORE)), most)
 
 
 def draw_flows(axes: Axes, links: Sequence[MapLink], values: Sequence[int], scale: Scale, title: str) -> Lines:

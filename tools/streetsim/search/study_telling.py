@@ -4,6 +4,7 @@ from bisect import bisect_right
 from collections.abc import Iterator, Mapping, Sequence
 from statistics import fmean
 
+from streetsim.base.colours import LINE
 from streetsim.control.ending import ALL_ARRIVED
 from streetsim.control.works_watched import in_runs
 from streetsim.model import trust
@@ -27,7 +28,7 @@ def draw_differences(study: Study, rows: Sequence[VariantDifference], path: str)
             if width is not None and row.difference is not None:
                 ends = row.difference - width, row.difference + width
                 named = f"95 % interval, {label}" if place == 0 else None
-                axes.plot(ends, (place, place), color="#225588", linewidth=size, label=named)
+                axes.plot(ends, (place, place), color=LINE, linewidth=size, label=named)
         axes.plot([row.difference], [place], marker="o", color="black", markersize=5)
     axes.axvline(0, color="black", linewidth=0.8)
     axes.set_yticks(range(len(shown)), [row.variant for row in reversed(shown)])

@@ -3,11 +3,12 @@ grow otherwise here."""
 from collections import Counter, defaultdict
 from collections.abc import Collection, Iterable, Iterator, Mapping, Sequence
 from dataclasses import replace
-from itertools import chain, pairwise
+from itertools import chain, groupby, pairwise
 
 from streetsim.model.fullness import LEFT, MERGING, RIGHT, STRAIGHT, TURNAROUND, FullLane, Fullness
 from streetsim.sumo.crossing import CrossingMovement, EdgePair, Flows, hourly_flows
 from streetsim.sumo.demand import DemandVehicle
+from streetsim.sumo.gaps import until_first
 from streetsim.sumo.merges import FAR_FROM_FULL, Merge
 from streetsim.sumo.net import SumoNet
 from streetsim.sumo.network import Network
@@ -57,12 +58,21 @@ def full_at_light(junction: str, own: Iterable[CrossingMovement], ways: Mapping[
         lanes[one.lane].append(one)
     for (edge, index), sharing in lanes.items():
         wish = sum(one.flow for one in sharing)
-        demand = wish / capacity(sharing, wish) if wish >= LEAST else 0.0
+        demand = wish / min(capacity(sharing, wish), by_greens(sharing, wish)) if wish >= LEAST else 0.0
         waiting = [one for one in sharing if one.waits and one.flow]
         if demand >= (FULL if waiting else FULL_IN_TURN):
             source, target = max(waiting or sharing, key=lambda one: one.flow).pair
             where = junction, f"{edge}_{index}", ways[source, target], source, target
             yield FullLane(*where, round(demand, 2)), [one.pair for one in sharing]
+
+
+def by_greens(sharing: Sequence[CrossingMovement], wish: float) -> float:
+    """Vehicles an hour that a lane lets pass, of wish that want to (above 0), if nobody waited for gaps: where only
+    some of its movements have green, those before the first vehicle of another one."""
+    cycle, each = sharing[0].cycle, sum(one.flow * one.headway for one in sharing) / wish
+    held = [sum(one.flow for one in sharing if not one.green >> second & 1) / wish for second in range(cycle)]
+    queues = ((share, len(list(seconds)) / each) for share, seconds in groupby(held))
+    return sum(until_first(queue, share) if share else queue for share, queue in queues) * 3600 / cycle
 
 
 def full_merges(merges: Iterable[Merge], flows: Flows) -> Iterator[Found]:

@@ -17,7 +17,7 @@ from streetsim.traci.domain import Domain, Outlined
 from streetsim.traci.packing_rows import packed_rows
 from streetsim.traci.protocol import (
     DOUBLE, INT, LONG_HEAD, BadMessage, Value, WordReader, known_text, text, told_command,
-)
+)  # fmt: skip
 from streetsim.traci.table import ALONE, DOMAINS, GETS, Get
 
 SUBSCRIBE_OF = {numbers.subscribe: name for name, numbers in DOMAINS.items()}
