@@ -4,7 +4,7 @@
 Usage: bench/calibrated.py PROGRAM --work FOLDER [--ten] [--drawn SEED,..] [--only NAME/DRIVER,..]
 Each street is calibrated on one day and validated on another by streetsim-calibrate, with one process. Forecasts are
 means of seeds 11 to 14 of the demand of the fitted day; a lane that is removed has the share of its lefts that a survey
-of that approach tells (full, in SUMO). It prints a line a street, and the table of CALIBRATION.md. What was made is
+of that approach tells (full, in SUMO). It prints a line a street, and the tables of CALIBRATION.md. What was made is
 kept in FOLDER and used again. Draw the seeds when the work is done: then the table judges.
 """
 import csv
@@ -16,7 +16,9 @@ from statistics import fmean
 from xml.etree import ElementTree
 
 import shared
-from field_streets import END, LAST, WARM, drawn_street, full_approach, make_field, the_ten, truth_of
+from field_streets import (
+    END, LAST, WARM, drawn_street, full_approach, make_field, mean_of_trips, the_ten, truth_of,
+)
 
 from streetsim.base.arrays import numpy as np
 from streetsim.base.report import Report
@@ -35,6 +37,10 @@ from streetsim.sumo.network import Options
 SEEDS = range(11, 15)
 SHARES = (0.1, 0.2, 0.3, 0.4, 0.5, 0.6, 0.7, 0.8, 0.9, 1.0)
 BOTH = ("uncalibrated", "calibrated")
+KINDS = {
+    "a wave": ("wave",), "a split": ("split",), "waves and splits": ("wave", "split"),
+    "growth by a tenth": ("growth",), "a lane removed": ("diet",),
+}
 
 
 def options(drivers, shares=()):
@@ -121,13 +127,14 @@ def calibrate(program, net, folder):
 def judged(program, street, base):
     """What a street's calibration gains, as a dict that is kept."""
     folder = make_field(street, base)
-    kept = folder / "judged.json"
+    kept, day = folder / "judged.json", mean_of_trips(folder / "sumoA/trips.xml")
     if kept.exists():
-        return json.loads(kept.read_text(encoding="utf-8"))
+        return {**json.loads(kept.read_text(encoding="utf-8")), "day": day}
     top, routes = base / street.name, folder / "calibrated" / "fitted.rou.xml"
     criteria = calibrate(program, top / "net.net.xml", folder)
     before, changes = truth_of(folder)
-    found = {"name": f"{street.name} {street.driver}", "truth": before, "true": changes, "criteria": criteria}
+    found = {"name": f"{street.name} {street.driver}", "truth": before, "true": changes, "day": day}
+    found["criteria"] = criteria
     for which, drivers in zip(BOTH, (None, folder / "drivers.json")):
         usual = mean_trip(program, top / "net.net.xml", [], routes, options(drivers))
         found[which] = {"base": usual}
@@ -164,22 +171,56 @@ def segments(one, which):
     return next(float(row["percent"]) for row in one["criteria"] if tuple(row[name] for name in names) == own)
 
 
-def table(all_):
-    """The rows of the table of CALIBRATION.md."""
-    yield "| | uncalibrated | calibrated | ratio |"
-    yield "|---|---|---|---|"
-    off = {which: fmean((one[which]["base"] / one["truth"] - 1) ** 2 for one in all_) ** 0.5 for which in BOTH}
-    yield f"| mean trip of the base off (rms) | {off[BOTH[0]]:.1%} | {off[BOTH[1]]:.1%} | |"
-    within = [f"{sum(segments(one, which) >= 85 for one in all_)} of {len(all_)}" for which in BOTH]
-    yield f"| streets with 85 % of segments within 15 % on the other day | {within[0]} | {within[1]} | |"
-    for what in ("wave", "split", "growth", "diet"):
-        own = [one for one in all_ if what in one["true"]]
-        if own:
-            errors = {which: [abs(one[which][what] - one["true"][what]) for one in own] for which in BOTH}
-            true = sum(abs(one["true"][what]) for one in own)
-            shares = [sum(errors[which]) / true for which in BOTH]
-            told = f"error of {what}, of {len(own)} streets, in % of the changes"
-            yield f"| {told} | {shares[0]:.0%} | {shares[1]:.0%} | {shares[1] / shares[0]:.2f} |"
+def off_by(pairs):
+    """By how much the first values are off the second ones, root of the mean square, as text."""
+    return f"{fmean((here / true - 1) ** 2 for here, true in pairs) ** 0.5:.1%}"
+
+
+def errors_of(streets, kinds, which):
+    """(sum of the errors of some kinds of changes, sum of the true changes), seconds, over streets."""
+    own = [(one[which][what], one["true"][what]) for one in streets for what in kinds if what in one["true"]]
+    return sum(abs(here - true) for here, true in own), sum(abs(true) for _, true in own)
+
+
+def cells_of(streets):
+    """The rows of the table for some streets: (what, cells without and with calibration, their ratio)."""
+    off = [off_by([(one[which]["base"], one["truth"]) for one in streets]) for which in BOTH]
+    yield "mean trip of the base off (rms)", *off, ""
+    yield "the counted day itself off (rms)", "", off_by([(one["day"], one["truth"]) for one in streets]), ""
+    off = [off_by([(one[which]["base"], one["day"]) for one in streets]) for which in BOTH]
+    yield "mean trip of the base off from the counted day (rms)", *off, ""
+    held = [sum(segments(one, which) >= 85 for one in streets) for which in BOTH]
+    yield "85 % of segments within 15 % on the other day", *(f"{one} of {len(streets)}" for one in held), ""
+    for kind, kinds in KINDS.items():
+        (error, true), (less, _) = (errors_of(streets, kinds, which) for which in BOTH)
+        if true:
+            shares = f"{error / true:.0%}", f"{less / true:.0%}"
+            yield f"error of {kind}, in % of the changes", *shares, f"{less / error:.2f}"
+
+
+def table(groups):
+    """The rows of the table of CALIBRATION.md. groups: streets by what they are called."""
+    yield "| | streets | uncalibrated | calibrated | ratio |"
+    yield "|---|---|---|---|---|"
+    found = {name: {row[0]: row[1:] for row in cells_of(streets)} for name, streets in groups.items()}
+    for what in dict.fromkeys(what for rows in found.values() for what in rows):
+        first = what
+        for name, rows in found.items():
+            if what in rows:
+                yield f"| {first} | {name} | {' | '.join(rows[what])} |"
+                first = ""
+
+
+def street_rows(streets):
+    """The rows of the table of streets: seconds of the base and of the changes, true, without and with calibration."""
+    yield "| Street, drivers | base: true, here | wave | split | growth | lane removed |"
+    yield "|---|---|---|---|---|---|"
+    for one in streets:
+        cells = [f"{one['truth']:.1f}: " + ", ".join(f"{one[which]['base']:.1f}" for which in BOTH)]
+        for what in ("wave", "split", "growth", "diet"):
+            here = ", ".join(f"{one[which][what]:+.1f}" for which in BOTH) if what in one["true"] else ""
+            cells.append(f"{one['true'][what]:+.1f}: {here}" if here else "")
+        yield f"| {one['name']} | {' | '.join(cells)} |"
 
 
 def main():
@@ -190,15 +231,18 @@ def main():
     parser.add_argument("--only", default="")
     args = parser.parse_args()
     base = args.work.resolve()
-    streets = list(the_ten()) if args.ten else []
-    streets += [drawn_street(int(seed), base / "drawn") for seed in filter(None, args.drawn.split(","))]
-    only = [*filter(None, args.only.split(","))]
-    found = []
-    for street in streets:
-        if not only or f"{street.name}/{street.driver}" in only:
-            found.append(judged(args.program, street, base))
-            print(line_of(found[-1]), file=sys.stderr, flush=True)
-    print(*table(found), sep="\n")
+    seeds, only = [*filter(None, args.drawn.split(","))], [*filter(None, args.only.split(","))]
+    groups = {"the ten": list(the_ten()) if args.ten else []}
+    groups["drawn"] = [drawn_street(int(seed), base / "drawn") for seed in seeds]
+    found = {}
+    for name, streets in groups.items():
+        for street in streets:
+            if not only or f"{street.name}/{street.driver}" in only:
+                found.setdefault(name, []).append(judged(args.program, street, base))
+                print(line_of(found[name][-1]), file=sys.stderr, flush=True)
+    all_ = [one for streets in found.values() for one in streets]
+    print(*table({**found, "all": all_} if len(found) > 1 else found), sep="\n")
+    print("", *street_rows(all_), sep="\n")
 
 
 if __name__ == "__main__":

@@ -189,8 +189,13 @@ def in_sumo(net, routes, folder, seed, more=None, detail=False):
     words += ["--seed", seed, "--no-step-log", "--no-warnings", "--end", END, "--time-to-teleport", 300]
     words += ["--vehroute-output", folder / "ways.xml", "--vehroute-output.exit-times"]
     run([*words, *(["-a", ",".join(map(str, adds))] if adds else [])], folder)
+    return mean_of_trips(folder / "trips.xml")
+
+
+def mean_of_trips(path):
+    """The mean trip of SUMO's tripinfo, from the wish to depart, of those who depart from WARM to LAST."""
     total = []
-    for one in ElementTree.parse(folder / "trips.xml").getroot().iter("tripinfo"):
+    for one in ElementTree.parse(path).getroot().iter("tripinfo"):
         delay = float(one.get("departDelay"))
         if WARM <= float(one.get("depart")) - delay < LAST:
             total.append(float(one.get("duration")) + delay)

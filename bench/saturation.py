@@ -2,7 +2,7 @@
 """What a lane that is always full passes in a green, by dawdle and limit: by headways and by seconds of green.
 
 Usage: bench/saturation.py PROGRAM [--seeds 1-3] [--limits 1-5] [--greens 36,42]
-It prints the table of CALIBRATION.md, and with --code that of streetsim.demand.calibration_survey. A lane of 60 cells
+It prints the table of CALIBRATION.md, and with --code that of streetsim.model.saturation. A lane of 60 cells
 leads to another one through a light with a cycle of 80 s; a vehicle is told each two seconds, so that it is full.
 """
 import json
@@ -11,11 +11,12 @@ import shared
 
 from streetsim.base.arrays import numpy as np
 from streetsim.base.seeds import seeds_of
-from streetsim.demand.calibration_survey import DAWDLES, discharge
+from streetsim.demand.calibration_survey import discharge
 from streetsim.kernel.loop import Kernel
 from streetsim.kernel.program import Program
 from streetsim.model.mapping import map_from
 from streetsim.model.runs import run_of_texts
+from streetsim.model.saturation import DAWDLES
 from streetsim.observe.segments import Segments
 
 CYCLE, GREENS, CELLS, FIRST = 80, 30, 60, 3  # the first cycles fill the lane

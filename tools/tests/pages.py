@@ -192,7 +192,7 @@ class PageCase(LiveCase):
         self.idle(browser)
 
     def idle(self, browser):
-        self.wait(browser, "return turn.then(() => !busy && !reading)")
+        self.wait(browser, "return turn.then(() => reading).then(() => !busy)")
 
     def shown(self, browser):
         return json.loads(browser.execute_script("return document.body.dataset.shown"))
@@ -200,7 +200,7 @@ class PageCase(LiveCase):
     def choose(self, browser, link, lane, share):
         """Clicks at a share of a lane's length."""
         script = (
-            "const link = session.data.links[arguments[0]], [x, y] = scene.screen(...scene.place(link, "
+            "const link = session.data.links[arguments[0]], [x, y] = scene.screen(...placeOnLane(link, "
             "arguments[1], arguments[2])), box = at('map').getBoundingClientRect(); return [x + box.left, y + box.top]"
         )
         x, y = browser.execute_script(script, link, lane, share)

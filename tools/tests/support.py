@@ -80,10 +80,12 @@ class Case(unittest.TestCase):
         return str(path)
 
     def tool(self, name, *words, status=0):
-        """Runs a tool; gives its standard output and error. status: that it is to have; None: any."""
-        done = subprocess.run(
-            [TOOLS / f"streetsim-{name}", *map(str, words)], capture_output=True, text=True, check=False
-        )
+        """Runs a tool; gives its standard output and error. status: that it is to have; None: any. Of each run the
+        segments have to add up to the trips."""
+        command = [TOOLS / f"streetsim-{name}", *map(str, words)]
+        if name == "run":
+            command = ["/usr/bin/python3", TOOLS / "tests/adding.py", *command]
+        done = subprocess.run(command, capture_output=True, text=True, check=False)
         if status is not None:
             self.assertEqual(done.returncode, status, done.stderr)
         return done.stdout, done.stderr

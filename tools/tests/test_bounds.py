@@ -17,7 +17,7 @@ from streetsim.model.mapping import read_map
 from streetsim.model.runs import read_run
 from streetsim.search.signal_bounded import BoundsSettings, searched_bounds
 from streetsim.search.signal_bounds import (
-    Bounds, bounds_text, given_bounds, kept_with, key_of, search_bounds, with_bounds,
+    Bounds, bounds_text, given_bounds, kept_with, key_of, lowest_greens, search_bounds, with_bounds,
 )
 from streetsim.search.signal_search import PlanSearch
 
@@ -70,6 +70,18 @@ class Changing(unittest.TestCase):
         ground = SimpleNamespace(town=SimpleNamespace(session=SimpleNamespace(departs=[0])), given={})
         with self.assertRaisesRegex(Fault, "--budget 9: one plan takes 10 simulations"):
             searched_bounds(BoundsSettings(9, (), 5), workers, ground, range(1, 11))
+
+
+    def test_a_given_least_is_kept_but_where_a_word_says_so(self):
+        """Of 9 s at the phase 0, and of pedestrians who need 12 s at the phase 2."""
+        kept = {"light": "L", "parameters": {"pedestrians.2": "12"}}
+        mapping, given = SimpleNamespace(programs=[kept]), {"L": Bounds(((0, 9, 40), (2, 5, 30)), (3.0,))}
+        self.assertEqual(lowest_greens(mapping, given, None), {("L", 0): 9, ("L", 2): 12})
+        self.assertEqual(lowest_greens(mapping, given, 6), {("L", 0): 6, ("L", 2): 12})
+        # The shorter the least the better: it stays at the given one.
+        search = PlanSearch(lambda plans: (one["L"].greens[0][1] for one in plans), 200, 1, key_of=key_of)
+        search_bounds(search, given, lowest_greens(mapping, given, None))
+        self.assertEqual(search.best[1]["L"].greens[0][1], 9)
 
 
 @needs_simulator

@@ -17,7 +17,8 @@ from streetsim.demand.calibration_field import (
 )
 from streetsim.demand.calibration_fit import CUT, DAWDLE, SPEED, Fit, FittedValue, classes_of, values_of
 from streetsim.demand.calibration_model import FittedDrivers, MeasuredRun
-from streetsim.demand.calibration_survey import SurveyedLane, discharge, drivers_of, flow_here
+from streetsim.demand.calibration_survey import SurveyedLane, discharge, drivers_of
+from streetsim.model.saturation import flow_here
 from streetsim.sumo.driver_words import cut_at, factor_of, with_cut
 
 CORRIDOR = TOOLS / "examples/corridor"

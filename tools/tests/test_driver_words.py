@@ -1,14 +1,16 @@
 """Words of drivers in an import: shares of permissive greens by approach, seconds cut from greens, speed factors."""
 import csv
 import json
+import re
 import unittest
 from pathlib import Path
 
 from support import DATA, FORK, PROGRAM, Case, needs_simulator
 from streetsim.demand.compared_times import ComparedTime, are_close, lines_of_times
 from streetsim.model.fullness import LEFT, STRAIGHT, FullLane
-from streetsim.model.loaded_lanes import forecast_doubts
+from streetsim.model.loaded_lanes import LOADED, forecast_doubts, loaded_lanes
 from streetsim.model.mapping import read_map
+from streetsim.search.study_variants import read_study
 
 CROSS = DATA / "cross1.net.xml.gz"  # 42 s of green for each street, lefts give way
 GREEN = 42
@@ -75,6 +77,30 @@ class Imported(Case):
         self.assertEqual(self.imported("--drivers", drivers, "--dawdle", 200)[0][0]["dawdle"], 200)
 
 
+    def test_a_plan_of_a_study_loads_lefts_as_its_import_would(self):
+        """18 s of green for the street with the lefts in place of 42."""
+        states = (18, "rrrGGgrrrGGg"), (3, "rrryyyrrryyy"), (66, "GGgrrrGGgrrr"), (3, "yyyrrryyyrrr")
+        phases = "".join(f'<phase duration="{seconds}" state="{state}"/>' for seconds, state in states)
+        light = f'<tlLogic id="c" type="static" programID="short" offset="0">{phases}</tlLogic>'
+        plan = self.write("short.add.xml", f"<additional>{light}</additional>")
+        rare = re.sub(r'(?<=period=")\d+', lambda found: str(3 * int(found[0])), ROUTES)
+        routes, imported = self.write("rare.rou.xml", f"<routes>{rare}</routes>"), []
+        for name, nets in (("plan", (CROSS, plan)), ("given", (CROSS,))):
+            words = *nets, "--routes", routes, "-o", self.folder / "run.jsonl", "--map", self.folder / f"{name}.json"
+            self.tool("import", *words)
+            imported.append(loaded_lanes(read_map(self.folder / f"{name}.json")))
+        variants = f'[variant.given]\n[variant.short]\nplans = ["{CROSS}", "short.add.xml"]\n'
+        text = f'run = "run.jsonl"\nmap = "given.json"\nseeds = "1-2"\nuntil = 1200\n{variants}'
+        study = read_study(str(self.write("study.toml", text)), PROGRAM)
+        given, short = study.variants["given"], study.variants["short"]
+        told = {lane: one.demand for lane, one in short.loaded.items()}
+        self.assertEqual(told, {lane: one.demand for lane, one in imported[0].items()})
+        self.assertGreater(told["wc_0"], LOADED)
+        self.assertEqual((given.loaded, imported[1]), ({}, {}))
+        self.assertIn("lefts that give way, which no survey told", "".join(short.doubts))
+        self.assertEqual([text for text in given.doubts if "lefts" in text], [])
+
+
 class Doubts(unittest.TestCase):
     def lane(self, name, way, demand):
         return {name: FullLane("J", name, way, "a", "b", demand)}
@@ -123,11 +149,23 @@ class CompareTimes(Case):
         other = self.write("other.csv", "segment,time,mean,sd,n\nwc>ce,0,1,1,30\nwc>cn,0,1,1,30\n")
         told, _ = self.tool("compare", out, "--times", other, status=1)
         self.assertIn("segments: 0 % of 2", told)
+        self.sumos_own_formats(run, mapping)
         none = self.write("none.csv", "segment,time,mean,sd,n\nwc>cw,0,1,1,30\n")
         _, said = self.tool("compare", out, "--times", none, status=2)
         self.assertIn("no way and period is common to the run and the times", said)
         _, said = self.tool("compare", out, "--times", none, "--counts", none, status=2)
         self.assertIn("--sumo, --counts and --times are comparisons of their own: one at a time", said)
+
+    def sumos_own_formats(self, run, mapping):
+        """As listed and drawn, the trips and edges of a run in SUMO's formats are those of its tables."""
+        for name, *drawn in (("listed",), ("drawn", "--departures", "drawn")):
+            out = self.folder / name
+            words = ["--until", 1200, "--sumo-output", "tripinfo,edgedata", "--out", out, "--program", PROGRAM, *drawn]
+            self.tool("run", run, "--map", mapping, *words)
+            told, _ = self.tool("compare", out, "--times", out / "sumo/tripinfo.xml")
+            self.assertIn("trips: 100 % of 4 within 15 % or a minute (held by 85 %), off by 0.0 % (rms)", told)
+            told, _ = self.tool("compare", out, "--times", out / "sumo/edgedata.xml")
+            self.assertRegex(told, r"edges, without waits to depart and junctions: 100 % of \d within 15 % \(held by")
 
     def test_edges_that_are_not_there(self):
         net = self.write("x.net.xml", FORK)

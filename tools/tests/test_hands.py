@@ -105,7 +105,7 @@ class Hands(PageCase):
             self.put(browser, "cell", 2)
             self.put(browser, "period", 5)
             self.click(browser, "Place it")
-            self.assertIn("the detector is placed", browser.execute_script("return at('chosen').textContent"))
+            self.assertIn("the detector is placed", browser.execute_script("return at('said').textContent"))
             self.assertEqual(self.charts(browser), ["no period is over yet"])
             browser.execute_script("scene.scale = 40; scene.x = 140; scene.moved = true; draw(1)")
             self.steps(browser, 18)
@@ -181,7 +181,7 @@ class Hands(PageCase):
             self.click(browser, "whole")
             self.near(self.seen(browser), (x, y, scale, 0))
             place = browser.execute_script(
-                "const [px, py] = scene.screen(...scene.place(session.data.links[1], 0, .55)); return [px, py]"
+                "const [px, py] = scene.screen(...placeOnLane(session.data.links[1], 0, .55)); return [px, py]"
             )
             touched = (box[0] + place[0], box[1] + place[1])
             self.touch(browser, "touchStart", touched)

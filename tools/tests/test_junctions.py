@@ -1,6 +1,7 @@
 """The junction tables: against hand reckoning on a street of two links, and of a whole run against its other tables."""
 import csv
 import json
+import re
 import unittest
 from collections import Counter
 from types import SimpleNamespace
@@ -180,7 +181,14 @@ class Definitions(unittest.TestCase):
         self.assertEqual((made.vehicles, made.delay, made.stood, made.stops), (40, 35.0, 25.0, 1.75))
 
     def test_usual_flows(self):
-        self.assertEqual([usual_flow(dawdle) for dawdle in (0, 50, 170, 1000)], [2400, 2167.5, 1760, 1490])
+        """Those of the page's table at a limit of 2, by headways; between its rows, and none beyond the last."""
+        page = (TOOLS / "CALIBRATION.md").read_text(encoding="utf-8").partition("\n## Saturation\n")[2]
+        rows = [line.split("|")[1:-1] for line in page.splitlines() if re.match(r"\| \d+ \|", line)][:11]
+        told = {int(cells[0]): int(cells[4].replace(",", "")) for cells in rows}
+        self.assertEqual(told[170], 1786)
+        self.assertEqual({dawdle: round(usual_flow(dawdle)) for dawdle in told}, told)
+        self.assertTrue(told[200] < usual_flow(185) < told[170])
+        self.assertEqual(usual_flow(1000), usual_flow(450))
 
     def test_greens(self):
         greens = Greens(map_from("", MAP), [[0, SIGNAL]])

@@ -174,7 +174,7 @@ class Page(PageCase):
             self.choose(browser, 0, 0, 1)
             self.put(browser, "seconds", 700)
             self.click(browser, "Set the plan")
-            self.assertIn("BadSignal", browser.execute_script("return at('chosen').textContent"))
+            self.assertIn("BadSignal", browser.execute_script("return at('said').textContent"))
             self.put(browser, "seconds", 30)
             self.click(browser, "Set the plan")
             for _ in range(8):

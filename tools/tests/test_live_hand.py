@@ -39,7 +39,7 @@ ROW = "return editor.bars.rows.findIndex(row => row.street.name === arguments[0]
 STATES = "return editor.bars.rows[arguments[0]].states.map(state => '.#/'[state]).join('')"
 OF_MAP = """
 const [link, lane, share, id] = arguments, box = at(id).getBoundingClientRect();
-const [x, y] = scene.screen(...scene.place(session.data.links[link], lane, share));
+const [x, y] = scene.screen(...placeOnLane(session.data.links[link], lane, share));
 return [x + box.left, y + box.top];
 """
 
@@ -190,7 +190,7 @@ class HandCase(PageCase):
         self.assertAlmostEqual(metres[2], 0.75 * 90, delta=4)
         self.put(browser, "until", "0:02:30")
         self.click(browser, "Close")
-        self.assertIn("the lanes take turns", self.text(browser, "chosen"))
+        self.assertIn("the lanes take turns", self.text(browser, "said"))
         self.assertEqual(self.shown(browser)["closed"], 1)
         browser.execute_script("guarded(() => advance(40))")
         self.idle(browser)
@@ -232,7 +232,8 @@ class HandCase(PageCase):
         self.open(browser, address)
         close = [{"cmd": "close", "link": 5, "lane": lane, "first": 0, "last": 11} for lane in (0, 1)]
         browser.execute_script(
-            "guarded(() => session.change('works', arguments[0].map(command => ({ clock: 0, command }))))", close
+            "const commands = arguments[0].map(command => ({ clock: 0, command })); "
+            "guarded(() => session.act('change', { text: 'works', commands }))", close,
         )
         self.idle(browser)
         place = browser.execute_script(

@@ -16,7 +16,7 @@ CLOSED = "#111111"  # in a light page
 # The colours of the map's pixels around a share of a lane's length.
 PIXELS = """
 const [link, lane, share, id] = arguments, view = views[id === "map" ? 0 : 1];
-const [x, y] = view.scene.screen(...view.scene.place(session.data.links[link], lane, share));
+const [x, y] = view.scene.screen(...placeOnLane(session.data.links[link], lane, share));
 const pen = view.canvas.getContext("2d"), found = new Set();
 const { data } = pen.getImageData(Math.round(x) - 1, Math.round(y) - 1, 3, 3);
 const hex = at => "#" + [0, 1, 2].map(i => data[at + i].toString(16).padStart(2, "0")).join("");
@@ -50,7 +50,7 @@ class Seen(PageCase):
         [visit] = self.mapping.visits
         with self.bridge(buses=planned(self.run_file, self.mapping)) as bridge, self.browser() as browser:
             self.open(browser, bridge.address)
-            browser.execute_script("theme = 'light'; showTheme()")
+            browser.execute_script("setTheme('light')")
             stood = []
             for _ in range(60):
                 self.advance(browser, 1)
@@ -83,7 +83,7 @@ class Seen(PageCase):
             # A green that ends with the traffic is no part of the listed plan of 30, 3 and 20 s.
             self.assertEqual({*shown}, {0, 1})
             self.choose(browser, 0, 0, 1)
-            told = "return at('planTold').textContent"
+            told = "return at('said').textContent"
             self.assertIn("Detectors drive this light", browser.execute_script(told))
             self.click(browser, "Set the plan")
             self.assertEqual(browser.execute_script(told), "set: a cycle of 53 s")
@@ -102,13 +102,13 @@ class Seen(PageCase):
         self.run_file, self.mapping = two_lanes()
         with self.bridge() as bridge, self.browser() as browser:
             self.open(browser, bridge.address)
-            browser.execute_script("theme = 'light'; showTheme()")
+            browser.execute_script("setTheme('light')")
             self.choose(browser, 0, 0, 0.6)
             for name, value in (("first", 375), ("last", 532), ("until", "0:10:00")):
                 self.put(browser, name, value)
             self.assertEqual(browser.execute_script("return chosen.lanes"), [0])
             self.click(browser, "Close")
-            self.assertIn("the lanes take turns", browser.execute_script("return at('chosen').textContent"))
+            self.assertIn("the lanes take turns", browser.execute_script("return at('said').textContent"))
             browser.execute_script("choose(null)")  # what is chosen is drawn above all else
             from selenium.webdriver.support.ui import Select
 

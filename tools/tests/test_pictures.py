@@ -257,7 +257,7 @@ class Player(Given):
         note += "text.apply(this, words); }; draw(); document.body.dataset.told = told.join('|'); "
         click = "new MouseEvent('click', { clientX: innerWidth - 8, clientY: innerHeight - 20 })"
         act = f"at('chart').dispatchEvent({click}); at('charts').click(); "
-        act += "document.body.dataset.left = innerHeight - canvas.getBoundingClientRect().bottom"
+        act += "document.body.dataset.left = innerHeight - sides[0].canvas.getBoundingClientRect().bottom"
         page.write_text(
             page.read_text().replace("</html>", f"<script>setTimeout(() => {{ {note}{act} }}, 1000)</script></html>")
         )
@@ -292,9 +292,8 @@ class Player(Given):
             f"new PointerEvent('pointermove', {{clientX: canvas.width / 2, clientY: {place}.top + canvas.height / 2}})"
         )
         zoom = "canvas.dispatchEvent(new WheelEvent('wheel', {deltaY: -500, cancelable: true}))"
-        script = (
-            f"setTimeout(() => {{ {zoom}; dispatchEvent(new Event('resize')); canvas.dispatchEvent({mouse}); }}, 1000)"
-        )
+        acts = f"{zoom}; dispatchEvent(new Event('resize')); canvas.dispatchEvent({mouse})"
+        script = f"setTimeout(() => {{ const {{ canvas }} = sides[0]; {acts}; }}, 1000)"
         page.write_text(page.read_text().replace("</html>", f"<script>{script}</script></html>"))
         told = self.shown(page, "3,130,0")
         self.assertEqual((told["scale"], told["street"]), ("10 m", "b"))
@@ -334,8 +333,11 @@ class Player(Given):
     def test_a_link_leads_to_the_same_place(self):
         """The address that the page has after a zoom opens it there, and the junction of the signal is named."""
         page = self.page()
-        zoom = "canvas.dispatchEvent(new WheelEvent('wheel', {deltaY: -500, cancelable: true}))"
-        note = "document.body.dataset.told = location.hash; document.body.dataset.names = sides[0].drawJunctions()"
+        zoom = "sides[0].canvas.dispatchEvent(new WheelEvent('wheel', {deltaY: -500, cancelable: true}))"
+        note = (
+            "const { dataset } = document.body; dataset.told = location.hash; dataset.names = 0; "
+            "sides[0].scene.pen.strokeText = () => dataset.names++; draw();"
+        )
         script = f"setTimeout(() => {{ {zoom}; setTimeout(() => {{ {note} }}, 1000) }}, 1000)"
         page.write_text(page.read_text().replace("</html>", f"<script>{script}</script></html>"))
         text = self.dom(page, "3,75,0")

@@ -24,7 +24,7 @@ const result = eval(act);
 const rows = Object.fromEntries(bars.rows.map(one => [`${one.street.name} ${one.kind}`, told(one)]));
 const faults = bars.rows.map((_, i) => bars.faults(i));
 console.log(JSON.stringify({
-  rows, result, faults, stages: bars.stages().map(one => one.seconds), command: bars.command(), lacking: bars.lacking(),
+  rows, result, faults, stages: bars.stages().map(one => one.length), command: bars.command(), lacking: bars.lacking(),
   additional: bars.additional("L", turns.length),
 }));
 """

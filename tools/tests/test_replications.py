@@ -151,9 +151,12 @@ class Commands(Case):
 
     def test_drawn_runs_are_made_again_from_what_their_folder_keeps(self):
         self.given()
-        self.made("several", "--seeds", "1-2")
+        self.made("several", "--seeds", "1-2", "--junctions")
         self.made("one", "--departures", "drawn")
-        for name in ("several", "several/seed-2", "one"):
+        page = self.folder / "page.html"
+        self.tool("report", self.folder / "several", "--sealed", "-o", page)
+        self.assertIn("intervals are of a day", page.read_text(encoding="utf-8"))
+        for name in ("several", "several/seed-2", "one", page):
             told, _ = self.tool("check", self.folder / name, "--program", PROGRAM)
             self.assertIn("is that of a run", told)
         setting = json.loads((self.folder / "one/setting.json").read_text(encoding="utf-8"))

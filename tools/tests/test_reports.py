@@ -6,7 +6,7 @@ import re
 import shutil
 import subprocess
 import unittest
-from dataclasses import replace
+from dataclasses import asdict, replace
 from importlib.util import find_spec
 from unittest import mock
 
@@ -14,9 +14,12 @@ from support import MAP, PROGRAM, TOOLS, Case, needs_package, needs_simulator
 from streetsim.base.files import Fault
 from streetsim.cli import report
 from streetsim.cli.report import path_and_way_back
+from streetsim.model.fullness import STRAIGHT, FullLane, Fullness
 from streetsim.model.names import Names
+from streetsim.model.replications import WORD
 from streetsim.model.service import COLOURS, WHITE_LETTERS
 from streetsim.model.tables import APPROACHES, JUNCTIONS, MOVEMENTS, SEEDS, TRIPS, write_table
+from streetsim.report.forecast_errors import PAGE, errors_table
 from streetsim.report.page_drawings import anchor, queue_picture
 from streetsim.report.page_junctions import full_mark
 from streetsim.report.page_summary import trips_told
@@ -54,12 +57,17 @@ FULL = {"nearly_full": 1.1}, {}
 class Numbers(unittest.TestCase):
     def test_paired_differences(self):
         """Changes of -2, -4 and -3 s: mean -3, deviation 1, quantile of two degrees of freedom 4.303."""
-        one = difference_of({1: 10.0, 2: 12.0, 3: 11.0, 9: 99.0}, {1: 8.0, 2: 8.0, 3: 8.0})
+        values = {1: 10.0, 2: 12.0, 3: 11.0, 9: 99.0}, {1: 8.0, 2: 8.0, 3: 8.0}
+        one = difference_of(*values, drawn=False)
         self.assertEqual((one.before, one.after, one.change), (11.0, 8.0, -3.0))
         self.assertAlmostEqual(one.half, 4.303 / 3**0.5)
-        self.assertTrue(one.is_sure())
-        self.assertEqual(difference_of({1: 1.0}, {1: 3.0}).told(), "+2.0")
-        self.assertIsNone(difference_of({1: 1.0}, {2: 1.0}))
+        self.assertTrue(one.stands_out())
+        # Of a day: t s sqrt(1 + 1/n), within which is 0.
+        day = difference_of(*values, drawn=True)
+        self.assertEqual((day.change, day.of_days, day.stands_out()), (-3.0, True, False))
+        self.assertAlmostEqual(day.half, 4.303 * (4 / 3) ** 0.5)
+        self.assertEqual(difference_of({1: 1.0}, {1: 3.0}, drawn=False).told(), "+2.0")
+        self.assertIsNone(difference_of({1: 1.0}, {2: 1.0}, drawn=True))
 
     def test_who_arrives_with_one_plan_alone_is_told(self):
         # Where no trip arrived with both plans, too.
@@ -97,6 +105,13 @@ class Given(Case):
         for name, delays in (("before", (90.0, 94.0)), ("after", (30.0, 32.0))):
             for seed, delay in enumerate(delays, 1):
                 self.write_folder(f"{name}/seed-{seed}", seed, delay)
+
+    def draw_departures(self, *names):
+        """Lets the runs of some plans be such whose departures were drawn."""
+        for setting in (path for name in names for path in (self.folder / name).glob("seed-*/setting.json")):
+            value = json.loads(setting.read_text())
+            value["made"]["words"] = [WORD]
+            setting.write_text(json.dumps(value))
 
     def write_folder(self, name, seed, delay, doubts=()):
         folder = self.folder / name
@@ -151,9 +166,13 @@ class Pages(Given):
             "With 'after' a trip takes 101.5 s on average, and 101.5 s with 'before': not shown to differ",
             # Changes of -60 and -62, quantile 12.706.
             "A vehicle's mean delay at a junction is 31.0 s, and 92.0 s before: 61.0 s less "
-            "(95 % interval: 48.3 to 73.7 s less); at one of one junction it is less for sure, at no more.",
+            "(95 % interval of dawdling alone: 48.3 to 73.7 s less); at one of one junction it is less beyond the "
+            "chance of dawdling, at no more.",
+            "two runs of each plan, simulated by streetsim; departures as listed: the seeds differ by dawdling alone, "
+            "so nothing is sure of another day.",
+            "2 vehicles, departures as listed",
             "Longest delay: from the west to the east (a to b) at Junction B, 31 s, level of service C",
-            "No movement loses for sure.",
+            "No movement loses beyond the chance of dawdling.",
             "Junction B 40 92.0 31.0 -61.0 ± 12.7 F to C",
             "from the west to the east B: a to b 92.0 31.0",
             "Junction B: 31.0 s C , 40 vehicles an hour, signals",
@@ -166,6 +185,57 @@ class Pages(Given):
             self.assertIn(told, text)
         places = [text.index(told) for told in ("no route", "2 <turns>", "3 x stops", "1 light")]
         self.assertEqual(places, sorted(places))
+
+    def test_runs_as_listed_call_nothing_sure(self):
+        text = self.page(*self.plans()).read_text()
+        self.assertNotIn("for sure", text)
+        self.assertIn("<li>Departures as listed: the seeds differ by dawdling alone, so nothing is sure", text)
+        self.assertIn("± is the 95 % interval of dawdling alone", text)
+        alone = self.page(self.plans()[0]).read_text()
+        self.assertIn("delay at a junction is 92.0 ± 25.4 s (±: 95 % interval of dawdling alone)", alone)
+
+    def test_drawn_runs_have_the_interval_of_a_day(self):
+        """Changes of -60 and -62 s: t s sqrt(1 + 1/2) is 12.706 times 1.414 times 1.225, 22.0 s."""
+        self.draw_departures("before", "after")
+        text = re.sub(r"\s+", " ", re.sub("<[^>]*>", " ", self.page(*self.plans()).read_text()))
+        for told in (
+            "departures drawn by each of 2 seeds: intervals are of a day",
+            "61.0 s less (95 % interval of a day: 39.0 to 83.0 s less); at one of one junction it is less for sure, at",
+            "No movement loses for sure.",
+            "± is the 95 % interval of a day, and changes beyond it are bold",
+            "Junction B 40 92.0 31.0 -61.0 ± 22.0 F to C",
+            "2 vehicles, departures drawn by each seed",
+        ):
+            self.assertIn(told, text)
+        self.assertNotIn("as listed", text)
+        alone = self.page(self.plans()[0]).read_text()
+        self.assertIn("delay at a junction is 92.0 ± 44.0 s (±: 95 % interval of a day)", alone)
+
+    def test_runs_of_other_vehicles_are_not_compared(self):
+        self.draw_departures("after")
+        told = self.tool("report", *self.plans(), "-o", self.folder / "x.html", status=2)[1]
+        self.assertIn("departures of 'before' are as listed, those of 'after' drawn: other vehicles drive there", told)
+
+    def test_a_forecast_has_the_models_own_error(self):
+        page = self.page(*self.plans()).read_text()
+        self.assertIn("Beside chance the model has an error of its own:", page)
+        self.assertIn(errors_table(), page)
+        self.assertIn(PAGE, page)
+        self.assertNotIn(errors_table(), self.page(self.plans()[0]).read_text())
+
+    def test_growth_near_capacity_is_doubted(self):
+        """Three vehicles in place of two, and a lane of which 0.95 of what passes come."""
+        lane = FullLane("B", "a_0", STRAIGHT, "a", "b", 0.95, 3)
+        for path in (self.folder / "after").glob("seed-*/setting.json"):
+            value = json.loads(path.read_text())
+            value["made"]["vehicles"] = 3
+            value["map"]["full"] = asdict(Fullness((lane,), 3, 3))
+            path.write_text(json.dumps(value))
+        told = "<li>after: growth above 0.9 of what passes, where forecasts came out too small: straight on from a to b"
+        self.assertIn(told, self.page(*self.plans()).read_text())
+        after, before = self.plans()[::-1]
+        self.assertNotIn("growth above", self.page(after, before).read_text())
+        self.assertNotIn("growth above", self.page(after).read_text())
 
     def test_buses_and_cars_apart(self):
         kinds = {"types": [["DEFAULT_VEHTYPE", "passenger"], ["bus", "bus"]], "type": [0, 1]}

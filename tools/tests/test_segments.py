@@ -8,6 +8,7 @@ from itertools import pairwise
 
 import numpy
 
+from adding import wrong_sums
 from seen import kernel_of, show
 from support import DATA, MAP, PROGRAM, Case, needs_simulator
 from streetsim.base.files import Fault
@@ -118,6 +119,10 @@ class OfARun(Case):
             self.assertEqual(arrival > 0, len(passed) + skipped == len(plan))
         self.assertGreater(rescues, 5)
         self.assertLessEqual(rescues, steering.rescue.count.total())
+        # What the other tests ask of each of their runs.
+        self.assertEqual(wrong_sums(segments, trips, 1200), [])
+        trips.arrival[[3, 8]] += 1
+        self.assertEqual(wrong_sums(segments, trips, 1200), [3, 8])
 
     def test_tables(self):
         words = ["--map", self.mapped, "--program", PROGRAM, "--until", 900, "--rescue", 60]

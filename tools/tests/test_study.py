@@ -10,6 +10,7 @@ import time
 import unittest
 import unittest.mock
 from concurrent.futures import BrokenExecutor, Future
+from dataclasses import replace
 from importlib.util import find_spec
 from statistics import fmean, stdev
 
@@ -17,9 +18,22 @@ from clusters import DEBIAN, ClusterCase, free_port, needs_distributed
 from support import MAP, NUMBERED, PROGRAM, RED, TOOLS, Case, needs_simulator
 from streetsim.base.files import Fault
 from streetsim.search.run_machines import result_of
+from streetsim.search.study_differences import VariantDifference
+from streetsim.search.study_telling import intervals_of
 from streetsim.search.study_variants import read_study
 
 CORRIDOR = TOOLS / "examples/corridor"
+
+
+class Intervals(unittest.TestCase):
+    def test_what_the_picture_shows(self):
+        """Of drawn departures the interval of a day alone; of listed ones those of dawdling, as they are called."""
+        row = VariantDifference("wave", 90.0, -10.0, 0.5, 1.5, 5, 5, 9)
+        self.assertEqual([(width, label) for width, _, label in intervals_of(row)], [
+            (1.5, "dawdling alone, unpaired"), (0.5, "dawdling alone, paired"),
+        ])
+        drawn = replace(row, day=4.0, mean_of_day=6.0)
+        self.assertEqual([(width, label) for width, _, label in intervals_of(drawn)], [(4.0, "a day")])
 
 
 @needs_simulator
@@ -82,6 +96,7 @@ class Tables(Studies):
             r"given: mean trip [\d.]+ s\nwave: mean trip [\d.]+ s, [-+][\d.]+ s ± [\d.]+ \(95 % interval of "
             r"dawdling alone, 4 paired runs\); the wanted",
         )
+        self.assertIn("so nothing is sure of another day\nbeside chance, forecasts were off by", told)
         if find_spec("matplotlib"):
             self.assertTrue((self.folder / "out/differences.png").exists())
 

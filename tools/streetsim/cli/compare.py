@@ -7,8 +7,7 @@ from streetsim.base.folders import COMPARED
 from streetsim.base.progress import Slow
 from streetsim.base.words import Parser, paths_in
 from streetsim.cli.words import add_attribute, add_files, add_out
-from streetsim.demand.calibration_field import read_times
-from streetsim.demand.compared_times import are_close, compared_times, lines_of_times
+from streetsim.demand.compared_times import are_close, compared_times, lines_of_times, read_compared
 from streetsim.demand.judging import judged
 from streetsim.demand.pictures import draw_fit
 from streetsim.demand.reading import read_counts
@@ -35,7 +34,8 @@ def parser() -> argparse.ArgumentParser:
     made.add_argument("folder", help="what streetsim-run wrote")
     add_files(made, "--sumo", "tripinfo.xml, and edgedata.xml made with freq=900 (or the run's period)")
     add_files(made, "--counts", "counts of edges and turns, as of streetsim-demand; a column group names screen lines")
-    add_files(made, "--times", "travel times of segments and routes, as of streetsim-calibrate")
+    times = "travel times of segments and routes, as of streetsim-calibrate; SUMO's tripinfo or edgeData"
+    add_files(made, "--times", times)
     add_attribute(made)
     add_out(made, "the folder for tables and pictures of --counts", is_required=False)
     return made
@@ -85,11 +85,11 @@ def with_sumo(path: str, files: list[str]) -> int:
 
 
 def with_times(path: str, files: list[str]) -> int:
-    """Prints how the segments and routes of a folder meet travel times that were measured; status 1 where fewer than
-    85 % of them are within 15 % (routes also within a minute), else 0."""
+    """Prints how the segments, routes, trips and edges of a folder meet travel times that were measured; status 1 where
+    fewer than 85 % of a kind are within 15 % (routes and trips also within a minute), else 0."""
     with Slow(f"reading {path}"):
         folder, notes = read_folder(path), list[str]()
-        found = compared_times(folder, read_times(files, notes))
+        found = compared_times(folder, read_compared(files, notes))
     print(*notes, sep="\n", end="\n" if notes else "", file=sys.stderr)
     print(*lines_of_times(found), sep="\n")
     if folder.doubts:

@@ -138,11 +138,16 @@ def refuse_clashing_words(words: argparse.Namespace) -> None:
 
 def read_plans(words: argparse.Namespace) -> list[Runs]:
     """The runs of each plan, one or two, with their names and those of --names put into their maps. Two of one name are
-    called by their paths, and all as --plans says where it is given. Fault where one cannot be read."""
+    called by their paths, and all as --plans says where it is given. Fault where one cannot be read, or where one has
+    drawn departures and the other one listed ones."""
     plans = [read_runs(path) for path in words.runs]
     alike = len({runs.name for runs in plans}) < len(plans)
     for runs, name in zip(plans, words.plans or (map(os.path.normpath, words.runs) if alike else ())):
         runs.name = name
+    if len({runs.is_drawn for runs in plans}) > 1:
+        listed, drawn = sorted((runs.is_drawn, runs.name) for runs in plans)
+        told = f"departures of {listed[1]!r} are as listed, those of {drawn[1]!r} drawn"
+        raise Fault(f"{told}: other vehicles drive there")
     for runs in plans if words.names else ():
         read_own(words.names, runs.first.mapping)
     return plans

@@ -84,8 +84,9 @@ def add_search(made: argparse.ArgumentParser) -> None:
     )
     made.add_argument("--cycle", metavar="S-S", help=f"cycles to try (default {CYCLES})")
     made.add_argument(
-        "--least", type=integer_within(1, limits.PHASE_STEPS), default=LEAST, metavar="S",
-        help="the least green (default %(default)s); a phase's minDur and maxDur bound it too",
+        "--least", type=integer_within(1, limits.PHASE_STEPS), metavar="S",
+        help=f"the least green (default {LEAST}); a phase's minDur and maxDur bound it too, but with --bounds: there "
+        "minDur is brought down to it, and without this word never below what is given",
     )
     made.add_argument(
         "--constraints", metavar="FILE",
@@ -224,7 +225,7 @@ def reading_of(words: argparse.Namespace) -> Reading:
         plans=plans,
         until=words.until,
         program=program.find_program(words.program),
-        least=words.least,
+        least=words.least or LEAST,
         keep=names_in(words.keep),
         rounds=words.rounds,
         reserve=words.reserve if {"splits", "cycle"} & {*changed} or words.bounds else 0,
@@ -245,7 +246,7 @@ def check_cycles(words: argparse.Namespace, town: SignalTown) -> None:
     _, cycles = changes_and_cycles(words)
     able = (town.lights[name].scaled(timing, cycle) for name, timing in town.base.items() for cycle in cycles)
     if cycles and not any(able):
-        told = f"no light can keep such a cycle (--least {words.least}, and the bounds of its phases)"
+        told = f"no light can keep such a cycle (--least {words.least or LEAST}, and the bounds of its phases)"
         raise Fault(f"--cycle {words.cycle or CYCLES}: {told}")
     for name, light in town.lights.items():
         needed = sum(least for least, _ in light.bounds)

@@ -21,7 +21,7 @@ from streetsim.search.run_machines import machines
 from streetsim.search.run_prepared import Outcome
 from streetsim.search.study_differences import DIFFERENCES, RUNS, cell_values, differences, run_rows
 from streetsim.search.study_telling import (
-    doubts, draw_differences, tell_departures, tell_differences, tell_ends, tell_giving_way,
+    doubts, draw_differences, tell_how_sure, tell_differences, tell_ends, tell_giving_way,
 )
 from streetsim.search.study_variants import Study, read_study
 
@@ -89,7 +89,7 @@ def main(arguments: list[str]) -> int:
     tell_differences(rows)
     tell_ends(study, results)
     tell_giving_way(results)
-    tell_departures(study)
+    tell_how_sure(study)
     if named:
         print(trust.verdict(named))
     return 0

@@ -9,7 +9,7 @@ from statistics import fmean
 from streetsim.demand.calibration_field import TRIP, FieldDay, pooled
 from streetsim.demand.calibration_fit import LEAST_SEEN
 from streetsim.demand.calibration_model import FittedDrivers, MeasuredRun, pooled_runs
-from streetsim.demand.calibration_survey import flow_here
+from streetsim.model.saturation import flow_here
 from streetsim.demand.reading import read_counts
 from streetsim.report.beside_sumo import geh
 

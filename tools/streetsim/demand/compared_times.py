@@ -1,19 +1,22 @@
-"""Travel times of a run's folder beside those that were measured: segments and routes."""
+"""Travel times of a run's folder beside those that were measured: segments, routes, trips, and edges of SUMO."""
 from __future__ import annotations
 
 from collections import defaultdict
-from collections.abc import Iterable, Iterator
+from collections.abc import Collection, Iterable, Iterator
 from dataclasses import dataclass
 from pathlib import Path
 from statistics import fmean
 
-from streetsim.base.files import Fault
-from streetsim.demand.calibration_field import TravelTime, pooled
+from streetsim.base.files import Fault, attribute, elements, number, optional, read_json, seconds
+from streetsim.demand.calibration_field import TRIP, TravelTime, pooled, read_times
 from streetsim.demand.calibration_page import way_told
-from streetsim.model.folder import Folder
+from streetsim.demand.cells import begins_with
+from streetsim.model.folder import KEPT, NAME, Folder
+from streetsim.model.runs import read_run
 from streetsim.model.tables import ROUTES, ROUTES_FILE, SEGMENTS, read_table
 
 MARK, MINUTE, SHARE = 0.15, 60.0, 0.85
+SEGMENT, ROUTE, OF_TRIP, EDGE = "segments", "routes", "trips", "edges, without waits to depart and junctions"
 MOST_TOLD = 5  # ways that are named
 
 
@@ -27,14 +30,41 @@ class ComparedTime:
     vehicles: int
 
     @property
+    def kind(self) -> str:
+        """What the way is."""
+        if self.key[0] == TRIP:
+            return OF_TRIP
+        return {1: EDGE, 2: SEGMENT}.get(len(self.key), ROUTE)
+
+    @property
     def off(self) -> float:
         """By which share the run is off."""
         return self.here / self.there - 1
 
 
+def read_compared(paths: Iterable[str], notes: list[str]) -> list[TravelTime]:
+    """The travel times of files, as read_times reads them, and those of edges in SUMO's edgeData, a way of one edge."""
+    found: list[TravelTime] = []
+    for path in paths:
+        found += (begins_with(path, "<") and list(edge_times(path))) or read_times([path], notes)
+    return found
+
+
+def edge_times(path: str) -> Iterator[TravelTime]:
+    """The travel times of SUMO's edgeData, of edges that somebody left or arrived on; none of another file of XML."""
+    for interval in elements(path):
+        if interval.tag == "interval":
+            begin, end = (round(attribute(path, interval, name, seconds)) for name in ("begin", "end"))
+            for edge in interval.iter("edge"):
+                vehicles = optional(path, edge, "left", int, 0) + optional(path, edge, "arrived", int, 0)
+                mean = optional(path, edge, "traveltime", number, 0.0)
+                if vehicles and mean > 0:
+                    yield TravelTime((attribute(path, edge, "id"),), begin, end, mean, 0.0, vehicles)
+
+
 def compared_times(folder: Folder, times: Iterable[TravelTime]) -> list[ComparedTime]:
-    """The ways that both have, over the periods of the field, by their vehicles; the run's from segments.csv and
-    routes.csv. Fault where a table is missing, or nothing is in common."""
+    """The ways that both have, over the periods of the field, by their vehicles; the run's from segments.csv,
+    routes.csv, trips.csv and edges.csv. Fault where a table is missing, or nothing is in common."""
     times = list(times)
     here, there = dict(times_of_folder(folder, times)), sorted(pooled(times).items())
     found = [ComparedTime(key, here[key], mean, count) for key, (mean, _, count) in there if key in here]
@@ -63,15 +93,38 @@ def rows_of_folder(folder: Folder, wanted: set[tuple[str, ...]]) -> Iterator[tup
         for row in read_table(f"{folder.path}/{ROUTES_FILE}", ROUTES):
             if (way := tuple(row["route"].split())) in wanted:
                 yield way, int(row["begin"]), float(row["mean_s"]), int(row["vehicles"])
+    if any(len(way) == 1 for way in wanted):
+        for row in folder.edges():
+            if (row["edge"],) in wanted and row["travel_time_s"] and int(row["left"]):
+                yield (row["edge"],), int(row["begin"]), float(row["travel_time_s"]), int(row["left"])
+    if any(way[0] == TRIP for way in wanted):
+        yield from trips_of_folder(folder, wanted)
+
+
+def trips_of_folder(
+    folder: Folder, wanted: Collection[tuple[str, ...]]
+) -> Iterator[tuple[tuple[str, ...], int, float, int]]:
+    """(way, clock of its arrival, seconds, 1) of each trip that is wanted, from its first edge to its last. Fault where
+    the folder does not keep the lines of its run."""
+    above = Path(folder.path).resolve().parent
+    kept = next((path for path in (Path(folder.path) / KEPT, above / KEPT) if path.exists()), None)
+    if kept is None:
+        raise Fault(f"{folder.path}: keeps no {KEPT}, which tells from where to where trips go")
+    listed = read_json(f"{folder.path}/{NAME}", ()).get("listed", {})  # of drawn departures the vehicles of the file
+    names, ends = listed.get("cars") or folder.mapping.cars, dict[str, tuple[str, ...]]()
+    for name, line in zip(names, read_run(str(kept)).enters):
+        plan = [folder.mapping.links[link].edge for link in line.command["plan"]]
+        ends[name] = TRIP, plan[0], plan[-1]
+    for row in folder.trips():
+        way = ends.get(row["id"]) or ends.get(row["id"].rpartition("#")[0])
+        if way and way in wanted and row["duration"]:
+            yield way, int(row["arrival"]), float(row["duration"]), 1
 
 
 def lines_of_times(found: list[ComparedTime]) -> Iterator[str]:
-    """How close the times are: segments, routes, and those that are off most."""
-    for name, own, minute in (
-        ("segments", [one for one in found if len(one.key) == 2], 0.0),
-        ("routes", [one for one in found if len(one.key) > 2], MINUTE),
-    ):
-        if own:
+    """How close the times are, by kind of way, and those that are off most."""
+    for name, minute in ((SEGMENT, 0.0), (ROUTE, MINUTE), (OF_TRIP, MINUTE), (EDGE, 0.0)):
+        if own := [one for one in found if one.kind == name]:
             good = fmean(abs(one.here - one.there) <= max(MARK * one.there, minute) for one in own)
             mark = "within 15 %" + (" or a minute" if minute else "")
             held = "held" if good >= SHARE else "not held"
@@ -83,5 +136,5 @@ def lines_of_times(found: list[ComparedTime]) -> Iterator[str]:
 
 
 def are_close(found: list[ComparedTime]) -> bool:
-    """Whether 85 % of the segments, and of the routes, are within their marks."""
+    """Whether 85 % of the ways of each kind are within its mark."""
     return all("not held" not in line for line in lines_of_times(found))

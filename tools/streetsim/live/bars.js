@@ -8,22 +8,25 @@ const SHORT_PAUSE = 12; // seconds in a green, of a street whose other movements
 
 const round = (value, cycle) => ((value % cycle) + cycle) % cycle;
 
+// The parts of a cycle, {begin, length}, one after another; isBegin(second): whether one begins there, as at second 0.
+function partsOf(cycle, isBegin) {
+  const begins = Array.from({ length: cycle }, (_, second) => second).filter(second => second === 0 || isBegin(second));
+  return begins.map((begin, i) => ({ begin, length: (begins[i + 1] ?? cycle) - begin }));
+}
+
 // The stretches of a cycle in which a test holds, {begin, length}; the last may go on at the begin.
 function runsOf(cycle, holds) {
-  const begins = Array.from({ length: cycle }, (_, second) => second).filter(second => holds(second) && !holds(round(second - 1, cycle)));
-  if (!begins.length) return cycle && holds(0) ? [{ begin: 0, length: cycle }] : [];
-  return begins.map(begin => {
-    let length = 1;
-    while (holds(round(begin + length, cycle))) length++;
-    return { begin, length };
-  });
+  const runs = partsOf(cycle, second => holds(second) !== holds(second - 1)).filter(({ begin }) => holds(begin));
+  const goesOn = runs.length > 1 && runs[0].begin === 0 && holds(cycle - 1);
+  if (goesOn) runs.at(-1).length += runs.shift().length;
+  return runs;
 }
 
 class Bars {
   // known: plans of the run for this node; who goes together there does not cross.
   constructor(plan, movements, known) {
     this.node = plan.node; this.offset = plan.offset;
-    this.cycle = plan.phases.reduce((sum, [seconds]) => sum + seconds, 0);
+    this.cycle = cycleOf(plan);
     this.rows = movements.flatMap(movement => rowsOf(movement, plan));
     const together = known.map(one => greensOf(one));
     this.crossing = this.rows.map(row => this.rows.map(other => areCrossing(row, other) && !together.some(greens => goTogether(greens, row, other))));
@@ -50,14 +53,9 @@ class Bars {
 
   // How many of the last seconds of a gap are the begin of a green of the same street that goes on behind the gap.
   lead(gap, isFree, beside) {
-    const next = round(gap.at(-1) + 1, this.cycle);
-    let most = 0;
-    for (const other of beside.filter(one => one.states[next] === GREEN_SECOND)) {
-      let at = gap.length;
-      while (at > 0 && isFree(gap[at - 1]) && other.states[gap[at - 1]] !== RED_SECOND) at--;
-      most = Math.max(most, gap.length - at);
-    }
-    return most;
+    const next = round(gap.at(-1) + 1, this.cycle), others = beside.filter(one => one.states[next] === GREEN_SECOND);
+    const lastRed = ({ states }) => gap.findLastIndex(second => !isFree(second) || states[second] === RED_SECOND);
+    return Math.max(0, ...others.map(other => gap.length - 1 - lastRed(other)));
   }
 
   greens(row) { return runsOf(this.cycle, second => row.states[second] !== RED_SECOND); }
@@ -65,7 +63,6 @@ class Bars {
 
   // The seconds of a row in which one who crosses it is green too.
   faults(i) { return runsOf(this.cycle, second => this.rows[i].states[second] === GREEN_SECOND && this.isCrossed(i, second)); }
-  hasFaults() { return this.rows.some((_, i) => this.faults(i).length); }
 
   fill(row, begin, length, state) { for (let at = 0; at < length; at++) row.states[round(begin + at, this.cycle)] = state; }
 
@@ -95,31 +92,28 @@ class Bars {
   roomBefore(row, second) { let room = 0; while (room < this.cycle && row.states[round(second - 1 - room, this.cycle)] === RED_SECOND) room++; return room; }
   roomBehind(row, second) { let room = 0; while (room < this.cycle && row.states[round(second + room, this.cycle)] === RED_SECOND) room++; return room; }
 
-  remove(row, { begin, length }) { this.fill(row, begin, length, RED_SECOND); }
-
   // A green of the whole stage of a second, where the row is red.
   add(row, second) {
     const stage = this.stages()[this.stageAt(second)];
-    for (let at = stage.begin; at < stage.begin + stage.seconds; at++) if (row.states[at] === RED_SECOND) row.states[at] = GREEN_SECOND;
+    for (let at = stage.begin; at < stage.begin + stage.length; at++) row.states[at] ||= GREEN_SECOND;
     return this.greens(row).find(({ begin, length }) => round(second - begin, this.cycle) < length);
   }
 
   // ---- stages: the phases as the light shows them
 
-  // {begin, seconds}, one after another from second 0 on.
+  // {begin, length}, one after another from second 0 on.
   stages() { return this.parts(state => state !== RED_SECOND, this.cuts); }
 
   parts(seen, cuts) {
-    const isBegin = second => second === 0 || cuts.has(second) || this.rows.some(({ states }) => seen(states[second]) !== seen(states[second - 1]));
-    const begins = Array.from({ length: this.cycle }, (_, second) => second).filter(isBegin);
-    return begins.map((begin, i) => ({ begin, seconds: (begins[i + 1] ?? this.cycle) - begin }));
+    const isOther = (second, before) => this.rows.some(({ states }) => seen(states[second]) !== seen(states[before]));
+    return partsOf(this.cycle, second => cuts.has(second) || isOther(second, second - 1));
   }
 
   stageAt(second) { return this.stages().findLastIndex(({ begin }) => begin <= second); }
 
   // A stage takes so many seconds: its last ones are doubled or left out, lost ones last of all.
   setSeconds(which, seconds) {
-    const { begin, seconds: before } = this.stages()[which];
+    const { begin, length: before } = this.stages()[which];
     for (let left = before; left < seconds; left++) this.insert(this.plainIn(begin, left), 1, state => state === RED_SECOND ? RED_SECOND : GREEN_SECOND);
     for (let left = before; left > Math.max(1, seconds); left--) this.cutOut(this.plainIn(begin, left), 1);
   }
@@ -145,13 +139,13 @@ class Bars {
 
   // Two stages of one, which is two seconds long at least.
   split(which) {
-    const { begin, seconds } = this.stages()[which];
-    if (seconds > 1) this.cuts.add(begin + Math.ceil(seconds / 2));
+    const { begin, length } = this.stages()[which];
+    if (length > 1) this.cuts.add(begin + Math.ceil(length / 2));
   }
 
   // A stage more behind one, all red.
   addStage(which) {
-    const { begin, seconds } = this.stages()[which], end = begin + seconds;
+    const { begin, length } = this.stages()[which], end = begin + length;
     this.insert(end - 1, NEW_PHASE, () => RED_SECOND);
     this.cuts.add(end); this.cuts.add(end + NEW_PHASE);
     this.cuts.delete(this.cycle);
@@ -159,7 +153,7 @@ class Bars {
 
   removeStage(which) {
     const stages = this.stages();
-    if (stages.length > 1) this.cutOut(stages[which].begin, stages[which].seconds);
+    if (stages.length > 1) this.cutOut(stages[which].begin, stages[which].length);
   }
 
   // ---- as the engine and as SUMO take it
@@ -167,7 +161,8 @@ class Bars {
   // The phases that the engine is told: lost seconds are red. Splits that change nothing are told where there is room for them.
   phases() {
     const seen = state => state === GREEN_SECOND, all = this.parts(seen, this.cuts), parts = all.length > MOST_PHASES ? this.parts(seen, new Set()) : all;
-    return parts.map(({ begin, seconds }) => [seconds, this.rows.filter(row => seen(row.states[begin])).flatMap(row => row.turns.map(turn => turn.key)).sort(compareTurns)]);
+    const shown = second => this.rows.filter(row => seen(row.states[second])).flatMap(row => row.turns);
+    return parts.map(({ begin, length }) => [length, shown(begin).map(turn => turn.key).sort(compareTurns)]);
   }
 
   command() { return { cmd: "signal", node: this.node, offset: round(this.offset, this.cycle), phases: this.phases() }; }
@@ -181,12 +176,11 @@ class Bars {
   // The light's program as an additional file for SUMO; lost seconds are green there. A green is a small g while it lets others go first,
   // and yellow follows where there is time for it.
   additional(light, size) {
-    const states = Array.from({ length: this.cycle }, (_, second) => this.stateOf(second, size)), phases = runsOfStates(states);
-    const lines = phases.map(([seconds, state]) => `    <phase duration="${seconds}" state="${state}"/>`);
-    return [
-      "<additional>", `  <tlLogic id="${escaped(light)}" type="static" programID="live" offset="${round(-this.offset, this.cycle)}">`, ...lines, "  </tlLogic>",
-      "</additional>", "",
-    ].join("\n");
+    const states = Array.from({ length: this.cycle }, (_, second) => this.stateOf(second, size));
+    const phases = partsOf(this.cycle, second => states[second] !== states[second - 1]);
+    const lines = phases.map(({ begin, length }) => `    <phase duration="${length}" state="${states[begin]}"/>`);
+    const words = `id="${escaped(light)}" type="static" programID="live" offset="${round(-this.offset, this.cycle)}"`;
+    return ["<additional>", `  <tlLogic ${words}>`, ...lines, "  </tlLogic>", "</additional>", ""].join("\n");
   }
 
   stateOf(second, size) {
@@ -205,35 +199,25 @@ class Bars {
   isYellow(row, i, second) { return !this.isCrossed(i, second) && Array.from({ length: YELLOW }, (_, at) => round(second - 1 - at, this.cycle)).some(before => row.states[before] !== RED_SECOND); }
 }
 
-function runsOfStates(states) {
-  const found = [];
-  for (const state of states) if (found.at(-1)?.[1] === state) found.at(-1)[0]++; else found.push([1, state]);
-  return found;
-}
-
 const escaped = text => text.replace(/[&<>"]/g, one => ({ "&": "&amp;", "<": "&lt;", ">": "&gt;", '"': "&quot;" })[one]);
 const compareTurns = (one, other) => one[0] - other[0] || one[1] - other[1] || one[2] - other[2];
-const turnText = key => key.slice(0, 3).join();
 
 // A movement's rows: one for all turns that are green in the same seconds.
 function rowsOf(movement, plan) {
-  const rows = new Map();
-  for (const turn of movement.turns) {
-    const text = turnText(turn.key), greens = plan.phases.map(([, greens]) => greens.some(green => turnText(green) === text));
-    const row = rows.get(greens.join()) ?? { ...movement, turns: [], states: plan.phases.flatMap(([seconds], i) => Array(seconds).fill(greens[i] ? GREEN_SECOND : RED_SECOND)) };
-    rows.set(greens.join(), row);
-    row.turns.push(turn);
-  }
-  return [...rows.values()];
+  const isIn = (greens, { key }) => greens.some(green => String(green) === String(key));
+  const states = turn => plan.phases.flatMap(([seconds, greens]) => Array(seconds).fill(Number(isIn(greens, turn))));
+  const rows = groupsOf(movement.turns, turn => states(turn).join());
+  return Array.from(rows.values(), turns => ({ ...movement, turns, states: states(turns[0]) }));
 }
 
 // The seconds at which a plan begins a phase that shows what the one before shows.
 function cutsOf({ phases }) {
-  const cuts = new Set(), texts = phases.map(([, greens]) => greens.map(turnText).sort().join(" "));
+  const cuts = new Set(), texts = phases.map(([, greens]) => greens.map(String).sort().join(" "));
   let second = 0;
   phases.forEach(([seconds], i) => { if (i && texts[i] === texts[i - 1]) cuts.add(second); second += seconds; });
   return cuts;
 }
 
-const greensOf = ({ phases }) => phases.map(([, greens]) => new Set(greens.map(turnText)));
-const goTogether = (greens, row, other) => greens.some(green => row.turns.some(turn => green.has(turnText(turn.key))) && other.turns.some(turn => green.has(turnText(turn.key))));
+const greensOf = ({ phases }) => phases.map(([, greens]) => new Set(greens.map(String)));
+const isGreenIn = (green, row) => row.turns.some(turn => green.has(String(turn.key)));
+const goTogether = (greens, row, other) => greens.some(green => isGreenIn(green, row) && isGreenIn(green, other));

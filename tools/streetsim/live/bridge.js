@@ -20,26 +20,22 @@ class Session {
 
   get clock() { return this.now.clock; }
   get plans() { return this.now.plans; }
-  get both() { return this.was ? [this.now, this.was] : [this.now]; }
 
   // Takes a message: the length of JSON, JSON, and the vehicles of both traffics. Gives the JSON.
   take(bytes) {
     const size = new DataView(bytes).getUint32(0, true), told = JSON.parse(new TextDecoder().decode(new Uint8Array(bytes, 4, size)));
     let from = 4 + size;
     this.was = told.worlds.length < 2 ? null : this.was ?? new World(this.data);
-    told.worlds.forEach((one, i) => { this.both[i].take(one, new Int32Array(bytes, from, one.bytes / 4)); from += one.bytes; });
+    for (const [i, one] of told.worlds.entries()) {
+      [this.now, this.was][i].take(one, new Int32Array(bytes, from, one.bytes / 4));
+      from += one.bytes;
+    }
     Object.assign(this, { changes: told.changes, isChanged: told.changed, wanted: told.wanted, log: told.log, gain: told.gain, gainText: told.said });
     return told;
   }
 
+  // Has the bridge do something by its verb, and takes what it tells.
   async act(verb, given) { return this.take(await (await answered(verb, given && JSON.stringify(given))).arrayBuffer()); }
-  begin() { return this.act("begin"); }
-  step(steps) { return this.act("step", { steps }); }
-  change(text, commands) { return this.act("change", { text, commands }); }
-  works(asked) { return this.act("works", { asked }); }
-  goBack(clock) { return this.act("go_back", { clock }); }
-  undo(number) { return this.act("undo", { number }); }
-  compare(wanted, shows_was) { return this.act("compare", { wanted, shows_was }); }
   async watch(node) { if (node !== this.watched) { this.watched = node; await this.act("watch", { node }); } }
 
   // Asks what changes nothing.

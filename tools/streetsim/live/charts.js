@@ -4,9 +4,9 @@
 function drawComparison(canvas, { now, was, watched }) {
   const bands = [
     { words: "mean delay so far, s", of: ([, mean]) => mean, digits: 1 }, { words: "arrived", of: ([, , ended]) => ended, digits: 0 },
-    ...(watched === null ? [] : [{ words: `standing before ${shortened(junctionText(watched), 24)}`, of: ([, , , queue]) => queue, digits: 0 }]),
+    ...(watched === null ? [] : [{ words: `standing before ${shortened(junctions.get(watched).name, 24)}`, of: ([, , , queue]) => queue, digits: 0 }]),
   ];
-  fitCanvas(canvas, canvas.parentElement.clientWidth - 4, bands.length * BAND + 14);
+  Object.assign(canvas, { width: canvas.parentElement.clientWidth - 4, height: bands.length * BAND + 14 });
   const pen = canvas.getContext("2d"), own = colours(), wide = canvas.width;
   pen.fillStyle = own.ground; pen.fillRect(0, 0, wide, canvas.height);
   if (now.points.length < 2) return;
@@ -17,8 +17,6 @@ function drawComparison(canvas, { now, was, watched }) {
   pen.fillStyle = own.ink;
   pen.fillText(clockText(span[0]), CHART_LEFT, canvas.height - 3); pen.fillText(clockText(span[1]), wide - 52, canvas.height - 3);
 }
-
-const junctionText = number => junctions.get(number).name;
 
 // A small picture of the last periods' flows, which says them in words too.
 function flowBars(flows) {

@@ -7,37 +7,38 @@ const CHOSEN_METRES = 18; // to both sides of the place that was clicked
 let chosen = null, followed = null, editor = null;
 
 // What is at a place: a stop line with a light, a vehicle, a junction, or a stretch of a lane.
-function nearest([x, y], view) {
-  const { scene, world } = view, inView = scene.links.filter(link => scene.isInView(link));
-  const lights = inView.filter(link => session.plans.has(link.end)).map(link => [link, ...scene.place(link, (link.lanes - 1) / 2, 1)]);
-  const light = lights.map(([link, px, py]) => [Math.hypot(px - x, py - y), link]).sort((a, b) => a[0] - b[0])[0];
-  if (light && light[0] < STOP_LINE / scene.scale) return { node: light[1].end };
-  let best = CAR / scene.scale + 1, found = null;
-  for (const [car, [link, lane, rear, front]] of world.cars) { const [px, py] = scene.place(link, lane, (rear + front + 1) / 2 / link.cells), away = Math.hypot(px - x, py - y); if (away < best) [best, found] = [away, { car }]; }
-  return found ?? junctionAt([x, y], scene) ?? stretchAt([x, y], scene);
+function nearest(point, { scene, world, links: inView }) {
+  const lit = [...inView].filter(link => session.plans.has(link.end));
+  const stopLine = link => metresTo(point, placeOnLane(link, (link.lanes - 1) / 2, 1));
+  const light = nearestOf(lit, stopLine, STOP_LINE / scene.scale);
+  if (light) return { node: light.end };
+  const car = nearestOf(world.cars, ([, place]) => metresTo(point, placeOfCar(place)), CAR / scene.scale + 1);
+  return car ? { car: car[0] } : junctionAt(point, scene) ?? stretchAt(point, scene);
 }
 
+// The node that is nearest to a place, within some metres.
+const nodeAt = (point, most) => nearestOf(session.data.nodes, ({ x, y }) => metresTo(point, [x, y]), most);
+
 // The junction at a place into which more than one street leads.
-function junctionAt([x, y], { scale }) {
-  const near = session.data.nodes.map(node => [Math.hypot(node.x - x, node.y - y), node]).filter(([away]) => away < Math.max(JUNCTION_METRES, JUNCTION / scale)).sort((a, b) => a[0] - b[0]);
-  return near.length && approaches(near[0][1].number).length > 1 ? { node: near[0][1].number } : null;
+function junctionAt(point, { scale }) {
+  const node = nodeAt(point, Math.max(JUNCTION_METRES, JUNCTION / scale))?.number;
+  return node !== undefined && approaches(node).length > 1 ? { node } : null;
 }
 
 // The streets that lead to a junction, each with its links.
-function approaches(node) {
-  const found = new Map();
-  for (const link of links.values()) if (link.end === node) found.set(link.name, [...found.get(link.name) ?? [], link]);
-  return [...found.values()];
-}
+const approaches = node => [...groupsOf(session.data.links.filter(one => one.end === node), one => one.name).values()];
 
 // The lane that is nearest to a place, and how far along: {link, lane, metres}.
-function laneAt([x, y], scene) {
-  let best = LANE / scene.scale, found = null;
-  for (const link of scene.links.filter(link => scene.isInView(link))) for (let lane = 0; lane < link.lanes; lane++) for (let cell = 0; cell < link.cells; cell++) {
-    const [px, py] = scene.place(link, lane, (cell + .5) / link.cells), away = Math.hypot(px - x, py - y);
-    if (away < best) [best, found] = [away, { link, lane, metres: (cell + .5) * link.metres / link.cells }];
-  }
-  return found;
+function laneAt(point, scene) {
+  const reach = LANE / scene.scale, near = scene.links.filter(link => metresToLink(point, link) < reach + LANE_METRES);
+  const places = near.flatMap(link => [0, 1].slice(0, link.lanes).flatMap(lane => placesAlong(link, lane)));
+  return nearestOf(places, ({ place }) => metresTo(point, place), reach);
+}
+
+// Places along a lane from its begin to its end, at equal parts, of a metre: {link, lane, metres, place}.
+function placesAlong(link, lane, parts = Math.ceil(link.metres)) {
+  const placeAt = share => ({ link, lane, metres: share * link.metres, place: placeOnLane(link, lane, share) });
+  return Array.from({ length: parts + 1 }, (_, i) => placeAt(i / parts));
 }
 
 function stretchAt(point, scene) {
@@ -47,20 +48,33 @@ function stretchAt(point, scene) {
 
 function choose(what) {
   chosen = what; followed = null; editor = null;
-  if (!what) { at("title").textContent = "Choose a stop line, a junction, a street or a vehicle"; at("chosen").replaceChildren(); draw(1); return; }
-  if (what.node !== undefined) (session.plans.has(what.node) ? chooseLight : chooseJunction)(what.node); else if (what.car !== undefined) guarded(() => chooseCar(what.car)); else chooseStretch(what);
+  if (!what) showChosen("Choose a stop line, a junction, a street or a vehicle");
+  else if (what.node !== undefined) (session.plans.has(what.node) ? chooseLight : chooseJunction)(what.node);
+  else if (what.car !== undefined) guarded(() => chooseCar(what.car));
+  else chooseStretch(what);
   draw(1);
 }
 
-function say(text, isFault = false) { at("chosen").append(element("div", { className: isFault ? "fault" : "said" }, text)); }
+function showChosen(title, ...parts) {
+  at("title").textContent = title;
+  at("chosen").replaceChildren(...parts);
+  at("join").hidden = true;
+  say("");
+}
+
+// Tells below what is chosen what came of what was asked last.
+const say = (text, kind = "said") => Object.assign(at("said"), { textContent: text, className: kind });
 
 // Makes a change, and tells below what is chosen what came of it.
-async function change(text, commands, told) { return changed((await session.change(text, commands)).refused, told); }
+async function change(text, command, told) {
+  const { refused } = await session.act("change", { text, commands: [{ clock: session.clock, command }] });
+  return changed(refused, told);
+}
 
 // Shows what a change has made; gives whether it was done.
 function changed(refused, told) {
-  say(refused || told, Boolean(refused));
-  draw(1); showTables(); showLog(session);
+  say(refused || told, refused ? "fault" : "said");
+  draw(1); showTables();
   return !refused;
 }
 
@@ -71,22 +85,22 @@ function chooseLight(node) {
   const own = session.data, { light, name } = junctions.get(node), movements = movementsAt(node, own.turns, links, light?.name);
   const known = own.signals.filter(command => command.node === node);
   watch(node);
-  at("title").textContent = `Light at ${name}`;
   editor = new PlanEditor({
-    made: () => new Bars(session.plans.get(node), movements, known), light, clock: () => session.clock, wide: at("chosen").clientWidth || 300,
-    set: command => setPlan(name, command), save: (lightName, text) => saveAs(`${lightName}.add.xml`, text, "application/xml"),
+    made: () => new Bars(session.plans.get(node), movements, known), set: command => setPlan(name, command), light,
+    clock: () => session.clock, wide: at("chosen").clientWidth || 300,
   });
-  const isDriven = session.now.shown.has(node);
-  const told = isDriven ? "Detectors drive this light: its bars have the listed seconds. A plan that is set takes their place." : "";
-  at("chosen").replaceChildren(editor.element, element("div", { id: "planTold", role: "status" }, told));
+  showChosen(`Light at ${name}`, editor.svg, editor.tools);
+  const driven = "Detectors drive this light: its bars have the listed seconds. A plan that is set takes their place.";
+  if (session.now.shown.has(node)) say(driven);
 }
 
 // A junction without a light: the chart has its queue, and how vehicles give way there is told.
 function chooseJunction(node) {
   watch(node);
-  at("title").textContent = `Junction ${junctions.get(node).name}`;
-  const gives = session.givers.has(node) ? "Vehicles give way here as in the run, by the gaps that were found before it." : session.givers.size ? "In this run nobody has to give way here." : session.data.yields ? "Nobody gives way here on this page." : "";
-  at("chosen").replaceChildren(element("div", { className: "said" }, `There is no light here. ${gives} The chart shows who stands before it.`), element("table", { id: "before" }));
+  const own = "Vehicles give way here as in the run, by the gaps that were found before it.";
+  const none = session.data.yields ? "Nobody gives way here on this page." : "";
+  const told = `There is no light here. ${session.givers.has(node) ? own : none} The chart shows who stands before it.`;
+  showChosen(`Junction ${junctions.get(node).name}`, element("div", {}, told), element("table", { id: "before" }));
   showBefore();
 }
 
@@ -97,27 +111,28 @@ function showBefore() {
   at("before").replaceChildren(rowOf(["street", "standing"], "th"), ...rows);
 }
 
-async function setPlan(name, command) {
-  const { refused } = await session.change(`plan of ${name}`, [{ clock: session.clock, command }]);
-  at("planTold").textContent = refused || `set: a cycle of ${command.phases.reduce((sum, [seconds]) => sum + seconds, 0)} s`; at("planTold").className = refused ? "fault" : "said";
-  draw(1); showTables(); showLog(session);
-}
+const setPlan = (name, command) => change(`plan of ${name}`, command, `set: a cycle of ${cycleOf(command)} s`);
 
 async function chooseCar(car) {
-  const [reply] = await session.ask({ cmd: "vehicle", car }), name = session.now.nameOf(car);
-  at("title").textContent = `Vehicle ${name}`;
-  const where = reply.link === undefined ? "" : ` on ${laneText(links.get(reply.link), reply.lane ?? 0)}`, way = (reply.plan ?? []).map(link => streetName(links.get(link)));
-  const streets = way.filter((street, i) => street !== way[i - 1]).join(", ");
-  at("chosen").replaceChildren(
-    element("div", {}, `${reply.state}${where}${reply.speed === undefined ? "" : `, ${reply.speed * KMH} km/h`}`), element("div", {}, streets ? `its way: ${streets}` : ""),
-    button("Follow it", async () => { followed = car; }), button("Take it out", () => change(`vehicle ${name} taken out`, [{ clock: session.clock, command: { cmd: "takeout", car } }], "taken out")));
+  const [reply] = await session.ask({ cmd: "vehicle", car }), name = session.data.cars[session.now.owners[car]] ?? car;
+  const where = reply.link === undefined ? "" : ` on ${laneText(links.get(reply.link), reply.lane ?? 0)}`;
+  const state = { cell: reply.speed ? "drives" : "stands", buffer: "is to leave", waiting: "waits to enter" }[reply.state] ?? reply.state;
+  const speed = reply.speed === undefined ? "" : `, ${reply.speed * KMH} km/h`;
+  const way = (reply.plan ?? []).map(link => streetName(links.get(link)));
+  const streets = way.filter((street, i) => street !== way[i - 1]).join(", "), command = { cmd: "takeout", car };
+  const takeOut = () => change(`vehicle ${name} taken out`, command, "taken out");
+  showChosen(
+    `Vehicle ${name}`,
+    element("div", {}, state + where + speed), element("div", {}, streets && `its way: ${streets}`),
+    element("button", { textContent: "Follow it", onclick: () => { followed = car; } }),
+    element("button", { textContent: "Take it out", onclick: () => guarded(takeOut) }));
 }
 
 function chooseStretch(what) {
-  at("title").textContent = `${streetName(what.link)}, towards ${endText(what.link)}`;
   const put = async (lane, cell, period) => {
     const command = { cmd: "meter", link: what.link.number, lane, cell, period };
-    if (await change(`detector: ${laneText(what.link, lane)}, ${metresAt(what.link, cell)} m`, [{ clock: session.clock, command }], "the detector is placed")) await showDetectors(session);
+    const text = `detector: ${laneText(what.link, lane)}, ${metresAt(what.link, cell)} m`;
+    if (await change(text, command, "the detector is placed")) await showDetectors(session);
   };
-  at("chosen").replaceChildren(...stretchPanel(what, { session, redraw: () => draw(1), put }));
+  showChosen(`${streetName(what.link)}, towards ${endText(what.link)}`, stretchPanel(what, put));
 }

@@ -10,8 +10,7 @@ const PALETTES = {
     green: "#39d6a5", red: "#ff6b6b", name: "#c8cdd6", speeds: ["#ff6b6b", "#ffb454", "#6db3ff"], was: "#e6c35c", now: "#6db3ff", density: [[68, 74, 84], [217, 120, 40], [255, 236, 160]],
   },
 };
-const wantsDark = matchMedia("(prefers-color-scheme: dark)");
-let theme = wantsDark.matches ? "dark" : "light";
+let theme = matchMedia("(prefers-color-scheme: dark)").matches ? "dark" : "light";
 const colours = () => PALETTES[theme];
 
 // The colour of a share from none to all, over three.
@@ -19,6 +18,3 @@ function scaled([low, middle, high], share) {
   const [from, to, part] = share < .5 ? [low, middle, 2 * share] : [middle, high, 2 * share - 1];
   return `rgb(${from.map((value, i) => Math.round(value + (to[i] - value) * part)).join()})`;
 }
-
-// What colours of vehicles mean, on all pages.
-const speedWords = () => SPEED_WORDS.map((word, i) => [word, colours().speeds[i]]);

@@ -1,12 +1,11 @@
 // The page: what is run, what is shown, and how it begins.
 
-let session, scene, views = [], stepped = 0, frames = [], shownTables = 0, told = -1;
+let session, scene, views = [], stepped = 0, shownTables = 0, told = -1;
 
 async function advance(steps) {
-  await session.step(steps);
+  await session.act("step", { steps });
   stepped = performance.now();
   if (wave.path.length) wave.note(session.now);
-  if (!playing) showLog(session);
 }
 
 // ---- what is shown
@@ -16,7 +15,11 @@ function draw(part) {
   const shown = at("maps").value, [first, second] = views;
   first.world = shown === "was" && session.was ? session.was : session.now;
   const far = first.draw(part, playing);
-  if (shown === "both" && session.was) { second.world = session.was; second.lookAs(first); second.draw(part, playing); }
+  if (shown === "both" && session.was) {
+    second.world = session.was;
+    second.scene.look(first.scene);
+    second.draw(part, playing);
+  }
   if (chosen?.link) for (const view of views) view.drawStretch(chosen);
   if (pointed) drawPointed(pointed);
   editor?.tick();
@@ -25,33 +28,35 @@ function draw(part) {
 
 function follow(part) {
   if (followed === null || !session.now.cars.has(followed)) return;
-  const [link, lane, rear, front] = session.now.between(followed, part);
-  [scene.x, scene.y] = scene.place(link, lane, (rear + front + 1) / 2 / link.cells);
-  scene.moved = true;
+  const [x, y] = placeOfCar(session.now.between(followed, part));
+  scene.look({ x, y });
 }
 
 function drawPointed({ point, view }) {
-  const junction = session.data.nodes.find(node => Math.hypot(node.x - point[0], node.y - point[1]) < 10 / scene.scale), link = view.scene.nearestLink(point);
-  if (junction) view.scene.drawName(`junction ${junction.name}`, point); else if (link) view.scene.drawName(streetName(link), point);
+  const junction = nodeAt(point, 10 / scene.scale), link = view.scene.nearestLink(point);
+  if (junction) view.scene.drawName(`junction ${junction.name}`, point);
+  else if (link) view.scene.drawName(streetName(link), point);
 }
 
 function showTold(far) {
   const { clock, driving, arrived, coming, closed, cars } = session.now;
   if (playing && told === clock) return;
   told = clock;
-  const standing = session.now.still();
+  const standing = session.now.standing.reduce((sum, count) => sum + count, 0);
   at("told").textContent = `${clockText(clock)}, ${driving} driving, ${standing} standing, ${arrived} arrived, ${coming} to come${far ? "; streets by density" : ""}`;
   document.body.dataset.shown = JSON.stringify({ clock, driving, standing, arrived, seen: cars.size, closed: closed.length, far, gain: session.gain });
 }
 
 function showTables() {
   showQueues(session.now, (link, lane) => { showPlace(link); choose(stretchOf({ link, lane }, 0, link.metres)); });
-  showChanges(session, undo); showComparison(); showWave(); showBefore();
-  if (playing) showLog(session);
+  showChanges(session); showComparison(); showWave(); showBefore(); showLog(session);
   showDetectors(session).catch(() => {});
 }
 
-function showPlace(link) { [scene.x, scene.y] = scene.place(link, 0, 1); scene.scale = Math.max(scene.scale, 2); scene.moved = true; }
+function showPlace(link) {
+  const [x, y] = placeOnLane(link, 0, 1);
+  scene.look({ x, y, scale: Math.max(scene.scale, 2) });
+}
 
 function showComparison() {
   at("gain").textContent = session.gainText;
@@ -68,17 +73,20 @@ function showMaps() {
 }
 
 function resize() {
-  for (const [view, box] of [[views[0], at("scene")], [views[1], at("secondScene")]]) if (!box.hidden) view.resize(box.clientWidth, box.clientHeight);
+  const shown = views.filter(({ canvas }) => !canvas.parentElement.hidden);
+  for (const { scene: own, canvas: { parentElement: box } } of shown) own.resize(box.clientWidth, box.clientHeight);
   editor?.fit(at("chosen").clientWidth);
   draw(1);
 }
 
 function frame(time) {
-  frames.push(time); if (frames.length > 120) frames.shift();
-  const each = 1000 / Math.min(rate(), 50);
+  const rate = +at("rate").value, each = 1000 / Math.min(rate, 50);
   if (playing && !busy && time - due >= each) {
     due = time - due > 3 * each ? time : due + each;
-    guarded(async () => { await advance(Math.max(1, Math.round(rate() / 50))); if (time - shownTables > 500) { shownTables = time; showTables(); } });
+    guarded(async () => {
+      await advance(Math.max(1, Math.round(rate / 50)));
+      if (time - shownTables > 500) { shownTables = time; showTables(); }
+    });
   }
   if (playing) draw(Math.min(1, (performance.now() - stepped) / each));
   requestAnimationFrame(frame);
@@ -99,14 +107,14 @@ async function start() {
 
 async function begin() {
   at("told").textContent = "The run begins; what was kept of a session is done again, which takes as long as its steps.";
-  await session.begin();
+  await session.act("begin");
   at("take").hidden = true; at("fault").textContent = "";
   watchButtons();
   for (const view of views) new Pointers(view);
-  watchWave(at("wave"));
+  watchPointer(at("wave"), wave);
   // The bar above may take another line at any time.
   for (const box of [at("scene"), at("secondScene")]) new ResizeObserver(resize).observe(box);
-  resize(); showTheme(); showLog(session); watchPlace();
+  resize(); setTheme(theme); watchPlace();
   requestAnimationFrame(frame);
   document.body.dataset.ready = "yes";
 }

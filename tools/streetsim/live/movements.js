@@ -24,15 +24,19 @@ const pathsCross = (one, other) => one.slice(1).some((end, i) => other.slice(1).
 // The turns at a node as movements, {street, next, kind, turns}: those from an edge to the next one are one. A turn has its place in a
 // light's state where the light controls it.
 function movementsAt(node, turns, links, signal) {
-  const found = new Map();
-  for (const [link, lane, next, nextLane, light, index, kind] of turns) {
-    const [from, to] = [links.get(link), links.get(next)];
-    if (from.end !== node) continue;
-    const key = `${from.name} ${to.name}`, own = found.get(key) ?? { street: from, next: to, kind, turns: [] };
-    found.set(key, own);
-    own.turns.push({ key: [link, lane, next], index: light === signal ? index : null, path: pathAcross(from, lane, to, nextLane), into: `${next} ${nextLane}` });
-  }
-  return [...found.values()].sort((one, other) => one.street.name.localeCompare(other.street.name) || order(one.kind) - order(other.kind));
+  const here = turns.filter(([link]) => links.get(link).end === node);
+  const groups = groupsOf(here, ([link, , next]) => `${links.get(link).name} ${links.get(next).name}`);
+  const found = Array.from(groups.values(), own => movementOf(own, signal));
+  const byStreet = ({ street }, other) => street.name.localeCompare(other.street.name);
+  return found.sort((one, other) => byStreet(one, other) || order(one.kind) - order(other.kind));
+}
+
+function movementOf(turns, signal) {
+  const made = ([link, lane, next, nextLane, light, index]) => ({
+    key: [link, lane, next], index: light === signal ? index : null, into: `${next} ${nextLane}`,
+    path: pathAcross(links.get(link), lane, links.get(next), nextLane),
+  });
+  return { street: links.get(turns[0][0]), next: links.get(turns[0][2]), kind: turns[0][6], turns: turns.map(made) };
 }
 
 const order = kind => Object.keys(ARROWS).indexOf(kind);

@@ -14,18 +14,14 @@ function drawn(tag, words, ...children) {
 }
 
 class PlanEditor {
-  // made() makes the bars of the plan that is set; set(command) sets one; save(text) saves a file; light: its name and its state's length.
-  constructor({ made, set, save, clock, light, wide }) {
-    Object.assign(this, { made, set, save, clock, light, wide });
+  // made() makes the bars of the plan that is set; set(command) sets one; light: its name and its state's length.
+  constructor({ made, set, clock, light, wide }) {
+    Object.assign(this, { made, set, clock, light, wide });
     this.chosen = null; this.stage = 0; this.isSetting = false; this.lastSet = 0;
     this.bars = made();
     this.svg = drawn("svg", { class: "plan", tabindex: 0, role: "application", "aria-label": "greens of this light: arrows choose and move, E changes what is moved, O the offset, Delete takes a green away, Enter sets the plan" });
-    this.svg.onpointerdown = event => this.press(event);
-    this.svg.onpointermove = event => this.drag(event);
-    this.svg.onpointerup = this.svg.onpointercancel = () => this.release();
+    watchPointer(this.svg, this);
     this.svg.onkeydown = event => this.key(event);
-    this.tools = element("div", { className: "tools" });
-    this.element = element("div", {}, this.svg, this.tools);
     this.makeTools();
     this.show();
   }
@@ -69,9 +65,9 @@ class PlanEditor {
   }
 
   stageBoxes() {
-    const boxes = this.bars.stages().flatMap((stage, i) => this.pieces({ begin: stage.begin, length: stage.seconds }).flatMap(([x, width]) => [
+    const boxes = this.bars.stages().flatMap((stage, i) => this.pieces(stage).flatMap(([x, width]) => [
       drawn("rect", { x, y: RULER, width, height: STAGES - 2, class: i === this.stage ? "stage chosen" : "stage" }),
-      ...(width > 14 ? [drawn("text", { x: x + width / 2, y: RULER + 11, class: "mark middle" }, `${stage.seconds}`)] : [])]));
+      drawn("text", { x: x + width / 2, y: RULER + 11, class: "mark middle" }, width > 14 ? `${stage.length}` : "")]));
     return [drawn("text", { x: 2, y: RULER + 11, class: "mark" }, "phases, seconds"), ...boxes];
   }
 
@@ -93,49 +89,52 @@ class PlanEditor {
     return isAlone ? shortened(name, 16) : `${shortened(name, 8)} → ${shortened(streetName(row.next), 8)}`;
   }
 
-  // ---- boxes and buttons below
+  // ---- boxes and buttons below, of the page's template
 
-  // They are made once: a box that changes must not take the button away that a pointer is on.
   makeTools() {
-    const act = (text, what) => element("button", { textContent: text, onclick: () => { what(); this.changed(); } });
-    const live = element("input", { type: "checkbox", id: "dragging", checked: this.isSetting, onchange: () => { this.isSetting = live.checked; } });
-    this.told = { stage: element("span"), cycle: element("span"), greens: element("span"), fault: element("div", { className: "fault", id: "planFault" }) };
-    this.boxes = { seconds: this.box("seconds", value => this.bars.setSeconds(this.stage, value)), offset: this.box("offset", value => { this.bars.offset = round(value, this.bars.cycle); }) };
-    const stage = element("div", {}, this.told.stage, this.boxes.seconds, " s ", act("Split", () => this.bars.split(this.stage)), act("Add", () => { this.bars.addStage(this.stage); this.stage++; }), act("Remove", () => this.bars.removeStage(this.stage)));
-    const whole = element("div", {}, this.told.cycle, this.boxes.offset, " s", this.told.greens);
-    const ends = element("div", {}, button("Set the plan", () => this.send()), element("label", {}, live, " set while dragging "), act("As it is set", () => { this.bars = this.made(); this.chosen = null; }));
-    if (this.light) ends.append(button("Save for SUMO", async () => this.save(this.light.name, this.bars.additional(this.light.name, this.light.size))));
-    this.tools.append(stage, whole, ends, this.told.fault, element("div", { className: "hint" }, "Green: passing. Hatched: shown green, lost to slow starts or to those who go first. Click a row's empty place for a green."));
-  }
-
-  // A box for a number, which `take` gets.
-  box(id, take, values = {}) {
-    const made = Object.assign(numberBox(id), values);
-    made.onchange = () => { take(Math.round(+made.value) || 0); this.changed(); };
-    return made;
+    [this.tools, this.tool] = fromTemplate("planTools");
+    const acts = {
+      split: () => this.bars.split(this.stage), remove: () => this.bars.removeStage(this.stage),
+      add: () => { this.bars.addStage(this.stage); this.stage++; },
+      given: () => { this.bars = this.made(); this.chosen = null; },
+    };
+    const takes = {
+      seconds: value => this.bars.setSeconds(this.stage, value),
+      offset: value => { this.bars.offset = round(value, this.bars.cycle); },
+      from: value => this.dragTo("dragBegin", value), to: value => this.dragTo("dragEnd", value),
+    };
+    for (const [id, act] of Object.entries(acts)) this.tool(id).onclick = () => { act(); this.show(); };
+    for (const [id, take] of Object.entries(takes)) {
+      this.tool(id).onchange = ({ target }) => { take(Math.round(+target.value) || 0); this.show(); };
+    }
+    this.tool("setPlan").onclick = () => guarded(() => this.send());
+    this.tool("dragging").onchange = ({ target }) => { this.isSetting = target.checked; };
+    this.tool("saveForSumo").hidden = !this.light;
+    const { name, size } = this.light ?? {}, additional = () => this.bars.additional(name, size);
+    this.tool("saveForSumo").onclick = () => saveAs(`${name}.add.xml`, additional(), "application/xml");
   }
 
   showTools() {
-    const { bars, told, boxes } = this, stages = bars.stages();
+    const { bars, chosen } = this, stages = bars.stages(), green = chosen?.green;
+    const isRed = bars.rows.some((_, i) => bars.faults(i).length);
+    const fault = isRed ? "Red: movements that cross are green together." : "";
     this.stage = Math.min(this.stage, stages.length - 1);
-    told.stage.textContent = `phase ${this.stage + 1} of ${stages.length}: `; told.cycle.textContent = `cycle ${bars.cycle} s, offset `;
-    Object.assign(boxes.seconds, { min: 1, max: 600, value: stages[this.stage].seconds });
-    Object.assign(boxes.offset, { min: 0, max: bars.cycle - 1, value: bars.offset });
-    told.greens.replaceChildren(...this.greenBoxes());
-    told.fault.textContent = bars.lacking() || (bars.hasFaults() ? "Red: movements that cross are green together." : "");
+    this.tool("stageTold").textContent = `${this.stage + 1} of ${stages.length}`;
+    this.tool("cycle").textContent = bars.cycle;
+    this.tool("seconds").value = stages[this.stage].length;
+    this.tool("offset").value = bars.offset;
+    this.tool("greens").hidden = !green;
+    this.tool("from").value = green?.begin;
+    this.tool("to").value = green && round(green.begin + green.length, bars.cycle);
+    this.tool("planFault").textContent = bars.lacking() || fault;
   }
 
-  // The seconds of the chosen green as boxes.
-  greenBoxes() {
-    if (!this.chosen?.green) return [];
-    const row = this.bars.rows[this.chosen.row], { begin, length } = this.chosen.green, { cycle } = this.bars;
-    const shift = (part, by) => { this.chosen.green = this.bars[part](row, this.chosen.green, by); };
-    const from = this.box("from", value => shift("dragBegin", shortWay(value - begin, cycle)), { min: 0, max: cycle - 1, value: begin, ariaLabel: "begin of the green" });
-    const to = this.box("to", value => shift("dragEnd", shortWay(value - begin - length, cycle)), { min: 0, max: cycle, value: round(begin + length, cycle) });
-    return ["; green from ", from, " to ", to];
+  // Drags an end of the chosen green to a second, the short way round.
+  dragTo(part, second) {
+    const { begin, length } = this.chosen.green, { cycle } = this.bars;
+    const by = round(second - begin - (part === "dragEnd" ? length : 0), cycle);
+    this.moveChosen(by > cycle / 2 ? by - cycle : by, part);
   }
-
-  changed() { this.show(); }
 
   async send() { if (!this.bars.lacking()) await this.set(this.bars.command()); else throw new Error(this.bars.lacking()); }
 
@@ -167,28 +166,27 @@ class PlanEditor {
     if (hit.part === "stage") { this.stage = this.bars.stageAt(hit.second); this.show(); return; }
     if (hit.part === "empty") { const green = this.bars.add(this.bars.rows[hit.row], hit.second); this.chosen = { row: hit.row, green, part: "move" }; this.stage = this.bars.stageAt(hit.second); this.show(); return; }
     this.chosen = hit.part === "offset" ? { part: "offset" } : hit;
-    this.held = { from: event.clientX, chosen: { ...this.chosen }, before: this.kept() };
+    const { offset, rows } = this.bars, states = rows.map(row => [...row.states]);
+    this.held = { from: event.clientX, chosen: { ...this.chosen }, offset, states };
     this.show();
   }
 
-  kept() { return { offset: this.bars.offset, states: this.bars.rows.map(row => [...row.states]) }; }
-
-  drag(event) {
+  move(event) {
     if (!this.held) return;
     const scale = this.wide / this.svg.getBoundingClientRect().width, by = Math.round((event.clientX - this.held.from) * scale / this.each);
-    this.bars.offset = this.held.before.offset;
-    this.bars.rows.forEach((row, i) => { row.states = [...this.held.before.states[i]]; });
+    this.bars.offset = this.held.offset;
+    this.bars.rows.forEach((row, i) => { row.states = [...this.held.states[i]]; });
     this.chosen = { ...this.held.chosen };
     this.moveChosen(by);
     this.show();
     if (this.isSetting && performance.now() - this.lastSet > SET_EVERY) this.sendLater();
   }
 
-  release() { if (this.held) { this.held = null; if (this.isSetting) this.sendLater(); } }
+  lift() { if (this.held) { this.held = null; if (this.isSetting) this.sendLater(); } }
   sendLater() { this.lastSet = performance.now(); guarded(() => this.send()); }
 
-  moveChosen(by) {
-    const { part, row, green } = this.chosen;
+  moveChosen(by, part = this.chosen.part) {
+    const { row, green } = this.chosen;
     if (part === "offset") this.bars.offset = round(this.bars.offset - by, this.bars.cycle);
     else this.chosen.green = this.bars[part](this.bars.rows[row], green, by);
   }
@@ -198,7 +196,7 @@ class PlanEditor {
   key(event) {
     const step = event.shiftKey ? 5 : 1, keys = {
       ArrowLeft: () => this.moveChosen(-step), ArrowRight: () => this.moveChosen(step), ArrowUp: () => this.choose(-1), ArrowDown: () => this.choose(1),
-      e: () => this.otherPart(), o: () => { this.chosen = { part: "offset" }; }, Delete: () => { if (this.chosen?.green) this.bars.remove(this.bars.rows[this.chosen.row], this.chosen.green); this.chosen = null; },
+      e: () => this.otherPart(), o: () => { this.chosen = { part: "offset" }; }, Delete: () => this.takeAway(),
       Enter: () => guarded(() => this.send()),
     };
     if (event.ctrlKey || event.metaKey || !keys[event.key]) return;
@@ -206,6 +204,12 @@ class PlanEditor {
     if (this.chosen || !["ArrowLeft", "ArrowRight"].includes(event.key)) keys[event.key]();
     this.show();
     if (this.isSetting && /Left|Right|Delete/.test(event.key)) this.sendLater();
+  }
+
+  takeAway() {
+    const { row, green } = this.chosen ?? {};
+    if (green) this.bars.fill(this.bars.rows[row], green.begin, green.length, RED_SECOND);
+    this.chosen = null;
   }
 
   // The green before or behind the chosen one, row by row.
@@ -222,5 +226,3 @@ class PlanEditor {
 }
 
 const shortened = (text, most) => text.length > most ? `${text.slice(0, most - 1)}…` : text;
-// A shift in a cycle, the short way round.
-const shortWay = (by, cycle) => { const small = round(by, cycle); return small > cycle / 2 ? small - cycle : small; };

@@ -1,40 +1,36 @@
 // Tables beside the map: changes, queues, detectors, the last lines.
 
-const MOST_ROWS = 50, MOST_CHANGES = 20;
-
-let shownChanges = ""; // those that are shown
+const MOST_ROWS = 50;
 
 // Each change with its own way back, the last one first.
-function showChanges({ changes }, undo, most = MOST_CHANGES) {
-  const key = JSON.stringify([most, changes]);
-  if (shownChanges === key) return;
-  shownChanges = key;
-  const rows = changes.map(([made, text], number) => rowOf([clockText(made), text, element("button", { textContent: "Undo", onclick: () => undo(number) })])).slice(-most).reverse();
-  const more = changes.length > most ? [element("button", { textContent: `${changes.length - most} earlier ones`, onclick: () => showChanges({ changes }, undo, Infinity) })] : [];
-  at("changes").replaceChildren(...(rows.length ? [element("table", {}, ...rows), ...more] : ["None so far: the traffic is that of the run."]));
+function showChanges({ changes }) {
+  const key = JSON.stringify(changes), { dataset } = at("changes");
+  if (dataset.shown === key) return;
+  dataset.shown = key;
+  const undo = number => () => anew(() => session.act("undo", { number }));
+  const undoing = number => element("button", { textContent: "Undo", onclick: undo(number) });
+  const rows = changes.map(([made, text], number) => rowOf([clockText(made), text, undoing(number)])).reverse();
+  const none = rows.length ? "" : "None so far: the traffic is that of the run.";
+  at("changes").replaceChildren(element("table", {}, ...rows), none);
 }
 
 function showQueues({ standing, waiting }, show) {
   const comers = new Map(waiting), slots = [...standing.keys()].filter(slot => standing[slot] || comers.has(slot));
   const rows = slots.map(slot => [slot, standing[slot], comers.get(slot) ?? 0]).sort((a, b) => b[1] + b[2] - a[1] - a[2] || a[0] - b[0]);
   const body = rows.slice(0, MOST_ROWS).map(([slot, still, coming]) => {
-    const link = links.get(slot >> 1), row = rowOf([laneText(link, slot & 1), String(still), String(coming)]);
-    row.onclick = () => show(link, slot & 1);
-    return row;
+    const link = links.get(slot >> 1), onclick = () => show(link, slot & 1);
+    return rowOf([laneText(link, slot & 1), String(still), String(coming)], "td", { onclick });
   });
   at("queues").replaceChildren(rowOf(["lane", "standing", "to enter"], "th"), ...body);
 }
 
-let reading = null, isAsked = false;
+let reading = Promise.resolve();
 
-// Reads all detectors, once at a time; where somebody asks meanwhile, they are read once more, as the clock may have gone on.
+// Reads all detectors, one reading behind another.
 function showDetectors(session) {
-  isAsked = true;
-  reading ??= readAsked(session).finally(() => { reading = null; });
+  reading = reading.catch(() => {}).then(() => readDetectors(session));
   return reading;
 }
-
-async function readAsked(session) { while (isAsked) { isAsked = false; await readDetectors(session); } }
 
 async function readDetectors(session) {
   const { detectors } = session.now;
@@ -49,6 +45,6 @@ async function readDetectors(session) {
 }
 
 function showLog({ log }) {
-  const cut = text => text.length > 150 ? `${text.slice(0, 150)} …` : text;
-  at("log").textContent = log.toReversed().map(([line, reply]) => `> ${cut(line)}\n${cut(reply)}`).join("\n");
+  const texts = log.toReversed().map(([line, reply]) => `> ${shortened(line, 150)}\n${shortened(reply, 150)}`);
+  at("log").textContent = texts.join("\n");
 }

@@ -5,9 +5,7 @@ const MARKS = 2.2, DIRECTIONS = 1; // pixels a metre from which on lane marks an
 const LEAST_NAME = 60, NAME_AWAY = 9; // pixels of a street that bears its name, and from its edge to the name's middle
 
 class View {
-  constructor(canvas, world, of) {
-    this.canvas = canvas; this.scene = new Scene(canvas, of); this.world = world; this.kept = null;
-  }
+  constructor(canvas, world, of) { Object.assign(this, { canvas, world, scene: new Scene(canvas, of), kept: null }); }
 
   // The links in view, kept while nobody looks elsewhere.
   get links() {
@@ -15,13 +13,6 @@ class View {
     if (this.inView?.key !== key) this.inView = { key, links: new Set(links.filter(link => this.scene.isInView(link))) };
     return this.inView.links;
   }
-
-  isInView(link) { return this.links.has(link); }
-
-  resize(wide, high) { this.scene.resize(wide, high); this.kept = null; }
-
-  // Looks where another view looks.
-  lookAs({ scene }) { Object.assign(this.scene, { x: scene.x, y: scene.y, scale: scene.scale, moved: true }); }
 
   draw(part, isPlaying) {
     const { scene } = this, shown = [...this.links], lanes = shown.reduce((sum, link) => sum + link.lanes, 0), far = lanes > MOST_LANES;
@@ -76,15 +67,15 @@ class View {
     const { scene } = this, { pen } = scene;
     pen.setLineDash([3 * scene.scale, 3 * scene.scale]);
     for (let lane = 1; lane < link.lanes; lane++) {
-      const shares = link.points.length === 2 ? [0, 1] : Array.from({ length: 13 }, (_, i) => i / 12);
-      scene.line(shares.map(share => scene.place(link, lane - .5, share)), colours().mark, Math.max(1, .15 * scene.scale));
+      const places = placesAlong(link, lane - .5, link.points.length === 2 ? 1 : 12).map(({ place }) => place);
+      scene.line(places, colours().mark, Math.max(1, .15 * scene.scale));
     }
     pen.setLineDash([]);
   }
 
   drawDirection(link) {
     if (link.total * this.scene.scale < 40) return;
-    const { scene } = this, [x, y, dx, dy] = scene.place(link, (link.lanes - 1) / 2, .35), size = 1.2;
+    const { scene } = this, [x, y, dx, dy] = placeOnLane(link, (link.lanes - 1) / 2, .35), size = 1.2;
     scene.line([[x - dx * size + dy * size, y - dy * size - dx * size], [x + dx * size, y + dy * size], [x - dx * size - dy * size, y - dy * size + dx * size]], colours().mark, Math.max(1, .3 * scene.scale));
   }
 
@@ -96,7 +87,8 @@ class View {
     for (const [name, link] of longest) {
       const wide = pen.measureText(name).width;
       if (link.total * scale < Math.max(LEAST_NAME, wide + 8)) continue;
-      const [x, y, dx, dy] = scene.place(link, -.5 - NAME_AWAY / scale / LANE_METRES, .5), [left, top] = scene.screen(x, y), turned = Math.atan2(-dy, dx);
+      const [x, y, dx, dy] = placeOnLane(link, -.5 - NAME_AWAY / scale / LANE_METRES, .5);
+      const [left, top] = scene.screen(x, y), turned = Math.atan2(-dy, dx);
       pen.save(); pen.translate(left, top); pen.rotate(Math.abs(turned) > Math.PI / 2 ? turned + Math.PI : turned);
       pen.strokeStyle = colours().ground; pen.lineWidth = 3; pen.fillStyle = colours().name;
       pen.strokeText(name, 0, 4); pen.fillText(name, 0, 4); pen.restore();
@@ -111,7 +103,10 @@ class View {
   }
 
   drawClosed() {
-    for (const [slot, first, last] of this.world.closed) { const link = links.get(slot >> 1); if (this.isInView(link)) this.scene.drawCells(link, slot & 1, first, last, colours().closed); }
+    for (const [slot, first, last] of this.world.closed) {
+      const link = links.get(slot >> 1);
+      if (this.links.has(link)) this.scene.drawCells(link, slot & 1, first, last, colours().closed);
+    }
   }
 
   drawStopLines(shown) {
@@ -122,11 +117,15 @@ class View {
   }
 
   drawDetectors() {
-    for (const { link, lane, cell } of this.world.detectors) { const on = links.get(link); if (this.isInView(on)) this.scene.drawCells(on, lane, cell, cell, colours().detector, 3); }
+    for (const { link, lane, cell } of this.world.detectors) {
+      const on = links.get(link);
+      if (this.links.has(on)) this.scene.drawCells(on, lane, cell, cell, colours().detector, 3);
+    }
   }
 
   // A stretch of some lanes, in metres.
   drawStretch({ link, lanes, begin, end }) {
-    for (const lane of lanes) this.scene.line([this.scene.place(link, lane, begin / link.metres), this.scene.place(link, lane, Math.min(1, end / link.metres))], colours().chosen, 3);
+    const ends = lane => [begin, end].map(metres => placeOnLane(link, lane, Math.min(1, metres / link.metres)));
+    for (const lane of lanes) this.scene.line(ends(lane), colours().chosen, 3);
   }
 }

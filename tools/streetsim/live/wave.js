@@ -1,35 +1,34 @@
 // A green wave: a path of streets over time, with the greens of its lights, the band in which one comes through, and vehicles as lines.
 
 const PAST = 150, COMING = 90; // seconds that are shown
-const WAVE_LEFT = 92, WAVE_FOOT = 16, WAVE_HIGH = 300, BAR = 7; // pixels
+const WAVE_LEFT = 92, WAVE_FOOT = 16, WAVE_HIGH = 300, BAR = 7, NEAR_BAR = { touch: 18 }; // pixels
 
 // The links of the shortest way from one node to another; nothing where there is none.
 function wayBetween(from, to, all) {
-  const best = new Map([[from, 0]]), before = new Map(), open = new Set([from]);
-  while (open.size) {
-    const node = [...open].reduce((least, one) => best.get(one) < best.get(least) ? one : least);
-    if (node === to) break;
-    open.delete(node);
-    for (const link of all) {
-      const length = best.get(node) + link.metres;
-      if (link.begin === node && length < (best.get(link.end) ?? Infinity)) { best.set(link.end, length); before.set(link.end, link); open.add(link.end); }
+  const found = new Map([[from, { metres: 0, way: [] }]]), far = { metres: Infinity, way: [] };
+  const best = node => found.get(node) ?? far;
+  const isShorter = ({ begin, end, metres }) => best(begin).metres + metres < best(end).metres;
+  for (let open = all; open.length; open = all.filter(isShorter)) {
+    for (const link of open) {
+      const { metres, way } = best(link.begin);
+      if (isShorter(link)) found.set(link.end, { metres: metres + link.metres, way: [...way, link] });
     }
   }
-  const way = [];
-  for (let node = to; before.has(node) && node !== from; node = before.get(node).begin) way.unshift(before.get(node));
-  return way;
+  return best(to).way;
 }
 
 class Wave {
-  constructor() { this.isPicking = false; this.nodes = []; this.path = []; this.lines = new Map(); this.held = null; this.shift = 0; }
+  constructor() { this.nodes = []; this.path = []; this.lines = new Map(); this.held = null; this.shift = 0; }
 
   // A junction more on the path.
   pick(node) {
     const last = this.nodes.at(-1), way = last === undefined ? [] : wayBetween(last, node, session.data.links);
-    if (last !== undefined && !way.length) throw new Error(`no way leads from ${junctionText(last)} to ${junctionText(node)}`);
+    if (last !== undefined && !way.length) throw new Error(`no way leads from ${junctions.get(last).name} to ${junctions.get(node).name}`);
     this.nodes.push(node);
-    let metres = this.path.at(-1)?.to ?? 0;
-    for (const link of way) { this.path.push({ link, from: metres, to: metres + link.metres }); metres += link.metres; }
+    for (const link of way) {
+      const from = this.path.at(-1)?.to ?? 0;
+      this.path.push({ link, from, to: from + link.metres });
+    }
     this.lines = new Map();
   }
 
@@ -39,12 +38,10 @@ class Wave {
   note(world) {
     const { clock } = world, parts = new Map(this.path.map(part => [part.link.name, part]));
     for (const [car, [link, , , front]] of world.cars) {
-      const part = parts.get(link.name);
-      if (!part) continue;
-      if (!this.lines.has(car)) this.lines.set(car, []);
-      this.lines.get(car).push([clock, part.from + (front + 1) / link.cells * part.link.metres]);
+      const part = parts.get(link.name), points = this.lines.get(car) ?? [];
+      if (part) this.lines.set(car, [...points, [clock, part.from + (front + 1) / link.cells * part.link.metres]]);
     }
-    for (const [car, points] of this.lines) { while (points.length && points[0][0] < clock - PAST) points.shift(); if (!points.length) this.lines.delete(car); }
+    for (const [car, points] of this.lines) if (points.at(-1)[0] < clock - PAST) this.lines.delete(car);
   }
 
   // The lights of the path: where each stands, and whether it lets the path through at a clock.
@@ -54,7 +51,8 @@ class Wave {
       if (!plan?.phases.length) return [];
       const offset = this.held?.node === node ? plan.offset - this.shift : plan.offset;
       const isWay = ([from, , to]) => links.get(from).name === part.link.name && links.get(to).name === next.name;
-      const cycle = plan.phases.reduce((sum, [seconds]) => sum + seconds, 0), greens = plan.phases.flatMap(([seconds, own]) => Array(seconds).fill(own.some(isWay)));
+      const cycle = cycleOf(plan);
+      const greens = plan.phases.flatMap(([seconds, own]) => Array(seconds).fill(own.some(isWay)));
       return [{ node, at: part.to, plan, isGreen: clock => greens[round(clock + offset, cycle)] }];
     });
   }
@@ -69,7 +67,7 @@ class Wave {
   draw(canvas) {
     canvas.hidden = !this.path.length;
     if (!this.path.length) return;
-    fitCanvas(canvas, canvas.parentElement.clientWidth - 4, WAVE_HIGH);
+    Object.assign(canvas, { width: canvas.parentElement.clientWidth - 4, height: WAVE_HIGH });
     const pen = canvas.getContext("2d"), length = this.path.at(-1).to, now = session.clock, from = now - PAST;
     this.each = (canvas.width - WAVE_LEFT - 4) / (PAST + COMING);
     this.x = clock => WAVE_LEFT + (clock - from) * this.each;
@@ -97,23 +95,22 @@ class Wave {
   drawBand(pen, lights, from) {
     if (!lights.length) return;
     const begin = this.secondsTo(lights[0].at), delays = lights.map(light => this.secondsTo(light.at) - begin), last = lights.at(-1);
-    this.width = 0;
+    const isThrough = clock => lights.every((light, i) => light.isGreen(Math.round(clock + delays[i])));
     pen.fillStyle = colours().green; pen.globalAlpha = .25;
     for (let clock = from - Math.ceil(delays.at(-1)); clock < from + PAST + COMING; clock++) {
-      if (!lights.every((light, i) => light.isGreen(Math.round(clock + delays[i])))) continue;
+      if (!isThrough(clock)) continue;
       pen.beginPath();
       for (const [second, metres] of [[clock, lights[0].at], [clock + 1, lights[0].at], [clock + 1 + delays.at(-1), last.at], [clock + delays.at(-1), last.at]]) pen.lineTo(Math.max(WAVE_LEFT, this.x(second)), this.y(metres));
       pen.fill();
     }
     pen.globalAlpha = 1;
-    const cycle = lights[0].plan.phases.reduce((sum, [seconds]) => sum + seconds, 0);
-    for (let clock = from; clock < from + cycle; clock++) if (lights.every((light, i) => light.isGreen(Math.round(clock + delays[i])))) this.width++;
+    this.width = Array.from({ length: cycleOf(lights[0].plan) }, (_, i) => from + i).filter(isThrough).length;
   }
 
   drawVehicles(pen) {
     pen.strokeStyle = colours().now; pen.lineWidth = 1; pen.beginPath();
     for (const points of this.lines.values()) points.forEach(([clock, metres], i) => {
-      const isNext = i && clock - points[i - 1][0] <= 2 && metres >= points[i - 1][1];
+      const isNext = i && this.x(clock) > WAVE_LEFT && clock - points[i - 1][0] <= 2 && metres >= points[i - 1][1];
       if (isNext) pen.lineTo(this.x(clock), this.y(metres)); else pen.moveTo(this.x(clock), this.y(metres));
     });
     pen.stroke();
@@ -124,24 +121,25 @@ class Wave {
   // ---- a light's bar, dragged
 
   press(event) {
-    const light = this.lights().map(one => [Math.abs(this.y(one.at) - event.offsetY), one]).sort((a, b) => a[0] - b[0])[0];
-    if (!light || light[0] > (event.pointerType === "touch" ? 18 : 10)) return;
+    const away = ({ at }) => Math.abs(this.y(at) - event.offsetY);
+    const light = nearestOf(this.lights(), away, NEAR_BAR[event.pointerType] ?? 10);
+    if (!light) return;
     event.target.setPointerCapture(event.pointerId);
-    this.held = { node: light[1].node, from: event.clientX }; this.shift = 0;
+    this.held = { node: light.node, from: event.clientX }; this.shift = 0;
   }
 
-  drag(event) {
+  move(event) {
     if (!this.held) return;
     this.shift = Math.round((event.clientX - this.held.from) / this.each);
     this.draw(event.target);
   }
 
-  // The command that sets what was dragged; nothing where nothing was.
-  release() {
+  // Sets what was dragged.
+  lift() {
     const { held, shift } = this;
     this.held = null; this.shift = 0;
-    if (!held || !shift) return null;
-    const plan = session.plans.get(held.node), cycle = plan.phases.reduce((sum, [seconds]) => sum + seconds, 0);
-    return { cmd: "signal", node: held.node, offset: round(plan.offset - shift, cycle), phases: plan.phases };
+    if (!held || !shift) return;
+    const { node } = held, plan = session.plans.get(node), offset = round(plan.offset - shift, cycleOf(plan));
+    guarded(() => setOffset({ cmd: "signal", node, offset, phases: plan.phases }));
   }
 }

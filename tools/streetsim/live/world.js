@@ -34,28 +34,25 @@ class World {
     }
   }
 
-  nameOf(car) { return this.data.cars[this.owners[car]] ?? car; }
-
   // A vehicle between its last two places.
   between(car, part) {
     const now = this.cars.get(car), then = this.before.get(car);
     if (!then || part >= 1) return now;
     if (then[0] === now[0]) return [now[0], then[1] + (now[1] - then[1]) * part, then[2] + (now[2] - then[2]) * part, then[3] + (now[3] - then[3]) * part, now[4]];
-    const [x, y] = placeOnLane(then[0], then[1], (then[2] + then[3] + 1) / 2 / then[0].cells);
+    const [x, y] = placeOfCar(then);
     return [...now, { x, y, share: part }];
   }
 
   of(counts, link) { return counts[2 * link.number] + counts[2 * link.number + 1]; }
   // How full a link is.
   density(link) { return this.of(this.covering, link) / (link.lanes * link.cells); }
-  still() { return this.standing.reduce((sum, count) => sum + count, 0); }
 
   // The links that have a green at a light now; nothing where there is no light.
   greensAt(node) {
     const plan = this.shown.get(node) ?? this.plans.get(node), { clock } = this, known = this.lit.get(node);
     if (!plan?.phases.length) return null;
     if (known?.plan === plan && known.clock === clock) return known.links;
-    const links = new Set(phaseAt(plan, clock).greens.map(([from]) => from));
+    const links = new Set(greensOfPlan(plan, clock).map(([from]) => from));
     this.lit.set(node, { plan, clock, links });
     return links;
   }

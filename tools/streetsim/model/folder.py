@@ -45,6 +45,11 @@ class Folder:
         """What each page of the run has at its head: that its program is without proofs, its demand invented."""
         return [text for text in (self.unproved, self.mapping.invented) if text]
 
+    @property
+    def vehicles(self) -> int:
+        """How many vehicles the run had."""
+        return int(self.made.get("vehicles", len(self.mapping.cars)))
+
     def trips(self) -> list[dict[str, str]]:
         """The rows of trips.csv (tables.TRIPS), in the order of the vehicles' numbers."""
         return tables.read_table(f"{self.path}/trips.csv", tables.TRIPS)

@@ -2,10 +2,10 @@
 near capacity."""
 from __future__ import annotations
 
-from collections.abc import Iterator, Mapping
+from collections.abc import Iterator, Mapping, Sequence
 
 from streetsim.base.report import first_few
-from streetsim.model.fullness import LEFT, FullLane
+from streetsim.model.fullness import LEFT, MERGING, FullLane
 from streetsim.model.mapping import Map
 
 LOADED = 0.85  # of what a lane passes whose lefts give way, above which they want a survey
@@ -13,10 +13,13 @@ NEARLY_FULL = 0.9  # the same of any lane, above which growth is doubted
 MORE = 1.02  # times as many vehicles are growth
 
 
-def loaded_lanes(mapping: Map) -> dict[str, FullLane]:
-    """By lane the nearly full ones of a demand, without approaches whose share of permissive greens was surveyed."""
-    surveyed = {edge for edge, _ in mapping.options.get("shares", ())}
-    return {one.lane: one for one in mapping.full.lanes if one.source not in surveyed}
+def loaded_lanes(mapping: Map, at_lights: Sequence[FullLane] | None = None) -> dict[str, FullLane]:
+    """By lane the nearly full ones of a demand, without approaches whose share of permissive greens was surveyed.
+    at_lights: those at lights, where these show other plans than those of the import."""
+    surveyed, lanes = {edge for edge, _ in mapping.options.get("shares", ())}, list(mapping.full.lanes)
+    if at_lights is not None:
+        lanes = [one for one in lanes if one.way == MERGING] + list(at_lights)
+    return {one.lane: one for one in lanes if one.source not in surveyed}
 
 
 def forecast_doubts(own: Mapping[str, FullLane], base: Mapping[str, FullLane], growth: float) -> Iterator[str]:

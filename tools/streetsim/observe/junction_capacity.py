@@ -3,11 +3,13 @@ from collections.abc import Iterable, Sequence
 from dataclasses import dataclass
 from statistics import fmean
 
+from streetsim.model.saturation import flow_here
+
 QUEUES = 5  # discharges, of a lane or of all lanes, from which on their mean is its saturation flow
-# Vehicles an hour that leave a queue of a lane at 50 km/h, by the chance of slowing down (of 1,000),
-# and seconds of green lost at its begin: measured in 40 greens each on a lone cross whose western arm is always full.
-BY_DAWDLE = ((0, 2400), (100, 1935), (170, 1760), (300, 1490))
-USUAL_LOST = -1.5  # seconds of each green; less than 0: won
+USUAL_LIMIT = 2  # cells a step, of a lane at 50 km/h
+# Seconds of each green that are lost at its begin; less than 0: won. Measured in 40 greens each on a lone cross whose
+# western arm is always full.
+USUAL_LOST = -1.5
 
 
 @dataclass(slots=True)
@@ -20,12 +22,9 @@ class Discharge:
 
 
 def usual_flow(dawdle: float) -> float:
-    """The saturation flow, vehicles an hour of green, of lanes where no queue tells it; dawdle: of 1,000, above 300 as
-    at 300."""
-    for (low, more), (high, less) in zip(BY_DAWDLE, BY_DAWDLE[1:]):
-        if dawdle <= high:
-            return more + (less - more) * (dawdle - low) / (high - low)
-    return BY_DAWDLE[-1][1]
+    """The saturation flow, vehicles an hour of green, of lanes where no queue tells it; dawdle: of 1,000, above 450 as
+    at 450."""
+    return flow_here(dawdle / 1000, USUAL_LIMIT)
 
 
 @dataclass(slots=True)

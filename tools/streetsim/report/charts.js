@@ -13,19 +13,14 @@ function drawBand(pen, { band, left = 0, top, wide, sides, span, ink, now = Infi
   if (now <= span[1]) pen.fillRect(x(now), top + 18, 1, high);
   sides.forEach(({ colour, dashes }, i) => {
     pen.strokeStyle = colour; pen.setLineDash(dashes); pen.lineWidth = 1.5; pen.beginPath();
-    for (const point of thinned(points[i], wide)) pen.lineTo(x(point[0]), y(band.of(point)));
+    const own = points[i], each = Math.ceil(own.length / wide), isDrawn = (_, at) => (own.length - 1 - at) % each === 0;
+    for (const point of own.filter(isDrawn)) pen.lineTo(x(point[0]), y(band.of(point)));
     pen.stroke();
   });
   pen.setLineDash([]);
   const values = points.map(own => own.findLast(([clock]) => clock <= now)).map(last => last ? band.of(last).toFixed(band.digits) : "");
-  const named = sides.map(({ word }, i) => `${word} ${values[i]}`), widths = texts => texts.map(text => pen.measureText(text).width + 10);
-  const fits = widths(named).reduce((sum, one) => sum + one, pen.measureText(band.words).width) < wide - 4;
-  const texts = fits ? named : values, rooms = widths(texts); // where there is no room for names, the lines' colours alone tell whose a value is
-  sides.forEach(({ colour }, i) => { pen.fillStyle = colour; pen.fillText(texts[i], left + wide + 6 - rooms.slice(i).reduce((sum, one) => sum + one, 0), top + 11); });
-}
-
-// Not more points than there are pixels, the last one among them.
-function thinned(points, most) {
-  const each = Math.ceil(points.length / most);
-  return each > 1 ? points.filter((_, i) => (points.length - 1 - i) % each === 0) : points;
+  const named = sides.map(({ word }, i) => `${word} ${values[i]}`), room = text => pen.measureText(text).width + 10;
+  const rooms = texts => texts.reduce((sum, text) => sum + room(text), 0);
+  const texts = rooms([band.words, ...named]) < wide + 6 ? named : values; // without names the lines' colours tell whose one is
+  sides.forEach(({ colour }, i) => { pen.fillStyle = colour; pen.fillText(texts[i], left + wide + 6 - rooms(texts.slice(i)), top + 11); });
 }

@@ -2,23 +2,36 @@
 "use strict";
 const SPEED_COLOURS = ["#a50026", "#f08000", "#3b7fc4"], SPEED_WORDS = ["standing", "27 km/h", "54 km/h and more"]; // by cells a second
 const SPEED_WIDTHS = [1.3, 1, .7]; // of vehicles, so that who sees no colours tells them apart
-const GREEN = "#0a8f6a", RED = "#b3001b", LANE_METRES = 3.2;
+const LANE_METRES = 3.2;
 // What a picture is drawn with; a page may have others.
-const LIGHT = { ground: "#fff", street: "#ccc", mark: "#fff", ink: "#222", label: "#ffffe0", green: GREEN, red: RED, speeds: SPEED_COLOURS, was: "#8a6d00", now: "#0055b8" };
+const LIGHT = {
+  ground: "#fff", street: "#ccc", mark: "#fff", ink: "#222", label: "#ffffe0", closed: "#000", green: "#0a8f6a",
+  red: "#b3001b", speeds: SPEED_COLOURS, was: "#8a6d00", now: "#0055b8",
+};
+const MOVES = { ArrowLeft: [60, 0], ArrowRight: [-60, 0], ArrowUp: [0, 60], ArrowDown: [0, -60] }; // pixels
 const FARTHEST_HOP = 60; // metres between two places of a vehicle that it is drawn between
 const clockText = seconds => [seconds / 3600, seconds / 60 % 60, seconds % 60].map(part => String(Math.floor(part)).padStart(2, "0")).join(":");
 const metresText = metres => metres < 1000 ? `${metres} m` : `${metres / 1000} km`;
+
+const at = id => document.getElementById(id);
+function element(tag, words = {}, ...children) {
+  const made = Object.assign(document.createElement(tag), words);
+  made.append(...children);
+  return made;
+}
 
 async function unpack(text) {
   const bytes = Uint8Array.from(atob(text.trim()), character => character.charCodeAt(0));
   return new Response(new Blob([bytes]).stream().pipeThrough(new DecompressionStream("gzip")));
 }
 
-// The phase of a plan at a clock, and the seconds that are left of it; phases are [seconds, greens].
-function phaseAt({ offset, phases }, clock) {
-  let left = (clock + offset) % phases.reduce((sum, phase) => sum + phase[0], 0), phase = 0;
-  while (left >= phases[phase][0]) left -= phases[phase++][0];
-  return { phase, greens: phases[phase][1], left: phases[phase][0] - left };
+// The seconds of a plan's phases, each [seconds, greens].
+const cycleOf = ({ phases }) => phases.reduce((sum, [seconds]) => sum + seconds, 0);
+
+// The greens of a plan at a clock.
+function greensOfPlan(plan, clock) {
+  let left = (clock + plan.offset) % cycleOf(plan);
+  return plan.phases.find(([seconds]) => (left -= seconds) < 0)[1];
 }
 
 // The cells that a vehicle of a lane's reply covers: [rear, front].
@@ -29,6 +42,24 @@ function distance([x, y], [ax, ay], [bx, by]) {
   return Math.hypot(x - ax - share * (bx - ax), y - ay - share * (by - ay));
 }
 
+// Things by what each has as its key, in the order in which keys come.
+function groupsOf(things, keyOf) {
+  const found = new Map();
+  for (const thing of things) found.set(keyOf(thing), [...found.get(keyOf(thing)) ?? [], thing]);
+  return found;
+}
+
+const metresTo = ([x, y], [px, py]) => Math.hypot(px - x, py - y);
+// The thing that is least far away, and less than some metres; none where there is none. away(thing): its metres.
+function nearestOf(things, away, most = Infinity) {
+  const near = Array.from(things, thing => [away(thing), thing]).filter(([metres]) => metres < most);
+  return near.sort((one, other) => one[0] - other[0])[0]?.[1] ?? null;
+}
+
+function metresToLink(point, { points }) {
+  return Math.min(...points.slice(1).map((end, i) => distance(point, points[i], end)));
+}
+
 // The point and the direction at a share of a link's length, moved to the lane's side.
 function placeOnLane(link, lane, share) {
   let left = share * link.total, i = 0;
@@ -36,6 +67,18 @@ function placeOnLane(link, lane, share) {
   const [a, b] = [link.points[i], link.points[i + 1]], size = link.lengths[i] || 1, dx = (b[0] - a[0]) / size, dy = (b[1] - a[1]) / size;
   const side = ((link.lanes - 1) / 2 - lane) * LANE_METRES;
   return [a[0] + dx * left + dy * side, a[1] + dy * left - dx * side, dx, dy];
+}
+
+// The same at the middle of a vehicle.
+const placeOfCar = ([link, lane, rear, front]) => placeOnLane(link, lane, (rear + front + 1) / 2 / link.cells);
+
+// What colours and shapes mean: a key, its height and, with gaps, that of a green light; and its word.
+function legendOf({ speeds, closed, red, green }) {
+  const vehicles = SPEED_WORDS.map((word, i) => [word, speeds[i], 9 * SPEED_WIDTHS[i]]);
+  const keys = [...vehicles, ["closed", closed, 9], ["red light", red, 4], ["green light", green, 4, "gaps"]];
+  const styled = (colour, high) => `height:${high}px;--key:${colour}`;
+  return keys.map(([word, colour, high, more = ""]) =>
+    element("span", {}, element("i", { className: `key ${more}`, style: styled(colour, high) }), word));
 }
 
 // Links on a canvas, seen from a place at a scale (pixels a metre).
@@ -61,6 +104,7 @@ class Scene {
     const [x0, y0, x1, y1] = this.links.reduce((all, { box }) => [Math.min(all[0], box[0]), Math.min(all[1], box[1]), Math.max(all[2], box[2]), Math.max(all[3], box[3])], [Infinity, Infinity, -Infinity, -Infinity]);
     this.x = (x0 + x1) / 2; this.y = (y0 + y1) / 2;
     this.scale = .95 * Math.min(this.canvas.width / (x1 - x0 + 20), this.canvas.height / (y1 - y0 + 20));
+    this.moved = false;
   }
 
   // Takes a size; the middle and the scale stay where somebody has chosen them.
@@ -69,8 +113,9 @@ class Scene {
     if (!this.moved) this.fit();
   }
 
+  look({ x, y, scale = this.scale }) { Object.assign(this, { x, y, scale, moved: true }); }
   zoom(factor) { this.scale *= factor; this.moved = true; }
-  drag(dx, dy) { this.x -= dx / this.scale; this.y += dy / this.scale; this.moved = true; }
+  drag(dx, dy) { this.x -= dx / this.scale; this.y += dy / this.scale; this.moved ||= dx !== 0 || dy !== 0; }
   screen(x, y) { return [(x - this.x) * this.scale + this.canvas.width / 2, this.canvas.height / 2 - (y - this.y) * this.scale]; }
   world(left, top) { return [(left - this.canvas.width / 2) / this.scale + this.x, (this.canvas.height / 2 - top) / this.scale + this.y]; }
 
@@ -79,16 +124,10 @@ class Scene {
     return box[0] < this.x + wide && box[2] > this.x - wide && box[1] < this.y + high && box[3] > this.y - high;
   }
 
-  place(link, lane, share) { return placeOnLane(link, lane, share); }
-
   // The link whose line is nearest to a place, within some pixels; none where there is none.
   nearestLink(point, pixels = 12) {
-    let best = pixels / this.scale, found = null;
-    for (const link of this.links.filter(link => this.isInView(link))) for (let i = 1; i < link.points.length; i++) {
-      const away = distance(point, link.points[i - 1], link.points[i]);
-      if (away < best) [best, found] = [away, link];
-    }
-    return found;
+    const inView = this.links.filter(link => this.isInView(link));
+    return nearestOf(inView, link => metresToLink(point, link), pixels / this.scale);
   }
 
   clear() { this.pen.fillStyle = this.colours.ground; this.pen.fillRect(0, 0, this.canvas.width, this.canvas.height); }
@@ -103,15 +142,16 @@ class Scene {
 
   // A stretch of cells of a lane, ends included.
   drawCells(link, lane, first, last, colour, width = Math.max(4, 2.6 * this.scale)) {
-    this.line([this.place(link, lane, first / link.cells), this.place(link, lane, (last + 1) / link.cells)], colour, width);
+    this.line([first, last + 1].map(cell => placeOnLane(link, lane, cell / link.cells)), colour, width);
   }
 
   // Vehicles, [link, lane, rear, front, speed]: one stroke a colour. A sixth value is a place before the link, from which they come, and the
   // share of the way that they have made.
   drawCars(cars) {
     const paths = SPEED_COLOURS.map(() => []);
-    for (const [link, lane, rear, front, speed, hop] of cars) {
-      let [x, y, dx, dy] = this.place(link, lane, (rear + front + 1) / 2 / link.cells);
+    for (const car of cars) {
+      const [, , rear, front, speed, hop] = car;
+      let [x, y, dx, dy] = placeOfCar(car);
       if (hop && Math.hypot(x - hop.x, y - hop.y) < FARTHEST_HOP) [x, y] = [hop.x + (x - hop.x) * hop.share, hop.y + (y - hop.y) * hop.share];
       const half = Math.max(2.5 + (front - rear) * 3.75, 3 / this.scale);
       paths[Math.min(2, speed)].push([x - dx * half, y - dy * half, x + dx * half, y + dy * half]);
@@ -126,7 +166,8 @@ class Scene {
 
   // The stop line at a link's end: whole where it is red, with gaps where it is green.
   drawStopLine(link, isGreen) {
-    const [x, y, dx, dy] = this.place(link, (link.lanes - 1) / 2, 1), half = LANE_METRES / 2 * link.lanes + 1 / this.scale;
+    const [x, y, dx, dy] = placeOnLane(link, (link.lanes - 1) / 2, 1);
+    const half = LANE_METRES / 2 * link.lanes + 1 / this.scale;
     this.pen.setLineDash(isGreen ? [Math.max(2, this.scale), Math.max(2, this.scale)] : []);
     this.line([[x + dy * half, y - dx * half], [x - dy * half, y + dx * half]], isGreen ? this.colours.green : this.colours.red, Math.max(2, 1.5 * this.scale));
     this.pen.setLineDash([]);

@@ -3,10 +3,11 @@ from __future__ import annotations
 
 from collections.abc import Iterator
 from dataclasses import dataclass
+from html import escape
 
 from streetsim.report.page_markup import table
 
-PAGE = "tools/CALIBRATION.md"  # where it was measured
+PAGE, CHAPTER = "tools/CALIBRATION.md", "'What a calibration gains'"  # where it was measured
 
 
 @dataclass(frozen=True, slots=True)
@@ -22,20 +23,29 @@ class ForecastError:
 
 # Made by bench/calibrated.py, beside SUMO's drivers.
 ERRORS: tuple[ForecastError, ...] = (
-    ForecastError("a green wave", 0.30, 0.28, 10),
-    ForecastError("seconds of green moved", 0.50, 0.28, 10),
-    ForecastError("a tenth more vehicles", 0.58, 0.61, 5),
-    ForecastError("a lane removed, its lefts surveyed", 1.59, 0.11, 5),
+    ForecastError("a green wave", 0.19, 0.23, 14),
+    ForecastError("seconds of green moved", 0.46, 0.31, 14),
+    ForecastError("a tenth more vehicles", 0.51, 0.60, 8),
+    ForecastError("a lane removed", 1.48, 0.13, 6),
 )
+
+
+def errors_told() -> str:
+    """What a page of a forecast says of the model's own error, as HTML."""
+    said = (
+        "Beside chance the model has an error of its own: by so much of the true change such forecasts were off, on so "
+        f"many streets of SUMO's drivers (a lane removed: with its lefts surveyed). Measured in {PAGE}, {CHAPTER}."
+    )
+    return f'<p class="small">{escape(said)}</p>{errors_table()}'
 
 
 def errors_table() -> str:
     """The table of the errors, as HTML."""
     rows = [
-        [one.kind, f"{100 * one.uncalibrated:.0f} %", f"{100 * one.calibrated:.0f} %", str(one.streets)]
-        for one in ERRORS
+        ["uncalibrated", *(f"{100 * one.uncalibrated:.0f} %" for one in ERRORS)],
+        ["calibrated", *(f"{100 * one.calibrated:.0f} %" for one in ERRORS)],
     ]
-    return table(["forecast", "off, base not calibrated", "off, base calibrated", "streets"], rows)
+    return table(["base", *(f"{one.kind} ({one.streets})" for one in ERRORS)], rows)
 
 
 def error_lines() -> Iterator[str]:

@@ -38,11 +38,12 @@ def what_was_run(all_runs: Sequence[Runs]) -> str:
         places = f"{len(mapping.links_of):,} edges, {len(mapping.nodes):,} junctions"
         times = f"{time_of_day(made.get('start', 0))} to {time_of_day(made.get('until', 0))}"
         seeds = ", ".join(map(str, runs.folders))
+        departs = "drawn by each seed" if runs.is_drawn else "as listed"
         rows += [
             (f"<b>{escape(runs.name)}</b>", escape(made.get("run", ""))),
             ("files of the import", escape(", ".join(files)) or "not told by the map"),
             ("network", f"{places}, {len(mapping.signals):,} with signals"),
-            ("demand", f"{made.get('vehicles', len(mapping.cars)):,} vehicles"),
+            ("demand", f"{runs.vehicles:,.0f} vehicles, departures {departs}"),
             ("time", f"{times}, seeds {seeds}, dawdle {runs.first.dawdle}"),
             ("program", f'<span class="sum">SHA-256 {escape(made.get("program") or "not told")}</span>'),
         ]

@@ -6,7 +6,7 @@ from streetsim.report.plan_differences import PlanDifference, difference_of, val
 from streetsim.report.run_tables import ResultRow, Rows
 
 BAD = "EF"  # worse than D
-LEAST = 5.0  # seconds of control delay, from which on a sure change is noticed
+LEAST = 5.0  # seconds of control delay, from which on a change is noticed
 
 
 @dataclass(frozen=True, slots=True)
@@ -26,12 +26,12 @@ class RowChange:
 
     @property
     def changes_noticeably(self) -> bool:
-        """Whether the sign of its delay's change is sure, and the change is 5 s or more or comes with another level of
-        service; false with one plan."""
+        """Whether its delay's change stands out, and is 5 s or more or comes with another level of service; false with
+        one plan."""
         if self.change is None or self.before is None:
             return False
         other = self.before.letter() != self.row.letter()
-        return self.change.is_sure() and (abs(self.change.change) >= LEAST or other)
+        return self.change.stands_out() and (abs(self.change.change) >= LEAST or other)
 
     @property
     def weight(self) -> float:
@@ -41,19 +41,20 @@ class RowChange:
         return seconds * self.row.values["vehicles_per_hour"]
 
 
-def sure_changes(rows: Iterable[RowChange]) -> dict[str, float]:
-    """{junction: change of its delay, seconds} of the rows of junctions whose delay changes for sure, however little:
-    what the verdict counts, and what the map shows."""
-    return {one.key[0]: one.change.change for one in rows if one.change and one.change.is_sure()}
+def changes_that_stand_out(rows: Iterable[RowChange]) -> dict[str, float]:
+    """{junction: change of its delay, seconds} of the rows of junctions whose change stands out, however little: what
+    the verdict counts, and what the map shows."""
+    return {one.key[0]: one.change.change for one in rows if one.change and one.change.stands_out()}
 
 
-def ranked_changes(after: Rows, before: Rows | None) -> list[RowChange]:
+def ranked_changes(after: Rows, before: Rows | None, drawn: bool) -> list[RowChange]:
     """What is told of each row of the last plan (after), with the row of the same key of the plan before (None: there
-    is none): first those that change noticeably or are worse than D; in each part the greatest weight first."""
+    is none): first those that change noticeably or are worse than D; in each part the greatest weight first. drawn:
+    whether departures were."""
     found = []
     for key, row in after.items():
         first = before.get(key) if before is not None else None
         delays = [values_by_seed(one, "control_delay_s") for one in (first, row) if one]
-        change = difference_of(*delays) if first else None
+        change = difference_of(*delays, drawn=drawn) if first else None
         found.append(RowChange(key, row, first, change))
     return sorted(found, key=lambda one: (not (one.changes_noticeably or one.is_bad), -one.weight, one.key))

@@ -8,6 +8,7 @@ from streetsim.model.names import Names
 from streetsim.report.page_choice import LEAST, RowChange
 from streetsim.report.page_drawings import anchor, letter_mark, queue_picture
 from streetsim.report.page_markup import change_told, table
+from streetsim.report.page_words import how_sure, interval_name
 from streetsim.report.run_tables import ResultRow, Runs
 
 KEY = (
@@ -58,9 +59,10 @@ def full_lanes(runs: Runs, name: str) -> str:
     return f'<p class="small">Nearly full by the demand: {escape(told)}. {FULL}</p>' if told else ""
 
 
-def movement_changes(rows: Sequence[RowChange], names: Names) -> str:
+def movement_changes(rows: Sequence[RowChange], names: Names, drawn: bool) -> str:
     """A table of the movements with both plans that change noticeably or are worse than D, as HTML, at most 25; a
-    sentence where there are none. rows: movements as ranked_rows of council gives them, whose order stays."""
+    sentence where there are none. rows: movements as ranked_rows of council gives them, whose order stays; drawn:
+    whether departures were."""
     those = [one for one in rows if one.change and one.before and (one.changes_noticeably or one.is_bad)]
     made = []
     for one in those[:MOST_MOVEMENTS]:
@@ -71,20 +73,23 @@ def movement_changes(rows: Sequence[RowChange], names: Names) -> str:
         shown = f'<span class="ids">{escape(ids)}</span>'
         made.append([escape(names.movement(*one.key[1:])), shown, *numbers, levels])
     if not made:
-        return "<p>No movement changes for sure by so much that one notices, and none is worse than D.</p>"
+        said = f"No movement changes {how_sure(drawn)} by so much that one notices"
+        return f"<p>{said}, and none is worse than D.</p>"
     head = ["movement", "junction: edges", "before, s", "after, s", "change, s", "level of service"]
     left = len(rows) - len(made)
     more = f'<p class="small">{left:,} other movements: movements.csv of the runs.</p>' if left else ""
     return table(head, made, names=2) + more
 
 
-def said_of_changes(seeds: int) -> str:
-    """A note, as HTML, on how differences are paired, what is bold and what comes first; seeds: how many both have."""
-    alone = "One seed alone tells nothing of chance: use --seeds 1-5"
-    said = "Differences are of the same seeds" if seeds > 1 else alone
+def said_of_changes(seeds: int, drawn: bool) -> str:
+    """A note, as HTML, on how differences are paired, what is bold and what comes first; seeds: how many both have;
+    drawn: whether departures were."""
+    said = "One seed alone tells nothing of chance: use --seeds 1-5"
+    if seeds > 1:
+        said = f"Differences are of the same seeds, ± is the {interval_name(drawn)}, and changes beyond it are bold"
     return (
-        f'<p class="small">{said}; those whose sign is sure at 95 % are bold. Control delay, seconds. First those that '
-        f"change by {LEAST:.0f} s or in their level of service for sure, or are worse than D.</p>"
+        f'<p class="small">{said}. Control delay, seconds. First those that '
+        f"change by {LEAST:.0f} s or in their level of service {how_sure(drawn)}, or are worse than D.</p>"
     )
 
 

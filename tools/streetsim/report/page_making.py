@@ -50,12 +50,13 @@ def appendix_of(
     """The sections behind the first page, those without content left out; rows: of all junctions, those first that are
     told with all their movements."""
     last, times, detailed = plans[-1], f"{time_of_day(shown[0])} to {time_of_day(shown[1])}", rows[: wishes.detailed]
-    seeds = len(plans[0].folders.keys() & last.folders.keys())
-    note = page_junctions.said_of_changes(seeds) if len(plans) == 2 else ""
+    drawn = page_summary.are_drawn(plans)
+    note = page_junctions.said_of_changes(page_summary.common_seeds(plans), drawn) if len(plans) == 2 else ""
     table = note + page_junctions.junction_table(rows, last.names, len(detailed))
     yield Section("junctions", f"Junctions, {times}", table)
     if len(plans) == 2:
-        changes = page_junctions.movement_changes(page_summary.ranked_rows(plans, shown, "movements"), last.names)
+        rows_ = page_summary.ranked_rows(plans, shown, "movements")
+        changes = page_junctions.movement_changes(rows_, last.names, drawn)
         yield Section("movements", f"Movements that change, {times}", changes)
         yield Section("map-before", f"Map before: {plans[0].name}", page_summary.service_and_works_map(plans[0], shown))
     if detailed:

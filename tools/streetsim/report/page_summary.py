@@ -6,12 +6,15 @@ from statistics import fmean
 
 from streetsim.base.report import HEAVY
 from streetsim.base.words import time_of_day
+from streetsim.model.loaded_lanes import forecast_doubts, loaded_lanes
+from streetsim.model.replications import told_of_days
 from streetsim.model.service import AT_PRIORITY, AT_SIGNALS, COLOURS
 from streetsim.report import page_works
-from streetsim.report.page_choice import LEAST, RowChange, ranked_changes, sure_changes
+from streetsim.report.forecast_errors import errors_told
+from streetsim.report.page_choice import LEAST, RowChange, changes_that_stand_out, ranked_changes
 from streetsim.report.page_drawings import letter_mark, map_picture
 from streetsim.report.page_markup import bullets, change_told, mean_told, table
-from streetsim.report.page_words import change_in_words, count_in_words, counted_noun
+from streetsim.report.page_words import change_in_words, count_in_words, counted_noun, how_sure, interval_name
 from streetsim.report.plan_costs import NOTICED, Means, PlanCosts, costs_of, means_by_class
 from streetsim.report.plan_differences import difference_of, mean_delays
 from streetsim.report.run_tables import Runs
@@ -28,7 +31,25 @@ def ranked_rows(plans: Sequence[Runs], shown: Interval, table_: str = "junctions
     """What is told of each row of one table in the interval that is shown: of the last plan, beside the first where
     there are two; in the order of ranked_changes. table_: junctions, approaches or movements."""
     rows = [runs.rows.get((table_, *shown), {}) for runs in plans]
-    return ranked_changes(rows[-1], rows[0] if len(plans) == 2 else None)
+    return ranked_changes(rows[-1], rows[0] if len(plans) == 2 else None, are_drawn(plans))
+
+
+def are_drawn(plans: Sequence[Runs]) -> bool:
+    """Whether the departures of all runs of the plans were drawn by their seeds."""
+    return all(runs.is_drawn for runs in plans)
+
+
+def common_seeds(plans: Sequence[Runs]) -> int:
+    """How many seeds all plans have."""
+    return len(set.intersection(*({*runs.folders} for runs in plans)))
+
+
+def departures_told(plans: Sequence[Runs]) -> str:
+    """How the vehicles of the runs depart, and of what days intervals are, in plain text."""
+    drawn, seeds = are_drawn(plans), common_seeds(plans)
+    if seeds > 1:
+        return "; ".join(told_of_days(drawn, seeds))
+    return "departures drawn" if drawn else "departures as listed"
 
 
 def question_html(question: str, plans: Sequence[Runs], shown: Interval) -> str:
@@ -37,12 +58,13 @@ def question_html(question: str, plans: Sequence[Runs], shown: Interval) -> str:
     names = [runs.name for runs in plans]
     two = len(names) == 2
     usual = f"What changes if '{names[1]}' takes the place of '{names[0]}'?" if two else f"How does '{names[0]}' flow?"
-    vehicles = made.get("vehicles", len(last.first.mapping.cars))
     of = (
-        f"{vehicles:,} vehicles from {time_of_day(made.get('start', 0))} to {time_of_day(made.get('until', 0))}; "
+        f"{last.vehicles:,.0f} vehicles from {time_of_day(made.get('start', 0))} "
+        f"to {time_of_day(made.get('until', 0))}; "
         f"{counted_noun(len(last.rows['junctions', *shown]), 'junction')}, "
         f"shown from {time_of_day(shown[0])} to {time_of_day(shown[1])}; "
-        f"{counted_noun(len(last.folders), 'run')} of {'each' if two else 'the'} plan, simulated by streetsim."
+        f"{counted_noun(len(last.folders), 'run')} of {'each' if two else 'the'} plan, simulated by streetsim; "
+        f"{departures_told(plans)}."
     )
     notes = dict.fromkeys(text for runs in plans for folder in runs.folders.values() for text in folder.notes)
     told = "".join(f'<p class="doubt">{escape(text)}</p>' for text in notes)
@@ -66,8 +88,9 @@ def doubts_of(runs: Runs) -> list[str]:
 
 def change_verdict(plans: Sequence[Runs], shown: Interval) -> str:
     """What the second of two plans changes for trips and delays, as plain text."""
-    trip = difference_of(*(runs.mean_trips() for runs in plans))
-    delay = difference_of(*(mean_delays(runs.rows["junctions", *shown].values()) for runs in plans))
+    drawn = are_drawn(plans)
+    trip = difference_of(*(runs.mean_trips() for runs in plans), drawn=drawn)
+    delay = difference_of(*(mean_delays(runs.rows["junctions", *shown].values()) for runs in plans), drawn=drawn)
     first, name = "Nothing can be said of trips, as nobody arrived.", plans[1].name
     if trip:
         means = f"{trip.after:.1f} s on average, and {trip.before:.1f} s with '{plans[0].name}'"
@@ -75,10 +98,10 @@ def change_verdict(plans: Sequence[Runs], shown: Interval) -> str:
     if not delay:
         return f"{first} No junction has vehicles with both plans."
     rows = ranked_rows(plans, shown)
-    sure = sure_changes(rows).values()
-    less, more = (sum((change > 0) == up for change in sure) for up in (False, True))
+    changed = changes_that_stand_out(rows).values()
+    less, more = (sum((change > 0) == up for change in changed) for up in (False, True))
     fewer, all_, greater = count_in_words(less), counted_noun(len(rows), "junction"), count_in_words(more)
-    counts = f"at {fewer} of {all_} it is less for sure, at {greater} more"
+    counts = f"at {fewer} of {all_} it is less {how_sure(drawn)}, at {greater} more"
     means = f"{delay.after:.1f} s, and {delay.before:.1f} s before"
     return f"{first} A vehicle's mean delay at a junction is {means}: {change_in_words(delay)}; {counts}."
 
@@ -88,8 +111,9 @@ def state_verdict(runs: Runs, shown: Interval) -> str:
     delays = mean_delays(runs.rows["junctions", *shown].values())
     rows = ranked_rows([runs], shown)
     bad = [one for one in rows if one.is_bad]
-    trip = f"A trip takes {mean_told(runs.mean_trips().values())} s on average"
-    first = f"{trip}, and a vehicle's delay at a junction is {mean_told(delays.values())} s."
+    trip = f"A trip takes {mean_told(runs.mean_trips().values(), runs.is_drawn)} s on average"
+    first = f"{trip}, and a vehicle's delay at a junction is {mean_told(delays.values(), runs.is_drawn)} s"
+    first += f" (±: {interval_name(runs.is_drawn)})." if len(runs.folders) > 1 else "."
     if not bad:
         return f"{first} All {len(rows):,} junctions have level of service D or better."
     worst = runs.names.junction_told(bad[0].key[0])
@@ -111,10 +135,11 @@ def service_and_works_map(runs: Runs, shown: Interval, rows: Sequence[RowChange]
         row.key[0]: (row.letter(), f"{told(row.key[0])}: {row.delay:.1f} s, {row.letter()}", row.key[0] in linked)
         for row in runs.rows["junctions", *shown].values()
     }
-    signs = sure_changes(rows)
+    signs = changes_that_stand_out(rows)
     closed = page_works.closed_shapes(runs)
     picture = map_picture(runs.first.mapping, approaches, junctions, signs, closed)
-    marks = f"; &#9650; waits more and &#9660; less than before, for sure; small: by less than {LEAST:g} s"
+    marks = f"; &#9650; waits more and &#9660; less than before, {how_sure(runs.is_drawn)}"
+    marks += f"; small: by less than {LEAST:g} s"
     more = marks if signs else ""
     more += "; black: road works" if closed else ""
     caption = f"{escape(runs.name)}: approaches and junctions by level of service{more}"
@@ -149,24 +174,25 @@ def classes_table(plans: Sequence[Runs]) -> str:
     classes = sorted(found[0].keys() | found[-1].keys(), key=lambda vclass: (vclass != BUS, vclass))
     if len(classes) < 2:
         return ""
-    rows = [[escape(CALLED.get(one, one)), *class_row([own.get(one, {}) for own in found])] for one in classes]
+    sides = {one: [own.get(one, {}) for own in found] for one in classes}
+    rows = [[escape(CALLED.get(one, one)), *class_row(sides[one], are_drawn(plans))] for one in classes]
     heads = ["trip, s", "delay, s"]
     if len(plans) == 2:
         heads = [f"{what} {when}, s" for what in ("trip", "delay") for when in ("before", "after", "change")]
     return table(["trips by class", "trips", *heads], rows)
 
 
-def class_row(sides: Sequence[Mapping[int, Means]]) -> list[str]:
+def class_row(sides: Sequence[Mapping[int, Means]], drawn: bool) -> list[str]:
     """The cells, as HTML, of a class in a table of trips: how many arrived in all runs of the last plan, then the mean
     trip and the mean delay in seconds; with two plans before, after and the change of each, '-' without a common seed.
-    sides: by plan the means of each seed."""
+    sides: by plan the means of each seed; drawn: whether departures were."""
     cells = [f"{sum(own.arrived for own in sides[-1].values()):,}"]
     for name in ("trip", "delay"):
         values = [{seed: getattr(own, name) for seed, own in side.items()} for side in sides]
         if len(sides) == 1:
-            cells.append(mean_told(values[0].values()))
+            cells.append(mean_told(values[0].values(), drawn))
             continue
-        one = difference_of(*values)
+        one = difference_of(*values, drawn=drawn)
         cells += [f"{one.before:.1f}", f"{one.after:.1f}", change_told(one)] if one else ["-", "-", "-"]
     return cells
 
@@ -205,8 +231,9 @@ def groups_table(found: PlanCosts) -> str:
 
 
 def worst_movements(movements: Sequence[RowChange], runs: Runs) -> list[str]:
-    """Sentences, plain text, on the movement that waits longest, and with two plans on the one that loses most for
-    sure, of those with 20 vehicles an hour or more; empty where there is none. runs: of the last plan, for names."""
+    """Sentences, plain text, on the movement that waits longest, and with two plans on the one that loses most by a
+    change that stands out, of those with 20 vehicles an hour or more; empty where there is none. runs: of the last
+    plan."""
     names, busy = runs.names, [one for one in movements if one.row.values["vehicles_per_hour"] >= LEAST_HOURLY]
     if not busy:
         return []
@@ -220,13 +247,13 @@ def worst_movements(movements: Sequence[RowChange], runs: Runs) -> list[str]:
     level = f"level of service {worst.row.letter()}"
     hourly = f"{worst.row.values['vehicles_per_hour']:.0f} vehicles an hour"
     texts = [f"Longest delay: {called(worst)}, {worst.row.delay:.0f} s, {level}, {hourly}."]
-    losing = [(one.change, one) for one in busy if one.change and one.change.is_sure() and one.change.change > 0]
+    losing = [(one.change, one) for one in busy if one.change and one.change.stands_out() and one.change.change > 0]
     if losing:
         change, most = max(losing, key=lambda pair: pair[0].change)
         told = f"{change.after:.0f} s instead of {change.before:.0f} s ({change.told()} s)"
         texts.append(f"Loses most: {called(most)}, {told}.")
     elif any(one.change and one.change.half is not None for one in busy):
-        texts.append("No movement loses for sure.")
+        texts.append(f"No movement loses {how_sure(runs.is_drawn)}.")
     return texts
 
 
@@ -239,13 +266,25 @@ def doubted(plans: Sequence[Runs], more: Sequence[str] = ()) -> str:
         if not doubts:
             texts.append(f"{runs.name}: nothing that a run checks of itself speaks against it.")
     texts += more
-    seeds = len(set.intersection(*({*runs.folders} for runs in plans)))
-    if seeds < 2:
+    texts += growth_doubts(plans)
+    if (seeds := common_seeds(plans)) < 2:
         texts.append("One run says nothing of chance: streetsim-run --seeds 1-5 makes several.")
+    elif not are_drawn(plans):
+        texts += [f"{text.capitalize()}." for text in told_of_days(False, seeds)]
     heavy = list(dict.fromkeys(row[1] for runs in plans for row in runs.first.mapping.told if row[0] == HEAVY))
     if heavy:
         first = heavy[0] if len(heavy[0]) < LONG else heavy[0][: LONG - 3] + ".."
         told = f"The import did {counted_noun(len(heavy), 'thing')} otherwise than SUMO that may change results"
         texts.append(f"{told} (appendix); the first: {first}.")
     texts.append("These are numbers of a simulation: the street may do otherwise, and nobody here changes the way.")
-    return bullets(texts)
+    return bullets(texts) + (errors_told() if len(plans) == 2 else "")
+
+
+def growth_doubts(plans: Sequence[Runs]) -> list[str]:
+    """What speaks against the second of two plans by lanes that its demand nearly fills, as plain texts; none of one
+    plan."""
+    if len(plans) < 2:
+        return []
+    lanes = [loaded_lanes(runs.first.mapping) for runs in plans]
+    growth = plans[1].vehicles / max(1, plans[0].vehicles)
+    return [f"{plans[1].name}: {text}" for text in forecast_doubts(lanes[1], lanes[0], growth)]

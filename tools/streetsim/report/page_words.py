@@ -19,6 +19,17 @@ def less_or_more(change: float) -> str:
     return f"{abs(change):.1f} s {'less' if change < 0 else 'more'}"
 
 
+def how_sure(drawn: bool) -> str:
+    """What a change is whose interval leaves no doubt of its sign: sure, of another day too, where departures were
+    drawn; where they were listed, nothing is."""
+    return "for sure" if drawn else "beyond the chance of dawdling"
+
+
+def interval_name(drawn: bool) -> str:
+    """Of what the 95 % interval of several seeds is; drawn: whether departures were."""
+    return f"95 % interval of {'a day' if drawn else 'dawdling alone'}"
+
+
 def interval_in_words(one: PlanDifference) -> str:
     """The 95 % interval of a change in seconds: '17.7 to 18.1 s less', or 'from 0.3 s less to 0.5 s more' where 0 is in
     it; empty for one seed."""
@@ -36,6 +47,6 @@ def change_in_words(one: PlanDifference) -> str:
     """How great a change in seconds is and how sure, or that it is not shown to differ."""
     if one.half is None:
         return f"{less_or_more(one.change)} (of one run, which says nothing of chance)"
-    if one.is_sure():
-        return f"{less_or_more(one.change)} (95 % interval: {interval_in_words(one)})"
-    return f"not shown to differ (95 % interval of the change: {interval_in_words(one)})"
+    if one.stands_out():
+        return f"{less_or_more(one.change)} ({interval_name(one.of_days)}: {interval_in_words(one)})"
+    return f"not shown to differ ({interval_name(one.of_days)}: {interval_in_words(one)})"

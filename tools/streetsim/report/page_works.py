@@ -15,6 +15,7 @@ from streetsim.model.folder import Folder
 from streetsim.model.mapping import Map, Shape
 from streetsim.report.edge_values import traffic_of
 from streetsim.report.page_markup import change_told, table
+from streetsim.report.page_words import how_sure
 from streetsim.report.plan_differences import PlanDifference, difference_of
 from streetsim.report.run_tables import Runs
 
@@ -161,17 +162,17 @@ def queues_picture(seen: SeenWorks) -> str:
 
 
 def other_ways(plans: Sequence[Runs], shown: tuple[int, int]) -> str:
-    """A table, as HTML, of the edges that win or lose 20 vehicles an hour or more with the second of two plans, for
-    sure or, with one seed, at all, those that win most first; where they are more than twelve, the first and the last
-    six, these in the other order. A sentence where there are none."""
+    """A table, as HTML, of the edges that win or lose 20 vehicles an hour or more with the second of two plans, by a
+    change that stands out or, with one seed, by any, those that win most first; where they are more than twelve, the
+    first and the last six, these in the other order. A sentence where there are none."""
     names, found = plans[1].names, flow_changes(plans, shown)
     ranked = sorted(
         (one.change, edge)
         for edge, one in found.items()
-        if abs(one.change) >= LEAST and (one.is_sure() or one.half is None)
+        if abs(one.change) >= LEAST and (one.stands_out() or one.half is None)
     )[::-1]
     if not ranked:
-        return "<p>No street has 20 vehicles an hour more or fewer for sure.</p>"
+        return f"<p>No street has 20 vehicles an hour more or fewer {how_sure(plans[1].is_drawn)}.</p>"
     told = [*ranked[:MOST], *ranked[-MOST:][::-1]] if len(ranked) > 2 * MOST else ranked
     rows = [
         [escape(names.approach(edge)), escape(edge), f"{one.before:.0f}", f"{one.after:.0f}", change_told(one)]
@@ -191,5 +192,6 @@ def flow_changes(plans: Sequence[Runs], shown: tuple[int, int]) -> dict[str, Pla
             for edge, one in traffic_of(folder.edges(), *shown).items():
                 flows[edge][seed] = one.flow
         sides.append(flows)
-    both = {edge: difference_of(sides[0][edge], own) for edge, own in sides[1].items() if edge in sides[0]}
+    drawn = all(runs.is_drawn for runs in plans)
+    both = {edge: difference_of(sides[0][edge], own, drawn=drawn) for edge, own in sides[1].items() if edge in sides[0]}
     return {edge: change for edge, change in both.items() if change}

@@ -1,4 +1,5 @@
 """What another plan costs whom: trips of the same vehicles with both plans. Fault where trips.csv cannot be read."""
+import re
 from collections import defaultdict
 from collections.abc import Iterable
 from dataclasses import dataclass, field
@@ -40,7 +41,8 @@ def costs_of(before: Runs, after: Runs) -> PlanCosts:
             for sides, values in zip(sums[group], (first, second), strict=True):
                 sides[seed] = fmean(values[name] for name in names)
     found.changes.sort()
-    differences = {group: difference_of(*sides) for group, sides in sums.items()}
+    drawn = before.is_drawn and after.is_drawn
+    differences = {group: difference_of(*sides, drawn=drawn) for group, sides in sums.items()}
     found.groups = {group: (counts[group], one) for group, one in differences.items() if one}
     return found
 
@@ -76,11 +78,11 @@ def durations(folder: Folder) -> dict[str, int]:
 
 
 def grouped(names: Iterable[str]) -> dict[str, list[str]]:
-    """The names of vehicles by the flow that they are of, as SUMO names them, FLOW.NUMBER; other vehicles, and flows of
-    fewer than ten, are left out."""
+    """The names of vehicles by the flow that they are of, as SUMO names them, FLOW.NUMBER, and where departures were
+    drawn also FLOW.NUMBER#COPY; other vehicles, and flows of fewer than ten, are left out."""
     found: defaultdict[str, list[str]] = defaultdict(list)
     for name in names:
         flow, point, number = name.rpartition(".")
-        if point and number.isdecimal():
+        if point and re.fullmatch(r"\d+(#\d+)?", number):
             found[flow].append(name)
     return {flow: own for flow, own in found.items() if len(own) >= FEW}

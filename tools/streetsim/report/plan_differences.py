@@ -2,7 +2,7 @@
 from collections.abc import Iterable, Mapping
 from dataclasses import dataclass
 
-from streetsim.base.seeds import mean_and_half_width
+from streetsim.base.seeds import mean_and_day, mean_and_half_width
 from streetsim.report.run_tables import ResultRow
 
 
@@ -15,24 +15,27 @@ class PlanDifference:
     after: float
     change: float
     half: float | None  # half the width of the interval; none of one seed
+    of_days: bool = False  # whether the interval is of a day, as departures were drawn; else of dawdling alone
 
     def told(self) -> str:
         """The change with its sign and the half of its interval: '-3.2 ± 0.4'; of one seed without the half."""
         return f"{self.change:+.1f}" + ("" if self.half is None else f" ± {self.half:.1f}")
 
-    def is_sure(self) -> bool:
-        """Whether the 95 % interval leaves no doubt of the sign; never of one seed."""
+    def stands_out(self) -> bool:
+        """Whether the interval leaves no doubt of the sign: of another day's too where it is of days; never of one
+        seed."""
         return self.half is not None and abs(self.change) > self.half
 
 
-def difference_of(before: Mapping[int, float], after: Mapping[int, float]) -> PlanDifference | None:
-    """The difference of values, {seed: value}, over the seeds that both have; None where there are none."""
+def difference_of(before: Mapping[int, float], after: Mapping[int, float], *, drawn: bool) -> PlanDifference | None:
+    """The difference of values, {seed: value}, over the seeds that both have; None where there are none. drawn:
+    whether the departures were, by each seed, so that the interval is of a day."""
     seeds = sorted(before.keys() & after.keys())
     if not seeds:
         return None
-    change, half = mean_and_half_width([after[seed] - before[seed] for seed in seeds])
+    change, half = (mean_and_day if drawn else mean_and_half_width)([after[seed] - before[seed] for seed in seeds])
     firsts, seconds = (sum(values[seed] for seed in seeds) / len(seeds) for values in (before, after))
-    return PlanDifference(firsts, seconds, change, half)
+    return PlanDifference(firsts, seconds, change, half, drawn)
 
 
 def values_by_seed(row: ResultRow, name: str) -> dict[int, float]:

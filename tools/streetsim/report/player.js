@@ -1,21 +1,17 @@
 // Plays one run, or two side by side at the same clock and place.
-const at = id => document.getElementById(id), slider = at("slider");
-let canvas, sides = [], clocks = [], step = 0, playing = false, last = 0, pointed = null, linking = 0;
+const slider = at("slider");
+let sides = [], clocks = [], step = 0, playing = false, last = 0, pointed = null, linking = 0;
 
 // A run on a canvas.
 class Side {
   constructor(run, place) {
     this.run = run;
-    const box = document.createElement("div"), name = document.createElement("div");
-    this.canvas = document.createElement("canvas");
-    this.canvas.tabIndex = 0;
-    this.canvas.setAttribute("role", "img"); this.canvas.setAttribute("aria-label", `streets and vehicles of ${run.name}`);
-    box.className = "side"; name.className = "name"; name.textContent = run.name; name.hidden = place === null;
+    const name = element("div", { className: "name", textContent: run.name, hidden: place === null });
     name.style.borderBottom = place ? `3px solid ${LIGHT.now}` : `3px dashed ${LIGHT.was}`; // as its lines in the charts
-    box.append(this.canvas, name); at("sides").append(box);
+    this.canvas = element("canvas", { tabIndex: 0, role: "img", ariaLabel: `streets and vehicles of ${run.name}` });
+    at("sides").append(element("div", { className: "side" }, this.canvas, name));
     this.scene = new Scene(this.canvas, run.links);
-    this.plans = new Map();
-    for (const plan of run.signals) this.plans.set(plan[1], [...this.plans.get(plan[1]) || [], plan]);
+    this.plans = groupsOf(run.signals, plan => plan[1]);
   }
 
   // The last frame that is not after a clock, else the first.
@@ -24,7 +20,7 @@ class Side {
   // Whether a link's signal shows it green; null where there is none.
   isGreen(link, clock) {
     const plan = (this.plans.get(this.run.links[link].end) || []).findLast(plan => plan[0] <= clock);
-    return plan ? phaseAt({ offset: plan[2], phases: plan[3] }, clock).greens.includes(link) : null;
+    return plan ? greensOfPlan({ offset: plan[2], phases: plan[3] }, clock).includes(link) : null;
   }
 
   streetAt(point) { return point ? (this.scene.nearestLink(point) || { name: "" }).name : ""; }
@@ -52,7 +48,7 @@ class Side {
     if (this.streetAt(pointed)) scene.drawName(this.streetAt(pointed), pointed);
   }
 
-  // The names of junctions with signals; one that would lie over another is left out. Gives how many are written.
+  // The names of junctions with signals; one that would lie over another is left out.
   drawJunctions() {
     const { pen, canvas } = this.scene, taken = [];
     pen.font = "bold 12px sans-serif"; pen.lineWidth = 3; pen.strokeStyle = "#fff"; pen.fillStyle = "#222";
@@ -63,19 +59,17 @@ class Side {
       taken.push([left, top, wide]);
       pen.strokeText(name, left + 6, top - 6); pen.fillText(name, left + 6, top - 6);
     }
-    return taken.length;
   }
 }
 
 // What charts show of each run, and how its line is drawn.
 const BANDS = ["vehicles", "standing", "arrived"].map((words, i) => ({ words, of: point => point[i + 1], digits: 0 }));
 const LINES = [{ colour: LIGHT.was, dashes: [5, 3] }, { colour: LIGHT.now, dashes: [] }]; // the last one alone of one run
-const lineOf = i => LINES[i + LINES.length - sides.length];
 
 // The charts beside one another below the sides.
 function drawCharts(now) {
   const { width, height } = at("chart"), pen = at("chart").getContext("2d"), wide = width / BANDS.length;
-  const own = sides.map(({ run }, i) => ({ ...lineOf(i), points: run.chart, word: sides.length > 1 ? run.name : "" })), span = [clocks[0], clocks.at(-1)];
+  const own = sides.map(({ run }, i) => ({ ...LINES.at(i - sides.length), points: run.chart, word: sides.length > 1 ? run.name : "" })), span = [clocks[0], clocks.at(-1)];
   pen.fillStyle = "#fff"; pen.fillRect(0, 0, width, height);
   BANDS.forEach((band, i) => drawBand(pen, { band, left: i * wide, top: 2, wide, sides: own, span, ink: "#222", now }));
 }
@@ -103,21 +97,9 @@ function link() {
   history.replaceState(null, "", `#${clocks[step]}${place}`);
 }
 
-// What colours and shapes mean: a key, its height and, with a gap, that of a green light.
-function legend() {
-  const keys = [...SPEED_WORDS.map((word, i) => [word, SPEED_COLOURS[i], 9 * SPEED_WIDTHS[i]]), ["closed", "#000", 9], ["red", RED, 4], ["green", GREEN, 4]];
-  return keys.flatMap(([word, colour, high]) => {
-    const key = document.createElement("i");
-    key.className = word === "green" ? "key gaps" : "key"; key.style.cssText = `height:${high}px;--key:${colour};${word === "green" ? "" : `background:${colour}`}`;
-    return [key, word];
-  });
-}
-
-// Every side is seen from the place of the one that was moved.
-function follow({ x, y, scale, moved }) {
-  for (const side of sides) Object.assign(side.scene, { x, y, scale, moved });
-  draw();
-}
+// Every side is seen from one place.
+function look({ x, y, scale, moved }) { for (const side of sides) Object.assign(side.scene, { x, y, scale, moved }); }
+function follow(scene) { look(scene); draw(); }
 
 // Takes the window's size; the middle and the zoom stay where somebody has chosen them.
 function resize() {
@@ -150,34 +132,28 @@ function go(clock) { const found = clocks.findIndex(one => one >= clock); step =
 
 // Shows the step of a hash: #STEP, #STEP,X,Y with a place in metres that is in the middle and pointed at, or with a scale in pixels a metre after them.
 function goTo(hash) {
-  const [clock, x, y, scale] = hash.slice(1).split(",").map(Number), { scene } = sides[0];
+  const [clock, x, y, scale] = hash.slice(1).split(",").map(Number);
   if (Number.isFinite(x) && Number.isFinite(y)) {
     pointed = scale > 0 ? null : [x, y];
-    Object.assign(scene, { x, y, scale: scale > 0 ? scale : scene.scale, moved: true });
-    for (const side of sides) Object.assign(side.scene, { x, y, scale: scene.scale, moved: true });
+    look({ x, y, scale: scale > 0 ? scale : sides[0].scene.scale, moved: true });
   }
   go(clock || 0);
 }
 
-const MOVES = { ArrowLeft: [60, 0], ArrowRight: [-60, 0], ArrowUp: [0, 60], ArrowDown: [0, -60] };
-const STEPS = { ArrowLeft: () => step - 1, ArrowRight: () => step + 1, Home: () => 0, End: () => clocks.length - 1 };
-
-// What a key does; none where it is not one of ours.
-function actionOf({ key, shiftKey }) {
-  const { scene } = sides[0];
-  if (shiftKey && MOVES[key]) return () => { scene.drag(...MOVES[key]); follow(scene); };
-  if (STEPS[key]) return () => { step = Math.max(0, Math.min(clocks.length - 1, STEPS[key]())); draw(); };
-  if (key === "PageUp" || key === "PageDown") return () => go(clocks[step] + (key === "PageUp" ? -60 : 60));
-  if (key === "+" || key === "=" || key === "-") return () => { scene.zoom(key === "-" ? 1 / 1.3 : 1.3); follow(scene); };
-  if (key === "0") return () => { scene.fit(); scene.moved = false; follow(scene); };
-  if (key === "n" || key === "N") return () => { at("names").checked = !at("names").checked; draw(); };
-  if (key === "c" || key === "C") return () => at("charts").click();
-  return key === " " ? toggle : null;
-}
+const goToStep = wanted => { step = Math.max(0, Math.min(clocks.length - 1, wanted)); draw(); };
+const moving = act => () => { act(sides[0].scene); follow(sides[0].scene); };
+const KEYS = {
+  ArrowLeft: () => goToStep(step - 1), ArrowRight: () => goToStep(step + 1), Home: () => goToStep(0),
+  End: () => goToStep(Infinity), PageUp: () => go(clocks[step] - 60), PageDown: () => go(clocks[step] + 60),
+  "+": moving(scene => scene.zoom(1.3)), "-": moving(scene => scene.zoom(1 / 1.3)), 0: moving(scene => scene.fit()),
+  n: () => at("names").click(), c: () => at("charts").click(), " ": toggle,
+};
 
 function onKey(event) {
-  const own = { INPUT: true, SELECT: true, BUTTON: event.key === " " }[event.target.tagName]; // what the control does by itself
-  const action = own || event.ctrlKey || event.altKey || event.metaKey ? null : actionOf(event);
+  const { key } = event, own = { INPUT: true, SELECT: true, BUTTON: key === " " }; // what controls do by themselves
+  if (own[event.target.tagName] || event.ctrlKey || event.altKey || event.metaKey) return;
+  const move = event.shiftKey && MOVES[key], plain = key === "=" ? "+" : key;
+  const action = move ? moving(scene => scene.drag(...move)) : KEYS[plain] ?? KEYS[plain.toLowerCase()];
   if (action) { event.preventDefault(); action(); }
 }
 
@@ -192,13 +168,12 @@ function listen({ canvas, scene }) {
 
 unpack(at("data").textContent).then(answer => answer.json()).then(runs => {
   sides = runs.map((run, place) => new Side(run, runs.length > 1 ? place : null));
-  canvas = sides[0].canvas;
   clocks = [...new Set(runs.flatMap(run => run.frames.map(frame => frame.clock)))].sort((a, b) => a - b);
   slider.max = clocks.length - 1;
   sides.forEach(listen);
   at("play").onclick = toggle;
-  at("legend").replaceChildren(...legend());
-  for (const [id, factor] of [["in", 1.3], ["out", 1 / 1.3]]) at(id).onclick = () => { sides[0].scene.zoom(factor); follow(sides[0].scene); };
+  at("legend").replaceChildren(...legendOf(LIGHT));
+  for (const [id, factor] of [["in", 1.3], ["out", 1 / 1.3]]) at(id).onclick = moving(scene => scene.zoom(factor));
   at("names").onchange = draw;
   at("charts").onchange = () => { resize(); draw(); };
   at("chart").onclick = goToChart;

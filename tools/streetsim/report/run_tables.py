@@ -10,6 +10,7 @@ from streetsim.base.files import Fault
 from streetsim.base.report import first_few
 from streetsim.model.folder import NAME, Folder, read_folder, seeds_in
 from streetsim.model.names import Names
+from streetsim.model.replications import is_drawn
 from streetsim.model.service import level
 from streetsim.model.tables import APPROACHES, JUNCTIONS, MOVEMENTS, SEEDS, read_table
 
@@ -62,6 +63,16 @@ class Runs:
     def names(self) -> Names:
         """The names of its map's streets and junctions."""
         return Names(self.first.mapping)
+
+    @property
+    def is_drawn(self) -> bool:
+        """Whether the departures of all its runs were drawn by their seeds; else they are those of the file."""
+        return all(is_drawn(folder.made) for folder in self.folders.values())
+
+    @property
+    def vehicles(self) -> float:
+        """How many vehicles a run had, in the mean over the seeds."""
+        return fmean(folder.vehicles for folder in self.folders.values())
 
     def mean_trips(self) -> dict[int, float]:
         """{seed: mean trip in seconds of those who arrived}; seeds in which nobody did are left out."""

@@ -30,11 +30,12 @@ LIGHTS = ("light", "phase", "least_before", "least_after", "most_before", "most_
 @dataclass(frozen=True, slots=True)
 class BoundsSettings:
     """How long is searched and with what: budget: simulations at most; seeds (empty: as many of the tried ones as their
-    runs of the given bounds say); least: the lowest seconds that a search may give to a least green."""
+    runs of the given bounds say); least: the lowest seconds that a search may give to a least green, None: those that
+    it has, as they are a promise."""
 
     budget: int
     seeds: Sequence[int]
-    least: int
+    least: int | None
 
 
 @dataclass(frozen=True, slots=True)

@@ -131,14 +131,16 @@ def key_of(bounded: Bounded) -> tuple[Any, ...]:
     return tuple(sorted(bounded.items(), key=lambda item: item[0]))
 
 
-def lowest_greens(mapping: Map, given: Bounded, lowest: int) -> dict[tuple[str, int], int]:
-    """The seconds below which no least green is brought, by light and phase: lowest, or the green of pedestrians that
-    the light's program says, where that is longer."""
+def lowest_greens(mapping: Map, given: Bounded, lowest: int | None) -> dict[tuple[str, int], int]:
+    """The seconds below which no least green is brought, by light and phase: lowest, the least that is given where that
+    is None, or the green of pedestrians that the light's program says, where that is longer."""
     kept = programs_at_begin(mapping.programs)
     return {
-        (name, phase): max(lowest, int(kept[name]["parameters"].get(f"{PEDESTRIANS}{phase}", 0)))
+        (name, phase): max(
+            least if lowest is None else lowest, int(kept[name]["parameters"].get(f"{PEDESTRIANS}{phase}", 0))
+        )
         for name, own in given.items()
-        for phase, _, _ in own.greens
+        for phase, least, _ in own.greens
     }
 
 

@@ -6,12 +6,14 @@ from dataclasses import replace
 from typing import NamedTuple
 
 from streetsim.base.report import Report
+from streetsim.model.fullness import FullLane
 from streetsim.model.mapping import Map, MapTurn
 from streetsim.model.runs import Run
 from streetsim.search.signal_plans import PlannedLight, PlannedTiming
 from streetsim.sumo.additional import read_additional
 from streetsim.sumo.crossing import hourly_flows
 from streetsim.sumo.driver_words import measured_of
+from streetsim.sumo.full import full_lanes_at_lights
 from streetsim.sumo.net import LightProgram, SumoNet, connections_of, read_net
 from streetsim.sumo.signals import LitNode, movements_of_junction, signal_command
 from streetsim.sumo.slowing import with_lower_limits
@@ -23,6 +25,20 @@ class Flowing(NamedTuple):
 
     edges: list[str]
     depart: int
+
+
+def flowing(run: Run, mapping: Map) -> list[Flowing]:
+    """The vehicles of a run."""
+    names, enters = [link.edge for link in mapping.links], [line.command for line in run.enters]
+    return [Flowing([names[link] for link in one["plan"]], one["depart"]) for one in enters]
+
+
+def full_lanes_under(net: SumoNet, run: Run, mapping: Map) -> list[FullLane]:
+    """The nearly full lanes at lights under the programs of a network, for the vehicles of a run; none where all
+    permissive greens are shown by a given share, of which the import knows none either."""
+    if mapping.options["permissive"] is not None:
+        return []
+    return full_lanes_at_lights(net, flowing(run, mapping), {link.edge: link.limit for link in mapping.links})
 
 
 def read_plans(paths: Sequence[str], mapping: Map) -> SumoNet:
@@ -43,8 +59,7 @@ class LightLines:
     def __init__(self, net: SumoNet, run: Run, mapping: Map) -> None:
         """net: whose programs are replaced by those of plans, in a copy."""
         self.net, self.mapping = replace(net, programs=dict(net.programs)), mapping
-        names, enters = [link.edge for link in mapping.links], [line.command for line in run.enters]
-        self.flows = hourly_flows([Flowing([names[link] for link in one["plan"]], one["depart"]) for one in enters])
+        self.flows = hourly_flows(flowing(run, mapping))
         self.limits_of = {link.edge: link.limit for link in mapping.links}
         self.connections = connections_of(net)
         self.nodes: defaultdict[str, list[int]] = defaultdict(list)

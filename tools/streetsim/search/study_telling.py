@@ -9,6 +9,7 @@ from streetsim.control.ending import ALL_ARRIVED
 from streetsim.control.works_watched import in_runs
 from streetsim.model import trust
 from streetsim.model.replications import told_of_days
+from streetsim.report.forecast_errors import error_lines
 from streetsim.report.picture_files import pyplot_if_installed, save_picture
 from streetsim.search.run_prepared import Outcome
 from streetsim.search.study_differences import VariantDifference
@@ -24,19 +25,26 @@ def draw_differences(study: Study, rows: Sequence[VariantDifference], path: str)
         return
     figure, axes = pyplot.subplots(figsize=(7, 1.2 + 0.4 * len(shown)))
     for place, row in enumerate(reversed(shown)):
-        for width, size, label in ((row.unpaired, 1.2, "unpaired"), (row.paired, 4.0, "paired")):
+        for width, size, label in intervals_of(row):
             if width is not None and row.difference is not None:
                 ends = row.difference - width, row.difference + width
-                named = f"95 % interval, {label}" if place == 0 else None
+                named = f"95 % interval of {label}" if place == 0 else None
                 axes.plot(ends, (place, place), color=LINE, linewidth=size, label=named)
         axes.plot([row.difference], [place], marker="o", color="black", markersize=5)
     axes.axvline(0, color="black", linewidth=0.8)
     axes.set_yticks(range(len(shown)), [row.variant for row in reversed(shown)])
     axes.set(xlabel=f"mean trip less that of {study.base} (s)", ylim=(-0.6, len(shown) - 0.4))
-    axes.set_title(f"{len(study.seeds)} seeds")
+    axes.set_title(f"{len(study.seeds)} seeds, departures {'drawn' if study.drawn else 'as listed'}", fontsize=10)
     if len(study.seeds) > 1:
         axes.legend(frameon=False, fontsize=8)
     save_picture(figure, path)
+
+
+def intervals_of(row: VariantDifference) -> Sequence[tuple[float | None, float, str]]:
+    """What the picture shows of a difference: half widths of intervals, how thick, and of what they are."""
+    if row.day is not None:
+        return (row.day, 4.0, "a day"),
+    return (row.unpaired, 1.2, "dawdling alone, unpaired"), (row.paired, 4.0, "dawdling alone, paired")
 
 
 def doubts(study: Study, name: str, outcomes: Sequence[Outcome]) -> Iterator[str]:
@@ -90,10 +98,13 @@ def tell_differences(rows: Sequence[VariantDifference]) -> None:
         print(line)
 
 
-def tell_departures(study: Study) -> None:
-    """Prints of what days the intervals are, where there are several seeds."""
+def tell_how_sure(study: Study) -> None:
+    """Prints of what days the intervals are, where there are several seeds, and, where variants are compared, the
+    model's own error."""
     if len(study.seeds) > 1:
         print(*told_of_days(study.drawn, len(study.seeds)), sep="\n")
+    if len(study.variants) > 1:
+        print(*error_lines(), sep="\n")
 
 
 def tell_giving_way(results: Mapping[str, Sequence[Outcome]]) -> None:

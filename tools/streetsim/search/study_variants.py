@@ -30,7 +30,7 @@ from streetsim.model.runs import Run, with_load
 from streetsim.search.route_studied import Wished, run_on_found_ways
 from streetsim.search.run_giving_way import giving_session
 from streetsim.search.run_prepared import PreparedRun
-from streetsim.search.signal_lines import LightLines, read_plans
+from streetsim.search.signal_lines import LightLines, full_lanes_under, read_plans
 from streetsim.search.signal_plans import light_and_timing
 from streetsim.search.signal_town import Reading, lights_of, read_run_and_map
 from streetsim.sumo.constraints import broken_in
@@ -209,10 +209,10 @@ def read_variant(
     told += [*lights.notes(), *buses.notes()]
     print(*(f"{where}: {text}" for text in told), sep="\n", end="\n" if told else "", file=sys.stderr)
     nodes: frozenset[int] = frozenset()
-    signals, sensing = b"", lights.listed_lights(mapping)
+    signals, sensing, full = b"", lights.listed_lights(mapping), None
     if "plans" in variant:
         plans = list(map(beside, variant["plans"]))
-        signals, sensing = signals_of(Reading(run_path, map_path, plans, until, simulator, 0, ()), run, mapping)
+        signals, sensing, full = signals_of(Reading(run_path, map_path, plans, until, simulator, 0, ()), run, mapping)
         nodes = frozenset(node for _, node in mapping.signals)
     merging = variant.get("merge", study.get("merge")) != "none"
     settings = Settings(until, open_end=not ends, merging=merging, lights=lights, buses=buses)
@@ -224,7 +224,7 @@ def read_variant(
         due.append(trust.free_arrivals(own, names))
     doubts = [*found, *trust.length_doubts(until, run, mapping), *trust.actuated_doubts(until, run, mapping, sensing)]
     begins = [(one.lane, one.begin) for one in works]
-    return Variant(sessions, signals, due, doubts, begins, loaded_lanes(mapping))
+    return Variant(sessions, signals, due, doubts, begins, loaded_lanes(mapping, full))
 
 
 def replications(run: Run, mapping: Map, study: Json, path: str) -> Iterator[tuple[Run, Map]]:
@@ -293,9 +293,10 @@ def check_priority(where: str, value: Json) -> None:
         raise Fault(f"{where}: priority and plans: lights that wait for buses do not show plans")
 
 
-def signals_of(asked: Reading, run: Run, mapping: Map) -> tuple[bytes, list[str]]:
-    """(signal lines of all lights under a variant's plans; names of those that SUMO times by detectors). asked: the
-    paths; run, mapping: read of these. Fault where a plan cannot be read, or none has a program for a light."""
+def signals_of(asked: Reading, run: Run, mapping: Map) -> tuple[bytes, list[str], list[FullLane]]:
+    """(signal lines of all lights under a variant's plans; names of those that SUMO times by detectors; lanes that are
+    nearly full at lights under these plans). asked: the paths; run, mapping: read of these. Fault where a plan cannot
+    be read, or none has a program for a light."""
     net = read_plans(asked.plans, mapping)
     found = {name: light_and_timing(name, net.programs[name]) for name in lights_of(asked, mapping, net)}
     kept = ((name, net.programs[name], light.constraints) for name, (light, _) in found.items())
@@ -303,4 +304,4 @@ def signals_of(asked: Reading, run: Run, mapping: Map) -> tuple[bytes, list[str]
     print(*(f"{asked.plans[-1]}: {text}" for text in broken), sep="\n", end="\n" if broken else "", file=sys.stderr)
     plan = {name: timing for name, (_, timing) in found.items()}
     lines = LightLines(net, run, mapping).signal_lines(plan, {name: light for name, (light, _) in found.items()})
-    return lines, lights_not_static(net, found)
+    return lines, lights_not_static(net, found), full_lanes_under(net, run, mapping)

@@ -60,7 +60,7 @@ def converted(
     days = days_of(net, options.begin, last, report)
     paces = Paces(vehicles, types.drivings, lambda name: types.class_kept(name, options.classes))
     network = Network(net, options, report, flows, paces)
-    found = movements(net, network, flows)
+    found = movements(net, {link.edge: link.limit for link in network.links}, flows)
     network.equivalents = equivalents(one for junction in found.values() for one in junction.values())
     entered, driven = enters(vehicles, net, network, types, report)
     network.kinds = kinds_of(driven, types)

@@ -4,6 +4,7 @@ from collections import Counter, defaultdict
 from collections.abc import Collection, Iterable, Iterator, Mapping, Sequence
 from dataclasses import replace
 from itertools import chain, groupby, pairwise
+from typing import Protocol
 
 from streetsim.model.fullness import LEFT, MERGING, RIGHT, STRAIGHT, TURNAROUND, FullLane, Fullness
 from streetsim.sumo.crossing import CrossingMovement, EdgePair, Flows, hourly_flows
@@ -25,26 +26,62 @@ Movements = Mapping[str, Mapping[int, CrossingMovement]]  # by junction and requ
 Found = tuple[FullLane, Collection[EdgePair]]  # and the edge pairs of those who pass it
 
 
+class OnWay(Protocol):
+    """A vehicle of a demand, or of a run."""
+
+    @property
+    def edges(self) -> Sequence[str]:
+        """Its way."""
+
+    @property
+    def depart(self) -> float:
+        """When it departs, seconds."""
+
+
 def fullness(
     net: SumoNet, network: Network, vehicles: Sequence[DemandVehicle], merges: Sequence[Merge], whole: Movements
 ) -> Fullness:
     """The nearly full lanes of a demand, by its flows and by those of each quarter of an hour in which more than
     LEAST_PART of the vehicles depart. The flow of an edge is split evenly over the lanes that lead on, as vehicles of
     SUMO do not see who turns ahead. whole: the movements by the flows of the whole demand."""
-    ways = {(one.source, one.target): WAYS.get(one.direction.lower(), STRAIGHT) for one in net.connections}
+    ways, limits_of = ways_of(net), {link.edge: link.limit for link in network.links}
     worst: dict[str, Found] = {}
-    parts = ((flows, movements(net, network, flows)) for flows in flows_of_parts(vehicles))
+    parts = ((flows, movements(net, limits_of, flows)) for flows in flows_of_parts(vehicles))
     for flows, found in chain([(hourly_flows(vehicles), whole)], parts):
-        at_lights = (full_at_light(name, own.values(), ways) for name, own in found.items())
-        for one, pairs in chain(*at_lights, full_merges(merges, flows)):
-            if one.lane not in worst or worst[one.lane][0].demand < one.demand:
-                worst[one.lane] = one, pairs
+        note_worst(worst, chain(full_at_lights(found, ways), full_merges(merges, flows)))
     return counted(worst, vehicles)
 
 
-def flows_of_parts(vehicles: Sequence[DemandVehicle]) -> Iterator[Flows]:
+def full_lanes_at_lights(net: SumoNet, vehicles: Sequence[OnWay], limits_of: Mapping[str, int]) -> list[FullLane]:
+    """The nearly full lanes at lights under the programs of a network, as `fullness` finds them. limits_of: cells a
+    step, by edge."""
+    ways, worst = ways_of(net), dict[str, Found]()
+    for flows in chain([hourly_flows(vehicles)], flows_of_parts(vehicles)):
+        note_worst(worst, full_at_lights(movements(net, limits_of, flows), ways))
+    return [one for one, _ in worst.values()]
+
+
+def ways_of(net: SumoNet) -> dict[EdgePair, str]:
+    """How one turns, by edge pair."""
+    return {(one.source, one.target): WAYS.get(one.direction.lower(), STRAIGHT) for one in net.connections}
+
+
+def note_worst(worst: dict[str, Found], found: Iterable[Found]) -> None:
+    """Keeps of each lane what is fullest of what was known and what was found."""
+    for one, pairs in found:
+        if one.lane not in worst or worst[one.lane][0].demand < one.demand:
+            worst[one.lane] = one, pairs
+
+
+def full_at_lights(found: Movements, ways: Mapping[EdgePair, str]) -> Iterator[Found]:
+    """The nearly full lanes of all junctions with lights."""
+    for name, own in found.items():
+        yield from full_at_light(name, own.values(), ways)
+
+
+def flows_of_parts(vehicles: Sequence[OnWay]) -> Iterator[Flows]:
     """The flows of the parts of a demand that are looked at alone, beside the whole."""
-    parts: defaultdict[int, list[DemandVehicle]] = defaultdict(list)
+    parts: defaultdict[int, list[OnWay]] = defaultdict(list)
     for vehicle in vehicles:
         parts[int(vehicle.depart // PART)].append(vehicle)
     if len(parts) > 1:

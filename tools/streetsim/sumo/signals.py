@@ -70,11 +70,14 @@ class LitNode:
         return made
 
 
-def movements(net: SumoNet, network: Network, flows: Flows) -> dict[str, dict[int, CrossingMovement]]:
+def movements(
+    net: SumoNet, limits_of: Mapping[str, int], flows: Flows
+) -> dict[str, dict[int, CrossingMovement]]:
     """The connections of each junction with a light over its cycle, {junction: {request: movement}}, with the seconds
     that are shown (settle); empty without flows, and without the junctions for which movements_of_junction gives none.
-    flows: vehicles an hour by (edge, next edge). Fault where each_second or check_states raises one."""
-    limits_of, at_junction = {link.edge: link.limit for link in network.links}, connections_of(net) if flows else {}
+    limits_of: cells a step, by edge; flows: vehicles an hour by (edge, next edge). Fault where each_second or
+    check_states raises one."""
+    at_junction = connections_of(net) if flows else {}
     found = {name: movements_of_junction(name, own, net, flows, limits_of) for name, own in at_junction.items()}
     return {junction: own for junction, own in found.items() if own}
 
