@@ -3,6 +3,7 @@ import contextlib
 import csv
 import re
 from collections.abc import Callable, Iterable, Iterator, Sequence
+from functools import lru_cache
 from math import isfinite
 from typing import Any
 
@@ -66,14 +67,20 @@ def open_table(path: FilePath, header: Sequence[str]) -> Iterator[Write]:
 
 
 def guarded_row(row: Iterable[object]) -> list[object]:
-    """A row whose texts no spreadsheet runs: those that it might (RUN) have an apostrophe before them. A carriage
-    return, which would end the row for some readers, becomes a blank."""
-    texts = [cell.replace("\r", " ") if type(cell) is str else cell for cell in row]
-    return [f"'{cell}" if type(cell) is str and RUN.match(cell) else cell for cell in texts]
+    """A row whose texts are guarded."""
+    return [guarded(cell) if type(cell) is str else cell for cell in row]
+
+
+@lru_cache(1 << 14)
+def guarded(cell: str) -> str:
+    """A text that no spreadsheet runs: what it might (RUN) has an apostrophe before it. A carriage return, which would
+    end the row for some readers, becomes a blank. Names come in many rows."""
+    text = cell.replace("\r", " ")
+    return f"'{text}" if RUN.match(text) else text
 
 
 def unguarded(text: str) -> str:
-    """What a text of a table was before `guarded_row`."""
+    """What a text of a table was before it was guarded."""
     return text[1:] if text[:1] == "'" and RUN.match(text[1:]) else text
 
 
