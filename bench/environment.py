@@ -8,8 +8,8 @@ on the cross of examples/actuated (one light) and on the grid
 of the tests (36 lights). Over SUMO vehicles, \
 standing vehicles and waiting times of the lanes before each light are subscribed to, which is
 the least that it can cost; what a step gives is made of the same figures. \
-Processor seconds of all processes count, so that other work on
-the machine changes little; the load is printed beside.
+Processor seconds of all processes count. The three ways take \
+turns, and medians count, as other work on the machine changes all of them; the load is printed beside.
 """
 import argparse
 import os
@@ -20,6 +20,7 @@ from collections.abc import Iterator
 from contextlib import contextmanager
 from functools import partial
 from pathlib import Path
+from statistics import median
 
 from shared import SAMPLES, SUMO_HOME, TOP
 
@@ -129,7 +130,7 @@ def processor_of_children() -> float:
 def main() -> None:
     parser = argparse.ArgumentParser(description=__doc__, formatter_class=argparse.RawDescriptionHelpFormatter)
     parser.add_argument("--seconds", type=int, default=1800)
-    parser.add_argument("--times", type=int, default=3, help="of which the fastest counts")
+    parser.add_argument("--times", type=int, default=5, help="of which the median counts")
     words = parser.parse_args()
     print("| Network | steps a processor second over libsumo | over SUMO's traci | here | here by libsumo | load |")
     print("|---|---|---|---|---|---|")
@@ -137,9 +138,10 @@ def main() -> None:
         given = ["-n", str(net), "-r", str(routes), "--seed", "1"]
         begin = time.time()
         ways = partial(over, libsumo), partial(over, sumo_traci), here
-        rates = [max(measure(opened, given, words.seconds) for _ in range(words.times)) for opened in ways]
-        told = " | ".join(f"{rate:.0f}" for rate in rates)
-        print(f"| {name} | {told} | {rates[2] / rates[0]:.2f} | {os.getloadavg()[0]:.1f} |", flush=True)
+        found = [[measure(opened, given, words.seconds) for opened in ways] for _ in range(words.times)]
+        told = " | ".join(f"{median(rates):.0f}" for rates in zip(*found, strict=True))
+        share = median(own / theirs for theirs, _, own in found)
+        print(f"| {name} | {told} | {share:.2f} | {os.getloadavg()[0]:.1f} |", flush=True)
         print(f"({time.time() - begin:.0f} s)", file=sys.stderr)
 
 

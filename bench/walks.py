@@ -4,14 +4,15 @@ what was made: streetsim-check must say of each page of streetsim-report, sealed
 study that it is that of the runs.
 
 Usage: bench/walks.py PROGRAM --work FOLDER [--only README,WORKS,SIGNALS,ROUTES,COUNTS]
+       bench/walks.py --installed --work FOLDER [--only ..]
 
-The commands of a page's sections are run in one folder, in the page's order and with the tools as they are here; \
-of the text that
-a page shows right after a command each line must be printed, in that order ('..' stands for any line, \
-and within one for any
-text). It needs Debian's sumo. The status is 1 where a line is lacking, a command fails, or a check says other.
+The commands of a page's sections are run in one folder, in the page's order and with the tools as they are here, or \
+with those that are installed; of the text that a page shows right after a command each line must be printed, in that \
+order ('..' stands for any line, and within one for any text). It needs Debian's sumo. The status is 1 where a line is \
+lacking, a command fails, or a check says other.
 """
 
+import argparse
 import json
 import os
 import re
@@ -22,14 +23,20 @@ import time
 import shared
 from shared import CORRIDOR, TOP
 
-SECTIONS = {  # of pages: the headings of their walks
+FIRST = ""  # what stands before the first heading of a page
+SECTIONS = {  # of pages of tools/: the headings of their walks
+    "../README": ("Quick start",),
     "README": ("A walk of ten minutes",),
     "WORKS": ("A walk of two minutes",),
+    "ACTUATED": (FIRST,),
+    "BUSES": (FIRST, "Lights that wait for buses"),
     "SIGNALS": ("A walk of two minutes", "Plans by time of day", "A study"),
     "ROUTES": ("A walk of two minutes",),
     "COUNTS": ("A walk of five commands",),
+    "CALIBRATION": ("A walk",),
 }
-INSTALLING = "mkdir "  # a block with it is left out: the tools are run as they are here, in the folder of this call
+INSTALLING = "mkdir "  # a block with it is left out: all is run in the folder of this call
+APT = "apt install "  # a line with it is left out: the tools are there
 EXAMPLES = ("corridor", "town")  # whose files the walks take
 EQUAL = re.compile(r"each of the [\d,]+ numbers (on the page|in [\d,]+ files) is that of a run")
 
@@ -37,12 +44,14 @@ EQUAL = re.compile(r"each of the [\d,]+ numbers (on the page|in [\d,]+ files) is
 def blocks(page, heading):
     """The commands of a section, each with the lines that are shown after it."""
     text = (TOP / f"tools/{page}.md").read_text(encoding="utf-8")
-    found = re.search(rf"^## {re.escape(heading)}$(.*?)(?=^## |\Z)", text, re.MULTILINE | re.DOTALL)
+    begin = rf"^## {re.escape(heading)}$" if heading else r"\A"
+    found = re.search(rf"{begin}(.*?)(?=^## |\Z)", text, re.MULTILINE | re.DOTALL)
     if not found:
         raise SystemExit(f"{page}.md: no section {heading!r}")
     for body, shown in re.findall(r"^```sh\n(.*?)^```\n(?:\n```text\n(.*?)^```$)?", found[1], re.MULTILINE | re.DOTALL):
         if INSTALLING not in body:
-            yield body, shown.splitlines()
+            lines = [line for line in body.splitlines() if not line.startswith(APT)]
+            yield "\n".join(lines), shown.splitlines()
 
 
 def lacking(shown, printed):
@@ -81,6 +90,14 @@ def walk(page, heading, runs):
     return wrong
 
 
+def surroundings_of(args):
+    """The variables with which commands run: this environment's and the tools here, or the installed ones alone."""
+    if args.installed:
+        return {name: value for name, value in os.environ.items() if not name.startswith(("STREETSIM", "SUMO_HOME"))}
+    path = f"{TOP / 'tools'}:{os.environ['PATH']}"
+    return {**shared.with_sumo(), "PATH": path, "STREETSIM_PROGRAM": args.program}
+
+
 def to_check(folder, bodies, begin):
     """The commands that check what the commands of a page made since a moment: of each page of streetsim-report, which
     is made again with a seal where it has none, and of each folder of a run or a study."""
@@ -107,16 +124,17 @@ def checked(page, folder, runs, begin):
 
 
 def main():
-    parser = shared.parser_of(__doc__)
+    parser = argparse.ArgumentParser(description=__doc__, formatter_class=argparse.RawTextHelpFormatter)
+    parser.add_argument("program", nargs="?")
+    parser.add_argument("--installed", action="store_true", help="run the installed commands, in place of these")
     parser.add_argument("--work", required=True, help="a folder for what is made")
     parser.add_argument("--only", default=",".join(SECTIONS), help="names of pages, with commas between")
     args = parser.parse_args()
+    if bool(args.program) == args.installed:
+        parser.error("PROGRAM, or --installed")
+    args.program = args.program or ""
     folder = shared.work_of(args)
-    surroundings = {
-        **shared.with_sumo(),
-        "PATH": f"{TOP / 'tools'}:{os.environ['PATH']}",
-        "STREETSIM_PROGRAM": args.program,
-    }
+    surroundings = surroundings_of(args)
     for name in EXAMPLES:
         for path in (CORRIDOR.parent / name).iterdir():
             (folder / path.name).unlink(missing_ok=True)

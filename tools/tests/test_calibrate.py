@@ -117,7 +117,7 @@ class Slips(Case):
             (["--times", times], "the demand: give --counts, of which it is made, or --routes"),
             (["--times", times, *counts, "--validate", times], "--validate: the counts, the times, and maybe"),
             (["--times", times, *counts, "--free", "speed,colour"], "--free: 'colour' is none of dawdle, speed, lost"),
-            (["--times", times, *counts, "--check", "2-4"], "--seeds 1-2 and --check 2-4 overlap"),
+            (["--times", times, *counts, "--check", "2-4"], "--seeds 1-2 and --check-seeds 2-4 overlap"),
         ):
             with self.subTest(told=told):
                 self.assertIn(told, self.fault([net, *words]))

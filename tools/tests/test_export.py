@@ -197,8 +197,8 @@ class Maps(Given):
 
     def test_faults(self):
         for words, told in (
-            (("--what", "delay", "--begin", 5), "--begin 5: no interval begins there, of 0, 1800"),
-            (("--begin", 0), "--begin: the map of density is of all polls"),
+            (("--what", "delay", "--begin", 5), "--interval 5: no interval begins there, of 0, 1800"),
+            (("--begin", 0), "--interval: the map of density is of all polls"),
         ):
             with self.subTest(told):
                 self.assertIn(

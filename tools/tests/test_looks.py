@@ -82,7 +82,8 @@ class Colours(unittest.TestCase):
         words = json.loads(re.search(r"SPEED_WORDS = (\[.*?\])", text)[1])
         self.assertEqual((*told,), colours.SPEEDS)
         self.assertEqual([(word, colour) for _, word, colour, _ in SPEEDS], [*zip(words, told)])
-        self.assertIn(f'GREEN = "{colours.GREEN}", RED = "{colours.RED}"', text)
+        for shown in (f'green: "{colours.GREEN}"', f'red: "{colours.RED}"'):
+            self.assertIn(shown, text)
 
     def test_who_sees_no_red_and_green(self):
         """Colours of one class differ in brightness, or what they show differs in its shape: speeds in width, lights

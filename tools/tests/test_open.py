@@ -92,6 +92,7 @@ class Open(Case):
         ):
             self.assertEqual(text.count(part), 1, part)
         self.commands_are_taken(text, commands)
+        self.works_end_well(text)
         self.opens("corridor-run", "-o", "again.html")
         self.assertIn('id="verdict"', self.page("again.html"))
         self.opens("corridor.jsonl", "--until", 60, "-o", "run.html")
@@ -107,6 +108,17 @@ class Open(Case):
             with self.subTest(line):
                 name, *words = shlex.split(line)
                 known[name].parse_args(words)
+
+    def works_end_well(self, text):
+        """The works that the page advises to try leave a lane open, and what leads to it."""
+        [line] = [html.unescape(one) for one in re.findall(r"<code>(.*?)</code>", text) if " --close " in one]
+        _, *words = shlex.split(line)
+        done = subprocess.run(
+            [TOOLS / "streetsim-run", *words, "--until", "1200"], cwd=self.folder, capture_output=True, text=True,
+            check=True, env={**os.environ, "STREETSIM_PROGRAM": PROGRAM},
+        )  # fmt: skip
+        self.assertNotIn("not to be trusted", done.stdout)
+        self.assertGreater(int((self.folder / "works/works.csv").read_text().splitlines()[1].split(",")[6]), 0)
 
     @needs_simulator
     def test_a_folder_with_a_configuration(self):

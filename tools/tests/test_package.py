@@ -20,7 +20,7 @@ from importlib.util import find_spec
 from pathlib import Path
 from unittest.mock import patch
 
-from support import QUICK, TOOLS, Case, needs_package, shown_run
+from support import QUICK, TOOLS, Case, needs_package, needs_sumo, shown_run
 from test_gate import PASSED, WELL, GateCase
 from test_install import PIP
 
@@ -260,6 +260,19 @@ class Packed(Case):
                 words = ["zero.jsonl", "--map", "map.json", "--until", 4500, "--out", "zero"]
                 told = self.do([prefix / "bin/streetsim-run", *words], folder, **more)
                 self.assertEqual(told, shown_run())
+
+    @needs_sumo
+    @needs_package("python3-matplotlib", find_spec("matplotlib"))
+    def test_walks_print_what_their_pages_show(self):
+        """README's begin by Debian's package, and that with the tools' walk by the wheel, by nothing but the commands
+        that are installed."""
+        packages = {"PYTHONPATH": str(self.usr / "lib/python3/dist-packages")}
+        for prefix, pages, more in ((self.usr, "../README", packages), (self.venv, "../README,README", {})):
+            with self.subTest(prefix.name):
+                path = f"{prefix / 'bin'}:/usr/bin:/bin"
+                words = ["/usr/bin/python3", TOP / "bench/walks.py", "--installed", "--only", pages]
+                told = self.do([*words, "--work", self.folder / prefix.name], PATH=path, SUMO_HOME="", **more)
+                self.assertIn("each walk prints what its page says", told)
 
     def test_a_file_that_may_not_grow_is_a_failed_write(self):
         with (self.folder / "out").open("w") as output:

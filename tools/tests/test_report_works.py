@@ -50,8 +50,8 @@ class Works(Given):
         self.assertEqual(point_along([(0, 0), (75, 0)], 1 / 3), (25, 0))
         self.assertEqual(point_along([(0, 0), (0, 10), (30, 10)], 0.5), (10, 10))
         runs = read_runs(str(self.folder / "after"))
-        self.assertEqual(closed_shapes(runs), [closed_shape(runs.first.mapping, ("a", "0", "30.0", "60.0"))])
-        begin, _, end = closed_shapes(runs)[0]
+        self.assertEqual(closed_shapes(runs), [("a", closed_shape(runs.first.mapping, ("a", "0", "30.0", "60.0")))])
+        [(_, (begin, _, end))] = closed_shapes(runs)
         self.assertEqual((round(begin[0]), round(end[0])), (30, 60))
 
     def test_queues_over_time(self):

@@ -348,7 +348,7 @@ class Pages(Given):
         for words, told in (
             ((plans[0],), "no movements.csv: a report needs streetsim-run --junctions"),
             ((self.folder / "no",), "no folder that streetsim-run wrote"),
-            ((plans[1], "--begin", "5"), "--begin 5: no interval begins there, of 0, 900"),
+            ((plans[1], "--begin", "5"), "--interval 5: no interval begins there, of 0, 900"),
             ((plans[1],) * 3, "a report is of one run, or of two"),
             ((plans[1], "--short", "--detail", 0), "--detail is of the appendix, which --short leaves out"),
             ((plans[1], "--last", 0), "--last is of the corridor's picture: give --corridor too"),

@@ -490,7 +490,7 @@ class Equilibria(Commands):
         )
         self.assertRegex(said, r"0: mean trip [\d.]+ s, gap [\d.]+ %, \d+ of 720 change, 0 rescues\n")
         setting = json.loads((self.folder / "out/setting.json").read_text())
-        self.assertEqual((setting["arrived"], setting["check"]), (720, "101-103"))
+        self.assertEqual((setting["arrived"], setting["check_seeds"]), (720, "101-103"))
         means = [float(row["mean_trip_s"]) for row in self.table("check.csv")]
         self.assertAlmostEqual(setting["mean_trip_s"], sum(means) / 3, delta=0.01)
         counted = sum(
@@ -747,7 +747,7 @@ class BadInput(Commands):
         self.given(two_ways(), flow(10, 60))
         for words, told in (
             (("--run", self.folder / "run.jsonl"), "--run and --map are given together or not at all"),
-            (("--seeds", "100-102"), "--seeds 100-102 and --check 101-103 overlap"),
+            (("--seeds", "100-102"), "--seeds 100-102 and --check-seeds 101-103 overlap"),
             (("--until", 20), "--until 20: the last trip departs at 54 s"),
             (("--program", self.folder / "none"), "none: no program that can be run"),
             (("--classes", "tank"), "SUMO has no vehicle class 'tank'"),

@@ -177,7 +177,7 @@ DIGITS = {
     "the map: a line's second point": section("map") + r'points="[^" ]* (\d)',
     "the map: a line's width": section("map") + r'stroke-width="(\d)',
     "the map: a colour": section("map") + r'stroke="#[a-f]+(\d)',
-    "the map: a mark's place": section("map") + r'cx="(\d)',
+    "the map: a mark's place": section("map") + r"translate\((\d)",
     "the map: a mark's text": section("map") + r"Junction J\d: (\d)",
     "the map: a change": section("map") + r"<polygon.*?<title>[+-](\d)",
     "how many trips": section("costs") + r"Of (\d)",

@@ -334,7 +334,7 @@ class Tool(Searching):
 
     def test_tables(self):
         self.small()
-        told, _ = self.search("--budget", 60, "--check", "101-103", "--keep", "J2 J3", "--cycle", "40-70", until=1500)
+        told, _ = self.search("--budget", 60, "--check", "101-103", "--fixed", "J2 J3", "--cycle", "40-70", until=1500)
         self.assertRegex(
             told, r"mean trip [\d.]+ s as given, [\d.]+ s as found: -[\d.]+ s ± [\d.]+ \(95 % interval, 3 seeds"
         )
@@ -380,19 +380,19 @@ class Tool(Searching):
         self.small()
         other = self.write("other.net.xml", net([("a", "A", "B", [lane("a", 0)])], []))
         for words, told in (
-            (["--keep", "J1 J9"], "--keep: the map has no light 'J9'"),
+            (["--fixed", "J1 J9"], "--fixed: the map has no light 'J9'"),
             (["--cycle", "5-15"], "--cycle 5-15: no light can keep such a cycle"),
             (["--cycle", "90-60"], "--cycle '90-60': expected S-S, rising"),
             (["--budget", 0], "--budget 0: one plan takes 1 simulations"),
             (["--seeds", "1-4", "--budget", 3], "--budget 3: one plan takes 4 simulations"),
-            (["--seeds", "1-4", "--check", "4-8"], "--seeds 1-4 and --check 4-8 overlap"),
-            (["--check", "4"], "--check 4: an interval needs two seeds at least"),
-            (["--change", "offset"], "--change: 'offset' is none of offsets, splits, cycle"),
-            (["--cycle", "60-90", "--change", "offsets"], "--change offsets leaves the cycles as they are"),
+            (["--seeds", "1-4", "--check", "4-8"], "--seeds 1-4 and --check-seeds 4-8 overlap"),
+            (["--check", "4"], "--check-seeds 4: an interval needs two seeds at least"),
+            (["--change", "offset"], "--vary: 'offset' is none of offsets, splits, cycle"),
+            (["--cycle", "60-90", "--change", "offsets"], "--vary offsets leaves the cycles as they are"),
             (["--last", 900], "--last is of the pictures: give --edges too"),
             (["--bounds", "--first", 9], "--first is of the pictures: give --edges too"),
             (["--bounds", "--edges", "WJ1"], "--edges draws plans of seconds, and --bounds finds none"),
-            (["--keep", "J1 J2 J3 J4 J5"], "no light whose plan may be changed"),
+            (["--fixed", "J1 J2 J3 J4 J5"], "no light whose plan may be changed"),
             (["--plans", other], "no program of light 'J1'"),
             (["--until", 0], "'0' is not 1 to"),
             (["--edges", "WJ1 J2J3"], "--edges: no turn leads from 'WJ1' to 'J2J3'"),

@@ -1,11 +1,16 @@
-"""How the commands begin: what Ctrl-C does while Python still reads their modules."""
+"""How the commands begin: what Ctrl-C and SIGTERM do while Python still reads their modules, and where a library takes
+their exceptions for its own."""
 import os
 import signal
 import subprocess
 import unittest
+from contextlib import redirect_stderr
+from io import StringIO
 
 from support import TOOLS, Case
 from test_install import COMMANDS
+
+from streetsim.base.files import ASKED, interrupt, status_of
 
 # In the place of a module that all commands read: it says that it is read, and waits.
 SLOW = """import time
@@ -27,12 +32,14 @@ class Starting(Case):
         self.assertEqual(command.stdout.readline(), "reading\n")
         return command
 
-    def test_an_interrupt_ends_each_command_in_silence(self):
+    def test_a_signal_ends_each_command_with_one_line(self):
         for name in COMMANDS:
-            with self.subTest(name):
-                command = self.begun(name, 600, preexec_fn=lambda: signal.signal(signal.SIGINT, signal.SIG_DFL))
-                command.send_signal(signal.SIGINT)
-                self.assertEqual((*command.communicate(timeout=60), command.returncode), ("", "", 130))
+            for number, called in ((signal.SIGINT, "Ctrl-C"), (signal.SIGTERM, "SIGTERM")):
+                with self.subTest(name, signal=called):
+                    command = self.begun(name, 600, preexec_fn=lambda: signal.signal(signal.SIGINT, signal.SIG_DFL))
+                    command.send_signal(number)
+                    told = f"streetsim-{name}: ended by {called}: nothing was written\n"
+                    self.assertEqual((*command.communicate(timeout=60), command.returncode), ("", told, 128 + number))
 
     def test_a_command_in_the_background_hears_none(self):
         command = self.begun("compare", 0.5, preexec_fn=lambda: signal.signal(signal.SIGINT, signal.SIG_IGN))
@@ -40,6 +47,33 @@ class Starting(Case):
         said = command.communicate(timeout=60)[1]
         self.assertEqual(command.returncode, 2, said)
         self.assertIn("streetsim-compare: the following arguments are required", said)
+
+    def test_what_nohup_began_hears_no_hangup(self):
+        command = self.begun("compare", 0.5, preexec_fn=lambda: signal.signal(signal.SIGHUP, signal.SIG_IGN))
+        command.send_signal(signal.SIGHUP)
+        command.communicate(timeout=60)
+        self.assertEqual(command.returncode, 2)
+
+
+class Asked(Case):
+    def test_a_fault_that_a_signal_brought_about_is_told_as_its_end(self):
+        """As matplotlib has it, which takes what is raised in it for a wrong setting."""
+
+        def main(_):
+            try:
+                signal.raise_signal(signal.SIGINT)
+            except BaseException:
+                raise ValueError("wrong setting") from None
+
+        before = signal.signal(signal.SIGINT, interrupt)
+        self.addCleanup(signal.signal, signal.SIGINT, before)
+        self.addCleanup(ASKED.clear)
+        with redirect_stderr(StringIO()) as said:
+            self.assertEqual(status_of(main), 130)
+        self.assertIn(": ended by Ctrl-C: nothing was written\n", said.getvalue())
+        ASKED.clear()
+        with self.assertRaisesRegex(ValueError, "wrong"):
+            status_of(lambda _: int("wrong"))
 
 
 if __name__ == "__main__":

@@ -3,7 +3,7 @@ import subprocess
 import sys
 import unittest
 
-from support import PROGRAM, TOOLS, Case, needs_package, needs_simulator, needs_sumo
+from support import PROGRAM, TOOLS, Case, needs_package, needs_simulator, needs_sumo_tools
 
 sys.path.insert(0, str(TOOLS.parent / "bench"))
 import walks  # noqa: E402
@@ -14,8 +14,8 @@ try:
 except ImportError:
     matplotlib = scipy = None
 
-# Those of SIGNALS and ROUTES take minutes: bench/walks.py alone runs them.
-PAGES = "README,WORKS,COUNTS"
+# Those of SIGNALS, ROUTES and CALIBRATION take minutes: bench/walks.py alone runs them.
+PAGES = "../README,README,WORKS,ACTUATED,BUSES,COUNTS"
 
 
 class Ends(unittest.TestCase):
@@ -30,7 +30,7 @@ class Ends(unittest.TestCase):
 
 
 @needs_simulator
-@needs_sumo
+@needs_sumo_tools
 @needs_package("python3-matplotlib", matplotlib)
 @needs_package("python3-scipy", scipy)
 class Walks(Case):

@@ -418,9 +418,19 @@ def uninterrupted() -> Iterator[None]:
         signal.pthread_sigmask(signal.SIG_SETMASK, before)
 
 
+ASKED: list[int] = []  # the signals that asked for an end, where a library takes their exceptions for faults of its own
+
+
 def end_by_signal(number: int, _frame: FrameType | None) -> NoReturn:
     """Handles a signal: ends the tool by SystemExit, with status 128 + number, so that nothing half-written is left."""
+    ASKED.append(number)
     sys.exit(128 + number)
+
+
+def interrupt(number: int, _frame: FrameType | None) -> NoReturn:
+    """Handles Ctrl-C: ends the tool by KeyboardInterrupt, so that nothing half-written is left."""
+    ASKED.append(number)
+    raise KeyboardInterrupt
 
 
 KEPT: list[str] = []  # what is kept, in words, of a tool that a signal ends, beside what was there before
@@ -439,10 +449,14 @@ def tell_ended(name: str) -> None:
 
 def run_tool(main: Main) -> NoReturn:
     """Runs a tool's main function on the words of the command line and ends the process with its status, as status_of
-    has it; SIGTERM and SIGHUP end it as end_by_signal says."""
+    has it; SIGTERM and SIGHUP end it as end_by_signal says, where they are heard. Once all is done no signal counts."""
     for number in (signal.SIGTERM, signal.SIGHUP):
-        signal.signal(number, end_by_signal)
-    sys.exit(status_of(main))
+        if signal.getsignal(number) is not signal.SIG_IGN:
+            signal.signal(number, end_by_signal)
+    status = status_of(main)
+    for number in ENDINGS:
+        signal.signal(number, signal.SIG_IGN)
+    sys.exit(status)
 
 
 def status_of(main: Main) -> int:
@@ -454,23 +468,34 @@ def status_of(main: Main) -> int:
             return main(sys.argv[1:])
         finally:
             sys.stdout.flush()
-    except Fault as fault:
-        tell_fault(fault)
-        return 2
-    except BrokenPipeError:
-        drop_output()
-        return 1
-    except OSError as fault:
-        drop_output()
-        tell_fault(f"{fault.filename or 'standard output'}: {fault.strerror or fault}")
-        return 2
     except KeyboardInterrupt:
         tell_ended("Ctrl-C")
-        return 130
+        return 128 + signal.SIGINT
     except SystemExit as ended:
         if isinstance(ended.code, int) and ended.code in STATUSES:
             tell_ended(STATUSES[ended.code])
         raise
+    except Exception as fault:
+        if ASKED:
+            tell_ended("Ctrl-C" if ASKED[0] == signal.SIGINT else STATUSES[128 + ASKED[0]])
+            return 128 + ASKED[0]
+        return status_of_fault(fault)
+
+
+def status_of_fault(fault: Exception) -> int:
+    """Tells on standard error what went wrong with a tool, and gives its status, as status_of has it; raises what is
+    none of the faults that are told."""
+    if isinstance(fault, Fault):
+        tell_fault(fault)
+        return 2
+    if isinstance(fault, BrokenPipeError):
+        drop_output()
+        return 1
+    if isinstance(fault, OSError):
+        drop_output()
+        tell_fault(f"{fault.filename or 'standard output'}: {fault.strerror or fault}")
+        return 2
+    raise fault
 
 
 def tell_fault(text: object) -> None:

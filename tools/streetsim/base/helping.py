@@ -8,15 +8,15 @@ GROUPS = {  # the words of all commands by what they are of, as their options ar
     "Input": "map routes trips configuration counts zones matrix flows ratios candidates names sumo plans attribute "
     "study before projection times saturation queues validate drivers configuration-file net-file route-files "
     "additional-files",
-    "Output": "output out csv warnings run sumo-output junctions polls along sealed title question short detail sheets "
-    "corridor strict no-open port tripinfo-output summary-output queue-output fcd-output output-prefix log verbose "
-    "no-warnings duration-log.statistics force",
-    "Time": "begin end until every period first last slice what",
+    "Output": "output out csv warnings run sumo-output junctions polls along sealed title question plan-names short "
+    "detail sheets corridor strict no-open port tripinfo-output summary-output queue-output fcd-output output-prefix "
+    "log verbose no-warnings duration-log.statistics force",
+    "Time": "begin end until every period first last interval slice what",
     "Demand": "vehicles ends ways most error",
-    "Seeds and search": "seeds check budget precision rounds runs iterations gap share tried anew bounds cycle least "
-    "reserve verify-sumo free",
+    "Seeds and search": "seeds check-seeds check budget precision rounds runs iterations gap share tried anew bounds "
+    "cycle least reserve verify-sumo free vary",
     "Streets and road works": "close joint lost merge works-limit slow sign knowing edges both rescue",
-    "Lights and buses": "lights priority seen stops",
+    "Lights and buses": "lights fixed priority seen stops",
     "Model": "dawdle change zone seed residence buffer permissive classes turns sizes ignore-route-errors",
     "Program and machine": "program workers jobs cluster keep remote-port num-clients large-files",
 }

@@ -4,7 +4,7 @@ import argparse
 import os
 import re
 import sys
-from collections.abc import Callable, Iterable, Sequence
+from collections.abc import Callable, Iterable, Mapping, Sequence
 from typing import Any, NoReturn
 
 from streetsim import VERSION
@@ -28,11 +28,13 @@ class Parser(argparse.ArgumentParser):
     has groups and examples; and which knows --version. A word with one - before it that is no option by itself (-o) or
     up to a = (-o=FILE) is a value, as many of SUMO's edges begin so."""
 
-    def __init__(self, *args: Any, examples: Sequence[str] = (), **more: Any) -> None:
-        """examples: whole lines of the shell, two at least of a command. All other arguments are those of
-        ArgumentParser."""
+    def __init__(
+        self, *args: Any, examples: Sequence[str] = (), old: Mapping[str, str] | None = None, **more: Any
+    ) -> None:
+        """examples: whole lines of the shell, two at least of a command; old: {word of earlier versions, which is taken
+        and not told: the word that it is now}. All other arguments are those of ArgumentParser."""
         super().__init__(*args, **more)
-        self.examples = examples
+        self.examples, self.old = examples, old or {}
         told = f"{self.prog.partition(' ')[0]} {VERSION}"
         self.add_argument("--version", action="version", version=told, help="print the version and exit")
         self.add_argument("--large-files", action=Lifting, nargs=0, help="read files of any size; see SECURITY.md")
@@ -40,10 +42,15 @@ class Parser(argparse.ArgumentParser):
 
     def parse_known_args(self, args: Any = None, namespace: Any = None) -> Any:
         """As argparse's; Fault for a word without a name in it, as `naming_nothing` tells."""
-        words = sys.argv[1:] if args is None else list(args)
+        words = [self.new_word(word) for word in (sys.argv[1:] if args is None else args)]
         if (told := naming_nothing(words) or self.unknown_in(words)) is not None:
             self.error(told)
-        return super().parse_known_args(args, namespace)
+        return super().parse_known_args(words, namespace)
+
+    def new_word(self, word: str) -> str:
+        """A word as it is now: of earlier versions another one, with its value behind = where it has one there."""
+        name, sign, text = word.partition("=")
+        return self.old[name] + sign + text if name in self.old else word
 
     def unknown_in(self, words: Sequence[str]) -> str | None:
         """What argparse says of the first word with -- before it that this command does not have, which it would say
@@ -167,7 +174,7 @@ def share_of(text: str) -> float:
 def add_run(made: argparse.ArgumentParser) -> None:
     """Adds to a parser the words that name what streetsim-import made: the run file (run) and its map (--map)."""
     made.add_argument("run", metavar="RUN", help="the run that streetsim-import wrote (.jsonl)")
-    made.add_argument("--map", help="its map of names (default: NAME.map.json beside RUN, which is NAME.jsonl)")
+    made.add_argument("--map", help="the map of names, of RUN (default: NAME.map.json beside NAME.jsonl)")
 
 
 def add_names(made: argparse.ArgumentParser) -> None:

@@ -38,7 +38,7 @@ FREE = ("dawdle", "speed", "lost")
 # Words of the import, which go to streetsim-demand too.
 OWN = {
     "net", "additional", "counts", "times", "saturation", "queues", "routes", "validate", "free", "runs", "seeds",
-    "check", "output", "out", "force", "jobs", "rounds", "program",
+    "check_seeds", "output", "out", "force", "jobs", "rounds", "program",
 }
 # All files of its folder.
 WRITTEN = {LAST, "segments.csv", "runs.csv", "report.html", f"{FITTED}.rou.xml", f"{OTHER}.rou.xml"}
@@ -47,7 +47,7 @@ WRITTEN = {LAST, "segments.csv", "runs.csv", "report.html", f"{FITTED}.rou.xml",
 def parser() -> Parser:
     """The parser of the words that streetsim-calibrate takes."""
     made = Parser(
-        prog="streetsim-calibrate",
+        prog="streetsim-calibrate", old={"--check": "--check-seeds"},
         examples=(
             "streetsim-calibrate net.net.xml --counts day1.csv --times times1.csv -o drivers.json --out fit",
             "streetsim-calibrate net.net.xml --counts day1.csv --times times1.csv --saturation survey.csv "
@@ -58,28 +58,32 @@ def parser() -> Parser:
         "where a criterion does not hold there.",
     )
     add_network(made)
-    add_files(made, "--counts", "counts of edges or turns, of which the demand is made (CSV, or SUMO's edgeData)")
+    add_files(made, "--counts", "counts of edges and turns, of which the demand is made (CSV, or SUMO's edgeData)")
     add_files(
         made, "--times",
-        "travel times: CSV with segment (EDGE>EDGE) or from,to, time, mean, sd, n; SUMO's tripinfo or vehroute output",
+        "travel times of segments and routes: CSV with segment (EDGE>EDGE) or from,to, time, mean, sd, n; SUMO's "
+        "tripinfo or vehroute output",
     )
     made.add_argument(
         "--saturation", metavar="FILE",
         help="a survey of full through lanes: CSV with street,flow,vehicles_per_green,green,greens",
     )
     made.add_argument("--queues", metavar="FILE", help="queues, which are judged: CSV with edge,mean_of_cycles,max")
-    add_files(made, "--routes", "the demand of the fitted day, in place of one that is made of its counts")
+    add_files(made, "--routes", "vehicles, flows and routes of the fitted day, in place of one made of its counts")
     made.add_argument(
         "--validate", nargs="+", default=[], metavar="FILE", help="of another day: its counts, times, and maybe queues"
     )
     made.add_argument("--free", default=",".join(FREE), help="what may be fitted (default %(default)s)")
     made.add_argument(
-        "--runs", type=integer_within(2, 10_000), default=60, metavar="N", help="at most (default %(default)s)"
+        "--runs", type=integer_within(2, 10_000), default=60, metavar="N",
+        help="at most so many runs (default %(default)s)",
     )
-    made.add_argument("--seeds", default="1-2", metavar="FIRST-LAST", help="of the fit (default %(default)s)")
-    add_check(made, "101-105", "seeds of the other day")
-    made.add_argument("-o", "--output", required=True, help="the drivers (.json), as --drivers takes them")
-    add_out(made, "the folder for tables and the page (default: NET-drivers, here)")
+    made.add_argument(
+        "--seeds", default="1-2", metavar="SEEDS", help="seeds (1-5, or 1,4,7-9) of the fit (default %(default)s)"
+    )
+    add_check(made, "101-105", "those of the other day")
+    made.add_argument("-o", "--output", required=True, help="the file to write: the drivers, as --drivers takes them")
+    add_out(made, "the folder to write to (default: NET-drivers, here)")
     add_rounds(made)
     add_jobs(made)
     made.add_argument("--program", help=program.HELP)
@@ -119,8 +123,8 @@ def check_words(words: argparse.Namespace) -> None:
         raise Fault("--validate: the counts, the times, and maybe the queues of another day: two or three files")
     if unknown := [name for name in names_in(words.free) if name not in FREE]:
         raise Fault(f"--free: {unknown[0]!r} is none of {', '.join(FREE)}")
-    if {*seeds_of(words.seeds, "--seeds")} & {*seeds_of(words.check, "--check")}:
-        raise Fault(f"--seeds {words.seeds} and --check {words.check} overlap")
+    if {*seeds_of(words.seeds, "--seeds")} & {*seeds_of(words.check_seeds, "--check-seeds")}:
+        raise Fault(f"--seeds {words.seeds} and --check-seeds {words.check_seeds} overlap")
     refuse_unwritable(words.out, {"-o": words.output}, inputs_of(words))
     refuse_foreign(words.out, words.force, [words.output, *WRITTEN])
 
@@ -139,7 +143,7 @@ def calibrated(words: argparse.Namespace, options: list[str], folder: str) -> Ca
     day = field_day(words, net, folder, notes)
     routes = words.routes or [demand_of(words, options, day.counts, folder, FITTED)]
     street = street_runs(words, day, routes)
-    seeds, check = seeds_of(words.seeds, "--seeds"), seeds_of(words.check, "--check")
+    seeds, check = seeds_of(words.seeds, "--seeds"), seeds_of(words.check_seeds, "--check-seeds")
     meanwhile = Meanwhile("runs", words.runs)
 
     def measure(all_: Sequence[FittedDrivers]) -> list[list[MeasuredRun]]:
@@ -162,7 +166,7 @@ def calibrated(words: argparse.Namespace, options: list[str], folder: str) -> Ca
     sums = {path: sum_of_input(path) for path in inputs_of(words)}
     digest = program_digest(words.program) or "unknown"
     shares = options_of(words).shares
-    return Calibration(result, days, words.seeds, words.check, digest, shares, notes, sums)
+    return Calibration(result, days, words.seeds, words.check_seeds, digest, shares, notes, sums)
 
 
 def field_day(words: argparse.Namespace, net: SumoNet, folder: str, notes: list[str]) -> FieldDay:

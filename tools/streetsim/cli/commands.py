@@ -2,27 +2,43 @@
 begin here."""
 import os
 import signal
+import sys
 from functools import partial
 from importlib import import_module
-from typing import NoReturn
+from types import FrameType
+
+TYPE_CHECKING = False  # of what mypy alone reads, as the module typing takes a while
+if TYPE_CHECKING:
+    from typing import NoReturn
+
+ENDINGS = (signal.SIGTERM, signal.SIGHUP)
 
 
-def run_command(module: str, package: str = "cli") -> NoReturn:
-    """Imports a tool's module, by its name in a package, runs it, and ends the process with its status. A Ctrl-C before
-    that ends the command in silence, with status 130: nothing is begun."""
-    # A command that a script has put into the background does not hear interrupts.
+def end_at_once(number: int, _frame: "FrameType | None") -> None:
+    """Handles a signal that comes before anything is begun: ends the command with the line that says so, and with
+    status 128 + number."""
+    name = "Ctrl-C" if number == signal.SIGINT else signal.Signals(number).name
+    os.write(2, f"{os.path.basename(sys.argv[0])}: ended by {name}: nothing was written\n".encode(errors="replace"))
+    os._exit(128 + number)
+
+
+def run_command(module: str, package: str = "cli") -> "NoReturn":
+    """Imports a tool's module, by its name in a package, runs it, and ends the process with its status. A signal that
+    comes before that ends the command as end_at_once says."""
+    # A command that a script has put into the background does not hear interrupts, and one of nohup no SIGHUP.
     hears = signal.getsignal(signal.SIGINT) is signal.default_int_handler
-    if hears:
-        signal.signal(signal.SIGINT, lambda *_: os._exit(130))
-    from streetsim.base.files import run_tool
+    for number in (*ENDINGS, *([signal.SIGINT] if hears else [])):
+        if signal.getsignal(number) is not signal.SIG_IGN:
+            signal.signal(number, end_at_once)
+    from streetsim.base.files import interrupt, run_tool
     from streetsim.cli.defaults import tell_completed
 
     main = import_module(f"streetsim.{package}.{module}").main
 
     def begun(words: list[str]) -> int:
-        """Gives Ctrl-C back to Python, runs the tool, and says where it wrote what no word named; gives its status."""
+        """Takes Ctrl-C over, runs the tool, and says where it wrote what no word named; gives its status."""
         if hears:
-            signal.signal(signal.SIGINT, signal.default_int_handler)
+            signal.signal(signal.SIGINT, interrupt)
         status = main(words)
         tell_completed()
         return status

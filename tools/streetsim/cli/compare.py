@@ -31,13 +31,14 @@ def parser() -> argparse.ArgumentParser:
         ),
         description="Compares a run with SUMO's tripinfo and, if given, edgeData of the same periods; or with counts.",
     )
-    made.add_argument("folder", help="what streetsim-run wrote")
-    add_files(made, "--sumo", "tripinfo.xml, and edgedata.xml made with freq=900 (or the run's period)")
+    made.add_argument("folder", metavar="FOLDER", help="what streetsim-run wrote")
+    files = "tripinfo.xml, and edgedata.xml made with freq=900 (or the run's period)"
+    add_files(made, "--sumo", f"what SUMO wrote of the same demand: {files}")
     add_files(made, "--counts", "counts of edges and turns, as of streetsim-demand; a column group names screen lines")
     times = "travel times of segments and routes, as of streetsim-calibrate; SUMO's tripinfo or edgeData"
     add_files(made, "--times", times)
     add_attribute(made)
-    add_out(made, "the folder for tables and pictures of --counts", is_required=False)
+    add_out(made, "the folder to write to, of tables and pictures of --counts", is_required=False)
     return made
 
 

@@ -33,8 +33,10 @@ def parser() -> Parser:
     add_network(made)
     add_inputs(made)
     add_fit(made)
-    made.add_argument("-o", "--output", help="the vehicles (.rou.xml; default: NET.fitted.rou.xml, here)")
-    add_out(made, "the folder for tables and pictures (default: NET-fitted, here)")
+    made.add_argument(
+        "-o", "--output", help="the file to write: the vehicles (.rou.xml; default: NET.fitted.rou.xml, here)"
+    )
+    add_out(made, "the folder to write to (default: NET-fitted, here)")
     add_made_run(made, "vehicles")
     made.add_argument("--program", help=program.HELP)
     add_options(made)
@@ -44,9 +46,9 @@ def parser() -> Parser:
 def add_inputs(made: argparse.ArgumentParser) -> None:
     """Adds the words that name what a demand is made of: files, and where trips may begin and end."""
     for name, words in (
-        ("counts", "CSV (begin,end,from,to,vehicles; to is empty for an edge), or SUMO's edgeData or edgeRelations"),
-        ("zones", "CSV (zone,edges), or SUMO's TAZ"),
-        ("matrix", "CSV (from,to,vehicles; begin,end), SUMO's O or V format, or tazRelations"),
+        ("counts", "counts of edges and turns: CSV (begin,end,from,to,vehicles; an edge has no to), or SUMO's"),
+        ("zones", "zones of edges: CSV (zone,edges), or SUMO's TAZ"),
+        ("matrix", "vehicles between zones: CSV (from,to,vehicles; begin,end), SUMO's O or V format, or tazRelations"),
         ("flows", "flows with from and without to, which go on by --ratios"),
         ("ratios", "turn ratios, as SUMO's jtrrouter takes them"),
         ("candidates", "files of routes that vehicles may take"),

@@ -21,7 +21,7 @@ def parser() -> Parser:
         description="Puts the files of an example into a folder; without a name, says which examples there are.",
     )
     made.add_argument("name", metavar="NAME", nargs="?", help="the example, such as corridor")
-    made.add_argument("--out", metavar="DIR", help="the folder (default: of the example's name, here)")
+    made.add_argument("--out", metavar="DIR", help="the folder to write to (default: of the example's name, here)")
     return made
 
 

@@ -21,8 +21,8 @@ def parser() -> Parser:
         "v/c and queues by interval, in WGS84: GeoJSON, or a GeoPackage by GDAL's ogr2ogr. "
         "With --seeds means over the seeds.",
     )
-    made.add_argument("run", metavar="RUN", help="a folder that streetsim-run wrote, or one with seeds")
-    made.add_argument("-o", "--output", required=True, help="the file (.geojson, .gpkg)")
+    made.add_argument("run", metavar="FOLDER", help="what streetsim-run wrote, or one with seeds")
+    made.add_argument("-o", "--output", required=True, help="the file to write (.geojson, .gpkg)")
     made.add_argument("--projection", help="of a network that tells none: EPSG:25832, '+proj=utm +zone=32', ..")
     add_names(made)
     return made

@@ -60,8 +60,9 @@ def parser() -> Parser:
         "trips, and flows with from and to: each gets the way that is shortest with the waits at signals and the "
         "volumes so far (better ways: streetsim-route)",
     )
-    made.add_argument("-o", "--output", help="the run: lines of JSON (.jsonl, .jsonl.gz; default: of NET's name, here)")
-    made.add_argument("--map", help="the map of names to write (default: NAME.map.json beside the run NAME.jsonl)")
+    told = "the file to write: the run, as lines of JSON (.jsonl, .jsonl.gz; default: of NET's name, here)"
+    made.add_argument("-o", "--output", help=told)
+    made.add_argument("--map", help="the map of names, which is written (default: NAME.map.json beside NAME.jsonl)")
     add_names(made)
     made.add_argument("--warnings", metavar="FILE", help="a table of all that is said, with all names (.csv)")
     made.add_argument("--strict", action="store_true", help="end with status 1 where vehicles were skipped")
@@ -117,8 +118,8 @@ def add_lanes(made: argparse.ArgumentParser) -> None:
     )
     made.add_argument(
         "--joint", default="", metavar="NAMES",
-        help="edges, or lanes (edge_index), with commas between: links of two lanes also where lanes lead to different "
-        "edges, so that vehicles change between them; for lanes that a program closes later",
+        help="edges or lanes, with commas between, whose links are made joint: of two lanes also where these lead to "
+        "different edges, so that vehicles change between them; for lanes that a program closes later",
     )
 
 

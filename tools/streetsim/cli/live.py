@@ -41,15 +41,15 @@ def parser() -> Parser:
     add_run(made)
     made.add_argument(
         "--joint", default="", metavar="NAMES",
-        help="edges or lanes, with commas between, that are imported anew as joint links, so that they can be closed",
+        help="edges or lanes, with commas between, whose links are made joint, so that they can be closed",
     )
     made.add_argument(
         "--port", type=integer_within(0, 65_535), default=0, help="of the address (default: one that is free)"
     )
-    made.add_argument("--no-open", action="store_true", help="print the address and open no browser")
+    made.add_argument("--no-open", action="store_true", help="start no browser; the address is printed")
     made.add_argument(
         "--keep", metavar="FILE",
-        help="keep the session in FILE and FILE.page, and go on where it was left, whatever ended",
+        help="keep the session in this file, and the page's in FILE.page, and go on where it was left, whatever ended",
     )
     add_departures(made, f"default: {LISTED}")
     add_rescue(made)

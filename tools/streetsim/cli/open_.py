@@ -55,8 +55,8 @@ def parser() -> Parser:
         help="of a network without routes: so many an hour from border to border, invented",
     )
     add_clock(made, "--begin", "the clock at the start", default=None)
-    add_clock(made, "--until", "the clock at the end of the run", least=1)
-    made.add_argument("-o", "--output", metavar="PAGE", help="the page (default: NAME.html, here)")
+    add_clock(made, "--until", "the clock at the end", least=1)
+    made.add_argument("-o", "--output", metavar="PAGE", help="the file to write: the page (default: NAME.html, here)")
     made.add_argument(
         "--live", action="store_true", help="serve the page that runs the simulation instead, until Ctrl-C"
     )

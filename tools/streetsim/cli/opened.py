@@ -26,6 +26,8 @@ from streetsim.report.picture_plots import draw_queues
 from streetsim.report.run_tables import Runs, read_folders, read_runs
 from streetsim.report.timing_sheets import clashes
 
+SEARCH = "(some minutes; Ctrl-C ends it with the best so far; where SUMO is installed --verify-sumo judges by it too)"
+ONLY = "(the only lane of its street: who comes meanwhile waits, as ways round it are found by streetsim-route --close)"
 PLAYED = 600  # seconds that the page plays
 STYLE = "width: 100%; height: min(75vh, 600px); border: 1px solid #555"
 FRAME = f'<iframe title="The vehicles as they drive" style="{STYLE}" srcdoc="{{page}}"></iframe>'
@@ -36,7 +38,7 @@ def write_page(path: str, folder: str, run: str) -> None:
     known. Fault where the folder cannot be read, or the page not be written."""
     try:
         runs = read_runs(folder)
-        shown = interval_of([runs], argparse.Namespace(begin=None))
+        shown = interval_of([runs], argparse.Namespace(interval=None))
         more = list(sections(runs, shown[0], run))
         wishes = PageWishes(runs.name, "", DETAIL, False, clashes(timings_of(runs), runs), first=more)
         text = report_of([runs], shown, wishes)
@@ -97,15 +99,18 @@ def next_told(runs: Runs, run: str) -> str:
     folder = runs.first
     name = run or folder.made.get("run", "RUN.jsonl")
     net = net_of(folder, name)
-    lane, metres = longest_lane(folder)
-    works = f"{lane}:0-{int(min(metres, 100))}:{closing(folder)}"
+    lane, metres, is_only = lane_to_close(folder)
+    works = f"{lane}:{int(metres / 2)}-{int(metres / 2 + min(metres / 4, 100))}:{closing(folder)}"
     own = os.path.normpath(folder.path)
     questions = (
-        ("Would another cycle, other greens or offsets be better?", command("streetsim-signals", name, "--plans", net)),
+        (
+            "Would another cycle, other greens or offsets be better?",
+            command("streetsim-signals", name, "--plans", net) + f"<br>{escape(SEARCH)}",
+        ),
         (
             "What if a lane is closed?",
             command("streetsim-run", name, "--close", works, "--junctions", "900", "--out", "works")
-            + "<br>" + command("streetsim-report", own, "works"),
+            + "<br>" + command("streetsim-report", own, "works") + (f"<br>{escape(ONLY)}" if is_only else ""),
         ),
         ("Does it fit counts?", command("streetsim-compare", own, "--counts", "counts.csv")),
         ("Is it chance? Five other days:", command("streetsim-run", name, "--seeds", "1-5", "--junctions", "900")),
@@ -122,11 +127,16 @@ def net_of(folder: Folder, run: str) -> str:
         return os.path.basename(folder.mapping.sources.get("net", "NET.net.xml"))
 
 
-def longest_lane(folder: Folder) -> tuple[str, float]:
-    """(name, metres) of the longest lane of a run."""
+def lane_to_close(folder: Folder) -> tuple[str, float, bool]:
+    """(name, metres, whether it is the only one of its edge) of a lane of a run that works may close: of the longest
+    edge, one with more lanes and with streets that lead to it where there are such."""
     mapping = folder.mapping
-    link = max(range(len(mapping.links)), key=lambda number: mapping.links[number].metres)
-    return mapping.lane_name(link, 0), mapping.links[link].metres
+    firsts = {edge: mapping.links[links[0]] for edge, links in mapping.links_of.items()}
+    lanes = {edge: sum(len(mapping.links[at].lanes) for at in links) for edge, links in mapping.links_of.items()}
+    come = {(mapping.links[turn.next].edge, mapping.links[turn.link].begin) for turn in mapping.turns}
+    led_to = {edge for edge, begin in come if begin != firsts[edge].end}
+    edge = max(firsts, key=lambda one: (lanes[one] > 1, one in led_to, firsts[one].metres))
+    return f"{edge}_{min(firsts[edge].lanes)}", firsts[edge].metres, lanes[edge] == 1
 
 
 def closing(folder: Folder) -> str:

@@ -24,11 +24,11 @@ def parser() -> Parser:
         "page.html#300,75,0.",
     )
     made.add_argument(
-        "folders", nargs="+", metavar="RUN", help="what streetsim-run wrote; with --every 1 vehicles move smoothly"
+        "folders", nargs="+", metavar="FOLDER", help="what streetsim-run wrote; with --every 1 vehicles move smoothly"
     )
-    made.add_argument("-o", "--output", help="the page (default: RUN.play.html, here)")
-    add_clock(made, "--first", "the first second", default=0)
-    add_clock(made, "--last", "the last second", default=limits.CLOCK)
+    made.add_argument("-o", "--output", help="the file to write: the page (default: FOLDER.play.html, here)")
+    add_clock(made, "--first", "the first second shown", default=0)
+    add_clock(made, "--last", "the last second shown", default=limits.CLOCK)
     return made
 
 

@@ -16,6 +16,11 @@ from streetsim.report.picture_plots import (
 from streetsim.report.picture_works import draw_works
 from streetsim.report.run_tables import read_folders
 
+OLD = {  # words of earlier versions by kind, and what they are now
+    "map": {"--begin": "--interval"}, "greens": {"--lights": "--shown"}, "fundamental": {"--counts": "--stop-lines"},
+}
+
+
 def parser() -> Parser:
     """The parser of the words that streetsim-plot takes: the kind of picture first, and those of the kind."""
     made = Parser(
@@ -29,7 +34,7 @@ def parser() -> Parser:
     kinds = made.add_subparsers(dest="kind", required=True)
     for kind, words in (
         ("corridor", "ways of the vehicles along a path over time, with red signals; run with --every 1"),
-        ("fundamental", "flow over density, at mid-link, of the counts (--counts) or of a ring (--ring)"),
+        ("fundamental", "flow over density, at mid-link, at stop lines (--stop-lines) or of a ring (--ring)"),
         ("map", "the streets by density, delay, level of service, v/c, flow or queue"),
         ("queues", "queues at the stop lines over time"),
         ("works", "queues before road works over time and place"),
@@ -37,10 +42,14 @@ def parser() -> Parser:
         ("arrivals", "departures and arrivals over time"),
     ):
         one = kinds.add_parser(kind, help=words, description=words)
+        one.old = OLD.get(kind, {})
         often = "?" if kind == "fundamental" else None
         # argparse takes None too, which is its default.
-        one.add_argument("folder", nargs=often, help="what streetsim-run wrote")  # type: ignore[arg-type]
-        one.add_argument("-o", "--output", help="the picture (.png, .svg, .pdf; default: FOLDER.KIND.png, here)")
+        told = "what streetsim-run wrote"
+        one.add_argument("folder", nargs=often, metavar="FOLDER", help=told)  # type: ignore[arg-type]
+        one.add_argument(
+            "-o", "--output", help="the file to write: the picture (.png, .svg, .pdf; default: FOLDER.KIND.png, here)"
+        )
         if kind in ("corridor", "fundamental"):
             one.add_argument(
                 "--edges", required=kind == "corridor", default="", help="edges, with spaces or commas between"
@@ -53,19 +62,20 @@ def parser() -> Parser:
             add_diagram(one)
         if kind == "map":
             one.add_argument("--what", choices=picture_maps.WHAT, default="density", help="(default: %(default)s)")
-            add_clock(one, "--begin", "the interval shown (default: the busiest; of density all)")
+            add_clock(one, "--interval", "the interval shown, by its begin (default: the busiest; of density all)")
         if kind == "greens":
             one.add_argument(
-                "--lights", default="", help="those shown, with spaces or commas between (default: the first six)"
+                "--shown", default="", help="lights shown, with spaces or commas between (default: the first six)"
             )
         if kind == "arrivals":
-            one.add_argument("--sumo", metavar="TRIPINFO", help="SUMO's trips of the same demand, drawn beside")
+            told = "what SUMO wrote of the same demand: its trips, drawn beside"
+            one.add_argument("--sumo", metavar="TRIPINFO", help=told)
     return made
 
 
 def add_diagram(made: argparse.ArgumentParser) -> None:
     """Adds the words that say of what flow is drawn over density."""
-    made.add_argument("--counts", action="store_true", help="at the stop lines, by counts.csv")
+    made.add_argument("--stop-lines", action="store_true", help="at the stop lines, by counts.csv")
     made.add_argument(
         "--ring", type=dawdles, metavar="DAWDLES",
         help="measure a ring for these chances of dawdling, of 1,000, with commas between",
@@ -74,7 +84,7 @@ def add_diagram(made: argparse.ArgumentParser) -> None:
         "--limit", type=integer_within(1, limits.LIMIT), default=limits.LIMIT,
         help="of the ring, cells a step (default %(default)s)",
     )
-    made.add_argument("--program", help=f"for the ring: {program.HELP}")
+    made.add_argument("--program", help=f"{program.HELP}, for the ring")
 
 
 def dawdles(text: str) -> list[int]:
@@ -90,10 +100,10 @@ def main(arguments: list[str]) -> int:
     words = parser().parse_args(arguments)
     if words.folder is None and not words.ring:
         raise Fault("fundamental needs a folder or --ring")
-    if words.kind == "fundamental" and words.ring and (words.counts or words.edges or words.folder):
+    if words.kind == "fundamental" and words.ring and (words.stop_lines or words.edges or words.folder):
         raise Fault("--ring goes without a folder, --edges and --counts")
-    if words.kind == "map" and words.what == "density" and words.begin is not None:
-        raise Fault("--begin: the map of density is of all polls; it goes with --what delay, los, vc, flow and queue")
+    if words.kind == "map" and words.what == "density" and words.interval is not None:
+        raise Fault("--interval: the map of density is of all polls; it goes with --what delay, los, vc, flow, queue")
     kind = words.what if words.kind == "map" else words.kind
     complete_outputs(words, output=f"{stem_of(words.folder or 'ring')}.{kind}.png")
     picture_format(words.output)
@@ -108,7 +118,7 @@ def main(arguments: list[str]) -> int:
 def picture_of(pyplot: Pyplot, words: argparse.Namespace) -> Figure:
     """The picture that the words ask for, drawn but not saved. Fault where that cannot be read or drawn."""
     if words.kind == "map" and words.what != "density":
-        return picture_maps.draw_measure(pyplot, words.folder, words.what, words.begin)
+        return picture_maps.draw_measure(pyplot, words.folder, words.what, words.interval)
     if words.kind == "fundamental" and words.ring:
         return draw_ring(pyplot, words.program, words.ring, words.limit)
     folder = read_folder(words.folder)
@@ -117,9 +127,9 @@ def picture_of(pyplot: Pyplot, words: argparse.Namespace) -> Figure:
     if words.kind == "corridor":
         return draw_corridor(pyplot, folder, Corridor(names_in(words.edges), words.first, words.last, words.both))
     if words.kind == "fundamental":
-        return draw_fundamental(pyplot, folder, names_in(words.edges), words.counts)
+        return draw_fundamental(pyplot, folder, names_in(words.edges), words.stop_lines)
     if words.kind == "greens":
-        return draw_greens(pyplot, folder, names_in(words.lights))
+        return draw_greens(pyplot, folder, names_in(words.shown))
     if words.kind == "works":
         return draw_works(pyplot, folder)
     return draw_queues(pyplot, folder) if words.kind == "queues" else draw_arrivals(pyplot, folder, words.sumo)

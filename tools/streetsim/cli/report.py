@@ -31,7 +31,7 @@ from streetsim.report.timing_sheets import Timings, changed, clashes, sheets
 
 ALL = "all"  # --sheets without a value
 # Words that say where a page is and what it is of; plans' names, --names and --counts are sealed beside the words.
-ELSEWHERE = ("runs", "output", "csv", "names", "plans", "sealed", "counts")
+ELSEWHERE = ("runs", "output", "csv", "names", "plan_names", "sealed", "counts")
 DETAIL = 8  # junctions told with all movements
 PICTURE = {"first": 0, "last": 600}  # seconds of the corridor's picture
 
@@ -39,23 +39,24 @@ PICTURE = {"first": 0, "last": 600}  # seconds of the corridor's picture
 def parser() -> Parser:
     """The parser of the words that streetsim-report takes."""
     made = Parser(
-        prog="streetsim-report",
+        prog="streetsim-report", old={"--plans": "--plan-names", "--begin": "--interval"},
         examples=(
             "streetsim-report zero-seeds -o report.html",
-            'streetsim-report zero-seeds wave-seeds --plans "all at once" "green wave" --sealed -o report.html',
+            'streetsim-report zero-seeds wave-seeds --plan-names "all at once" "green wave" --sealed -o report.html',
         ),
         description="Makes one HTML page, without anything from outside, of folders that streetsim-run wrote with "
         "--junctions: first a page for a council with what was asked, a map, the verdict, what it costs whom and what "
         "is doubted; behind it junctions by level of service, queues, before and after, what was run.",
     )
     made.add_argument(
-        "runs", nargs="+", metavar="RUN", help="a folder, or one with seeds; a second one is the plan after it"
+        "runs", nargs="+", metavar="FOLDER",
+        help="what streetsim-run wrote; a second one is the plan after it"
     )
-    made.add_argument("-o", "--output", help="the page (default: RUN.report.html, here)")
+    made.add_argument("-o", "--output", help="the file to write: the page (default: FOLDER.report.html, here)")
     made.add_argument("--title", default="Junction report", help="(default: %(default)s)")
     made.add_argument("--question", default="", metavar="TEXT", help="what was asked, at the head of the page")
     made.add_argument(
-        "--plans", nargs="+", default=[], metavar="NAME", help="what each RUN is called (default: its folder)"
+        "--plan-names", nargs="+", default=[], metavar="NAME", help="what each plan is called (default: its folder)"
     )
     made.add_argument("--short", action="store_true", help="the first page alone, without the appendix")
     made.add_argument(
@@ -71,14 +72,14 @@ def parser() -> Parser:
         help="a signal timing sheet for each of these lights, with commas between (default: all that plans change, or "
         "all of one plan)",
     )
-    add_files(made, "--counts", "counts beside the first RUN, as of streetsim-compare")
+    add_files(made, "--counts", "counts of edges and turns, beside the first plan, as of streetsim-compare")
     add_attribute(made)
     made.add_argument("--csv", metavar="FILE", help="also write all junctions and movements, before and after (.csv)")
-    add_clock(made, "--begin", "the interval shown (default: the busiest)")
+    add_clock(made, "--interval", "the interval shown, by its begin (default: the busiest)")
     add_names(made)
     made.add_argument("--corridor", default="", metavar="EDGES", help="a path to draw, of a run with --every 1 (to 5)")
     for name, default in PICTURE.items():
-        add_clock(made, f"--{name}", f"of the corridor's picture (default {default})")
+        add_clock(made, f"--{name}", f"the {name} second shown, of the corridor's picture (default {default})")
     return made
 
 
@@ -125,8 +126,8 @@ def refuse_clashing_words(words: argparse.Namespace) -> None:
     """Fault for words that do not fit to each other."""
     if len(words.runs) > 2:
         raise Fault("a report is of one run, or of two: before and after")
-    if words.plans and len(words.plans) != len(words.runs):
-        raise Fault(f"--plans: {len(words.plans)} names for {len(words.runs)} runs")
+    if words.plan_names and len(words.plan_names) != len(words.runs):
+        raise Fault(f"--plan-names: {len(words.plan_names)} names for {len(words.runs)} runs")
     if words.attribute and not words.counts:
         raise Fault("--attribute is of --counts: give it too")
     for name in ("corridor", "sheets", "counts", "detail"):
@@ -142,7 +143,7 @@ def read_plans(words: argparse.Namespace) -> list[Runs]:
     drawn departures and the other one listed ones."""
     plans = [read_runs(path) for path in words.runs]
     alike = len({runs.name for runs in plans}) < len(plans)
-    for runs, name in zip(plans, words.plans or (map(os.path.normpath, words.runs) if alike else ())):
+    for runs, name in zip(plans, words.plan_names or (map(os.path.normpath, words.runs) if alike else ())):
         runs.name = name
     if len({runs.is_drawn for runs in plans}) > 1:
         listed, drawn = sorted((runs.is_drawn, runs.name) for runs in plans)
@@ -202,12 +203,12 @@ def interval_of(all_runs: Sequence[Runs], words: argparse.Namespace) -> tuple[in
     common = set(all_runs[0].intervals()).intersection(*(runs.intervals() for runs in all_runs))
     if not common:
         raise Fault("the runs have no interval in common")
-    if words.begin is None:
+    if words.interval is None:
         busiest = all_runs[0].busiest()
         return busiest if busiest in common else min(common)
-    if words.begin not in (found := dict(sorted(common))):
-        raise Fault(f"--begin {words.begin}: no interval begins there, of {', '.join(map(str, found))}")
-    return words.begin, found[words.begin]
+    if words.interval not in (found := dict(sorted(common))):
+        raise Fault(f"--interval {words.interval}: no interval begins there, of {', '.join(map(str, found))}")
+    return words.interval, found[words.interval]
 
 
 def corridor_told(runs: Runs, words: argparse.Namespace) -> str:

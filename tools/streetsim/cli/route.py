@@ -31,15 +31,15 @@ from streetsim.sumo.trips import connected_trips, read_trips
 
 # Words that the setting keeps.
 KEPT = (
-    "net", "additional", "trips", "anew", "slice", "iterations", "gap", "share", "tried", "rounds", "seeds", "check",
-    "priority", "seen",
+    "net", "additional", "trips", "anew", "slice", "iterations", "gap", "share", "tried", "rounds", "seeds",
+    "check_seeds", "priority", "seen",
 )
 
 
 def parser() -> Parser:
     """The parser of the words that streetsim-route takes."""
     made = Parser(
-        prog="streetsim-route",
+        prog="streetsim-route", old={"--check": "--check-seeds"},
         examples=(
             "streetsim-route town.net.xml --trips town.trips.xml -o town.rou.xml --out ways",
             "streetsim-route town.net.xml --trips town.rou.xml --close A_0:0-100:600-1800 -o round.rou.xml --out ways",
@@ -53,9 +53,11 @@ def parser() -> Parser:
         help="trips, flows with from and to, and vehicles, whose routes are first ways (default: the routes of the "
         "configuration)",
     )
-    made.add_argument("-o", "--output", help="the routes found (.rou.xml; default: NET.found.rou.xml, here)")
+    made.add_argument(
+        "-o", "--output", help="the file to write: the routes found (.rou.xml; default: NET.found.rou.xml, here)"
+    )
     add_made_run(made, "routes")
-    add_out(made, "the folder for tables (default: NET-routes, here)")
+    add_out(made, "the folder to write to (default: NET-routes, here)")
     add_search(made)
     add_works(made)
     add_machines(made)
@@ -66,7 +68,7 @@ def parser() -> Parser:
 def add_search(made: argparse.ArgumentParser) -> None:
     """Adds the words that say how routes are searched and judged."""
     made.add_argument("--anew", action="store_true", help="forget the routes that vehicles have")
-    until = f"the clock at the end of a run (default: {AFTER:,} s after the last departure)"
+    until = f"the clock at the end (default: {AFTER:,} s after the last departure)"
     add_clock(made, "--until", until, least=1)
     made.add_argument(
         "--slice", type=time_within(60, 86_400), default=300, metavar="S",
@@ -89,8 +91,10 @@ def add_search(made: argparse.ArgumentParser) -> None:
     add_rounds(made)
     add_lights(made)
     add_priority(made)
-    made.add_argument("--seeds", default="1", metavar="SEEDS", help="of the search (default %(default)s)")
-    add_check(made, "101-103", "seeds by which the routes are judged, which the search does not see")
+    made.add_argument(
+        "--seeds", default="1", metavar="SEEDS", help="seeds (1-5, or 1,4,7-9) of the search (default %(default)s)"
+    )
+    add_check(made, "101-103", "those of the routes")
 
 
 def add_works(made: argparse.ArgumentParser) -> None:

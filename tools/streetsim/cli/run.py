@@ -34,7 +34,7 @@ def parser() -> argparse.ArgumentParser:
     add_looks(made)
     made.add_argument(
         "--seeds", metavar="SEEDS",
-        help="run each of these seeds (1-5, or 1,4,7-9), side by side, into folders of their own",
+        help="seeds (1-5, or 1,4,7-9), each of which is run, side by side, into a folder of its own",
     )
     add_departures(made, "default: drawn with --seeds, else listed")
     add_jobs(made)
@@ -59,7 +59,7 @@ def add_looks(made: argparse.ArgumentParser) -> None:
         help="seconds of a count (default %(default)s)",
     )
     made.add_argument(
-        "--edges", default="", help="edges whose lanes are polled, with spaces or commas between (default: all)"
+        "--edges", default="", help="edges, with spaces or commas between, whose lanes are polled (default: all)"
     )
     add_rescue(made)
     made.add_argument(
@@ -102,7 +102,7 @@ def add_lanes(made: argparse.ArgumentParser) -> None:
     )
     made.add_argument(
         "--joint", default="", metavar="NAMES",
-        help="edges or lanes, with commas between, that are joint as if they had road works, for a run to compare with",
+        help="edges or lanes, with commas between, whose links are made joint as by road works, to compare with",
     )
 
 
@@ -150,7 +150,7 @@ def add_outputs(made: argparse.ArgumentParser) -> None:
     add_out(made, "the folder to write to (default: NAME-run of NAME.jsonl; with --seeds NAME-seeds)")
     made.add_argument(
         "--keep", metavar="FILE",
-        help="keep the session of the run in this file; the same words go on there after the machine has ended",
+        help="keep the session in this file; the same words go on there after the machine has ended",
     )
 
 

@@ -39,10 +39,10 @@ RESERVE = 80  # a chance of slowing down, of 1,000, by which a tenth fewer pass 
 def parser() -> Parser:
     """The parser of the words that streetsim-signals takes."""
     made = Parser(
-        prog="streetsim-signals",
+        prog="streetsim-signals", old={"--change": "--vary", "--keep": "--fixed", "--check": "--check-seeds"},
         examples=(
             "streetsim-signals zero.jsonl --plans corridor.net.xml.gz --until 4500",
-            "streetsim-signals zero.jsonl --plans corridor.net.xml.gz --until 4500 --change splits,cycle --budget 200",
+            "streetsim-signals zero.jsonl --plans corridor.net.xml.gz --until 4500 --vary splits,cycle --budget 200",
         ),
         description="Finds signal plans by simulation: cycles, splits and offsets under which trips are shorter. "
         "The order of phases, yellow and all-red stay. What is found is a proposal to be checked.",
@@ -54,7 +54,7 @@ def parser() -> Parser:
         "of a light counts",
     )
     add_clock(
-        made, "--until", "the clock at the end of a run (default: that of SUMO's configuration, else two hours after "
+        made, "--until", "the clock at the end (default: that of SUMO's configuration, else two hours after "
         "the last departure)", least=1,
     )  # fmt: skip
     add_search(made)
@@ -62,20 +62,20 @@ def parser() -> Parser:
     add_machines(made)
     made.add_argument(
         "--verify-sumo", action="store_true",
-        help="run SUMO too with the plan given and the plan found, with the seeds of --check; both must say better",
+        help="run SUMO too with the plan given and the one found, by the seeds of --check-seeds; both must say better",
     )
-    made.add_argument("--edges", default="", help="draw the ways of the vehicles along these edges, before and after")
-    add_clock(made, "--first", "the first second drawn (default: a third of the run)")
-    add_clock(made, "--last", f"the last second drawn (default: {DRAWN} s later)")
-    made.add_argument("-o", "--output", help="the plan found (default: RUN.found.add.xml, here)")
-    add_out(made, "the folder for tables and pictures (default: RUN-signals, here)")
+    made.add_argument("--edges", default="", help="edges, with spaces or commas between: the ways along them are drawn")
+    add_clock(made, "--first", "the first second shown (default: a third of the run)")
+    add_clock(made, "--last", f"the last second shown (default: {DRAWN} s later)")
+    made.add_argument("-o", "--output", help="the file to write: the plan found (default: RUN.found.add.xml, here)")
+    add_out(made, "the folder to write to (default: RUN-signals, here)")
     return made
 
 
 def add_search(made: argparse.ArgumentParser) -> None:
     """Adds the words that say what is searched, how long and with which seeds."""
     made.add_argument(
-        "--change", default=",".join(CHANGES), help="what may be changed, with commas between (default %(default)s)"
+        "--vary", default=",".join(CHANGES), help="what may be changed, with commas between (default %(default)s)"
     )
     made.add_argument(
         "--bounds", action="store_true",
@@ -97,13 +97,13 @@ def add_search(made: argparse.ArgumentParser) -> None:
         help="search also from a plan that breaks what its phases must keep; its greens are mended first",
     )
     made.add_argument(
-        "--keep", default="", metavar='"LIGHT .."', help="lights that stay as they are, with spaces or commas between"
+        "--fixed", default="", metavar='"LIGHT .."', help="lights that stay as they are, with spaces or commas between"
     )
     made.add_argument(
         "--seeds", metavar="SEEDS",
-        help="of the search (default: one, or more where runs of the given plan differ much)",
+        help="seeds (1-5, or 1,4,7-9) of the search (default: one, or more where runs of the given plan differ much)",
     )
-    add_check(made, "101-110", "seeds of the report, which the search does not see")
+    add_check(made, "101-110", "those of the report")
     made.add_argument(
         "--reserve", type=integer_within(0, 1000), default=RESERVE, metavar="N",
         help="of 1,000, by which vehicles slow down more often in the search than in the report, "
@@ -186,11 +186,11 @@ def refuse_unused(words: argparse.Namespace) -> None:
 def changes_and_cycles(words: argparse.Namespace) -> tuple[list[str], range]:
     """(what may be changed, of CHANGES; cycles to try, in seconds), an empty range where cycles stay; Fault where the
     words name others, and for --cycle where cycles stay or that is no S-S."""
-    changed = names_in(words.change)
+    changed = names_in(words.vary)
     if unknown := [name for name in changed if name not in CHANGES]:
-        raise Fault(f"--change: {unknown[0]!r} is none of {', '.join(CHANGES)}")
+        raise Fault(f"--vary: {unknown[0]!r} is none of {', '.join(CHANGES)}")
     if words.cycle and "cycle" not in changed:
-        raise Fault(f"--cycle {words.cycle}: --change {words.change} leaves the cycles as they are")
+        raise Fault(f"--cycle {words.cycle}: --vary {words.vary} leaves the cycles as they are")
     first, _, last = (words.cycle or CYCLES).partition("-")
     most = limits.PHASES * limits.PHASE_STEPS
     if not (first.isdecimal() and last.isdecimal() and 1 <= int(first) <= int(last) <= most):
@@ -208,7 +208,7 @@ def check_seeds(words: argparse.Namespace) -> Sequence[int]:
     --seeds names too, and a --budget below the simulations of one plan: one for each seed of --seeds."""
     check = seeds_to_check(words)
     if len(check) < 2:
-        raise Fault(f"--check {words.check}: an interval needs two seeds at least")
+        raise Fault(f"--check-seeds {words.check_seeds}: an interval needs two seeds at least")
     refuse_budget(words.budget, given_seeds(words) or range(1))
     return check
 
@@ -226,7 +226,7 @@ def reading_of(words: argparse.Namespace) -> Reading:
         until=words.until,
         program=program.find_program(words.program),
         least=words.least or LEAST,
-        keep=names_in(words.keep),
+        keep=names_in(words.fixed),
         rounds=words.rounds,
         reserve=words.reserve if {"splits", "cycle"} & {*changed} or words.bounds else 0,
         fixed=words.bounds,
@@ -252,7 +252,7 @@ def check_cycles(words: argparse.Namespace, town: SignalTown) -> None:
         needed = sum(least for least, _ in light.bounds)
         if words.cycle and needed > cycles[-1] and any(one.low for one in light.constraints):
             told = f"light {name!r}: its phases must last {needed} s together"
-            raise Fault(f"--cycle {words.cycle}: {told} (leave it as it is: --keep {name})")
+            raise Fault(f"--cycle {words.cycle}: {told} (leave it as it is: --fixed {name})")
 
 
 def corridor_of(words: argparse.Namespace, town: SignalTown) -> Corridor | None:

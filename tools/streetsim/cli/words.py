@@ -30,14 +30,15 @@ def add_network(made: argparse.ArgumentParser) -> None:
     """Adds the words without a name that are files of SUMO: a network (net) and additional ones."""
     made.add_argument("net", metavar="NET", help="the network (.net.xml), or SUMO's configuration (.sumocfg)")
     made.add_argument(
-        "additional", nargs="*", default=[], help="additional files with signal programs and vehicle types"
+        "additional", metavar="ADDITIONAL", nargs="*", default=[],
+        help="additional files with signal programs, and vehicle types"
     )
 
 
 def add_made_run(made: argparse.ArgumentParser, of: str) -> None:
     """Adds --run and --map, files that are written; of: what runs in them."""
-    made.add_argument("--run", help=f"the run of these {of}, as streetsim-import makes it (.jsonl); with --map")
-    made.add_argument("--map", help="the map of that run (.json)")
+    made.add_argument("--run", help=f"the run to write, of these {of}, as of streetsim-import (.jsonl); with --map")
+    made.add_argument("--map", help="the map of names, of the run that is written (.json)")
 
 
 def refuse_half_run(words: argparse.Namespace) -> None:
@@ -79,14 +80,15 @@ def add_machines(made: argparse.ArgumentParser) -> None:
 
 
 def add_check(made: argparse.ArgumentParser, default: str, told: str) -> None:
-    """Adds --check, the seeds by which what a search found is judged; told: its help."""
-    made.add_argument("--check", default=default, metavar="SEEDS", help=f"{told} (default %(default)s)")
+    """Adds --check-seeds, the seeds by which what a search found is judged; told: which they are."""
+    judged = "seeds by which what is found is judged, which the search does not see"
+    made.add_argument("--check-seeds", default=default, metavar="SEEDS", help=f"{judged}: {told} (default %(default)s)")
 
 
 def seeds_to_check(words: argparse.Namespace) -> Sequence[int]:
-    """The seeds of --check; Fault where they are none, or --seeds, where it is given, names one of them too."""
-    check = seeds_of(words.check, "--check")
+    """The seeds of --check-seeds; Fault where they are none, or --seeds, where it is given, names one of them too."""
+    check = seeds_of(words.check_seeds, "--check-seeds")
     if words.seeds and set(seeds_of(words.seeds, "--seeds")) & set(check):
         told = "nothing is judged by the seeds that it was found by"
-        raise Fault(f"--seeds {words.seeds} and --check {words.check} overlap: {told}")
+        raise Fault(f"--seeds {words.seeds} and --check-seeds {words.check_seeds} overlap: {told}")
     return check

@@ -8,7 +8,8 @@ from streetsim.demand.judging import (
 )
 from streetsim.model.mapping import Map
 from streetsim.model.names import Names
-from streetsim.report.page_drawings import difference_map
+from streetsim.report.page_drawings import difference_map, difference_stroke
+from streetsim.report.page_map import line_key, map_figure
 from streetsim.report.page_markup import table
 
 SIDE, EDGE = 420, 45  # pixels of the scatter
@@ -98,8 +99,7 @@ def scatter(fit: JudgedCounts) -> str:
 def differences_map(fit: JudgedCounts, mapping: Map) -> str:
     """A map of how many vehicles an hour more or fewer passed than were counted, of an edge, else of its turns
     together, as HTML."""
-    told = (
-        "Vehicles an hour more (red) or fewer (blue, broken) in the run than counted; dark grey: as many; light: not "
-        "counted"
-    )
-    return f"<figure>{difference_map(mapping, differences_of(fit.hourly))}<figcaption>{told}</figcaption></figure>"
+    words = (2.0, "more passed than were counted"), (-2.0, "fewer"), (0.0, "as many"), (None, "not counted")
+    keys = [line_key(difference_stroke(value, 2.0, ""), text) for value, text in words]
+    told = "Vehicles an hour in the run beside those counted; wider where the difference is greater"
+    return map_figure(difference_map(mapping, differences_of(fit.hourly)), told, keys)

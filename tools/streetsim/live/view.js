@@ -2,7 +2,6 @@
 
 const MOST_LANES = 700, ROUND = 10; // lanes in view with which vehicles are drawn, and seconds between colours of streets beyond them
 const MARKS = 2.2, DIRECTIONS = 1; // pixels a metre from which on lane marks and directions are drawn
-const LEAST_NAME = 60, NAME_AWAY = 9; // pixels of a street that bears its name, and from its edge to the name's middle
 
 class View {
   constructor(canvas, world, of) { Object.assign(this, { canvas, world, scene: new Scene(canvas, of), kept: null }); }
@@ -49,7 +48,7 @@ class View {
     if (far) this.drawClosed();
     if (scene.scale > MARKS) for (const link of shown) this.drawMarks(link);
     if (scene.scale > DIRECTIONS) for (const link of shown) this.drawDirection(link);
-    this.drawNames(shown);
+    scene.drawNames(shown);
   }
 
   drawAreas() {
@@ -77,23 +76,6 @@ class View {
     if (link.total * this.scene.scale < 40) return;
     const { scene } = this, [x, y, dx, dy] = placeOnLane(link, (link.lanes - 1) / 2, .35), size = 1.2;
     scene.line([[x - dx * size + dy * size, y - dy * size - dx * size], [x + dx * size, y + dy * size], [x - dx * size - dy * size, y - dy * size + dx * size]], colours().mark, Math.max(1, .3 * scene.scale));
-  }
-
-  // Each name once: on the longest link that bears it.
-  drawNames(shown) {
-    const { scene } = this, { pen, scale } = scene, longest = new Map();
-    for (const link of shown) if (link.street && !(longest.get(link.street)?.total >= link.total)) longest.set(link.street, link);
-    pen.font = "12px sans-serif"; pen.textAlign = "center";
-    for (const [name, link] of longest) {
-      const wide = pen.measureText(name).width;
-      if (link.total * scale < Math.max(LEAST_NAME, wide + 8)) continue;
-      const [x, y, dx, dy] = placeOnLane(link, -.5 - NAME_AWAY / scale / LANE_METRES, .5);
-      const [left, top] = scene.screen(x, y), turned = Math.atan2(-dy, dx);
-      pen.save(); pen.translate(left, top); pen.rotate(Math.abs(turned) > Math.PI / 2 ? turned + Math.PI : turned);
-      pen.strokeStyle = colours().ground; pen.lineWidth = 3; pen.fillStyle = colours().name;
-      pen.strokeText(name, 0, 4); pen.fillText(name, 0, 4); pen.restore();
-    }
-    pen.textAlign = "start";
   }
 
   drawCars(part) {

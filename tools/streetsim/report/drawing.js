@@ -5,10 +5,12 @@ const SPEED_WIDTHS = [1.3, 1, .7]; // of vehicles, so that who sees no colours t
 const LANE_METRES = 3.2;
 // What a picture is drawn with; a page may have others.
 const LIGHT = {
-  ground: "#fff", street: "#ccc", mark: "#fff", ink: "#222", label: "#ffffe0", closed: "#000", green: "#0a8f6a",
+  ground: "#fff", street: "#ccc", mark: "#fff", ink: "#222", name: "#333", label: "#ffffe0", closed: "#000", green: "#0a8f6a",
   red: "#b3001b", speeds: SPEED_COLOURS, was: "#8a6d00", now: "#0055b8",
 };
 const MOVES = { ArrowLeft: [60, 0], ArrowRight: [-60, 0], ArrowUp: [0, 60], ArrowDown: [0, -60] }; // pixels
+const APART = 1.5; // pixels at least from the line of a street to that of each direction
+const LEAST_NAME = 60, NAME_AWAY = 9; // pixels of a street that bears its name, and from its edge to the name's middle
 const FARTHEST_HOP = 60; // metres between two places of a vehicle that it is drawn between
 const clockText = seconds => [seconds / 3600, seconds / 60 % 60, seconds % 60].map(part => String(Math.floor(part)).padStart(2, "0")).join(":");
 const metresText = metres => metres < 1000 ? `${metres} m` : `${metres / 1000} km`;
@@ -60,12 +62,12 @@ function metresToLink(point, { points }) {
   return Math.min(...points.slice(1).map((end, i) => distance(point, points[i], end)));
 }
 
-// The point and the direction at a share of a link's length, moved to the lane's side.
+// The point and the direction at a share of a link's length, moved to the lane's side, and to the right as the link is drawn.
 function placeOnLane(link, lane, share) {
   let left = share * link.total, i = 0;
   while (i < link.lengths.length - 1 && left > link.lengths[i]) left -= link.lengths[i++];
   const [a, b] = [link.points[i], link.points[i + 1]], size = link.lengths[i] || 1, dx = (b[0] - a[0]) / size, dy = (b[1] - a[1]) / size;
-  const side = ((link.lanes - 1) / 2 - lane) * LANE_METRES;
+  const side = ((link.lanes - 1) / 2 - lane) * LANE_METRES + (link.aside ?? 0);
   return [a[0] + dx * left + dy * side, a[1] + dy * left - dx * side, dx, dy];
 }
 
@@ -79,6 +81,20 @@ function legendOf({ speeds, closed, red, green }) {
   const styled = (colour, high) => `height:${high}px;--key:${colour}`;
   return keys.map(([word, colour, high, more = ""]) =>
     element("span", {}, element("i", { className: `key ${more}`, style: styled(colour, high) }), word));
+}
+
+// A line moved to its right by some metres, at bends too, but for those that turn back.
+function movedAside(points, aside) {
+  if (!aside) return points;
+  const sides = points.slice(1).map(([x, y], i) => {
+    const [ax, ay] = points[i], size = Math.hypot(x - ax, y - ay) || 1;
+    return [(y - ay) / size, (ax - x) / size];
+  });
+  return points.map(([x, y], i) => {
+    const [ax, ay] = sides[Math.max(0, i - 1)], [bx, by] = sides[Math.min(i, sides.length - 1)];
+    const size = ((ax + bx) ** 2 + (ay + by) ** 2) / 2, turnsBack = size < .5;
+    return turnsBack ? [x + aside * bx, y + aside * by] : [x + aside * (ax + bx) / size, y + aside * (ay + by) / size];
+  });
 }
 
 // Links on a canvas, seen from a place at a scale (pixels a metre).
@@ -130,7 +146,11 @@ class Scene {
     return nearestOf(inView, link => metresToLink(point, link), pixels / this.scale);
   }
 
-  clear() { this.pen.fillStyle = this.colours.ground; this.pen.fillRect(0, 0, this.canvas.width, this.canvas.height); }
+  // Begins a picture; links are drawn so far to their right that both directions of a street are seen from far away.
+  clear() {
+    for (const link of this.links) link.aside = Math.max(0, APART / this.scale - LANE_METRES * link.lanes / 2);
+    this.pen.fillStyle = this.colours.ground; this.pen.fillRect(0, 0, this.canvas.width, this.canvas.height);
+  }
 
   line(points, colour, width) {
     this.pen.strokeStyle = colour; this.pen.lineWidth = width; this.pen.beginPath();
@@ -138,7 +158,7 @@ class Scene {
     this.pen.stroke();
   }
 
-  drawLink(link, colour = this.colours.street) { this.line(link.points, colour, Math.max(1, LANE_METRES * link.lanes * this.scale)); }
+  drawLink(link, colour = this.colours.street) { this.line(movedAside(link.points, link.aside), colour, Math.max(1, LANE_METRES * link.lanes * this.scale)); }
 
   // A stretch of cells of a lane, ends included.
   drawCells(link, lane, first, last, colour, width = Math.max(4, 2.6 * this.scale)) {
@@ -179,10 +199,34 @@ class Scene {
     return [5, 2, 1].map(times => times * power).find(metres => metres <= most);
   }
 
+  // A bar of so many metres, and behind it an arrow to the north.
   drawScale() {
-    const metres = this.scaleMetres(), y = this.canvas.height - 16;
-    this.pen.fillStyle = this.colours.ink; this.pen.fillRect(16, y, metres * this.scale, 4);
-    this.pen.font = "12px sans-serif"; this.pen.fillText(metresText(metres), 20, y - 5);
+    const { pen } = this, metres = this.scaleMetres(), wide = metres * this.scale, y = this.canvas.height - 16, x = wide + 40;
+    pen.fillStyle = this.colours.ink; pen.fillRect(16, y, wide, 4);
+    pen.font = "12px sans-serif"; pen.fillText(metresText(metres), 20, y - 5);
+    pen.beginPath();
+    for (const [across, down] of [[0, -18], [-6, 4], [0, -1], [6, 4]]) pen.lineTo(x + across, y + down);
+    pen.fill(); pen.fillText("N", x + 10, y + 2);
+  }
+
+  // The name of each street once, beside the longest of some links that bears it, where that is long enough and it lies on
+  // none of the texts that are written, [left, base line, width].
+  drawNames(links, written = []) {
+    const { pen, scale } = this, longest = new Map();
+    for (const link of links) if (link.street && !(longest.get(link.street)?.total >= link.total)) longest.set(link.street, link);
+    pen.font = "12px sans-serif"; pen.textAlign = "center";
+    for (const [name, link] of longest) {
+      const wide = pen.measureText(name).width;
+      if (link.total * scale < Math.max(LEAST_NAME, wide + 8)) continue;
+      const [x, y, dx, dy] = placeOnLane(link, -.5 - NAME_AWAY / scale / LANE_METRES, .5);
+      const [left, top] = this.screen(x, y), turned = Math.atan2(-dy, dx);
+      const across = Math.abs(dx) * wide / 2 + 8, down = Math.abs(dy) * wide / 2 + 8; // of half its box
+      if (written.some(([l, t, w]) => left + across > l && left - across < l + w && top + down > t - 12 && top - down < t)) continue;
+      pen.save(); pen.translate(left, top); pen.rotate(Math.abs(turned) > Math.PI / 2 ? turned + Math.PI : turned);
+      pen.strokeStyle = this.colours.ground; pen.lineWidth = 3; pen.fillStyle = this.colours.name;
+      pen.strokeText(name, 0, 4); pen.fillText(name, 0, 4); pen.restore();
+    }
+    pen.textAlign = "start";
   }
 
   // A name beside a place.

@@ -1,14 +1,12 @@
 """Draws the pictures of a page as SVG: maps by level of service or by differences, and queues beside their room."""
-from collections.abc import Callable, Mapping, Sequence
+from collections.abc import Collection, Mapping, Sequence
 from html import escape
-from math import hypot
 
 from streetsim.base.colours import LESS, MORE, STREET
 from streetsim.model.mapping import Map, Shape
 from streetsim.model.service import COLOURS, WHITE_LETTERS, fills
 from streetsim.report.page_choice import LEAST
-
-WIDE, MOST_HIGH, SIDE = 900, 640, 4  # pixels
+from streetsim.report.page_map import WIDE, Stroke, line_key, street_map, works_key
 
 
 def letter_mark(letter: str) -> str:
@@ -16,97 +14,79 @@ def letter_mark(letter: str) -> str:
     return f'<span class="los los-{letter}">{letter}</span>'
 
 
-def map_picture(
+def service_map(
     mapping: Map, approaches: Mapping[str, tuple[str, str]], junctions: Mapping[str, tuple[str, str, bool]],
-    signs: Mapping[str, float], works: Sequence[Shape],
+    signs: Mapping[str, float], works: Sequence[tuple[str, Shape]],
 ) -> str:
     """The streets of a map, as SVG; approaches by the colour of their level of service, junctions as marks with theirs.
 
     approaches: {edge: (letter, text)}; junctions: {name: (letter, text, whether the page tells it in detail)}; signs:
-    {junction: change of its delay in seconds}, of those that change; works: the shapes of what is closed.
+    {junction: change of its delay in seconds}, of those that change; works: (edge, shape) of what is closed.
     """
-    at, tall = placing_and_height(mapping)
-    parts = [f'<svg class="map" viewBox="0 0 {WIDE} {tall:.0f}" role="img" aria-label="Map by delay">']
-    for link in mapping.links:
-        letter, text = approaches.get(link.edge, ("", link.edge))
-        colour, width = (COLOURS[letter], 4 + "ABCDEF".index(letter)) if letter else (STREET, 2)
-        way = " ".join(at(point, shift_to_right(link.shape)) for point in link.shape)
-        if letter:
-            parts.append(f'<polyline points="{way}" class="edge-line" stroke="#666" stroke-width="{width + 2}"/>')
-        line = f'<polyline points="{way}" class="edge-line" stroke="{colour}" stroke-width="{width}">'
-        parts.append(f"{line}<title>{escape(text)}</title></polyline>")
-        if letter == "F":
-            parts.append(f'<polyline points="{way}" class="over"/>')
-    for shape in works:
-        way = " ".join(at(point, shift_to_right(shape)) for point in shape)
-        parts.append(f'<polyline points="{way}" class="works"><title>road works</title></polyline>')
-    for name, x, y, _ in mapping.nodes:
+    strokes = {edge: service_stroke(*approaches.get(edge, ("", edge))) for edge in mapping.links_of}
+    marks = {}
+    for name, *_ in mapping.nodes:
         if name in junctions:
             letter, text, linked = junctions[name]
-            across, down = at((x, y)).split(",")
-            mark = junction_mark(letter, text, across, down)
-            parts.append(f'<a href="#{anchor(name)}">{mark}</a>' if linked else mark)
+            mark = junction_mark(letter, text)
+            marks[name] = [f'<a href="#{anchor(name)}">{mark}</a>' if linked else mark]
             if change := signs.get(name):
-                parts.append(change_mark(change, float(across), float(down)))
-    return "".join([*parts, "</svg>"])
+                marks[name].append(change_mark(change))
+    return street_map(mapping, strokes, "Map by delay", marks, works)
 
 
-def placing_and_height(mapping: Map) -> tuple[Callable[..., str], float]:
-    """(a function that gives where a point (x, y) of a map lies in a picture, as 'across,down' in pixels, moved by a
-    shift of pixels; how high the picture is, in pixels)."""
-    points = [point for link in mapping.links for point in link.shape]
-    (left, right), (low, high) = ((min(values), max(values)) for values in zip(*points, strict=True))
-    scale = min((WIDE - 60) / max(1.0, right - left), (MOST_HIGH - 60) / max(1.0, high - low))
+def service_stroke(letter: str, text: str) -> Stroke:
+    """How an approach is drawn by the letter of its level of service, wider where that is worse; thin and grey where it
+    has none. text: what it says when pointed at."""
+    if not letter:
+        return Stroke(STREET, 2, text)
+    return Stroke(COLOURS[letter], 4 + "ABCDEF".index(letter), text, rimmed=True, broken=letter == "F")
 
-    def at(point: Sequence[float], shift: tuple[float, float] = (0.0, 0.0)) -> str:
-        """Where a point lies in the picture, as text of pixels across and down."""
-        return f"{(point[0] - left) * scale + 30 + shift[0]:.1f},{(high - point[1]) * scale + 30 + shift[1]:.1f}"
 
-    return at, (high - low) * scale + 60
+def service_keys(letters: Collection[str], closed: bool) -> list[str]:
+    """The legend of a map by level of service, as HTML: of the letters that it has, of streets without one, and where
+    something is closed of that."""
+    keys = [line_key(service_stroke(letter, ""), letter) for letter in COLOURS if letter in letters]
+    return [*keys, line_key(service_stroke("", ""), "no approach, or nobody came"), *([works_key()] if closed else [])]
 
 
 def difference_map(mapping: Map, values: Mapping[str, float]) -> str:
     """The streets, as SVG; edges with a value red above 0 and blue and broken below, but dark grey within 0.5 of it,
     wider where it is farther from 0; others thin and light grey. values: by edge, shown in whole numbers without a
     unit."""
-    at, tall = placing_and_height(mapping)
     most = max([1.0, *(abs(value) for value in values.values())])
-    parts = [f'<svg class="map" viewBox="0 0 {WIDE} {tall:.0f}" role="img" aria-label="Map of differences">']
-    for link in mapping.links:
-        way = " ".join(at(point, shift_to_right(link.shape)) for point in link.shape)
-        value = values.get(link.edge)
-        colour = STREET if value is None else "#777" if abs(value) < 0.5 else MORE if value > 0 else LESS
-        width = 1.5 if value is None else 2 + 6 * abs(value) / most
-        text = link.edge if value is None else f"{link.edge}: {value:+.0f}"
-        gaps = f' stroke-dasharray="{width:.1f} {2 * width:.1f}"' if value is not None and value <= -0.5 else ""
-        line = f'<polyline points="{way}" class="edge-line" stroke="{colour}" stroke-width="{width:.1f}"{gaps}>'
-        parts.append(f"{line}<title>{escape(text)}</title></polyline>")
-    return "".join([*parts, "</svg>"])
+    strokes = {}
+    for edge in mapping.links_of:
+        value = values.get(edge)
+        text = edge if value is None else f"{edge}: {value:+.0f}"
+        strokes[edge] = difference_stroke(value, most, text)
+    return street_map(mapping, strokes, "Map of differences")
 
 
-def shift_to_right(shape: Shape) -> tuple[float, float]:
-    """(pixels across, pixels down) by which a line is moved to its right, so that both directions lie side by side."""
-    (x, y), (end_x, end_y) = shape[0], shape[-1]
-    size = hypot(end_x - x, end_y - y) or 1.0
-    return SIDE * (end_y - y) / size, SIDE * (end_x - x) / size
+def difference_stroke(value: float | None, most: float, text: str) -> Stroke:
+    """How an edge with a value is drawn, none where it has none; most: the greatest value that there is, up or down;
+    text: what it says when pointed at."""
+    if value is None:
+        return Stroke(STREET, 1.5, text)
+    colour = "#777" if abs(value) < 0.5 else MORE if value > 0 else LESS
+    return Stroke(colour, 2 + 6 * abs(value) / most, text, gaps=value <= -0.5)
 
 
-def junction_mark(letter: str, text: str, across: str, down: str) -> str:
-    """A circle (SVG) with a letter of the level of service, at pixels across and down; text: what it says when pointed
-    at."""
+def junction_mark(letter: str, text: str) -> str:
+    """A circle (SVG) around 0, 0 with a letter of the level of service; text: what it says when pointed at."""
     colour = "#fff" if letter in WHITE_LETTERS else "#000"
-    circle = f'<circle cx="{across}" cy="{down}" r="11" fill="{COLOURS[letter]}" stroke="#000"/>'
-    write = f'<text x="{across}" y="{down}" dy="4" text-anchor="middle" fill="{colour}" class="letter">{letter}</text>'
+    circle = f'<circle r="11" fill="{COLOURS[letter]}" stroke="#000"/>'
+    write = f'<text dy="4" text-anchor="middle" fill="{colour}" class="letter">{letter}</text>'
     return f"<g><title>{escape(text)}</title>{circle}{write}</g>"
 
 
-def change_mark(change: float, across: float, down: float) -> str:
-    """A triangle (SVG) beside a junction at pixels across and down, up where it waits more and down where less, small
-    below 5 s; change: of its delay, seconds."""
+def change_mark(change: float) -> str:
+    """A triangle (SVG) to the right of a junction at 0, 0, up where it waits more and down where less, small below 5 s;
+    change: of its delay, seconds."""
     half = 5.5 if abs(change) >= LEAST else 4.0
-    x, y, tall = across + 14, down, half if change < 0 else -half
-    points = f"{x:.1f},{y - tall:.1f} {x + 2 * half:.1f},{y - tall:.1f} {x + half:.1f},{y + tall:.1f}"
-    fill = MORE if change > 0 else LESS
+    tall = half if change < 0 else -half
+    points = f"14,{-tall:.1f} {14 + 2 * half:.1f},{-tall:.1f} {14 + half:.1f},{tall:.1f}"
+    fill = "#b00" if change > 0 else "#06c"
     return f'<polygon points="{points}" fill="{fill}" stroke="#fff"><title>{change:+.1f} s</title></polygon>'
 
 

@@ -12,7 +12,8 @@ from streetsim.model.service import AT_PRIORITY, AT_SIGNALS, COLOURS
 from streetsim.report import page_works
 from streetsim.report.forecast_errors import errors_told
 from streetsim.report.page_choice import LEAST, RowChange, changes_that_stand_out, ranked_changes
-from streetsim.report.page_drawings import letter_mark, map_picture
+from streetsim.report.page_drawings import letter_mark, service_keys, service_map
+from streetsim.report.page_map import map_figure
 from streetsim.report.page_markup import bullets, change_told, mean_told, table
 from streetsim.report.page_words import change_in_words, count_in_words, counted_noun, how_sure, interval_name
 from streetsim.report.plan_costs import NOTICED, Means, PlanCosts, costs_of, means_by_class
@@ -115,7 +116,8 @@ def state_verdict(runs: Runs, shown: Interval) -> str:
     first = f"{trip}, and a vehicle's delay at a junction is {mean_told(delays.values(), runs.is_drawn)} s"
     first += f" (±: {interval_name(runs.is_drawn)})." if len(runs.folders) > 1 else "."
     if not bad:
-        return f"{first} All {len(rows):,} junctions have level of service D or better."
+        all_ = f"All {len(rows):,} junctions have" if len(rows) != 1 else "The one junction has"
+        return f"{first} {all_} level of service D or better."
     worst = runs.names.junction_told(bad[0].key[0])
     have = f"{'has' if len(bad) == 1 else 'have'} a level of service worse than D, most of all {worst}"
     return f"{first} {count_in_words(len(bad)).capitalize()} of {counted_noun(len(rows), 'junction')} {have}."
@@ -137,13 +139,12 @@ def service_and_works_map(runs: Runs, shown: Interval, rows: Sequence[RowChange]
     }
     signs = changes_that_stand_out(rows)
     closed = page_works.closed_shapes(runs)
-    picture = map_picture(runs.first.mapping, approaches, junctions, signs, closed)
+    picture = service_map(runs.first.mapping, approaches, junctions, signs, closed)
     marks = f"; &#9650; waits more and &#9660; less than before, {how_sure(runs.is_drawn)}"
     marks += f"; small: by less than {LEAST:g} s"
-    more = marks if signs else ""
-    more += "; black: road works" if closed else ""
-    caption = f"{escape(runs.name)}: approaches and junctions by level of service{more}"
-    return f"<figure>{picture}<figcaption>{caption}{levels_told()}</figcaption></figure>"
+    caption = f"{escape(runs.name)}: approaches and junctions by level of service{marks if signs else ''}"
+    keys = service_keys({letter for letter, _ in approaches.values()}, bool(closed))
+    return map_figure(picture, caption + levels_told(), keys)
 
 
 def levels_told() -> str:

@@ -78,9 +78,9 @@ def poll_clocks(folder: Folder, first: int, last: int) -> range:
     return range((first // every + 1) * every, last + 1, every) if every else range(0)
 
 
-def closed_shapes(runs: Runs) -> list[Shape]:
-    """The shapes, points (x, y), of what is closed in a plan, for a map."""
-    return [closed_shape(runs.first.mapping, seen.place) for seen in seen_in(runs)]
+def closed_shapes(runs: Runs) -> list[tuple[str, Shape]]:
+    """(edge, shape) of what is closed in a plan, for a map."""
+    return [(seen.place[0], closed_shape(runs.first.mapping, seen.place)) for seen in seen_in(runs)]
 
 
 def closed_shape(mapping: Map, place: Place) -> Shape:

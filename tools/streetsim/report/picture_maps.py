@@ -11,6 +11,7 @@ from streetsim.model.mapping import Shape
 from streetsim.model.service import COLOURS, LETTERS, WHITE_LETTERS
 from streetsim.report import run_series
 from streetsim.report.edge_values import Values, intervals_of, values_of
+from streetsim.report.page_map import middle_shape, moved
 from streetsim.report.picture_files import Axes, Figure, Lines, Pyplot
 from streetsim.report.run_tables import Runs, read_with_any_tables
 
@@ -24,6 +25,7 @@ LABELS = {
     "queue": ("95 % queues of approaches", "metres"),
 }
 ROUND = (0.5, 1, 2, 5, 10, 20, 50, 100, 200, 500, 1000, 2000, 5000, 10_000)  # ends of the scale of colours
+ASIDE, DRAWN = 2.25, 0.7  # points from a street's line to that of a direction; the share of a picture that is streets
 
 
 @dataclass(frozen=True, slots=True)
@@ -40,10 +42,9 @@ def draw_measure(pyplot: Pyplot, path: str, what: str, second: int | None) -> Fi
     runs = read_with_any_tables(path)
     begin, end = interval_of(runs, what, second)
     values, mapping = values_of(runs, begin, end), runs.first.mapping
-    shown = [
-        Street(mapping.links[links[len(links) // 2]].shape, measure_of(values[edge], what))
-        for edge, links in mapping.links_of.items()
-    ]
+    shown = apart(
+        Street(middle_shape(mapping, edge), measure_of(values[edge], what)) for edge in mapping.links_of
+    )
     if all(one.value is None for one in shown):
         raise Fault(f"{path}: nothing is known of {what} from {begin} to {end} s")
     figure, axes, beside = canvas(pyplot, [one.shape for one in shown])
@@ -69,7 +70,7 @@ def interval_of(runs: Runs, what: str, second: int | None) -> tuple[int, int]:
     if second is None:
         return runs.busiest() if runs.rows else min(found.items())
     if second not in found:
-        raise Fault(f"--begin {second}: no interval begins there, of {', '.join(map(str, found))}")
+        raise Fault(f"--interval {second}: no interval begins there, of {', '.join(map(str, found))}")
     return second, found[second]
 
 
@@ -82,12 +83,26 @@ def measure_of(values: Values, what: str) -> float | str | None:
     return values.row.letter() if what == "los" else values.row.values.get(MEASURES[what])
 
 
+def apart(streets: Iterable[Street]) -> list[Street]:
+    """Streets moved to their right, by some points of the picture, so that both directions are seen."""
+    found = list(streets)
+    width, height = spans([one.shape for one in found])
+    points = 72 * DRAWN * min(9 / max(width, 1.0), (4 if width > 2 * height else 8) / max(height, 1.0))  # a metre
+    return [Street(moved([(x, y) for x, y in one.shape], -ASIDE / points), one.value) for one in found]
+
+
+def spans(shapes: Iterable[Shape]) -> tuple[float, float]:
+    """(how wide, how high) the picture of shapes is, in metres."""
+    across, up = zip(*(point for shape in shapes for point in shape))
+    return max(across) - min(across), max(up) - min(up)
+
+
 def canvas(pyplot: Pyplot, shapes: Sequence[Shape]) -> tuple[Figure, Axes, dict[str, str | float]]:
     """(picture of all streets in grey, its axes, settings by which a bar of colours lies beside or below it). shapes:
     of the streets, one at least."""
     from matplotlib.collections import LineCollection
 
-    width, height = (max(places) - min(places) for places in zip(*(point for shape in shapes for point in shape)))
+    width, height = spans(shapes)
     wide = width > 2 * height
     figure, axes = pyplot.subplots(figsize=(9, 4) if wide else (9, 8))
     axes.add_collection(LineCollection(shapes, colors=STREET, linewidths=2.5))
@@ -137,7 +152,7 @@ def draw_density(pyplot: Pyplot, folder: Folder) -> Figure:
     """The streets by mean density over all polls, vehicles a kilometre and lane, of each link, above 100 as 100; Fault
     where nothing was polled."""
     densities = run_series.densities(folder)
-    shown = [Street(link.shape, value) for value, link in zip(densities, folder.mapping.links, strict=True)]
+    shown = apart(Street(link.shape, value) for value, link in zip(densities, folder.mapping.links, strict=True))
     figure, axes, beside = canvas(pyplot, [one.shape for one in shown])
     axes.set(title="Mean density: wider and darker is denser")
     most = next((most for most in (25, 50) if max(densities) <= most), 100)
@@ -149,8 +164,9 @@ def draw_density(pyplot: Pyplot, folder: Folder) -> Figure:
 
 
 def scale_bar(axes: Axes) -> None:
-    """Draws a bar of a round number of metres, about a fifth of the picture's width, below the streets; the axes'
-    lower limit goes down for it. Called when all else is drawn, as it is placed by the limits."""
+    """Draws a bar of a round number of metres, about a fifth of the picture's width, and behind it an arrow to the
+    north, below the streets; the axes' lower limit goes down for it. Called when all else is drawn, as it is placed by
+    the limits."""
     left, right = axes.get_xlim()
     width = max(right - left, 1)
     metres = run_series.round_length(width / 5.5)
@@ -159,6 +175,9 @@ def scale_bar(axes: Axes) -> None:
     axes.set_ylim(low, high)
     begin, place = left + 0.03 * width, low + 0.03 * (high - low)
     axes.plot((begin, begin + metres), (place, place), color="black", linewidth=4, solid_capstyle="butt")
-    text = f"{metres:g} m" if metres < 1000 else f"{metres / 1000:g} km"
+    text = run_series.length_told(metres)
     axes.text(begin + metres / 2, place + 0.015 * (high - low), text, ha="center", va="bottom")
+    north = begin + metres + 0.04 * width
+    axes.plot(north, place, "^", color="black", markersize=9)
+    axes.annotate("N", (north, place), (8, 0), textcoords="offset points", va="center")
     axes.set_xlim(left, right)

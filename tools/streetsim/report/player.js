@@ -43,12 +43,13 @@ class Side {
     }
     scene.drawCars(cars);
     run.links.forEach((link, number) => { const green = this.isGreen(number, clock); if (green !== null) scene.drawStopLine(link, green); });
-    if (at("names").checked) this.drawJunctions();
+    if (at("names").checked) scene.drawNames(run.links.filter(link => scene.isInView(link)), this.drawJunctions());
     scene.drawScale();
     if (this.streetAt(pointed)) scene.drawName(this.streetAt(pointed), pointed);
   }
 
-  // The names of junctions with signals; one that would lie over another is left out.
+  // The names of junctions with signals; one that would lie over another is left out. Gives those that are written, [left, base
+  // line, width].
   drawJunctions() {
     const { pen, canvas } = this.scene, taken = [];
     pen.font = "bold 12px sans-serif"; pen.lineWidth = 3; pen.strokeStyle = "#fff"; pen.fillStyle = "#222";
@@ -59,6 +60,7 @@ class Side {
       taken.push([left, top, wide]);
       pen.strokeText(name, left + 6, top - 6); pen.fillText(name, left + 6, top - 6);
     }
+    return taken.map(([left, top, wide]) => [left + 6, top - 6, wide]);
   }
 }
 

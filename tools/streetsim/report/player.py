@@ -14,15 +14,16 @@ MOST_BYTES = 100_000_000  # of the packed data; browsers are slow with more
 
 def player_data(folder: Folder, first: int, last: int) -> Json:
     """What the page plays of a run from a first to a last second, both included, as an object for json: "name" of the
-    folder; "links", {"name", "points" in metres, "lanes" and "cells": how many, "end": its node}; "junctions" with
-    lights, [name, x, y]; "signals", [clock, node, offset, [[seconds, links that may go], ..]], of the whole run;
-    "every": seconds between polls; "frames", the polls as Folder.polls gives them (an empty list where there are none);
-    and "chart", as of chart_points. Fault where they cannot be read."""
+    folder; "links", {"name", "points" in metres, "lanes" and "cells": how many, "end": its node, "street": its name
+    where it has one}; "junctions" with lights, [name, x, y]; "signals", [clock, node, offset, [[seconds, links that may
+    go], ..]], of the whole run; "every": seconds between polls; "frames", the polls as Folder.polls gives them (an
+    empty list where there are none); and "chart", as of chart_points. Fault where they cannot be read."""
     names, mapping = Names(folder.mapping), folder.mapping
     links = [
         {
             "name": names.street(link.edge) or link.edge, "points": link.shape, "lanes": len(link.lanes),
             "cells": link.cells, "end": link.end,
+            **({"street": names.street(link.edge)} if names.street(link.edge) else {}),
         }
         for link in mapping.links
     ]

@@ -257,3 +257,8 @@ def round_length(metres: float) -> float:
     """The greatest length, for a map's scale, up to `metres` (above 0) that is 1, 2 or 5 times a power of ten."""
     power = 10 ** floor(log10(metres))
     return next(times * power for times in (5, 2, 1) if times * power <= metres)
+
+
+def length_told(metres: float) -> str:
+    """A round length as the bar of a map tells it, in metres, or in kilometres from 1,000 m on."""
+    return f"{metres:g} m" if metres < 1000 else f"{metres / 1000:g} km"

@@ -58,7 +58,7 @@ def ground_of(reading: Reading, town: SignalTown) -> BoundsGround:
     print(*lights.notes(), sep="\n", end="\n" if lights.listed else "", file=sys.stderr)
     if others := [one.name for one in lights.driven if one.name not in given]:
         print(
-            f"not changed, as they have no bounds of this kind or --keep says so: {first_few(others)}", file=sys.stderr
+            f"not changed, as they have no bounds of this kind or --fixed says so: {first_few(others)}", file=sys.stderr
         )
     if not given:
         raise Fault(f"{reading.map}: detectors drive no light whose bounds may be changed")

@@ -156,10 +156,10 @@ def is_green(state: str) -> bool:
 
 
 def why_kept(name: str, program: LightProgram, asked: Collection[str], timed: Collection[str]) -> str | None:
-    """Why a light's plan is left as it is; None where it is searched. asked: lights of --keep; timed: lights whose plan
+    """Why a light's plan is left as it is; None where it is searched. asked: those of --fixed; timed: lights whose plan
     changes by time of day."""
     if name in asked:
-        return "as --keep says"
+        return "as --fixed says"
     if name in timed:
         return "its plan changes by time of day"
     if program.kind != STATIC:

@@ -123,11 +123,11 @@ def settings_of(reading: Reading, run: Run, mapping: Map, searched: Collection[s
 
 def searched_lights(reading: Reading, run: Run, mapping: Map, net: SumoNet) -> tuple[dict[str, PlannedLight], Plan]:
     """({name: light that is searched}, their plan as given); which lights are left as they are, and why, is written to
-    standard error. Fault where a light of the map has no program in the plans, --keep names a light that the map does
+    standard error. Fault where a light of the map has no program in the plans, --fixed names a light that the map does
     not have, or no light may be changed."""
     names, asked = lights_of(reading, mapping, net), set(reading.keep)
     if unknown := sorted(asked - set(names)):
-        raise Fault(f"--keep: the map has no light {unknown[0]!r}")
+        raise Fault(f"--fixed: the map has no light {unknown[0]!r}")
     timed_nodes = {signal_node(line) for _, line in run.timed}
     timed = {light for light, node in mapping.signals if node in timed_nodes}
     lights, plan = {}, {}

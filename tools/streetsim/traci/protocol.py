@@ -64,10 +64,6 @@ class WordReader:
         """The next byte without sign."""
         return int(self.take(UBYTE)[0])
 
-    def bytes_left(self) -> int:
-        """How many bytes are not read."""
-        return self.end - self.at
-
     def typed(self, deep: int = 0) -> Typed:
         """The next value by the mark of its type; deep: the compounds around it."""
         letter = LETTERS.get(number := self.byte(), "")
