@@ -187,7 +187,7 @@ class Seen(PageCase, test_forged.Page):
                 if name == "player":
                     buttons = [("button", one) for one in ("Play", "nearer", "farther", "Copy link")]
                     more = [("combobox", "Speed"), ("slider", "time")]
-                    more += [("checkbox", one) for one in ("junctions", "charts")]
+                    more += [("checkbox", one) for one in ("names", "charts")]
                     pictures = ("streets and vehicles of zero", "streets and vehicles of other")
                     more += [("image", one) for one in (*pictures, "vehicles, standing and arrived over time")]
                     self.assertEqual(sorted(told), sorted([*buttons, *more]))

@@ -7,8 +7,9 @@ from support import Case, lane, net
 from streetsim.base.report import Report
 from streetsim.model.fullness import MERGING, FullLane, Fullness, fullness_of
 from streetsim.model.mapping import map_from
+from streetsim.model.reserved import ReservedLanes
 from streetsim.model.starting import SlowStarts
-from streetsim.model.trust import full_doubts, start_doubts
+from streetsim.model.trust import full_doubts, reserved_doubts, start_doubts
 from streetsim.sumo.converting import map_of
 from streetsim.sumo.import_files import convert
 from streetsim.sumo.merges import passed, share_of_first
@@ -217,6 +218,35 @@ class Classes(Made):
         self.assertEqual(self.plans(both, "passenger"), ([[(1,), (0,)]], {}))
         self.assertEqual(self.plans(both, "bus"), ([[(0,), (0,)]], {}))
         self.assertEqual(self.plans(both[:1], "bus"), ([[(0,), (0,)]], {}))
+
+    def reserved(self, cars, buses):
+        """The mapping of cars and buses, one a second, that drive over a and b, of which a has a lane for buses."""
+        text = net(
+            [("a", "A", "B", self.LANES), ("b", "B", "C", [lane("b", 0, 300)])],
+            [("a", 0, "b", 0, ""), ("a", 1, "b", 0, "")],
+        )
+        vehicles = "".join(
+            f'<vehicle id="{at}" type="{"p" if at < cars else "u"}" depart="{at}"><route edges="a b"/></vehicle>'
+            for at in range(cars + buses)
+        )
+        types = '<vType id="p"/><vType id="u" vClass="bus"/>'
+        path, report = self.write("x.rou.xml", f"<routes>{types}{vehicles}</routes>"), Report()
+        kept = Options(classes=("passenger", "bus"))
+        network, _, _, names = convert(self.write("x.net.xml", text), [], [path], kept, report)
+        return map_of(network, [], names, report)
+
+    def test_buses_on_a_lane_of_their_own_are_told(self):
+        mapping = self.reserved(18, 2)
+        self.assertEqual(mapping.reserved, ReservedLanes("bus", "a", 2, 20))
+        [doubt] = reserved_doubts(mapping)
+        self.assertIn("2 of 20 vehicles (bus) drive on lanes of their own, most of all on edge a", doubt)
+        self.assertTrue(any(doubt.split(";")[0] in line for line in mapping.warnings))
+        again = map_from("x", json.loads(json.dumps(mapping.written())))
+        self.assertEqual(again.reserved, mapping.reserved)
+
+    def test_few_buses_are_no_doubt_and_cars_alone_nothing(self):
+        self.assertEqual([*reserved_doubts(self.reserved(19, 1))], [])
+        self.assertIsNone(self.reserved(3, 0).reserved)
 
     def test_who_has_no_lane_is_left_out_and_counted(self):
         self.LANES = self.LANES[:1]

@@ -188,7 +188,7 @@ class Ends(Studies):
             self.assertEqual((one["arrived"], one["mean_trip_s"]), ("2400", f"{float(other['mean_trip_s']):.3f}"))
             self.assertIn(f"ended at {int(one['end_s']):,} s: all have arrived", said)
             self.assertEqual(one["ended"], "all have arrived")
-        self.assertRegex(told.splitlines()[-2], r"runs ended at [34],[0-9]{3}( to [34],[0-9]{3})? s: all have arrived")
+        self.assertRegex(told, r"runs ended at [34],[0-9]{3}( to [34],[0-9]{3})? s: all have arrived")
         self.assertEqual(self.not_trusted(), [])
         self.tool("study", *self.words(study, "--jobs", 1, out="again"))
         self.assertEqual((self.folder / "out/runs.csv").read_bytes(), (self.folder / "again/runs.csv").read_bytes())

@@ -13,6 +13,7 @@ from streetsim.base.files import Fault, FilePath, Json, read_json
 from streetsim.model.detectors import Detector
 from streetsim.model.fullness import Fullness, fullness_of
 from streetsim.model.named import columns, columns_of, one_of, rows_of
+from streetsim.model.reserved import ReservedLanes
 from streetsim.model.starting import SlowStarts
 from streetsim.model.stops import Visit
 from streetsim.model.waiting import GivingWay, giving_way_of
@@ -131,6 +132,7 @@ class Map:
     switches: Sequence[tuple[int, str, str]] = field(default_factory=list)
     full: Fullness = field(default_factory=Fullness)  # lanes that are nearly full by the demand
     starts: SlowStarts | None = None  # at lights
+    reserved: ReservedLanes | None = None  # of classes beside the first
     end: int = 0  # the clock at which SUMO's configuration ends a run, 0 where none does
 
     def __post_init__(self) -> None:
@@ -181,6 +183,7 @@ class Map:
             **{name: value for name in WHERE_ANY if (value := getattr(self, name))},
             **({"full": asdict(self.full)} if self.full else {}),
             **({"starts": asdict(self.starts)} if self.starts else {}),
+            **({"reserved": asdict(self.reserved)} if self.reserved else {}),
             **({"visits": columns_of(Visit, self.visits)} if self.visits else {}),
             **({"switches": columns(Switch._fields, self.switches)} if self.switches else {}),
         }
@@ -216,6 +219,7 @@ def map_from(path: FilePath, value: Json) -> Map:
         more["full"] = fullness_of(value.get("full", {}))
         more["end"] = value.get("end", 0)
         more["starts"] = one_of(SlowStarts, value["starts"]) if "starts" in value else None
+        more["reserved"] = one_of(ReservedLanes, value["reserved"]) if "reserved" in value else None
         for name, kind in (("detectors", Detector), ("visits", Visit), ("switches", Switch)):
             more[name] = rows_of(kind, value.get(name, ()))
         refuse_outside(more["nodes"], more["links"], more["turns"])

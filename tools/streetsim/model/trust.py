@@ -24,8 +24,10 @@ OTHER_LENGTH = 0.1  # of the metres that are driven
 MOST_ACTUATED = 0.1  # of the vehicles, that pass lights which SUMO times by detectors
 MOST_FULL = 0.2  # of the vehicles, that pass lanes which are nearly full by the demand
 MOST_SLOW = 0.15  # of the vehicles, that start slowly at lights
+MOST_RESERVED = 0.05  # of the vehicles, that drive on lanes of their own class
 MOST_CROWDED = 0.1  # of the vehicles, that pass nearly full streets which give way
 NAMED = 3  # edges, or lights
+RESERVED_OFF = "8 to 13 %"  # of trips of buses in SUMO that drive so (tools/CLOSENESS.md)
 SLOW_OFF = "4 to 15 %"  # of mean trips in SUMO where many start slowly (tools/CLOSENESS.md)
 
 
@@ -97,7 +99,7 @@ def doubts(
     listed seconds."""
     found = [*rescue_doubts(trips, rescues), *arrival_doubts(trips), *entry_doubts(trips, censuses)]
     found += works_doubts(works_in(run, mapping), [(trips.clock, trips.all_arrived())])
-    found += [*full_doubts(mapping), *start_doubts(mapping)]
+    found += [*full_doubts(mapping), *start_doubts(mapping), *reserved_doubts(mapping)]
     return [*found, *length_doubts(trips.clock, run, mapping), *actuated_doubts(trips.clock, run, mapping, listed)]
 
 
@@ -209,6 +211,13 @@ def start_doubts(mapping: Map) -> Iterator[str]:
     starts = mapping.starts
     if starts and starts.vehicles > MOST_SLOW * starts.of:
         yield f"{starts.told()}; mean trips of such drawn rows were {SLOW_OFF} too short"
+
+
+def reserved_doubts(mapping: Map) -> Iterator[str]:
+    """A doubt where more than 0.05 of the vehicles drive on lanes of their own class."""
+    own = mapping.reserved
+    if own and own.vehicles > MOST_RESERVED * own.of:
+        yield f"{own.told()}; trips of such buses were {RESERVED_OFF} too short"
 
 
 def length_doubts(clock: int, run: Run, mapping: Map) -> Iterator[str]:

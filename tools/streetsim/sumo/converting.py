@@ -22,6 +22,7 @@ from streetsim.sumo.programs import fixed_programs, kept_programs, lights_of_rid
 from streetsim.sumo.rules import warn_of_rules
 from streetsim.sumo.signals import AFTER, movements, signal_commands
 from streetsim.sumo.slowing import with_lower_limits
+from streetsim.sumo.reserved import reserved_lanes
 from streetsim.sumo.starting import slow_starts
 from streetsim.sumo.timings import warn_of_clashes
 from streetsim.sumo.types import Types
@@ -65,6 +66,7 @@ def converted(
     entered, driven = enters(vehicles, net, network, types, report)
     network.kinds = kinds_of(driven, types)
     network.starts = slow_starts(net, driven, types.drivings)
+    network.reserved = reserved_lanes(network, driven, lambda name: types.class_kept(name, options.classes))
     network.last = max((command["depart"] for command in entered), default=options.begin)
     network.open_beside_works()
     if doubted:
@@ -131,6 +133,7 @@ def map_of(network: Network, lights: list[tuple[str, int]], names: list[str], re
         switches=network.switches,
         full=network.full,
         starts=network.starts,
+        reserved=network.reserved,
     )
 
 

@@ -10,6 +10,7 @@ from streetsim.base.files import Fault, Json
 from streetsim.base.report import Report, first_few
 from streetsim.model.fullness import Fullness
 from streetsim.model.runs import Command
+from streetsim.model.reserved import ReservedLanes
 from streetsim.model.starting import SlowStarts
 from streetsim.model.stops import Visit
 from streetsim.model.waiting import GivingWay, TurnKey
@@ -144,6 +145,7 @@ class Network:
         self.programs: list[Json] = []  # of these, as programs.kept_programs has them
         self.full = Fullness()  # lanes that are nearly full by the demand
         self.starts: SlowStarts | None = None  # at lights
+        self.reserved: ReservedLanes | None = None  # of classes beside the first
         self.rings = sorted(net.roundabouts & net.edges.keys())
 
     def users_of(self, link: int) -> frozenset[str] | None:

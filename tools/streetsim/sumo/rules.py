@@ -30,6 +30,7 @@ def warn_of_rules(net: SumoNet, network: Network, programs: Iterable[tuple[str, 
     the vehicles have their plans (enters), as these add turns (network.joined). Lights, stops and types report their
     own. programs: with the name of its light each that is shown at any time."""
     warn_of_classes(net, network, report)
+    warn_of_reserved(network, report)
     warn_of_lengths(network, report)
     warn_of_speeds(network, report)
     warn_of_types(network, report)
@@ -47,6 +48,12 @@ def warn_of_classes(net: SumoNet, network: Network, report: Report) -> None:
             sorted(net.dropped),
             "--classes NAMES keeps those of other classes too",
         )
+
+
+def warn_of_reserved(network: Network, report: Report) -> None:
+    """Reports vehicles that drive on lanes of their own class."""
+    if own := network.reserved:
+        report.warn(f"{own.told()}: they may be faster there than in SUMO", [own.edge])
 
 
 def warn_of_lengths(network: Network, report: Report) -> None:
