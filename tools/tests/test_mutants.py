@@ -11,7 +11,7 @@ from collections import Counter
 from concurrent.futures import ThreadPoolExecutor
 from pathlib import Path
 
-from support import DATA, PROGRAM, QUICK, TOOLS
+from support import DATA, PROGRAM, QUICK, TOOLS, needs_simulator
 
 LIST = json.loads((DATA / "mutants.json").read_text())
 LONGEST = 120  # seconds that a test may take; one without an end notices the change too
@@ -46,6 +46,7 @@ class Listed(unittest.TestCase):
         self.assertLessEqual(max(Counter(path for path, *_ in LIST).values()), 8)
 
 
+@needs_simulator
 @unittest.skipIf(QUICK, "each starts a process")
 class Noticed(unittest.TestCase):
     def test_each_is_noticed(self):
