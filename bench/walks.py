@@ -106,7 +106,8 @@ def to_check(folder, bodies, begin):
             yield f"{'true' if '--sealed' in line else f'{line} --sealed'}; streetsim-check {found[1]}"
     for top in sorted(path for path in folder.iterdir() if path.is_dir() and path.stat().st_mtime >= begin):
         if (top / "made.json").exists():
-            yield f"streetsim-check {top.name} --study {json.loads((top / 'made.json').read_text())['study']}"
+            study = json.loads((top / "made.json").read_text())["study"]  # as seen from the folder of the study
+            yield f"streetsim-check {top.name} --study {top.name}/{study}"
         elif (top / "run.jsonl.gz").exists():
             yield f"streetsim-check {top.name}"
 
