@@ -336,7 +336,9 @@ class Tool(Searching):
         self.small()
         told, _ = self.search("--budget", 60, "--check", "101-103", "--fixed", "J2 J3", "--cycle", "40-70", until=1500)
         self.assertRegex(
-            told, r"mean trip [\d.]+ s as given, [\d.]+ s as found: -[\d.]+ s ± [\d.]+ \(95 % interval, 3 seeds"
+            told,
+            r"mean trip [\d.]+ s as given, [\d.]+ s as found: -[\d.]+ s ± [\d.]+ "
+            r"\(95 % interval of dawdling alone, 3 seeds",
         )
         self.assertEqual([row["light"] for row in self.table("lights.csv")], ["J1", "J4", "J5"])
         trials = self.table("search.csv")

@@ -168,6 +168,7 @@ def imported(words: argparse.Namespace, path: str) -> str:
         except Unrouted:
             if last == len(tries):
                 raise
+            print("  (status 2: these trips have no routes; the next command finds them)")
     note_kept(f"{run} and its map")
     if not read_map(map_beside(run)).cars:
         raise Fault(WITHOUT.format(path))

@@ -129,13 +129,14 @@ def net_of(folder: Folder, run: str) -> str:
 
 def lane_to_close(folder: Folder) -> tuple[str, float, bool]:
     """(name, metres, whether it is the only one of its edge) of a lane of a run that works may close: of the longest
-    edge, one with more lanes and with streets that lead to it where there are such."""
+    edge, one with more lanes, over which vehicles change, and with streets that lead to it where there are such."""
     mapping = folder.mapping
     firsts = {edge: mapping.links[links[0]] for edge, links in mapping.links_of.items()}
     lanes = {edge: sum(len(mapping.links[at].lanes) for at in links) for edge, links in mapping.links_of.items()}
     come = {(mapping.links[turn.next].edge, mapping.links[turn.link].begin) for turn in mapping.turns}
     led_to = {edge for edge, begin in come if begin != firsts[edge].end}
-    edge = max(firsts, key=lambda one: (lanes[one] > 1, one in led_to, firsts[one].metres))
+    whole = {edge for edge, links in mapping.links_of.items() if len(links) == 1}
+    edge = max(firsts, key=lambda one: (lanes[one] > 1, one in led_to, one in whole, firsts[one].metres))
     return f"{edge}_{min(firsts[edge].lanes)}", firsts[edge].metres, lanes[edge] == 1
 
 

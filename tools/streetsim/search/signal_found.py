@@ -161,8 +161,9 @@ def trips_told(row: BeforeAfter, search: PlanSearch) -> str:
     """The line on mean trips as given and as found, of the first row of before-after.csv, and on what the search
     took."""
     return (
-        f"mean trip {row.before:.1f} s as given, {row.after:.1f} s as found: {row.change_told()} (95 % interval, "
-        f"{row.runs} seeds that the search did not see); {search.simulations:,} simulations{budget_ended(search)}"
+        f"mean trip {row.before:.1f} s as given, {row.after:.1f} s as found: {row.change_told()} "
+        f"(95 % interval of dawdling alone, {row.runs} seeds that the search did not see); "
+        f"{search.simulations:,} simulations{budget_ended(search)}"
     )
 
 
