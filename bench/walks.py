@@ -91,11 +91,14 @@ def walk(page, heading, runs):
 
 
 def surroundings_of(args):
-    """The variables with which commands run: this environment's and the tools here, or the installed ones alone."""
+    """The variables with which commands run: this environment's and the tools here, or the installed ones alone; lines
+    come in the order in which a terminal shows them."""
     if args.installed:
-        return {name: value for name, value in os.environ.items() if not name.startswith(("STREETSIM", "SUMO_HOME"))}
-    path = f"{TOP / 'tools'}:{os.environ['PATH']}"
-    return {**shared.with_sumo(), "PATH": path, "STREETSIM_PROGRAM": args.program}
+        own = {name: value for name, value in os.environ.items() if not name.startswith(("STREETSIM", "SUMO_HOME"))}
+    else:
+        path = f"{TOP / 'tools'}:{os.environ['PATH']}"
+        own = {**shared.with_sumo(), "PATH": path, "STREETSIM_PROGRAM": args.program}
+    return {**own, "PYTHONUNBUFFERED": "1"}
 
 
 def to_check(folder, bodies, begin):

@@ -66,8 +66,7 @@ class Bars {
 
   fill(row, begin, length, state) { for (let at = 0; at < length; at++) row.states[round(begin + at, this.cycle)] = state; }
 
-  // ---- what a hand does with a green; each gives the green as it is then
-
+  // A hand drags the begin of a green, its end, or all of it, by some seconds; each gives the green as it is then.
   dragBegin(row, { begin, length }, by) {
     const room = this.roomBefore(row, begin), moved = Math.max(-room, Math.min(length - 1, by));
     if (moved < 0) this.fill(row, begin + moved, -moved, GREEN_SECOND); else this.fill(row, begin, moved, RED_SECOND);
@@ -99,9 +98,7 @@ class Bars {
     return this.greens(row).find(({ begin, length }) => round(second - begin, this.cycle) < length);
   }
 
-  // ---- stages: the phases as the light shows them
-
-  // {begin, length}, one after another from second 0 on.
+  // Stages are the phases as the light shows them: {begin, length}, one after another from second 0 on.
   stages() { return this.parts(state => state !== RED_SECOND, this.cuts); }
 
   parts(seen, cuts) {
@@ -155,8 +152,6 @@ class Bars {
     const stages = this.stages();
     if (stages.length > 1) this.cutOut(stages[which].begin, stages[which].length);
   }
-
-  // ---- as the engine and as SUMO take it
 
   // The phases that the engine is told: lost seconds are red. Splits that change nothing are told where there is room for them.
   phases() {

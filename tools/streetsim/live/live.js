@@ -8,8 +8,6 @@ async function advance(steps) {
   if (wave.path.length) wave.note(session.now);
 }
 
-// ---- what is shown
-
 function draw(part) {
   follow(part);
   const shown = at("maps").value, [first, second] = views;
@@ -91,8 +89,6 @@ function frame(time) {
   if (playing) draw(Math.min(1, (performance.now() - stepped) / each));
   requestAnimationFrame(frame);
 }
-
-// ---- how it begins
 
 async function start() {
   const data = await (await unpack(at("data").textContent)).json();

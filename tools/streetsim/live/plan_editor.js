@@ -26,8 +26,6 @@ class PlanEditor {
     this.show();
   }
 
-  // ---- where things are
-
   get high() { return Math.max(ROW_LEAST, Math.min(ROW_MOST, Math.floor(MOST_HIGH / Math.max(1, this.bars.rows.length)))); }
   get each() { return (this.wide - LABEL - 2) / this.bars.cycle; } // pixels a second
   x(second) { return LABEL + round(second - this.bars.offset, this.bars.cycle) * this.each; }
@@ -38,8 +36,6 @@ class PlanEditor {
     const from = round(begin - this.bars.offset, this.bars.cycle), first = Math.min(length, this.bars.cycle - from);
     return [[from, first], [0, length - first]].filter(piece => piece[1] > 0).map(([at, seconds]) => [LABEL + at * this.each, seconds * this.each]);
   }
-
-  // ---- what is seen
 
   show() {
     const { bars, svg } = this, high = this.top(bars.rows.length) + 2;
@@ -89,8 +85,6 @@ class PlanEditor {
     return isAlone ? shortened(name, 16) : `${shortened(name, 8)} → ${shortened(streetName(row.next), 8)}`;
   }
 
-  // ---- boxes and buttons below, of the page's template
-
   makeTools() {
     [this.tools, this.tool] = fromTemplate("planTools");
     const acts = {
@@ -137,8 +131,6 @@ class PlanEditor {
   }
 
   async send() { if (!this.bars.lacking()) await this.set(this.bars.command()); else throw new Error(this.bars.lacking()); }
-
-  // ---- pointers
 
   hit(event) {
     const box = this.svg.getBoundingClientRect(), scale = this.wide / box.width, x = (event.clientX - box.left) * scale, y = (event.clientY - box.top) * scale;
@@ -190,8 +182,6 @@ class PlanEditor {
     if (part === "offset") this.bars.offset = round(this.bars.offset - by, this.bars.cycle);
     else this.chosen.green = this.bars[part](this.bars.rows[row], green, by);
   }
-
-  // ---- keys
 
   key(event) {
     const step = event.shiftKey ? 5 : 1, keys = {

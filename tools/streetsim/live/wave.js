@@ -62,8 +62,6 @@ class Wave {
     return this.path.reduce((sum, { link, from, to }) => sum + Math.max(0, Math.min(to, metres) - from) / (Math.max(1, link.limit - session.data.dawdle) * link.metres / link.cells), 0);
   }
 
-  // ---- drawing
-
   draw(canvas) {
     canvas.hidden = !this.path.length;
     if (!this.path.length) return;
@@ -117,8 +115,6 @@ class Wave {
   }
 
   said() { return this.path.length ? `Through all lights one comes in ${this.width ?? 0} s of the first one's cycle. Drag a light's bar to change its offset.` : ""; }
-
-  // ---- a light's bar, dragged
 
   press(event) {
     const away = ({ at }) => Math.abs(this.y(at) - event.offsetY);

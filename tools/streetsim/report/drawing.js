@@ -58,9 +58,8 @@ function nearestOf(things, away, most = Infinity) {
   return near.sort((one, other) => one[0] - other[0])[0]?.[1] ?? null;
 }
 
-function metresToLink(point, { points }) {
-  return Math.min(...points.slice(1).map((end, i) => distance(point, points[i], end)));
-}
+const metresToLink = (point, { points }) =>
+  Math.min(...points.slice(1).map((end, i) => distance(point, points[i], end)));
 
 // The point and the direction at a share of a link's length, moved to the lane's side, and to the right as the link is drawn.
 function placeOnLane(link, lane, share) {
@@ -83,30 +82,21 @@ function legendOf({ speeds, closed, red, green }) {
     element("span", {}, element("i", { className: `key ${more}`, style: styled(colour, high) }), word));
 }
 
-// A line moved to its right by some metres, at bends too, but for those that turn back.
+// A line moved to its right by some metres: each point by the direction from the one before it to the one behind it.
 function movedAside(points, aside) {
-  if (!aside) return points;
-  const sides = points.slice(1).map(([x, y], i) => {
-    const [ax, ay] = points[i], size = Math.hypot(x - ax, y - ay) || 1;
-    return [(y - ay) / size, (ax - x) / size];
-  });
   return points.map(([x, y], i) => {
-    const [ax, ay] = sides[Math.max(0, i - 1)], [bx, by] = sides[Math.min(i, sides.length - 1)];
-    const size = ((ax + bx) ** 2 + (ay + by) ** 2) / 2, turnsBack = size < .5;
-    return turnsBack ? [x + aside * bx, y + aside * by] : [x + aside * (ax + bx) / size, y + aside * (ay + by) / size];
+    const [ax, ay] = points[Math.max(0, i - 1)], [bx, by] = points[Math.min(i + 1, points.length - 1)];
+    const size = Math.hypot(bx - ax, by - ay) || 1;
+    return [x + aside * (by - ay) / size, y - aside * (bx - ax) / size];
   });
 }
 
 // Links on a canvas, seen from a place at a scale (pixels a metre).
 class Scene {
   constructor(canvas, links) {
-    this.canvas = canvas;
-    this.pen = canvas.getContext("2d", { alpha: false }); // who draws fills it whole
-    this.links = links;
-    this.colours = LIGHT;
-    this.x = this.y = 0;
-    this.scale = 1;
-    this.moved = false; // whether somebody has chosen the place and the scale
+    const pen = canvas.getContext("2d", { alpha: false }); // who draws fills it whole
+    // moved: whether somebody has chosen the place and the scale.
+    Object.assign(this, { canvas, pen, links, colours: LIGHT, x: 0, y: 0, scale: 1, moved: false });
     for (const link of links) {
       link.lengths = link.points.slice(1).map((point, i) => Math.hypot(point[0] - link.points[i][0], point[1] - link.points[i][1]));
       link.total = link.lengths.reduce((sum, length) => sum + length, 0);
