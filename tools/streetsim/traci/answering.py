@@ -26,8 +26,8 @@ SHOWN = ("gui", "poi", "polygon")  # domains whose changes only show something
 @cache
 def call_of(domain: str, name: str) -> Callable[..., Value]:
     """A call of a domain; NotHere where it is not here."""
-    found: Callable[..., Value] = getattr(getattr(traci, domain), name)
-    return found
+    call: Callable[..., Value] = getattr(getattr(traci, domain), name)
+    return call
 
 
 class AskedCall(NamedTuple):
@@ -64,23 +64,23 @@ def whole_message(answer: bytes | bytearray) -> bytes:
     return INT.pack(len(answer) + INT.size) + answer
 
 
-def asked_value(code: int, words: WordReader) -> AskedCall:
-    """The call that tells a variable of an object. words: behind the code. NotHere for what is not told here,
+def asked_value(code: int, reader: WordReader) -> AskedCall:
+    """The call that tells a variable of an object. reader: behind the code. NotHere for what is not told here,
     BadMessage for wrong words."""
-    domain, variable, name = GET_OF[code], words.byte(), words.text()
+    domain, variable, name = GET_OF[code], reader.byte(), reader.text()
     head = bytes((variable,)) + text(name)
     if (get := GETS.get(domain, {}).get(variable)) is None:
-        if (special := SPECIAL.get((domain, variable))) is None:
+        if (special_call := SPECIAL.get((domain, variable))) is None:
             raise not_here(domain, variable, "get")
-        call, given, gives = special(name, words)
-        return AskedCall(code, call, given, head, gives)
+        call, arguments, gives = special_call(name, reader)
+        return AskedCall(code, call, arguments, head, gives)
     objects = () if nameless(domain, get) else (name,)
-    asked = AskedCall(code, call_of(domain, get.call), (*objects, *words.given(get.takes)), head, get.gives)
+    call_read = AskedCall(code, call_of(domain, get.call), (*objects, *reader.given(get.takes)), head, get.gives)
     if get.gives not in FIXED:
-        return asked
+        return call_read
     mark, pack = FIXED[get.gives]
     whole = OK[code] + command(code + ANSWER, head + mark + pack(0))
-    return asked._replace(head=whole[: -len(pack(0))], fixed=pack)
+    return call_read._replace(head=whole[: -len(pack(0))], fixed=pack)
 
 
 def nameless(domain: str, get: Get) -> bool:
@@ -88,19 +88,19 @@ def nameless(domain: str, get: Get) -> bool:
     return get.call in WITHOUT_OBJECT or domain == "simulation" and not get.call.startswith("getParameter")
 
 
-def asked_change(code: int, words: WordReader) -> AskedCall:
+def asked_change(code: int, reader: WordReader) -> AskedCall:
     """The call that makes a change; raises as asked_value does, and TraCIException for words that are no numbers."""
-    domain, variable, name = SET_OF[code], words.byte(), words.text()
+    domain, variable, name = SET_OF[code], reader.byte(), reader.text()
     if domain in SHOWN:
         return AskedCall(code, getattr(traci, domain).nothing, (), OK[code])
     if variable not in SETS.get(domain, {}):
         raise not_here(domain, variable, "set")
-    call, takes = SETS[domain][variable]
-    given = WORDS[call](words) if takes == "*" else words.given(takes)
-    if not all(isfinite(one) for one in given if isinstance(one, float)):
-        raise TraCIException(f"{domain}.{call}: {given} are not all numbers")
+    call, types = SETS[domain][variable]
+    arguments = WORDS[call](reader) if types == "*" else reader.given(types)
+    if not all(isfinite(value) for value in arguments if isinstance(value, float)):
+        raise TraCIException(f"{domain}.{call}: {arguments} are not all numbers")
     objects = () if domain == "simulation" and call != "setParameter" else (name,)
-    return AskedCall(code, call_of(domain, call), (*objects, *given), OK[code])
+    return AskedCall(code, call_of(domain, call), (*objects, *arguments), OK[code])
 
 
 def not_here(domain: str, variable: int, how: str) -> NotHere:
@@ -112,9 +112,9 @@ def not_here(domain: str, variable: int, how: str) -> NotHere:
 
 # Values and words that one variable has in several forms.
 
-def parts_of(words: WordReader) -> list[Typed]:
+def parts_of(reader: WordReader) -> list[Typed]:
     """The parts of the compound that comes next."""
-    letter, parts = words.typed()
+    letter, parts = reader.typed()
     if letter != "t":
         raise BadMessage("a compound is awaited")
     return list(parts)
@@ -123,36 +123,36 @@ def parts_of(words: WordReader) -> list[Typed]:
 Special = tuple[Callable[..., Value], tuple[Value, ...], str]  # a call, its words, the type of its value
 
 
-def converted(_: str, words: WordReader) -> Special:
+def converted(_: str, reader: WordReader) -> Special:
     """What tells simulation.convert2D, convertRoad and convertGeo."""
-    (letter, here), (_mark, wanted), *_more = (*parts_of(words), ("", 0), ("", 0))
-    if letter == "r" and wanted == tc.POSITION_2D:
-        return traci.simulation.convert2D, tuple(here), "o"
-    if letter == "o" and wanted == tc.POSITION_ROADMAP:
-        return traci.simulation.convertRoad, tuple(here), "r"
+    (letter, position), (_mark, target_type), *_more = (*parts_of(reader), ("", 0), ("", 0))
+    if letter == "r" and target_type == tc.POSITION_2D:
+        return traci.simulation.convert2D, tuple(position), "o"
+    if letter == "o" and target_type == tc.POSITION_ROADMAP:
+        return traci.simulation.convertRoad, tuple(position), "r"
     raise NotHere("simulation.convertGeo is not here: neither degrees nor heights; streetsim-export writes degrees")
 
 
-def far(_: str, words: WordReader) -> Special:
+def far(_: str, reader: WordReader) -> Special:
     """What tells simulation.getDistance2D and getDistanceRoad."""
-    words.given("t")
-    (one, begin), (other, end) = words.typed(), words.typed()
-    driving = words.byte() == tc.REQUEST_DRIVINGDIST
-    if (one, other) == ("o", "o"):
+    reader.given("t")
+    (begin_type, begin), (end_type, end) = reader.typed(), reader.typed()
+    driving = reader.byte() == tc.REQUEST_DRIVINGDIST
+    if (begin_type, end_type) == ("o", "o"):
         return traci.simulation.getDistance2D, (*begin[:2], *end[:2], False, driving), "d"
-    if (one, other) == ("r", "r"):
+    if (begin_type, end_type) == ("r", "r"):
         return traci.simulation.getDistanceRoad, (*begin[:2], *end[:2], driving), "d"
     raise NotHere("simulation.getDistance2D: degrees are not here; two points, or two places on edges")
 
 
-def driven_to(name: str, words: WordReader) -> Special:
+def driven_to(name: str, reader: WordReader) -> Special:
     """What tells vehicle.getDrivingDistance."""
-    words.given("t")
-    letter, there = words.typed()
-    words.byte()
+    reader.given("t")
+    letter, target = reader.typed()
+    reader.byte()
     if letter != "r":
         raise not_here("vehicle", tc.DISTANCE_REQUEST, "get")
-    return traci.vehicle.getDrivingDistance, (name, *there[:2]), "d"
+    return traci.vehicle.getDrivingDistance, (name, *target[:2]), "d"
 
 
 def option(name: str, _: WordReader) -> Special:
@@ -160,20 +160,20 @@ def option(name: str, _: WordReader) -> Special:
     return traci.simulation.getOption, (name,), "s"
 
 
-def seconds_of(words: WordReader) -> list[float]:
+def seconds_of(reader: WordReader) -> list[float]:
     """The words of edge.adaptTraveltime: the seconds, and from when to when they count where that is told."""
-    numbers = [value for letter, value in parts_of(words) if letter == "d"]
+    numbers = [value for letter, value in parts_of(reader) if letter == "d"]
     return [numbers[-1], *numbers[:-1]] if len(numbers) in (1, 3) else wrong("one number or three")
 
 
-def program_of(words: WordReader) -> list[Logic]:
+def program_of(reader: WordReader) -> list[Logic]:
     """The words of trafficlight.setProgramLogic."""
-    (_, name), (_, kind), (_, index), (_, phases), *_more = shaped(parts_of(words), "siit")
-    found = []
+    (_, name), (_, kind), (_, index), (_, phases), *_more = shaped(parts_of(reader), "siit")
+    program_phases = []
     for _, parts in phases:
         (_, duration), (_, state), (_, least), (_, most), (_, following), (_, text) = shaped(parts, "dsddts")
-        found.append(Phase(duration, state, least, most, tuple(number for _, number in following), text))
-    return [Logic(name, kind, index, found)]
+        program_phases.append(Phase(duration, state, least, most, tuple(number for _, number in following), text))
+    return [Logic(name, kind, index, program_phases)]
 
 
 def shaped(parts: list[Typed], letters: str) -> list[Typed]:
@@ -223,7 +223,7 @@ SUMOS: Mapping[tuple[str, int, str], str] = {
 }  # fmt: skip
 
 
-def subscribed_value(domain: str, get: Get, name: str, words: Sequence[Value]) -> bytes:
-    """The value of a variable that is subscribed to, with the mark of its type; words: behind the name."""
+def subscribed_value(domain: str, get: Get, name: str, arguments: Sequence[Value]) -> bytes:
+    """The value of a variable that is subscribed to, with the mark of its type; arguments: behind the name."""
     objects = () if domain == "simulation" or get.call in WITHOUT_OBJECT else (name,)
-    return ENCODERS[get.gives](call_of(domain, get.call)(*objects, *words))
+    return ENCODERS[get.gives](call_of(domain, get.call)(*objects, *arguments))

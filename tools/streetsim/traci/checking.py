@@ -72,24 +72,24 @@ class ScriptNames(ast.NodeVisitor):
 
     def visit_Import(self, node: ast.Import) -> None:
         """Notes modules by their names."""
-        for one in node.names:
-            base, _, last = one.name.rpartition(".")
-            if last == "constants" and base in MODULES and one.asname:
-                self.constants.add(one.asname)
-            elif one.name in MODULES or base in MODULES:
-                self.modules.add(one.asname or one.name.split(".")[0])
+        for alias in node.names:
+            package, _, module_name = alias.name.rpartition(".")
+            if module_name == "constants" and package in MODULES and alias.asname:
+                self.constants.add(alias.asname)
+            elif alias.name in MODULES or package in MODULES:
+                self.modules.add(alias.asname or alias.name.split(".")[0])
 
     def visit_ImportFrom(self, node: ast.ImportFrom) -> None:
         """Notes domains, constants and TraCI itself."""
-        for one in node.names:
-            own = one.asname or one.name
-            if node.module == "streetsim" and one.name == "traci":
-                self.modules.add(own)
-            elif node.module in MODULES and one.name == "constants":
-                self.constants.add(own)
-            elif node.module in MODULES and one.name in DOMAINS:
-                self.domains[own] = one.name
-                self.sure.add(own)
+        for alias in node.names:
+            bound_name = alias.asname or alias.name
+            if node.module == "streetsim" and alias.name == "traci":
+                self.modules.add(bound_name)
+            elif node.module in MODULES and alias.name == "constants":
+                self.constants.add(bound_name)
+            elif node.module in MODULES and alias.name in DOMAINS:
+                self.domains[bound_name] = alias.name
+                self.sure.add(bound_name)
 
     def visit_Assign(self, node: ast.Assign) -> None:
         """Notes names of connections and domains."""
@@ -139,8 +139,8 @@ class ScriptNames(ast.NodeVisitor):
 def written(node: ast.expr) -> str:
     """A name, or names with dots between, as it is written; empty for another expression."""
     if isinstance(node, ast.Attribute):
-        before = written(node.value)
-        return f"{before}.{node.attr}" if before else ""
+        owner = written(node.value)
+        return f"{owner}.{node.attr}" if owner else ""
     return node.id if isinstance(node, ast.Name) else ""
 
 
@@ -151,45 +151,45 @@ def checked(path: str) -> int:
             tree = ast.parse(file.read())
     except (SyntaxError, ValueError) as fault:
         raise Fault(f"{path}: is no script of Python: {fault}") from None
-    found = ScriptNames()
+    script = ScriptNames()
     for node in ast.walk(tree):  # names first, as functions may stand before them
         if isinstance(node, (ast.Import, ast.ImportFrom)):
-            found.visit(node)
-    found.visit(tree)
+            script.visit(node)
+    script.visit(tree)
     kinds: dict[str, dict[str, list[int]]] = {kind: defaultdict(list) for kind in ("here", "otherwise", "not here")}
-    for call in found.calls:
-        kind, told = judged(call)
-        kinds[kind][told].append(call.line)
-    for told, line in variables_not_here(found):
-        kinds["not here"][told].append(line)
+    for call in script.calls:
+        kind, message = judged(call)
+        kinds[kind][message].append(call.line)
+    for message, line in variables_not_here(script):
+        kinds["not here"][message].append(line)
     for kind, calls in kinds.items():
         print(f"{len(calls)} {kind}{':' if calls else ''}")
-        for told, lines in sorted(calls.items()):
-            print(f"  {told} (line {', '.join(map(str, sorted(set(lines))))})")
+        for message, lines in sorted(calls.items()):
+            print(f"  {message} (line {', '.join(map(str, sorted(set(lines))))})")
     return int(bool(kinds["not here"]))
 
 
 def judged(call: Called) -> tuple[str, str]:
     """(whether a call is here, otherwise or not here; the call, and how else or what to do instead)."""
-    told = call.told()
+    call_name = call.told()
     if call.domain in QUIET:
-        own = getattr(traci, call.domain)
-        return ("otherwise", f"{told}: shows nothing") if call.name in own.calls else ("not here", advised(told))
+        is_quiet = call.name in getattr(traci, call.domain).calls
+        return ("otherwise", f"{call_name}: shows nothing") if is_quiet else ("not here", advised(call_name))
     owner = type(vars(traci)[call.domain]) if call.domain in vars(traci) else None
     if hasattr(owner, call.name) if call.domain else call.name in vars(traci):
-        how = OTHERWISE.get(told)
-        return ("otherwise", f"{told}: {how}") if how else ("here", told)
-    return "not here", advised(told)
+        how = OTHERWISE.get(call_name)
+        return ("otherwise", f"{call_name}: {how}") if how else ("here", call_name)
+    return "not here", advised(call_name)
 
 
-def advised(told: str) -> str:
+def advised(call_name: str) -> str:
     """A call, and what to do instead."""
-    return f"{told}: {advice_on(told)}"
+    return f"{call_name}: {advice_on(call_name)}"
 
 
-def variables_not_here(found: ScriptNames) -> Iterator[tuple[str, int]]:
+def variables_not_here(script: ScriptNames) -> Iterator[tuple[str, int]]:
     """(name of a variable that no domain tells, line)."""
     known = {variable for table in GETS.values() for variable in table}
-    for name, line in found.variables:
+    for name, line in script.variables:
         if getattr(tc, name, None) not in known:
             yield f"{name}: cannot be subscribed to", line

@@ -57,11 +57,11 @@ class Domain(CallGroup[TraciSession]):
         """Keeps a text under a key (param), for getParameter. TraCIException for an unknown object, and where the
         domain would keep more than MOST_LETTERS; NotHere for keys of SUMO's models."""
         self.check_key(objectID, param)
-        text, before = str(value), self.parameters.get((objectID, param))
-        more = len(text) - len(before) if before is not None else len(param) + len(text) + OVERHEAD
-        if self.letters + more > MOST_LETTERS:
+        text, previous = str(value), self.parameters.get((objectID, param))
+        added_letters = len(text) - len(previous) if previous is not None else len(param) + len(text) + OVERHEAD
+        if self.letters + added_letters > MOST_LETTERS:
             raise TraCIException(f"{self.name}: parameters of more than {MOST_LETTERS:,} letters are not kept")
-        self.letters += more
+        self.letters += added_letters
         self.parameters[objectID, param] = text
 
     def forget_parameters(self, name: str) -> None:
@@ -155,10 +155,10 @@ class Domain(CallGroup[TraciSession]):
         groups: defaultdict[tuple[int, ...], list[str]] = defaultdict(list)
         for name, variables in self.subscribed.items():
             groups[variables].append(name)
-        found: dict[str, Values] = {}
+        results: dict[str, Values] = {}
         for variables, names in groups.items():
-            found |= self.all_values(self.there(names), variables)
-        return found
+            results |= self.all_values(self.there(names), variables)
+        return results
 
     def forget(self) -> None:
         """Forgets subscriptions and what scripts keep, at the end of a run."""
@@ -227,4 +227,5 @@ def plain(column: Column) -> Sequence[object]:
     """A column as Python's own values: numbers, and points as tuples."""
     if isinstance(column, list):
         return column
-    return list(map(tuple, found)) if (found := np.asarray(column).tolist()) and isinstance(found[0], list) else found
+    values = np.asarray(column).tolist()
+    return list(map(tuple, values)) if values and isinstance(values[0], list) else values

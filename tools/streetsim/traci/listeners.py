@@ -52,6 +52,6 @@ class Listeners:
 
     def clean_up(self) -> None:
         """Forgets all listeners, and calls cleanUp of each."""
-        here, self.made, self.here = self.here, 0, {}
-        for listener in here.values():
+        listeners, self.made, self.here = self.here, 0, {}
+        for listener in listeners.values():
             listener.cleanUp()

@@ -43,33 +43,33 @@ class Looking(Domain):
 
     def look(self, name: str, attribute: str) -> tuple[str | None, Look]:
         """(what the file of a type has as an attribute, how its class looks)."""
-        kind, words = self.type_of(name)
-        return words.get(attribute), LOOKS.get(kind.vclass, Look())
+        kind, attributes = self.type_of(name)
+        return attributes.get(attribute), LOOKS.get(kind.vclass, Look())
 
     def getWidth(self, name: str) -> float:
         """Metres; vehicles fill their lane here."""
-        told, look = self.look(name, "width")
-        return look.width if told is None else number(told)
+        value, usual_look = self.look(name, "width")
+        return usual_look.width if value is None else number(value)
 
     def getHeight(self, name: str) -> float:
         """Metres."""
-        told, look = self.look(name, "height")
-        return look.height if told is None else number(told)
+        value, usual_look = self.look(name, "height")
+        return usual_look.height if value is None else number(value)
 
     def getEmissionClass(self, name: str) -> str:
         """The class of its emissions, which are not reckoned here."""
-        told, look = self.look(name, "emissionClass")
-        return told or look.emission
+        value, usual_look = self.look(name, "emissionClass")
+        return value or usual_look.emission
 
     def getShapeClass(self, name: str) -> str:
         """The name of the shape in which SUMO's window draws it."""
-        told, look = self.look(name, "guiShape")
-        return told or look.shape
+        value, usual_look = self.look(name, "guiShape")
+        return value or usual_look.shape
 
     def getPersonCapacity(self, name: str) -> int:
         """How many persons may ride; nobody does."""
-        told, look = self.look(name, "personCapacity")
-        return look.persons if told is None else int(told)
+        value, usual_look = self.look(name, "personCapacity")
+        return usual_look.persons if value is None else int(value)
 
     def getActionStepLength(self, name: str) -> float:
         """1.0: the seconds after which a driver acts."""
@@ -83,11 +83,11 @@ class Looking(Domain):
 
     def colour_of_type(self, name: str) -> Colour:
         """The colour of a type, where its file has it in numbers; else SUMO's yellow."""
-        told = self.type_of(name)[1].get("color", "")
+        colour_text = self.type_of(name)[1].get("color", "")
         try:
-            parts = [number(part) for part in told.split(",")]
+            parts = [number(part) for part in colour_text.split(",")]
         except ValueError:
             return YELLOW
         scale = 255 if all(part <= 1 for part in parts) else 1
-        found = tuple(round(part * scale) for part in parts)
-        return found if len(found) == 4 else (*found, 255) if len(found) == 3 else YELLOW
+        colour = tuple(round(part * scale) for part in parts)
+        return colour if len(colour) == 4 else (*colour, 255) if len(colour) == 3 else YELLOW

@@ -19,12 +19,12 @@ def layout_of(variables: tuple[tuple[int, str], ...]) -> tuple[Array, bytes]:
     """(NumPy's layout of the values of variables of fixed size behind each other, each with number, state and mark of
     its type; the bytes of a row of zeros)."""
     fields: list[tuple[str, str]] = []
-    for at, (_, letter) in enumerate(variables):
-        fields += [(f"head{at}", "S3"), *((f"{name}{at}", kind) for name, kind in FIXED[letter])]
+    for index, (_, letter) in enumerate(variables):
+        fields += [(f"head{index}", "S3"), *((f"{name}{index}", kind) for name, kind in FIXED[letter])]
     layout = np.dtype(fields)
     row = np.zeros(1, layout)
-    for at, (variable, letter) in enumerate(variables):
-        row[f"head{at}"] = bytes((variable, tc.RTYPE_OK, TYPES[letter]))
+    for index, (variable, letter) in enumerate(variables):
+        row[f"head{index}"] = bytes((variable, tc.RTYPE_OK, TYPES[letter]))
     return layout, row.tobytes()
 
 
@@ -32,12 +32,12 @@ def fixed_rows(variables: tuple[tuple[int, str], ...], columns: Sequence[Column]
     """By row the bytes of values of fixed size; variables: (number, type) of each column."""
     layout, row = layout_of(variables)
     table = np.frombuffer(bytearray(row * count), layout)
-    for at, ((_, letter), column) in enumerate(zip(variables, columns, strict=True)):
+    for index, ((_, letter), column) in enumerate(zip(variables, columns, strict=True)):
         if letter == "o":
             points = np.asarray(column)
-            table[f"x{at}"], table[f"y{at}"] = points[:, 0], points[:, 1]
+            table[f"x{index}"], table[f"y{index}"] = points[:, 0], points[:, 1]
         else:
-            table[f"x{at}"] = column
+            table[f"x{index}"] = column
     data, size = table.tobytes(), layout.itemsize
     return [data[begin : begin + size] for begin in range(0, size * count, size)]
 
@@ -60,12 +60,13 @@ def packed_rows(kinds: Sequence[tuple[int, str]], columns: Sequence[Column], cou
     """By row the bytes of all values; kinds: (number, type) of the variable of each column."""
     parts: list[list[bytes]] = []
     pairs = zip(kinds, columns, strict=True)
-    for fixed, group in groupby(pairs, lambda pair: pair[0][1] in FIXED):
-        own = list(group)
-        if fixed:
-            parts.append(fixed_rows(tuple(kind for kind, _ in own), [column for _, column in own], count))
+    for is_fixed, group in groupby(pairs, lambda pair: pair[0][1] in FIXED):
+        group_pairs = list(group)
+        if is_fixed:
+            group_kinds, group_columns = zip(*group_pairs)
+            parts.append(fixed_rows(group_kinds, group_columns, count))
         else:
-            parts += [other_rows(*kind, column) for kind, column in own]
+            parts += [other_rows(*kind, column) for kind, column in group_pairs]
     if len(parts) == 1:
         return parts[0]
     return [b"".join(row) for row in zip(*parts, strict=True)] if parts else count * [b""]

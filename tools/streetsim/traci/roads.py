@@ -22,8 +22,8 @@ class WithTraffic(Outlined, TrafficCalls[TraciSession]):
 
     def speeds(self, name: str) -> list[float]:
         """Metres a second of the vehicles there, in the order of `numbers`."""
-        there, links = self.now().view.there, self.now().map.links
-        return [there[number].metres_a_second(links) for number in self.numbers(name)]
+        positions, links = self.now().view.there, self.now().map.links
+        return [positions[number].metres_a_second(links) for number in self.numbers(name)]
 
     def lengths(self, name: str) -> list[float]:
         """The metres of each vehicle's cells without the gap ahead, in the order of `numbers`; not those of its
@@ -33,8 +33,8 @@ class WithTraffic(Outlined, TrafficCalls[TraciSession]):
 
     def getLastStepLength(self, name: str) -> float:
         """The mean length of the vehicles there, metres; 0 where there is nobody (in SUMO -1 on an induction loop)."""
-        there = self.lengths(name)
-        return sum(there) / len(there) if there else 0.0
+        lengths = self.lengths(name)
+        return sum(lengths) / len(lengths) if lengths else 0.0
 
 
 class Stretches(WithTraffic, StretchCalls[TraciSession]):
@@ -65,36 +65,39 @@ class LaneDomain(LaneCalls[TraciSession], Stretches):
     def numbers(self, name: str) -> list[int]:
         """The numbers of the vehicles on its cells, from the stop line; of an edge, lane after lane."""
         on_lane = self.now().view.on_lane
-        return [number for place in self.places(name) for number in on_lane(place)]
+        return [number for link_lane in self.places(name) for number in on_lane(link_lane)]
 
     def speeds(self, name: str) -> list[float]:
         """Metres a second of the vehicles there, in the order of `numbers`."""
         view, links = self.now().view, self.now().map.links
-        return [speed * links[place[0]].cell_metres for place in self.places(name) for speed in view.speeds_on(place)]
+        return [
+            speed * links[link_lane[0]].cell_metres
+            for link_lane in self.places(name) for speed in view.speeds_on(link_lane)
+        ]
 
     def column(self, variable: int, names: Sequence[str]) -> Column:
         """As Domain does."""
         if variable not in COLUMNS:
             return super().column(variable, names)
         columns = self.now().lane_columns
-        found: Column = getattr(columns, COLUMNS[variable])(columns.slots_of(tuple(names)))
-        return found
+        values: Column = getattr(columns, COLUMNS[variable])(columns.slots_of(tuple(names)))
+        return values
 
     def getLastStepVehicleNumber(self, name: str) -> int:
         """How many vehicles are there."""
         view = self.now().view
-        return sum(len(view.speeds_on(place)) for place in self.places(name))
+        return sum(len(view.speeds_on(link_lane)) for link_lane in self.places(name))
 
     def getLastStepHaltingNumber(self, name: str) -> int:
         """How many vehicles there stand."""
         view = self.now().view
-        return sum(view.speeds_on(place).count(0) for place in self.places(name))
+        return sum(view.speeds_on(link_lane).count(0) for link_lane in self.places(name))
 
     def getLastStepMeanSpeed(self, name: str) -> float:
         """The mean speed of the vehicles there, metres a second; its limit where there are none, as in SUMO."""
-        [place] = self.places(name)
-        speeds = self.now().view.speeds_on(place)
-        metres = self.now().map.links[place[0]].cell_metres
+        [link_lane] = self.places(name)
+        speeds = self.now().view.speeds_on(link_lane)
+        metres = self.now().map.links[link_lane[0]].cell_metres
         return float(metres * sum(speeds) / len(speeds)) if speeds else self.speed_of_nobody(name)
 
     def speed_of_nobody(self, name: str) -> float:
@@ -125,11 +128,11 @@ class LaneDomain(LaneCalls[TraciSession], Stretches):
 
     def getPendingVehicles(self, name: str) -> tuple[str, ...]:
         """The vehicles that should have departed on it before now and wait for room."""
-        session, places, found = self.now(), set(self.places(name)), []
+        session, link_lanes, waiting = self.now(), set(self.places(name)), []
         for number in session.waiting_to_depart():
             command = session.fleet.enters[number]
-            found += [number] if (command["plan"][0], command["lane"]) in places else []
-        return session.names_of(found)
+            waiting += [number] if (command["plan"][0], command["lane"]) in link_lanes else []
+        return session.names_of(waiting)
 
     def getShape(self, name: str) -> Sequence[Point]:
         """The points of its line in SUMO's file, metres."""
@@ -161,12 +164,13 @@ class LaneDomain(LaneCalls[TraciSession], Stretches):
         light), False (foes are not known); and extended: lane in the junction, SUMO's letters of the state now and of
         the direction, metres inside."""
         control, inside = self.now().control, self.now().facts.inside
-        found: list[tuple[object, ...]] = []
-        for one in self.lane_facts(name).links:
-            state = control.state(one.light)[one.index] if one.light in control.lights else one.state
+        connections: list[tuple[object, ...]] = []
+        for connection in self.lane_facts(name).links:
+            has_light, via = connection.light in control.lights, connection.via
+            state = control.state(connection.light)[connection.index] if has_light else connection.state
             marks = state in "GM", state in "Gg", False
-            found.append((one.target, *marks, one.via, state, one.direction, inside.get(one.via, 0.0)))
-        return found if extended else [entry[:4] for entry in found]
+            connections.append((connection.target, *marks, via, state, connection.direction, inside.get(via, 0.0)))
+        return connections if extended else [entry[:4] for entry in connections]
 
     def getEdgeID(self, name: str) -> str:
         """The name of its edge."""
@@ -205,15 +209,16 @@ class EdgeDomain(LaneDomain):
 
     def getLastStepVehicleIDs(self, name: str) -> tuple[str, ...]:
         """The names of the vehicles on it, lane after lane, and on each the rearmost first, as in SUMO."""
-        session, places = self.now(), self.places(name)
-        return session.names_of(number for place in places for number in reversed(session.view.on_lane(place)))
+        session, link_lanes = self.now(), self.places(name)
+        on_lane = session.view.on_lane
+        return session.names_of(number for link_lane in link_lanes for number in reversed(on_lane(link_lane)))
 
     def getLastStepMeanSpeed(self, name: str) -> float:
         """The mean speed of the vehicles on it, metres a second; each empty lane counts as one at its limit, as in
         SUMO."""
         session, speeds = self.now(), self.speeds(name)
-        empty = [place for place in self.places(name) if not session.view.on_lane(place)]
-        speeds += [session.facts.lanes[session.map.lane_name(*place)].speed for place in empty]
+        empty = [link_lane for link_lane in self.places(name) if not session.view.on_lane(link_lane)]
+        speeds += [session.facts.lanes[session.map.lane_name(*link_lane)].speed for link_lane in empty]
         return sum(speeds) / len(speeds)
 
     def column(self, variable: int, names: Sequence[str]) -> Column:
@@ -272,42 +277,42 @@ class DetectorDomain(WithTraffic):
 
     def getIDList(self) -> tuple[str, ...]:
         """The names of the detectors of this sort."""
-        return tuple(name for name, one in self.now().detectors.items() if one.kind == self.sort)
+        return tuple(name for name, detector in self.now().detectors.items() if detector.kind == self.sort)
 
     def detector(self, name: str) -> Detector:
         """A detector of this sort by its name; TraCIException where there is none."""
-        one = self.now().detectors.get(name)
-        if one is None or one.kind != self.sort:
+        found_detector = self.now().detectors.get(name)
+        if found_detector is None or found_detector.kind != self.sort:
             raise TraCIException(f"{self.kind} '{name}' is not known.")
-        return one
+        return found_detector
 
     def is_subject(self, name: str) -> bool:
         """Whether a detector of this sort has a name."""
-        one = self.now().detectors.get(name)
-        return one is not None and one.kind == self.sort
+        detector = self.now().detectors.get(name)
+        return detector is not None and detector.kind == self.sort
 
     def getLaneID(self, name: str) -> str:
         """The name of the lane where it lies."""
-        one = self.detector(name)
-        return self.now().map.lane_name(one.link, one.lane)
+        detector = self.detector(name)
+        return self.now().map.lane_name(detector.link, detector.lane)
 
     def outline(self, name: str) -> Line:
         """A line of one point, where it begins, in metres."""
-        one = self.detector(name)
-        link = self.now().map.links[one.link]
-        return [point_along(link.shape, one.first / link.cells)]
+        detector = self.detector(name)
+        link = self.now().map.links[detector.link]
+        return [point_along(link.shape, detector.first / link.cells)]
 
     def getPosition(self, name: str) -> float:
         """Metres from the lane's begin to that of its first cell, which may be before the file's pos."""
-        one = self.detector(name)
-        link = self.now().map.links[one.link]
-        return one.first * link.metres / link.cells
+        detector = self.detector(name)
+        link = self.now().map.links[detector.link]
+        return detector.first * link.metres / link.cells
 
     def speeds(self, name: str) -> list[float]:
         """Metres a second of the vehicles that it saw, in the order of `numbers`; of those that have left, the last."""
-        seen = {**self.now().view.there_before, **self.now().view.there}
+        positions = {**self.now().view.there_before, **self.now().view.there}
         metres = self.now().map.links[self.detector(name).link].cell_metres
-        return [seen[one].speed * metres for one in self.numbers(name) if one in seen]
+        return [positions[number].speed * metres for number in self.numbers(name) if number in positions]
 
 
 class InductionLoopDomain(DetectorDomain):
@@ -322,12 +327,13 @@ class InductionLoopDomain(DetectorDomain):
     def getLastStepOccupancy(self, name: str) -> float:
         """The percentage of the last step in which a vehicle covered it: 100 where one stands there, else by the
         lengths and speeds of those who drove over it."""
-        one, there = self.detector(name), self.now().view.there
-        places = [there[number] for number in self.numbers(name) if number in there]
-        if any((where.link, where.lane, where.cell) == (one.link, one.lane, one.first) for where in places):
+        detector, positions = self.detector(name), self.now().view.there
+        passing = [positions[number] for number in self.numbers(name) if number in positions]
+        detector_cell = detector.link, detector.lane, detector.first
+        if any((position.link, position.lane, position.cell) == detector_cell for position in passing):
             return 100.0
-        ways = zip(self.lengths(name), self.speeds(name))
-        return min(100.0, sum(100 * metres / max(METRES, speed) for metres, speed in ways))
+        lengths_and_speeds = zip(self.lengths(name), self.speeds(name))
+        return min(100.0, sum(100 * metres / max(METRES, speed) for metres, speed in lengths_and_speeds))
 
     getLastStepMeanLength = WithTraffic.getLastStepLength
 
@@ -347,15 +353,15 @@ class LaneAreaDomain(Stretches, DetectorDomain):
 
     def numbers(self, name: str) -> list[int]:
         """The numbers of the vehicles whose front is in it, from the stop line."""
-        one, view = self.detector(name), self.now().view
-        there = view.on_lane((one.link, one.lane))
-        return [number for number in there if one.first <= view.there[number].front_cell <= one.last]
+        detector, view = self.detector(name), self.now().view
+        on_lane = view.on_lane((detector.link, detector.lane))
+        return [number for number in on_lane if detector.first <= view.there[number].front_cell <= detector.last]
 
     def getLength(self, name: str) -> float:
         """Its length on whole cells, metres."""
-        one = self.detector(name)
-        link = self.now().map.links[one.link]
-        return (one.last - one.first + 1) * link.metres / link.cells
+        detector = self.detector(name)
+        link = self.now().map.links[detector.link]
+        return (detector.last - detector.first + 1) * link.metres / link.cells
 
     metres = getLength
 
@@ -366,14 +372,14 @@ class LaneAreaDomain(Stretches, DetectorDomain):
     def longest_jam(self, name: str) -> list[int]:
         """The numbers of the vehicles of the longest jam: they stand one behind the other without a gap, and one alone
         is a jam too; of equally many the one nearest to the stop line."""
-        fleet, there, rear = self.now().fleet, self.now().view.there, -1
+        fleet, positions, rear = self.now().fleet, self.now().view.there, -1
         longest: list[int] = []
-        here: list[int] = []
+        jam: list[int] = []
         for number in self.numbers(name):
-            where = there[number]
-            here = [] if where.speed else [*here, number] if here and rear == where.front_cell + 1 else [number]
-            rear = where.front_cell - fleet.size(number) + 1
-            longest = max(longest, here, key=len)
+            position = positions[number]
+            jam = [] if position.speed else [*jam, number] if jam and rear == position.front_cell + 1 else [number]
+            rear = position.front_cell - fleet.size(number) + 1
+            longest = max(longest, jam, key=len)
         return longest
 
     def getJamLengthVehicle(self, name: str) -> int:

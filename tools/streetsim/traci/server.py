@@ -94,26 +94,26 @@ class TraciClient:
 def commands_in(message: bytes) -> list[tuple[int, int]]:
     """The first byte, from its code on, and the end of each command of a message, the last one first. BadMessage where
     their lengths are not its own."""
-    found, at = [], 0
-    while at < len(message):
-        size, head = message[at], 1
+    commands, position = [], 0
+    while position < len(message):
+        size, head = message[position], 1
         if not size:
-            if at + 1 + INT.size > len(message):
+            if position + 1 + INT.size > len(message):
                 raise BadMessage("a message ends in the length of a command")
-            (size,), head = INT.unpack_from(message, at + 1), 1 + INT.size
-        if size <= head or at + size > len(message):
-            raise BadMessage(f"a command of {size:,} bytes, where {len(message) - at:,} are left")
-        found.append((at + head, at + size))
-        at += size
-    return found[::-1]
+            (size,), head = INT.unpack_from(message, position + 1), 1 + INT.size
+        if size <= head or position + size > len(message):
+            raise BadMessage(f"a command of {size:,} bytes, where {len(message) - position:,} are left")
+        commands.append((position + head, position + size))
+        position += size
+    return commands[::-1]
 
 
 class Server:
     """Serves the run that streetsim.traci has under way to a number of clients, until all have closed."""
 
-    def __init__(self, listening: socket.socket, count: int, tell: Callable[[str], None]) -> None:
-        """listening: a socket that listens; count: of clients; tell: takes lines for the user."""
-        self.listening, self.count, self.tell = listening, count, tell
+    def __init__(self, listening: socket.socket, count: int, warn: Callable[[str], None]) -> None:
+        """listening: a socket that listens; count: of clients; warn: takes lines for the user."""
+        self.listening, self.count, self.tell = listening, count, warn
         self.clients: list[TraciClient] = []
         self.lost = 0  # clients that went away without closing
         # What messages ask for, by their bytes: the code of the command, and what makes the answer.
@@ -192,23 +192,23 @@ class Server:
         this clock."""
         if not client.left:
             self.answer_known(client)
-        before = client.left
+        unread = client.left
         client.next_message()
-        self.learn(before, client)
+        self.learn(unread, client)
         return self.obey(client)
 
     def answer_known(self, client: TraciClient) -> None:
         """Answers messages of a client that are known, as they come, until there is another one. Gone where it goes
         away."""
-        receive, send, known = client.socket.recv, client.socket.sendall, self.known.get
+        receive, send, message_of = client.socket.recv, client.socket.sendall, self.known.get
         try:
-            while (asked := known(data := receive(AT_ONCE))) is not None:
-                code, answer = asked
+            while (known_message := message_of(data := receive(AT_ONCE))) is not None:
+                code, answer = known_message
                 try:
-                    told = answer()
+                    answer_bytes = answer()
                 except HEARD as fault:
-                    told = whole_message(state_after(code, fault))
-                send(told)
+                    answer_bytes = whole_message(state_after(code, fault))
+                send(answer_bytes)
         except OSError:
             data = b""
         if not data:
@@ -220,104 +220,104 @@ class Server:
         tells or changes something, whose words nobody changes."""
         if client.left or len(client.rest) != 1 or len(data) != INT.size + len(client.message) or len(data) > SHORT:
             return
-        (at, end), = client.rest
-        code = client.message[at]
-        asking = asked_value if code in GET_OF else asked_change if code in SET_OF else None
-        if asking is None:
+        (position, end), = client.rest
+        code = client.message[position]
+        read_command = asked_value if code in GET_OF else asked_change if code in SET_OF else None
+        if read_command is None:
             return
         try:
-            asked = asking(code, WordReader(client.message, at + 1, end))
-            if all(isinstance(word, (str, int, float)) for word in asked.words):
+            call = read_command(code, WordReader(client.message, position + 1, end))
+            if all(isinstance(argument, (str, int, float)) for argument in call.words):
                 if len(self.known) >= MOST_KNOWN:
                     self.known.clear()
-                self.known[data] = code, asked.message()
+                self.known[data] = code, call.message()
         except HEARD:
             pass  # which is told when the command is done
 
     def obey(self, client: TraciClient) -> bool:
         """Does the rest of a client's message, and answers it where no step is asked for; gives as `hear` does."""
         while client.rest:
-            at, end = client.rest.pop()
-            code = client.message[at]
-            words = WordReader(client.message, at + 1, end)
+            position, end = client.rest.pop()
+            code = client.message[position]
+            reader = WordReader(client.message, position + 1, end)
             if code == tc.CMD_SIMSTEP:
-                if self.asked_step(client, words):
+                if self.asked_step(client, reader):
                     return False
                 continue
             if code == tc.CMD_CLOSE:
                 client.send(client.answer + OK[code])
                 self.drop(client)
                 return False
-            client.answer += self.answered(client, code, words)
+            client.answer += self.answered(client, code, reader)
             if len(client.answer) > MOST_TOLD:
                 raise BadMessage(f"the answer to one message would have more than {MOST_TOLD:,} bytes")
         client.send(client.answer)
         return not client.steps
 
-    def asked_step(self, client: TraciClient, words: WordReader) -> bool:
+    def asked_step(self, client: TraciClient, reader: WordReader) -> bool:
         """Notes until when a client steps; gives whether it does: not for a clock beyond the machine's."""
-        (until,) = words.take(DOUBLE)
+        (target,) = reader.take(DOUBLE)
         clock = traci.simulation.getTime()
-        if not until <= LAST_CLOCK:
-            client.answer += state_of(tc.CMD_SIMSTEP, tc.RTYPE_ERR, f"{until:g} s is beyond the last clock")
+        if not target <= LAST_CLOCK:
+            client.answer += state_of(tc.CMD_SIMSTEP, tc.RTYPE_ERR, f"{target:g} s is beyond the last clock")
             return False
-        client.target, client.steps = clock + 1 if until == 0 else max(until, clock), True
+        client.target, client.steps = clock + 1 if target == 0 else max(target, clock), True
         return True
 
-    def answered(self, client: TraciClient, code: int, words: WordReader) -> bytes:
+    def answered(self, client: TraciClient, code: int, reader: WordReader) -> bytes:
         """The answer to a command: its state, and what it tells."""
         try:
-            return self.done(client, code, words)
+            return self.done(client, code, reader)
         except HEARD as fault:
             return state_after(code, fault)
 
-    def done(self, client: TraciClient, code: int, words: WordReader) -> bytes:
+    def done(self, client: TraciClient, code: int, reader: WordReader) -> bytes:
         """As `answered`; raises what a call raises, and BadMessage for wrong words."""
         if code in GET_OF or code in SET_OF:
-            return (asked_value if code in GET_OF else asked_change)(code, words).answer()
+            return (asked_value if code in GET_OF else asked_change)(code, reader).answer()
         if code in SUBSCRIBE_OF:
-            return OK[code] + client.subscriptions.subscribe(code, words)
+            return OK[code] + client.subscriptions.subscribe(code, reader)
         if code in CONTEXT_OF:
-            return OK[code] + client.subscriptions.subscribe_context(code, words)
-        return self.base(client, code, words)
+            return OK[code] + client.subscriptions.subscribe_context(code, reader)
+        return self.base(client, code, reader)
 
-    def base(self, client: TraciClient, code: int, words: WordReader) -> bytes:
+    def base(self, client: TraciClient, code: int, reader: WordReader) -> bytes:
         """The answer to a command that is of no domain; NotHere for an unknown one."""
         if code == tc.CMD_GETVERSION:
             number, name = traci.getVersion()
             return OK[code] + command(code, INT.pack(number) + text(name))
         if code == tc.CMD_SETORDER:
-            (order,) = words.take(INT)
-            if any(other.order == order for other in self.clients if other is not client):
+            (order,) = reader.take(INT)
+            if any(another.order == order for another in self.clients if another is not client):
                 raise TraCIException(f"another client has the place {order} in the order")
             client.order = order
             return OK[code]
         if code == tc.CMD_LOAD:
-            self.load(words)
+            self.load(reader)
             return OK[code]
         raise NotHere(f"command {code:#04x} is not here")
 
-    def load(self, words: WordReader) -> None:
+    def load(self, reader: WordReader) -> None:
         """Begins the run anew, by other words. TraCIException where these are wrong, FatalTraCIError where it cannot
         begin."""
-        (given,) = words.given("l")
+        (arguments,) = reader.given("l")
         try:
-            net = options_of(given).get("net-file", "")
+            net = options_of(arguments).get("net-file", "")
         except FatalTraCIError as fault:
             raise TraCIException(str(fault)) from None
         if not os.path.exists(net):
             raise TraCIException(f"load: no network {net!r}")
-        traci.load(given)
-        for one in self.clients:
-            one.subscriptions, one.target = Subscriptions(), -1.0
+        traci.load(arguments)
+        for client in self.clients:
+            client.subscriptions, client.target = Subscriptions(), -1.0
 
 
 def state_after(code: int, fault: Exception) -> bytes:
     """The state of a command that cannot be done."""
     if isinstance(fault, NotHere):
         return state_of(code, tc.RTYPE_NOTIMPLEMENTED, str(fault))
-    why = str(fault) if isinstance(fault, (BadMessage, TraCIException)) else repr(fault)
-    return state_of(code, tc.RTYPE_ERR, why)
+    reason = str(fault) if isinstance(fault, (BadMessage, TraCIException)) else repr(fault)
+    return state_of(code, tc.RTYPE_ERR, reason)
 
 
 def turn_away(listening: socket.socket) -> None:

@@ -183,10 +183,10 @@ class SimulationDomain(Domain, SimulationCalls[TraciSession]):
         if not isDriving:
             return self.getDistance2D(*self.convert2D(edgeID1, pos1), *self.convert2D(edgeID2, pos2))
         self.lane_with(edgeID1, pos1)
-        last = self.lane_with(edgeID2, pos2)
+        last_lane = self.lane_with(edgeID2, pos2)
         if edgeID1 == edgeID2 and pos1 <= pos2:
             return float(pos2 - pos1)
-        return self.now().ways.shortest_metres(edgeID1, edgeID2) - pos1 - (last.metres - pos2)
+        return self.now().ways.shortest_metres(edgeID1, edgeID2) - pos1 - (last_lane.metres - pos2)
 
     def findRoute(
         self, fromEdge: str, toEdge: str, vType: str = "", depart: float = -1.0, routingMode: int = 0

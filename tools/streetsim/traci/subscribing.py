@@ -60,21 +60,23 @@ class Subscriptions:
     groups: dict[Subscription, dict[str, bytes]] = field(default_factory=dict)
     around: dict[tuple[int, str], Around] = field(default_factory=dict)
 
-    def subscribe(self, code: int, words: WordReader) -> bytes:
+    def subscribe(self, code: int, reader: WordReader) -> bytes:
         """Notes a subscription, or ends it where it names no variable; gives what it tells now. BadMessage for wrong
         words, TraCIException for an unknown object, NotHere for a variable that cannot be told."""
-        time, name, domain = time_of(words), words.text(), SUBSCRIBE_OF[code]
-        own = [(variable, tuple(words.given(get_of(domain, variable).takes))) for variable in variables_of(words)]
-        if not own:
+        time, name, domain = time_of(reader), reader.text(), SUBSCRIBE_OF[code]
+        numbers = variables_of(reader)
+        variables = [(number, tuple(reader.given(get_of(domain, number).takes))) for number in numbers]
+        if not variables:
             self.end(code, name)
             return b""
         if domain != SIMULATION:
             domain_of(domain).check_subject(name)
-        wish = Subscription(code, tuple(one for one, _ in own), tuple(given for _, given in own), time)
+        arguments = tuple(values for _, values in variables)
+        wish = Subscription(code, tuple(number for number, _ in variables), arguments, time)
         answer = told_alone(name, wish)
         self.end(code, name)
         self.wishes[code, name] = wish
-        self.groups.setdefault(wish, {})[name] = text(name) + bytes((len(own),))
+        self.groups.setdefault(wish, {})[name] = text(name) + bytes((len(variables),))
         return answer
 
     def end(self, code: int, name: str) -> None:
@@ -84,18 +86,18 @@ class Subscriptions:
             if not self.groups[wish]:
                 del self.groups[wish]
 
-    def subscribe_context(self, code: int, words: WordReader) -> bytes:
+    def subscribe_context(self, code: int, reader: WordReader) -> bytes:
         """As `subscribe`, of the vehicles around an object."""
-        time, name, domain = time_of(words), words.text(), CONTEXT_OF[code]
-        kind, (metres,) = words.byte(), words.take(DOUBLE)
-        variables = tuple(variables_of(words))
+        time, name, domain = time_of(reader), reader.text(), CONTEXT_OF[code]
+        kind, (metres,) = reader.byte(), reader.take(DOUBLE)
+        variables = tuple(variables_of(reader))
         if not variables:
             self.around.pop((code, name), None)
             return b""
-        own = domain_of(domain)
-        if not isinstance(own, Outlined):
+        context_domain = domain_of(domain)
+        if not isinstance(context_domain, Outlined):
             raise NotHere(f"{domain}.subscribeContext is not here: {advice_on(f'{domain}.subscribeContext')}")
-        own.check_context(name, kind, variables)
+        context_domain.check_context(name, kind, variables)
         if not 0 <= metres < inf:
             raise BadMessage(f"{metres} m are no distance")
         around = Around(metres, variables, time)
@@ -111,28 +113,29 @@ class Subscriptions:
                 for name in list(names):
                     self.end(wish.code, name)
             elif wish.time.begin <= clock:
-                there = names if SUBSCRIBE_OF[wish.code] == SIMULATION else there_of(wish, names)
-                if len(there) < len(names):
-                    self.forget_ended(wish, names, there)
-                answers += told_of_all(there, names, wish)
+                existing = names if SUBSCRIBE_OF[wish.code] == SIMULATION else there_of(wish, names)
+                if len(existing) < len(names):
+                    self.forget_ended(wish, names, existing)
+                answers += told_of_all(existing, names, wish)
         if self.around:
-            now = {key: one for key, one in self.around.items() if one.time.begin <= clock <= one.time.end}
-            answers += self.told_around({key: one for key, one in now.items() if is_there(CONTEXT_OF[key[0]], key[1])})
+            due = {key: near for key, near in self.around.items() if near.time.begin <= clock <= near.time.end}
+            due = {key: near for key, near in due.items() if is_there(CONTEXT_OF[key[0]], key[1])}
+            answers += self.told_around(due)
         return INT.pack(len(answers)) + b"".join(answers)
 
-    def forget_ended(self, wish: Subscription, names: Collection[str], there: Iterable[str]) -> None:
+    def forget_ended(self, wish: Subscription, names: Collection[str], existing: Iterable[str]) -> None:
         """Forgets the subscriptions, of some alike, to objects that are not there and never will be."""
-        own = domain_of(SUBSCRIBE_OF[wish.code])
-        for name in set(names).difference(there):
-            if not own.is_subject(name):
+        subject_domain = domain_of(SUBSCRIBE_OF[wish.code])
+        for name in set(names).difference(existing):
+            if not subject_domain.is_subject(name):
                 self.end(wish.code, name)
 
     def told_around(self, around: Mapping[tuple[int, str], Around]) -> list[bytes]:
         """The answers of contexts; each vehicle is packed once."""
         groups: defaultdict[tuple[int, ...], list[tuple[int, str, float]]] = defaultdict(list)
-        for (code, name), one in around.items():
-            groups[one.variables].append((code, name, one.metres))
-        return [one for variables, contexts in groups.items() for one in told_near(variables, contexts)]
+        for (code, name), context in around.items():
+            groups[context.variables].append((code, name, context.metres))
+        return [answer for variables, contexts in groups.items() for answer in told_near(variables, contexts)]
 
 
 def told_near(variables: tuple[int, ...], contexts: Sequence[tuple[int, str, float]]) -> Iterator[bytes]:
@@ -140,43 +143,44 @@ def told_near(variables: tuple[int, ...], contexts: Sequence[tuple[int, str, flo
     session = traci.simulation.now()
     begins, ends_of, counts = stretches_of(contexts)
     rows, through = session.places.rows_in(begins, ends_of)
-    once, places = np.unique(rows, return_inverse=True)
-    names = session.names_of(session.view.number[once].tolist())
+    distinct_rows, row_places = np.unique(rows, return_inverse=True)
+    names = session.names_of(session.view.number[distinct_rows].tolist())
     values = rows_of("vehicle", variables, names)
     packed = [known_text(name) + value for name, value in zip(names, values, strict=True)]
-    all_ = [packed[at] for at in places.tolist()]
+    vehicle_parts = [packed[row] for row in row_places.tolist()]
     ends = np.append(0, through)[counts].tolist()
     kind = bytes((DOMAINS["vehicle"].get, len(variables)))
-    for (code, name, _), first, last in zip(contexts, [0, *ends], ends):
-        yield told_command(code + ANSWER, known_text(name) + kind + INT.pack(last - first) + b"".join(all_[first:last]))
+    for (code, name, _), begin, end in zip(contexts, [0, *ends], ends):
+        head = known_text(name) + kind + INT.pack(end - begin)
+        yield told_command(code + ANSWER, head + b"".join(vehicle_parts[begin:end]))
 
 
 def stretches_of(contexts: Sequence[tuple[int, str, float]]) -> tuple[Array, Array, Array]:
     """The stretches of places, as Places has them, of contexts behind each other: (begins, ends, by context how many
     there are of it and of those before it). They are kept where all objects stand."""
     domains = {code: domain_of(CONTEXT_OF[code]) for code in {code for code, *_ in contexts}}
-    outlined = {code: own for code, own in domains.items() if isinstance(own, Outlined)}
-    key, kept = tuple(contexts), traci.simulation.now().places.joined
-    if (found := kept.get(key)) is None:
-        each = [outlined[code].stretches_near(name, metres) for code, name, metres in contexts]
-        begins, ends = (np.concatenate(parts) for parts in zip(*each))
-        found = begins, ends, np.cumsum([len(one) for one, _ in each])
-        if all(own.stands for own in outlined.values()):
-            if len(kept) >= MOST_JOINED:
-                kept.clear()
-            kept[key] = found
-    return found
+    outlined = {code: domain for code, domain in domains.items() if isinstance(domain, Outlined)}
+    key, joined = tuple(contexts), traci.simulation.now().places.joined
+    if (stretches := joined.get(key)) is None:
+        by_context = [outlined[code].stretches_near(name, metres) for code, name, metres in contexts]
+        begins, ends = (np.concatenate(parts) for parts in zip(*by_context))
+        stretches = begins, ends, np.cumsum([len(context_begins) for context_begins, _ in by_context])
+        if all(domain.stands for domain in outlined.values()):
+            if len(joined) >= MOST_JOINED:
+                joined.clear()
+            joined[key] = stretches
+    return stretches
 
 
-def time_of(words: WordReader) -> Time:
+def time_of(reader: WordReader) -> Time:
     """From when to when something is to be told; SUMO's value for "none" is always."""
-    begin, end = words.take(DOUBLE)[0], words.take(DOUBLE)[0]
+    begin, end = reader.take(DOUBLE)[0], reader.take(DOUBLE)[0]
     return Time(begin, inf if end == tc.INVALID_DOUBLE_VALUE else end)
 
 
-def variables_of(words: WordReader) -> Iterable[int]:
+def variables_of(reader: WordReader) -> Iterable[int]:
     """The numbers of variables, so many as the next byte says; what stands between two of them is read by the user."""
-    return (words.byte() for _ in range(words.byte()))
+    return (reader.byte() for _ in range(reader.byte()))
 
 
 def get_of(domain: str, variable: int) -> Get:
@@ -189,8 +193,8 @@ def get_of(domain: str, variable: int) -> Get:
 
 def domain_of(name: str) -> Domain:
     """A domain of calls by its name; NotHere where it is not here."""
-    found: Domain = getattr(traci, name)
-    return found
+    domain: Domain = getattr(traci, name)
+    return domain
 
 
 def is_there(domain: str, name: str) -> bool:
@@ -206,24 +210,24 @@ def there_of(wish: Subscription, names: Iterable[str]) -> list[str]:
 def told_alone(name: str, wish: Subscription) -> bytes:
     """What a subscription to one object tells now, call by call."""
     domain, body = SUBSCRIBE_OF[wish.code], b""
-    for variable, words in zip(wish.variables, wish.words, strict=True):
-        body += bytes((variable, tc.RTYPE_OK)) + subscribed_value(domain, GETS[domain][variable], name, words)
+    for variable, arguments in zip(wish.variables, wish.words, strict=True):
+        body += bytes((variable, tc.RTYPE_OK)) + subscribed_value(domain, GETS[domain][variable], name, arguments)
     return told_command(wish.code + ANSWER, text(name) + bytes((len(wish.variables),)) + body)
 
 
-def told_of_all(there: Collection[str], names: Mapping[str, bytes], wish: Subscription) -> list[bytes]:
+def told_of_all(existing: Collection[str], names: Mapping[str, bytes], wish: Subscription) -> list[bytes]:
     """What equal subscriptions tell of some objects that are there; names: as `groups` has
     them."""
     domain = SUBSCRIBE_OF[wish.code]
     if domain == SIMULATION or any(wish.words):
-        return [told_alone(name, wish) for name in there]
-    code, rows, head = wish.code + ANSWER, rows_of(domain, wish.variables, list(there)), LONG_HEAD.pack
-    begins = [names[name] for name in there]
+        return [told_alone(name, wish) for name in existing]
+    code, rows, head = wish.code + ANSWER, rows_of(domain, wish.variables, list(existing)), LONG_HEAD.pack
+    begins = [names[name] for name in existing]
     return [head(0, len(begin) + len(row) + 6, code) + begin + row for begin, row in zip(begins, rows, strict=True)]
 
 
 def rows_of(domain: str, variables: Sequence[int], names: Sequence[str]) -> list[bytes]:
     """By object, of some that are all there, the bytes of its variables."""
-    own = domain_of(domain)
+    columns_domain = domain_of(domain)
     kinds = [(variable, GETS[domain][variable].gives) for variable in variables]
-    return packed_rows(kinds, own.columns(variables, names), len(names))
+    return packed_rows(kinds, columns_domain.columns(variables, names), len(names))

@@ -104,11 +104,11 @@ class TrafficLightDomain(Domain):
     def getAllProgramLogics(self, name: str) -> tuple[Program, ...]:
         """The program that runs, and behind it the others of the files and the script, at their first phase."""
         light, index, _ = self.present_phase(name)
-        own = [one for one in self.now().map.programs if one["light"] == name]
-        kept = {one.get("program"): one for one in own if one.get("program") not in light.scripted}
-        now = logic_at_phase(light.program, light.phases, light.names, index, kept.get(light.program))
-        others = ((program, *rest) for program, rest in light.programs.items() if program != light.program)
-        return now, *(logic_at_phase(*other, 0, kept.get(other[0])) for other in others)
+        of_file = {entry.get("program"): entry for entry in self.now().map.programs if entry["light"] == name}
+        driven = {program: entry for program, entry in of_file.items() if program not in light.scripted}
+        running = logic_at_phase(light.program, light.phases, light.names, index, driven.get(light.program))
+        further = ((program, *parts) for program, parts in light.programs.items() if program != light.program)
+        return running, *(logic_at_phase(*parts, 0, driven.get(parts[0])) for parts in further)
 
     getCompleteRedYellowGreenDefinition = getAllProgramLogics
 
@@ -177,10 +177,13 @@ class TrafficLightDomain(Domain):
     setCompleteRedYellowGreenDefinition = setProgramLogic
 
 
-def logic_at_phase(program: str, phases: Phases, names: Sequence[str], index: int, kept: Json | None = None) -> Logic:
-    """A program as scripts read it, at the phase of an index; kept: what the map has of one that detectors drive, with
-    the bounds of its phases, else None: their bounds are their seconds."""
-    bounds = [phase_bounds(one) for one in kept["phases"]] if kept else [(duration, duration) for duration, _ in phases]
+def logic_at_phase(
+    program: str, phases: Phases, names: Sequence[str], index: int, driven_program: Json | None = None
+) -> Logic:
+    """A program as scripts read it, at the phase of an index; driven_program: what the map has of one that detectors
+    drive, with the bounds of its phases, else None: their bounds are their seconds."""
+    fixed_bounds = [(duration, duration) for duration, _ in phases]
+    bounds = list(map(phase_bounds, driven_program["phases"])) if driven_program else fixed_bounds
     parts = zip(phases, bounds, names, strict=True)
-    read = tuple(Phase(*phase, *own, (), name) for phase, own, name in parts)
-    return Logic(program, TYPES.get(kept["kind"], 0) if kept else 0, index, read)
+    read = tuple(Phase(*phase, *phase_bounds_s, (), name) for phase, phase_bounds_s, name in parts)
+    return Logic(program, TYPES.get(driven_program["kind"], 0) if driven_program else 0, index, read)

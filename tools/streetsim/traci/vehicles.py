@@ -90,7 +90,8 @@ class VehicleDomain(VehicleCalls[TraciSession], Looking, Outlined):
         columns, numbers = self.now().vehicle_columns, self.now().fleet.numbers
         rows = columns.rows_of([numbers[name] for name in names])
         return [
-            getattr(columns, COLUMNS[one])(rows) if one in COLUMNS else self.column(one, names) for one in variables
+            getattr(columns, COLUMNS[variable])(rows) if variable in COLUMNS else self.column(variable, names)
+            for variable in variables
         ]
 
     def look_up(self, name: str) -> tuple[int, OnRoad | None]:
@@ -98,10 +99,10 @@ class VehicleDomain(VehicleCalls[TraciSession], Looking, Outlined):
         is not known."""
         session = self.now()
         number = session.fleet.numbers.get(name, -1)
-        where = session.view.where(number)
-        if where is None and (number < 0 or session.view.ended[number]):
+        position = session.view.where(number)
+        if position is None and (number < 0 or session.view.ended[number]):
             raise TraCIException(f"Vehicle '{name}' is not known.")
-        return number, where
+        return number, position
 
     def on_road(self, name: str) -> OnRoad | None:
         """Where a vehicle is; None before it departs. TraCIException where it is not known or has ended."""
@@ -124,28 +125,29 @@ class VehicleDomain(VehicleCalls[TraciSession], Looking, Outlined):
 
     def getAcceleration(self, name: str) -> float:
         """Metres a second squared in the last step, in whole cells; 0 in the step in which it departed."""
-        number, where = self.look_up(name)
-        if where is None:
+        number, position = self.look_up(name)
+        if position is None:
             return NOWHERE
-        return (where.speed - self.now().view.there_before.get(number, where).speed) * METRES
+        return (position.speed - self.now().view.there_before.get(number, position).speed) * METRES
 
     def getPosition(self, name: str) -> tuple[float, float]:
         """The point (x, y) of its front on its link's line, which joint lanes share, or of its junction."""
-        where = self.on_road(name)
-        return (NOWHERE, NOWHERE) if where is None else self.now().places.point(where)
+        position = self.on_road(name)
+        return (NOWHERE, NOWHERE) if position is None else self.now().places.point(position)
 
     def getAngle(self, name: str) -> float:
         """Degrees clockwise from north; in a junction those at the end of the street from which it came."""
-        where = self.on_road(name)
-        return NOWHERE if where is None else self.now().places.angle(where)
+        position = self.on_road(name)
+        return NOWHERE if position is None else self.now().places.angle(position)
 
     def getDistance(self, name: str) -> float:
         """Metres driven since it departed."""
-        number, where = self.look_up(name)
-        if where is None:
+        number, position = self.look_up(name)
+        if position is None:
             return NOWHERE
-        first = self.now().map.links[self.now().fleet.plans[number][0]]
-        return float(self.now().tally.travelled[number]) + self.metres_to_front(where) - first.metres / first.cells
+        first_link = self.now().map.links[self.now().fleet.plans[number][0]]
+        travelled = float(self.now().tally.travelled[number])
+        return travelled + self.metres_to_front(position) - first_link.metres / first_link.cells
 
     # How long it stands, and what it lost
 
@@ -182,10 +184,10 @@ class VehicleDomain(VehicleCalls[TraciSession], Looking, Outlined):
     def getAllowedSpeed(self, name: str) -> float:
         """The limit of its lane (in SUMO times its speed factor), metres a second, or the greatest speed of its type
         where that is less; in a junction the latter alone, 55.6 at most."""
-        where = self.on_road(name)
-        if where is None:
+        position = self.on_road(name)
+        if position is None:
             return NOWHERE
-        limit = self.now().facts.lanes[self.getLaneID(name)].speed if where.cell is not None else FASTEST
+        limit = self.now().facts.lanes[self.getLaneID(name)].speed if position.cell is not None else FASTEST
         return min(limit, self.getMaxSpeed(name))
 
     def type_of(self, name: str) -> tuple[Kind, Mapping[str, str]]:
@@ -244,8 +246,8 @@ class VehicleDomain(VehicleCalls[TraciSession], Looking, Outlined):
 
     def getRouteIndex(self, name: str) -> int:
         """The position in its route, from 0, of the edge where it is or, in a junction, was; -1073741824 if none."""
-        number, where = self.look_up(name)
-        return tc.INVALID_INT_VALUE if where is None else self.now().tally.position(number)
+        number, position = self.look_up(name)
+        return tc.INVALID_INT_VALUE if position is None else self.now().tally.position(number)
 
     def getRouteID(self, name: str) -> str:
         """The name of its route; '!' and the vehicle's name where the route has none, or was changed."""
@@ -259,29 +261,29 @@ class VehicleDomain(VehicleCalls[TraciSession], Looking, Outlined):
     def getNextTLS(self, name: str) -> tuple[tuple[str, int, float, str], ...]:
         """For each light ahead on its way (light, index of the signal, metres to the stop line, the signal's letter
         now), the nearest first; empty before it departs."""
-        where, session, found = self.on_road(name), self.now(), []
-        if where is None:
+        position, session, lights = self.on_road(name), self.now(), []
+        if position is None:
             return ()
-        metres = -self.metres_to_front(where)
-        lane: int | None = where.lane
-        for at, (link, following) in enumerate(pairwise(session.plan_ahead(name))):
+        metres = -self.metres_to_front(position)
+        lane: int | None = position.lane
+        for index, (link, following) in enumerate(pairwise(session.plan_ahead(name))):
             metres += session.map.links[link].metres
             turn = session.connections.turn_at_light(link, lane, following, session.control.lights)
-            if turn and turn.light and (at or where.cell is not None):
-                found.append((turn.light, turn.index, metres, session.control.state(turn.light)[turn.index]))
+            if turn and turn.light and (index or position.cell is not None):
+                lights.append((turn.light, turn.index, metres, session.control.state(turn.light)[turn.index]))
             metres, lane = metres + session.inside.metres(link, lane, following), None
-        return tuple(found)
+        return tuple(lights)
 
     def getDrivingDistance(self, name: str, edgeID: str, pos: float, laneIndex: int = 0) -> float:
         """Metres along its way to pos metres from an edge's begin; "nowhere" if that is not ahead, and before it
         departs. laneIndex has no effect. TraCIException for an unknown edge."""
-        where, session = self.on_road(name), self.now()
-        if where is None:
+        position, session = self.on_road(name), self.now()
+        if position is None:
             return NOWHERE
         if edgeID not in session.map.links_of:
             raise TraCIException(f"Edge '{edgeID}' is not known.")
-        metres, ahead = -self.metres_to_front(where), session.plan_ahead(name)
-        lane: int | None = where.lane
+        metres, ahead = -self.metres_to_front(position), session.plan_ahead(name)
+        lane: int | None = position.lane
         for link, following in zip(ahead, (*ahead[1:], None)):
             if session.map.links[link].edge == edgeID and metres + pos >= 0:
                 return metres + pos
@@ -296,56 +298,58 @@ class VehicleDomain(VehicleCalls[TraciSession], Looking, Outlined):
         """(vehicle, metres between the two, without the standing gap) of the next one ahead on its way: on its lane at
         any distance, further on within its braking distance or dist. None where there is nobody, before it departs, and
         where it is itself in a junction. One ahead in a junction counts as at its begin."""
-        where = self.on_road(name)
-        if where is None or where.cell is None:
+        position = self.on_road(name)
+        if position is None or position.cell is None:
             return None
-        ahead = [other for other, there in self.on_same_lane(where) if there.front_cell > where.cell]
+        ahead = [number for number, spot in self.on_same_lane(position) if spot.front_cell > position.cell]
         if ahead:
-            return self.now().fleet.names[ahead[-1]], self.metres_to_rear(ahead[-1], 0.0, self.metres_to_front(where))
-        reach = (where.speed * METRES) ** 2 / (2 * BRAKING) + where.speed * METRES
-        return self.leader_further_on(name, where, max(dist, reach))
+            metres = self.metres_to_rear(ahead[-1], 0.0, self.metres_to_front(position))
+            return self.now().fleet.names[ahead[-1]], metres
+        reach = (position.speed * METRES) ** 2 / (2 * BRAKING) + position.speed * METRES
+        return self.leader_further_on(name, position, max(dist, reach))
 
-    def on_same_lane(self, where: OnRoad) -> list[tuple[int, OnRoad]]:
-        """(number, where it is) of each vehicle on the lane of one (where), from the stop line."""
+    def on_same_lane(self, position: OnRoad) -> list[tuple[int, OnRoad]]:
+        """(number, where it is) of each vehicle on the lane of one (position), from the stop line."""
         view = self.now().view
-        return [(number, view.there[number]) for number in view.on_lane((where.link, where.lane))]
+        return [(number, view.there[number]) for number in view.on_lane((position.link, position.lane))]
 
-    def leader_further_on(self, name: str, where: OnRoad, reach: float) -> tuple[str, float] | None:
+    def leader_further_on(self, name: str, position: OnRoad, reach: float) -> tuple[str, float] | None:
         """(vehicle, metres between the two) of the next one ahead, on the links of its way behind the one where a
-        vehicle (name, where) is, within reach metres of its front; None where there is nobody."""
-        session, lane = self.now(), where.lane
-        metres = session.map.links[where.link].metres - self.metres_to_front(where)
+        vehicle (name, position) is, within reach metres of its front; None where there is nobody."""
+        session, lane = self.now(), position.lane
+        metres = session.map.links[position.link].metres - self.metres_to_front(position)
         for link, following in pairwise(session.plan_ahead(name)):
             if metres > reach:
                 return None
-            if there := session.view.in_buffer((link, lane)):
-                return session.fleet.names[there[-1]], metres
+            if vehicles := session.view.in_buffer((link, lane)):
+                return session.fleet.names[vehicles[-1]], metres
             metres += session.inside.metres(link, lane, following)
             lane = session.connections.next_lane(link, lane, following)
-            if there := session.view.on_lane((following, lane)):
-                return session.fleet.names[there[-1]], self.metres_to_rear(there[-1], metres, 0.0)
+            if vehicles := session.view.on_lane((following, lane)):
+                return session.fleet.names[vehicles[-1]], self.metres_to_rear(vehicles[-1], metres, 0.0)
             metres += session.map.links[following].metres
         return None
 
-    def metres_to_rear(self, other: int, metres: float, front: float) -> float:
-        """Metres, 0 at least, from a front, front metres along a link, to the rear of another vehicle (other: its
+    def metres_to_rear(self, number: int, metres: float, front: float) -> float:
+        """Metres, 0 at least, from a front, front metres along a link, to the rear of another vehicle (number: its
         number), whose link begins metres further on."""
-        where = self.now().view.there[other]
-        link = self.now().map.links[where.link]
-        rear = (where.front_cell + 1 - self.now().fleet.size(other)) * link.metres / link.cells
+        position = self.now().view.there[number]
+        link = self.now().map.links[position.link]
+        rear = (position.front_cell + 1 - self.now().fleet.size(number)) * link.metres / link.cells
         return max(0.0, metres + rear - front)
 
     def getFollower(self, name: str, dist: float = 0.0) -> tuple[str, float]:
         """(vehicle, metres between the two, without the standing gap) of the next one behind it on its lane; ("", -1)
         where there is nobody, before it departs, and in a junction. dist has no effect."""
-        number, where = self.look_up(name)
-        if where is None or where.cell is None:
+        number, position = self.look_up(name)
+        if position is None or position.cell is None:
             return "", -1.0
-        behind = [(other, there) for other, there in self.on_same_lane(where) if there.front_cell < where.cell]
+        behind = [pair for pair in self.on_same_lane(position) if pair[1].front_cell < position.cell]
         if not behind:
             return "", -1.0
-        other, there = behind[0]
-        return self.now().fleet.names[other], self.metres_to_rear(number, 0.0, self.metres_to_front(there))
+        follower, follower_position = behind[0]
+        metres = self.metres_to_rear(number, 0.0, self.metres_to_front(follower_position))
+        return self.now().fleet.names[follower], metres
 
     # Stops of the files
 
@@ -381,8 +385,8 @@ class VehicleDomain(VehicleCalls[TraciSession], Looking, Outlined):
         link, flag = self.now().map.links[visit.link], self.place_flag(visit)
         size = link.metres / link.cells
         until = tc.INVALID_DOUBLE_VALUE if visit.until is None else float(visit.until)
-        place = self.now().map.lane_name(visit.link, visit.lane), visit.first * size, (visit.last + 1) * size
-        return StopData(*place, visit.stop if flag else "", flag, float(visit.duration), until)
+        lane_and_metres = self.now().map.lane_name(visit.link, visit.lane), visit.first * size, (visit.last + 1) * size
+        return StopData(*lane_and_metres, visit.stop if flag else "", flag, float(visit.duration), until)
 
     def is_not(self, name: str) -> bool:
         """False: nobody parks, nor stands at a stop of another kind."""
@@ -404,8 +408,8 @@ class VehicleDomain(VehicleCalls[TraciSession], Looking, Outlined):
         session = self.now()
         if typeID not in session.types.kinds:
             raise TraCIException(f"Vehicle type '{typeID}' is not known.")
-        now = depart is None or depart in ("now", "triggered", -2, "-2", -3)
-        if session.add(vehID, routeID, typeID, session.clock if now else clock_of(vehID, depart)):
+        at_once = depart is None or depart in ("now", "triggered", -2, "-2", -3)
+        if session.add(vehID, routeID, typeID, session.clock if at_once else clock_of(vehID, depart)):
             self.forget_one(vehID)
 
     addFull = add
@@ -427,17 +431,17 @@ class VehicleDomain(VehicleCalls[TraciSession], Looking, Outlined):
         """As setRoute, with a named route from the edge on where it is, in a junction the whole route."""
         session = self.now()
         edges = session.edge_names(session.route_links(routeID))
-        here = self.getRoadID(name)
-        ahead = edges[edges.index(here) :] if here in edges else edges
+        edge = self.getRoadID(name)
+        ahead = edges[edges.index(edge) :] if edge in edges else edges
         other_way(session, name, self.on_road(name), ahead)
         session.note_route(name, routeID)
 
     def changeTarget(self, name: str, edgeID: str) -> None:
         """As setRoute, with the way to another edge that is quickest now, as findRoute has it."""
-        session, where = self.now(), self.on_road(name)
+        session, position = self.now(), self.on_road(name)
         edges = self.getRoute(name)
-        here = edges[0] if where is None else session.map.links[where.link].edge
-        other_way(session, name, where, session.edge_names(session.ways.quickest_path(here, edgeID)[0]))
+        edge = edges[0] if position is None else session.map.links[position.link].edge
+        other_way(session, name, position, session.edge_names(session.ways.quickest_path(edge, edgeID)[0]))
 
     def rerouteTraveltime(self, name: str, currentTravelTimes: bool = True) -> None:
         """As changeTarget, to its last edge; currentTravelTimes has no effect."""
