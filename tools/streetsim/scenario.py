@@ -74,8 +74,8 @@ class Scenario(Running):
         where a line is. Warns (Python's warnings) of lights and stops that are other than in SUMO."""
         source, read, _ = with_works(*read_with_map(run, mapping), mapping, [], WorksOptions(tuple(joint)))
         super().__init__(source, read, ScriptSettings(rounds, driven=self.lights_driven, **wishes), program, workers)
-        for told in self.notes:
-            warnings.warn(told, stacklevel=2)
+        for note in self.notes:
+            warnings.warn(note, stacklevel=2)
         self.detectors: dict[str, int] = {}  # by name: number
         self.simulation, self.vehicle, self.route = ScenarioSimulation(self), ScenarioVehicle(self), ScenarioRoute(self)
         self.lane, self.edge = ScenarioLane(self), ScenarioEdge(self)
@@ -162,18 +162,19 @@ class Scenario(Running):
         """Rows as in trips.csv (tables.TRIPS), as they are at this clock, one for each vehicle."""
         fleet, dawdle = self.fleet, self.source.load.command.get("dawdle", 0) / 1000
         alone, stood, rescues = Alone(self.map, dawdle), seconds_at_stops(self.steering.stops()), self.steering.rescue
-        lines = (Line(0, "", {"plan": plan, "depart": at}) for plan, at in zip(fleet.plans, fleet.departs, strict=True))
-        more = ((alone.trip(plan), stood[at], rescues.count[at]) for at, plan in enumerate(fleet.plans))
+        departures = zip(fleet.plans, fleet.departs, strict=True)
+        lines = (Line(0, "", {"plan": plan, "depart": depart}) for plan, depart in departures)
+        delays = ((alone.trip(plan), stood[number], rescues.count[number]) for number, plan in enumerate(fleet.plans))
         ends = map(self.end_of, range(len(fleet.names)))
-        return list(trip_rows(zip(fleet.names, lines, ends, more, strict=True)))
+        return list(trip_rows(zip(fleet.names, lines, ends, delays, strict=True)))
 
     def end_of(self, number: int) -> End:
         """How a vehicle ended, or where it is."""
         if self.view.ended[number]:
             arrival = int(self.view.arrival[number])
             return (arrival, "arrived") if arrival else (None, "taken")
-        where = self.view.there.get(number)
-        return None, "waiting" if where is None else "buffer" if where.cell is None else "cell"
+        position = self.view.there.get(number)
+        return None, "waiting" if position is None else "buffer" if position.cell is None else "cell"
 
     def write_trips(self, path: FilePath) -> None:
         """Writes the rows of trips to a file of CSV, below the names of the columns; Fault where that fails."""
@@ -254,7 +255,7 @@ class ScenarioVehicle(ScenarioPart, VehicleCalls[Scenario]):
 
     def on_road_for_lane(self, name: str) -> OnRoad | None:
         """As on_road; None in a junction too."""
-        return where if (where := self.on_road(name)) is not None and where.cell is not None else None
+        return position if (position := self.on_road(name)) is not None and position.cell is not None else None
 
 
 class ScenarioStretch(ScenarioPart, StretchCalls[Scenario]):
@@ -266,7 +267,7 @@ class ScenarioStretch(ScenarioPart, StretchCalls[Scenario]):
 
     def numbers(self, name: str) -> list[int]:
         """The numbers of the vehicles on it, from the stop line; of an edge, lane after lane."""
-        return [number for place in self.places(name) for number in self.scenario.view.on_lane(place)]
+        return [number for link_lane in self.places(name) for number in self.scenario.view.on_lane(link_lane)]
 
     def speeds(self, name: str) -> list[float]:
         """Metres a second of each vehicle on it, in the order of `numbers`."""

@@ -73,8 +73,8 @@ class KeptProgram(Program):
         if self.begun:
             self.go_on()
             super().begin(self.begun)
-            later, more = super().blocks()
-            begins, data = begins + [len(data) + begin for begin in later[1:]], data + more
+            later_begins, later_data = super().blocks()
+            begins, data = begins + [len(data) + begin for begin in later_begins[1:]], data + later_data
         return begins, data
 
     def count_known(self, lines: Sequence[bytes]) -> int:

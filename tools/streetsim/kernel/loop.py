@@ -125,7 +125,8 @@ class Kernel:
         Controllers that are due now must have acted. Fault where a vehicle is refused."""
         target = self.clock + 1
         if until > target:
-            target = max(target, min(until, self.clock + self.most, *(one.next_clock() for one in self.controllers)))
+            due = min((controller.next_clock() for controller in self.controllers), default=until)
+            target = max(target, min(until, self.clock + self.most, due))
         self.enter_due(target)
         self.program.begin(target - self.clock)
         self.hand_over(ROWS)
@@ -143,19 +144,19 @@ class Kernel:
 
     def act_due(self, controllers: Iterable[Controller]) -> int:
         """Has those of some controllers act that are due; gives the clock."""
-        for one in controllers:
-            if one.next_clock() <= self.clock:
-                one.act(self.clock, self.last)
+        for controller in controllers:
+            if controller.next_clock() <= self.clock:
+                controller.act(self.clock, self.last)
         return self.clock
 
     def hand_over(self, rows: int) -> None:
         """Gives observers what waits, where it is so many rows, or seconds, at least."""
-        before = self.start if self.seconds is None else int(self.seconds.clocks[-1])
-        if self.waiting and (self.size >= rows * ROW or self.clock - before >= self.most):
-            self.seconds = seconds_of(self.waiting, self.seconds, before, self.vehicles)
+        last_clock = self.start if self.seconds is None else int(self.seconds.clocks[-1])
+        if self.waiting and (self.size >= rows * ROW or self.clock - last_clock >= self.most):
+            self.seconds = seconds_of(self.waiting, self.seconds, last_clock, self.vehicles)
             self.waiting, self.size = [], 0
-            for one in self.observers:
-                one.see(self.seconds)
+            for observer in self.observers:
+                observer.see(self.seconds)
 
     def send(self, commands: Iterable[Command]) -> None:
         """Sends commands of a controller before the next step. Fault where one is refused."""
@@ -166,8 +167,8 @@ class Kernel:
         where one is refused."""
         due: list[Line] = []
         for line in lines:
-            for one in self.controllers:
-                due += map(own_line, one.hear(self.clock, line.command))
+            for controller in self.controllers:
+                due += map(own_line, controller.hear(self.clock, line.command))
             due.append(line)
         self.send_now(due, True)
 
@@ -188,18 +189,18 @@ class Kernel:
 
     def refusal(self, line: Line, reply: bytes) -> Exception:
         """What is raised for a line that is refused, by the reply to it."""
-        where = f"line {line.number} ({line.command['cmd']})" if line.number > 0 else line.text
-        return Fault(f"{self.run.path}: {where} was refused: {read_reply(reply)}")
+        line_text = f"line {line.number} ({line.command['cmd']})" if line.number > 0 else line.text
+        return Fault(f"{self.run.path}: {line_text} was refused: {read_reply(reply)}")
 
     def enter_due(self, target: int) -> None:
         """Tells the program of the vehicles that depart before a clock, and of those before them in the file."""
-        first, run = self.entered, self.run
+        first_new, run = self.entered, self.run
         while self.entered < len(run.enters) and run.needed[self.entered] < target:
             self.entered += 1
-        if first < self.entered:
-            lines = run.enters[first : self.entered]
+        if first_new < self.entered:
+            lines = run.enters[first_new : self.entered]
             self.send_lines(lines)
-            self.vehicles.add(range(first, self.entered), [line.command.get("size", 1) for line in lines])
+            self.vehicles.add(range(first_new, self.entered), [line.command.get("size", 1) for line in lines])
 
     def reenter(self, car: int, command: Command) -> None:
         """Takes out a vehicle, by its number in the program, and enters it anew by a command. Fault if refused."""
@@ -223,28 +224,28 @@ class Kernel:
     def ask_vehicles(self, cars: Iterable[int]) -> list[Vehicle]:
         """The replies on vehicles, by their numbers in the program; Fault where one is refused."""
         lines = [Line(-1, f'{{"cmd":"vehicle","car":{car}}}', {"cmd": "vehicle"}) for car in cars]
-        found = [read_reply(reply) for reply in self.send_lines(lines)]
-        assert all(isinstance(one, Vehicle) for one in found)
-        return [one for one in found if isinstance(one, Vehicle)]
+        vehicles = [read_reply(reply) for reply in self.send_lines(lines)]
+        assert all(isinstance(vehicle, Vehicle) for vehicle in vehicles)
+        return [vehicle for vehicle in vehicles if isinstance(vehicle, Vehicle)]
 
-    def lane_now(self, place: Place) -> Lane | None:
+    def lane_now(self, link_lane: Place) -> Lane | None:
         """What the last second shows on a lane, without who waits to enter it; None where nothing is there."""
-        slot = 2 * place[0] + place[1]
-        rows, now, size = self.last.lane(slot), self.last, self.vehicles.size
-        found = list(zip(*(one[rows].tolist() for one in (now.car, now.cell, now.speed))))
+        slot = 2 * link_lane[0] + link_lane[1]
+        rows, block, size = self.last.lane(slot), self.last, self.vehicles.size
+        vehicles = list(zip(*(column[rows].tolist() for column in (block.car, block.cell, block.speed))))
         closed = tuple(unbroken_stretches(self.closed.cells[slot])) if slot in self.closed.cells else ()
-        if not found and not closed:
+        if not vehicles and not closed:
             return None
         cells = tuple(
             (car, cell, speed) if size[car] == 1 else (car, cell, speed, int(size[car]))
-            for car, cell, speed in found
+            for car, cell, speed in vehicles
             if cell >= 0
         )
-        return Lane(cells, tuple((car, speed, cell & READY) for car, cell, speed in found if cell < 0), (), closed)
+        return Lane(cells, tuple((car, speed, cell & READY) for car, cell, speed in vehicles if cell < 0), (), closed)
 
-    def lanes_now(self, places: Iterable[Place]) -> dict[Place, Lane]:
+    def lanes_now(self, link_lanes: Iterable[Place]) -> dict[Place, Lane]:
         """By (link, lane) what `lane_now` gives, but for lanes where nothing is."""
-        return {place: lane for place in places if (lane := self.lane_now(place)) is not None}
+        return {link_lane: lane for link_lane in link_lanes if (lane := self.lane_now(link_lane)) is not None}
 
     def is_to_come(self, clock: int) -> bool:
         """Whether a vehicle of the file wishes to depart at a clock or later."""

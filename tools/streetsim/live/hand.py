@@ -52,8 +52,8 @@ class Hand(Controller):
         if refused := refusal_in(text):
             return refused
         if name == "signal":
-            for one in kernel.controllers:
-                one.hear(kernel.clock, command)
+            for controller in kernel.controllers:
+                controller.hear(kernel.clock, command)
             kernel.sent.append(loop.Sent(kernel.clock, own_line(command), True))
         elif name == "meter":
             self.detectors.append({**command, "number": read_reply(text)})
@@ -81,5 +81,5 @@ def refusal_in(text: bytes) -> str:
         return "not done: memory is wanting, and it may be tried again"
     if not isinstance(reply, Refused):
         return ""
-    name, place = type(reply).__name__, "" if reply.at is None else f" at {reply.at}"
-    return f"refused ({name}{place}): {reply.__doc__}"
+    name, cell_text = type(reply).__name__, "" if reply.at is None else f" at {reply.at}"
+    return f"refused ({name}{cell_text}): {reply.__doc__}"

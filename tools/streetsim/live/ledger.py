@@ -47,14 +47,14 @@ class Ledger(Observer):
 
     def standing(self, seconds: Seconds) -> Array:
         """By second how many stand on links that lead to the junction, on cells or behind them."""
-        still = (self.ends[seconds.slot] == self.node) & ((seconds.speed == 0) | ~seconds.on)
-        return np.bincount(seconds.second[still], minlength=len(seconds.clocks))
+        is_queued = (self.ends[seconds.slot] == self.node) & ((seconds.speed == 0) | ~seconds.on)
+        return np.bincount(seconds.second[is_queued], minlength=len(seconds.clocks))
 
     def wished(self, clock: int) -> int:
         """How many have wished to depart by a clock."""
         return int(np.searchsorted(self.departs, clock, "right"))
 
-    def points_from(self, first: int) -> list[Point]:
+    def points_from(self, first_point: int) -> list[Point]:
         """The points from one on, by its place; thinned where they are more than a chart can have, the last kept."""
-        points = self.points[first:][::-1]
+        points = self.points[first_point:][::-1]
         return points[:: max(1, -(-len(points) // MOST_POINTS))][::-1]

@@ -16,18 +16,18 @@ SHOWN = 8  # of the last lines with their replies
 class Noted(Program):
     """A program that notes what was sent, but for what only asks or was refused."""
 
-    def __init__(self, path: str, workers: int = 1, words: Sequence[str] = ()) -> None:
+    def __init__(self, path: str, workers: int = 1, arguments: Sequence[str] = ()) -> None:
         """As Program."""
-        super().__init__(path, workers, words)
+        super().__init__(path, workers, arguments)
         self.noted: list[bytes | int] = []  # lines, and of advances so many steps on end
         self.last: deque[tuple[bytes, bytes]] = deque(maxlen=SHOWN)  # lines and replies
 
     def kept_in(self, path: FilePath, workers: int) -> Self:
         """Another process that goes on from a file that has all that was noted; this one is killed."""
-        made = type(self)(self.path, workers, ["--keep", os.fspath(path)])
-        made.noted, made.last = self.noted, self.last
+        successor = type(self)(self.path, workers, ["--keep", os.fspath(path)])
+        successor.noted, successor.last = self.noted, self.last
         self.kill()
-        return made
+        return successor
 
     def kill(self) -> None:
         """Ends the process, whatever it does."""
@@ -46,20 +46,20 @@ class Noted(Program):
     def blocks(self) -> Blocks:
         """As Program."""
         steps, (begins, data) = self.begun, super().blocks()
-        before = self.noted.pop() if self.noted and isinstance(self.noted[-1], int) else 0
-        assert isinstance(before, int)
-        self.noted.append(before + steps)
+        steps_before = self.noted.pop() if self.noted and isinstance(self.noted[-1], int) else 0
+        assert isinstance(steps_before, int)
+        self.noted.append(steps_before + steps)
         self.last.append((advance(steps), b'{"clock":%d}' % HEAD.unpack_from(data, begins[-2])[0]))
         return begins, data
 
     def session(self) -> Iterator[bytes]:
         """All lines that were noted, each with its end."""
-        for one in self.noted:
-            if isinstance(one, bytes):
-                yield one
+        for entry in self.noted:
+            if isinstance(entry, bytes):
+                yield entry
             else:
-                yield from [advance(STEPS)] * (one // STEPS)
-                yield from [advance(one % STEPS)] if one % STEPS else []
+                yield from [advance(STEPS)] * (entry // STEPS)
+                yield from [advance(entry % STEPS)] if entry % STEPS else []
 
 
 def advance(steps: int) -> bytes:

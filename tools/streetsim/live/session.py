@@ -23,9 +23,9 @@ SHARE = 8  # of the last measurement in the pace, an eighth
 class PageSession:
     """One page's session. Calls may come from several threads, and each has it alone."""
 
-    def __init__(self, of: PageRun, kept: Kept | None = None) -> None:
-        """of: the run that the page shows; kept: where the session is kept, none: nowhere."""
-        self.of, self.kept, self.lock = of, kept, threading.RLock()
+    def __init__(self, page_run: PageRun, session_files: Kept | None = None) -> None:
+        """page_run: the run that the page shows; session_files: where the session is kept, none: nowhere."""
+        self.of, self.kept, self.lock = page_run, session_files, threading.RLock()
         self.now: World | None = None
         self.was: World | None = None  # as it was without changes
         self.changes: list[Json] = []  # {text, made: clock, commands: [{clock, command}]}, in the order of their making
@@ -63,7 +63,7 @@ class PageSession:
     def make(self, changes: list[Json], clock: int) -> None:
         """Runs all anew to a clock, with some changes; where it fails nothing runs."""
         self.stop_now()
-        later = [sent for one in changes for sent in commands_of(one)]
+        later = [sent for change in changes for sent in commands_of(change)]
         world = World(self.of, later, self.node)
         try:
             world.go_on(clock)
@@ -101,50 +101,51 @@ class PageSession:
         if self.kept is not None:
             self.kept.close()
 
-    def replace_run(self, of: PageRun) -> None:
+    def replace_run(self, page_run: PageRun) -> None:
         """Ends both, and has the next begin take another run."""
         with self.lock:
             self.stop()
-            self.of = of
+            self.of = page_run
 
     # ---- what a page asks for
 
     def step(self, steps: int) -> bytes:
         """Makes so many steps of both."""
-        with self.running() as now:
-            begun, worlds = time.monotonic(), self.both(now)
+        with self.running() as current:
+            started, worlds = time.monotonic(), self.both(current)
             with ThreadPoolExecutor(len(worlds)) as pool:
                 list(pool.map(lambda world: world.go_on(world.clock + steps), worlds))
-            self.pace += ((time.monotonic() - begun) / steps / len(worlds) - self.pace) / SHARE
+            self.pace += ((time.monotonic() - started) / steps / len(worlds) - self.pace) / SHARE
             return self.message()
 
     def change(self, text: str, commands: list[Json]) -> bytes:
         """Makes a change: commands of this second, and of later ones, which are sent as these come. What is refused is
         told, and nothing behind it is sent. A plan that is set again in the same second takes the place of the one
         before it."""
-        with self.running() as now:
-            made = {"text": text, "made": now.clock, "commands": commands}
-            before = [one for one in self.changes if not (one is self.changes[-1] and is_same_plan(one, made))]
-            self.keep([*before, made])
-            refused, done = self.tell(now, commands)
+        with self.running() as world:
+            change = {"text": text, "made": world.clock, "commands": commands}
+            is_replaced = bool(self.changes) and is_same_plan(self.changes[-1], change)
+            earlier = self.changes[:-1] if is_replaced else list(self.changes)
+            self.keep([*earlier, change])
+            refused, commands_done = self.tell(world, commands)
             if refused:
-                made["commands"] = done
-                before = before if done else self.changes
-            self.changes = [*before, *([made] if made["commands"] else [])]
+                change["commands"] = commands_done
+                earlier = earlier if commands_done else self.changes
+            self.changes = [*earlier, *([change] if change["commands"] else [])]
             if refused:
                 self.keep(self.changes)
             self.follow()
             return self.message(refused=refused)
 
-    def tell(self, now: World, commands: list[Json]) -> tuple[str, list[Json]]:
+    def tell(self, world: World, commands: list[Json]) -> tuple[str, list[Json]]:
         """Sends those of some commands that are due, and has the others sent later; gives (why one was refused, those
         that were not, nothing behind it among them)."""
-        for at, one in enumerate(commands):
-            if one["clock"] > now.clock:
+        for index, entry in enumerate(commands):
+            if entry["clock"] > world.clock:
                 continue
-            if refused := now.hand.tell(one["command"]):
-                return refused, [other for other in commands[:at] if other["clock"] <= now.clock]
-        now.hand.add((one["clock"], one["command"]) for one in commands if one["clock"] > now.clock)
+            if refused := world.hand.tell(entry["command"]):
+                return refused, [entry for entry in commands[:index] if entry["clock"] <= world.clock]
+        world.hand.add((entry["clock"], entry["command"]) for entry in commands if entry["clock"] > world.clock)
         return "", commands
 
     def works(self, asked: Json) -> bytes:
@@ -171,12 +172,12 @@ class PageSession:
         give equal replies."""
         with self.running():
             start = self.of.run.start()
-            return self.anew([one for one in self.changes if one["made"] < clock], max(start, clock))
+            return self.anew([change for change in self.changes if change["made"] < clock], max(start, clock))
 
     def undo(self, number: int) -> bytes:
         """As it is now, but for the change of a number."""
-        with self.running() as now:
-            return self.anew([one for at, one in enumerate(self.changes) if at != number], now.clock)
+        with self.running() as world:
+            return self.anew([change for index, change in enumerate(self.changes) if index != number], world.clock)
 
     def anew(self, changes: list[Json], clock: int) -> bytes:
         """Runs all anew to a clock, with some changes."""
@@ -194,32 +195,32 @@ class PageSession:
 
     def watch(self, node: int) -> bytes:
         """Has the chart show the queue before a junction, from now on."""
-        with self.running() as now:
+        with self.running() as current:
             self.node = node
-            for world in self.both(now):
+            for world in self.both(current):
                 world.ledger.watch(node)
                 world.points_told = -1
             return self.message()
 
     def ask(self, commands: Iterable[Command]) -> bytes:
         """The replies, as JSON, of the traffic as it is to commands that change nothing."""
-        with self.running() as now:
-            return b"[%s]" % b",".join(now.program.ask([line_of(one) for one in commands]))
+        with self.running() as world:
+            return b"[%s]" % b",".join(world.program.ask([line_of(command) for command in commands]))
 
     def text(self, which: int) -> bytes:
         """The session as lines, or (which is 1) that of the traffic as it was."""
-        with self.running() as now:
-            return (self.was or now if which else now).text()
+        with self.running() as world:
+            return (self.was or world if which else world).text()
 
     # ---- both
 
-    def both(self, now: World) -> list[World]:
+    def both(self, current: World) -> list[World]:
         """The traffic as it is, and as it was where that runs."""
-        return [now] if self.was is None else [now, self.was]
+        return [current] if self.was is None else [current, self.was]
 
     def is_changed(self) -> bool:
         """Whether traffic is another one than that of the run as it was."""
-        return any(one["command"]["cmd"] in CHANGING for change in self.changes for one in change["commands"])
+        return any(entry["command"]["cmd"] in CHANGING for change in self.changes for entry in change["commands"])
 
     def follow(self) -> None:
         """Begins the traffic as it was, or ends it, as there are changes and as somebody wants it."""
@@ -242,7 +243,7 @@ class PageSession:
         if self.kept is not None:
             self.kept.keep_changes(changes)
 
-    def message(self, whole: bool = False, refused: str = "", **more: Any) -> bytes:
+    def message(self, whole: bool = False, refused: str = "", **further_fields: Any) -> bytes:
         """What the page is told: a number, the length of JSON; JSON; the vehicles of both traffics, as of World.rows.
         whole: all, to a page that knows nothing; else what is new."""
         assert self.now is not None
@@ -252,27 +253,27 @@ class PageSession:
                 world.forget_told()
             parts.append(world.message())
         rows = [world.rows() if world is self.now or self.shows_was else b"" for world in worlds]
-        log = [[one.decode().strip() for one in pair] for pair in self.now.program.last]
-        told: Json = {
+        log = [[text.decode().strip() for text in pair] for pair in self.now.program.last]
+        page_message: Json = {
             "refused": refused, "wanted": self.wanted, "log": log, "gain": None, "said": self.why_not_compared(),
-            "changed": self.is_changed(), "changes": [[one["made"], one["text"]] for one in self.changes],
-            "worlds": [{**part, "bytes": len(row)} for part, row in zip(parts, rows, strict=True)], **more,
+            "changed": self.is_changed(), "changes": [[change["made"], change["text"]] for change in self.changes],
+            "worlds": [{**part, "bytes": len(row)} for part, row in zip(parts, rows, strict=True)], **further_fields,
         }  # fmt: skip
         if self.was is not None:
             seconds, ended = gain_of(self.was, self.now)
-            told |= {"gain": {"seconds": seconds, "ended": ended}, "said": gain_told(seconds, ended)}
-        head = json.dumps(told, separators=(",", ":")).encode()
+            page_message |= {"gain": {"seconds": seconds, "ended": ended}, "said": gain_told(seconds, ended)}
+        head = json.dumps(page_message, separators=(",", ":")).encode()
         head += b" " * (-len(head) % 4)
         return b"".join([len(head).to_bytes(4, "little"), head, *rows])
 
 
 def commands_of(change: Json) -> list[Sent]:
     """The commands of a change with the clocks at which they are sent, its making at the earliest."""
-    return [(max(change["made"], one["clock"]), one["command"]) for one in change["commands"]]
+    return [(max(change["made"], entry["clock"]), entry["command"]) for entry in change["commands"]]
 
 
-def is_same_plan(one: Json, other: Json) -> bool:
+def is_same_plan(change: Json, other_change: Json) -> bool:
     """Whether two changes of one second set a plan for the same light."""
-    first, second = (change["commands"][0]["command"] for change in (one, other))
-    are_plans = first["cmd"] == second["cmd"] == "signal"
-    return are_plans and one["made"] == other["made"] and first["node"] == second["node"]
+    plan, other_plan = change["commands"][0]["command"], other_change["commands"][0]["command"]
+    are_plans = plan["cmd"] == other_plan["cmd"] == "signal"
+    return are_plans and change["made"] == other_change["made"] and plan["node"] == other_plan["node"]

@@ -40,8 +40,8 @@ class PageRun:
     def wishes(self) -> tuple[Array, Array]:
         """By vehicle the clock at which it wishes to depart, and its lane: twice the link, and the lane."""
         commands = [line.command for line in self.run.enters]
-        slots = [2 * one["plan"][0] + one.get("lane", 0) for one in commands]
-        return np.array([one["depart"] for one in commands], np.int64), np.array(slots, np.int64)
+        slots = [2 * command["plan"][0] + command.get("lane", 0) for command in commands]
+        return np.array([command["depart"] for command in commands], np.int64), np.array(slots, np.int64)
 
     @cached_property
     def givers(self) -> Collection[int]:
@@ -52,15 +52,15 @@ class PageRun:
 class World:
     """One traffic of a page."""
 
-    def __init__(self, of: PageRun, later: Iterable[Sent] = (), node: int | None = None) -> None:
+    def __init__(self, page_run: PageRun, later: Iterable[Sent] = (), node: int | None = None) -> None:
         """later: what is done by hand, with its clocks; node: the junction before which those who stand are counted.
         Fault or ProgramEnded where it cannot be begun; nothing runs then."""
-        self.of, steering = of, Steering(of.run, of.mapping, of.settings)
-        self.hand = Hand(steering.merging if of.settings.merging else None, later)
-        self.ledger = Ledger(self.hand, *of.departs_and_ends, node)
-        self.program = Noted(of.program, of.workers)
+        self.of, steering = page_run, Steering(page_run.run, page_run.mapping, page_run.settings)
+        self.hand = Hand(steering.merging if page_run.settings.merging else None, later)
+        self.ledger = Ledger(self.hand, *page_run.departs_and_ends, node)
+        self.program = Noted(page_run.program, page_run.workers)
         controllers, observers = [*steering.controllers, self.hand], [self.ledger]
-        self.kernel = Kernel(self.program, of.run, of.mapping, controllers, observers)
+        self.kernel = Kernel(self.program, page_run.run, page_run.mapping, controllers, observers)
         self.forget_told()
         try:
             self.kernel.begin(limits.CLOCK)
@@ -102,26 +102,26 @@ class World:
         plans, shown = self.signals()
         cars, self.cars_told = max(0, self.cars_told), kernel.vehicles.told
         points, self.points_told = max(0, self.points_told), len(ledger.points)
-        told: dict[str, Any] = {
+        page_message: dict[str, Any] = {
             "whole": whole, "first": points, "clock": clock, "arrived": kernel.last.gone,
             "coming": int(np.count_nonzero(~ledger.seen)),
             "owners": kernel.vehicles.owner[cars : self.cars_told].tolist(), "points": ledger.points_from(points),
             "plans": plans, "shown": shown, "waiting": self.waiting(), "detectors": self.hand.detectors,
-            "closed": [[slot, *one] for slot, all_ in kernel.closed.stretches().items() for one in all_],
+            "closed": [[slot, *stretch] for slot, closed in kernel.closed.stretches().items() for stretch in closed],
         }  # fmt: skip
-        return told
+        return page_message
 
     def rows(self) -> bytes:
         """The vehicles of the last second, each car, slot, cell (below 0 in a buffer) and speed, of 4 bytes each."""
-        last = self.kernel.last
-        return np.stack([last.car, last.slot, last.cell, last.speed], axis=1).astype("<i4").tobytes()
+        block = self.kernel.last
+        return np.stack([block.car, block.slot, block.cell, block.speed], axis=1).astype("<i4").tobytes()
 
     def signals(self) -> tuple[list[Command], list[Command]]:
         """(the plans that the run or the page has set, what detectors have lights show) since the last message; the
         last of each node alone."""
-        kernel, first = self.kernel, self.lines_told < 0
-        sent = [(line, True) for line in kernel.run.first] if first else []
-        sent += [(one.line, one.passed_on) for one in kernel.sent[max(0, self.lines_told) :]]
+        kernel, is_first = self.kernel, self.lines_told < 0
+        sent = [(line, True) for line in kernel.run.first] if is_first else []
+        sent += [(line_sent.line, line_sent.passed_on) for line_sent in kernel.sent[max(0, self.lines_told) :]]
         self.lines_told = len(kernel.sent)
         plans: dict[int, Command] = {}
         shown: dict[int, Command] = {}
@@ -137,7 +137,8 @@ class World:
         """[slot, how many] of the lanes that vehicles wait to enter, who wished to by now."""
         departs, slots = self.of.wishes
         late = slots[(departs <= self.clock) & ~self.ledger.seen]
-        return [list(one) for one in zip(*(part.tolist() for part in np.unique(late, return_counts=True)))]
+        late_slots, counts = np.unique(late, return_counts=True)
+        return list(map(list, zip(late_slots.tolist(), counts.tolist())))
 
     def text(self) -> bytes:
         """The session as lines, which streetsim does again."""

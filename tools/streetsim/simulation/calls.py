@@ -65,42 +65,42 @@ class VehicleCalls(CallGroup[Simulated]):
 
     def getRoadID(self, name: str) -> str:
         """The name of its edge; in a junction ":" and the junction's name (in SUMO with "_" and a number behind)."""
-        where, mapping = self.on_road(name), self.now().map
-        if where is None:
+        position, mapping = self.on_road(name), self.now().map
+        if position is None:
             return ""
-        link = mapping.links[where.link]
-        return link.edge if where.cell is not None else f":{mapping.nodes[link.end][0]}"
+        link = mapping.links[position.link]
+        return link.edge if position.cell is not None else f":{mapping.nodes[link.end][0]}"
 
     def getLaneIndex(self, name: str) -> int:
         """SUMO's index of its lane, in a junction of the one from which it came."""
-        where = self.on_road_for_lane(name)
-        return int(NOWHERE) if where is None else self.now().map.links[where.link].lanes[where.lane]
+        position = self.on_road_for_lane(name)
+        return int(NOWHERE) if position is None else self.now().map.links[position.link].lanes[position.lane]
 
     def getLaneID(self, name: str) -> str:
         """SUMO's name of its lane; in a junction ":", the junction's name and "_0"."""
-        where = self.on_road_for_lane(name)
-        if where is None:
+        position = self.on_road_for_lane(name)
+        if position is None:
             return ""
-        if where.cell is None:
+        if position.cell is None:
             return f"{self.getRoadID(name)}_0"
-        return self.now().map.lane_name(where.link, where.lane)
+        return self.now().map.lane_name(position.link, position.lane)
 
     def getLanePosition(self, name: str) -> float:
         """Metres from the lane's begin to the vehicle's front; 0 in a junction."""
-        where = self.on_road_for_lane(name)
-        if where is None:
+        position = self.on_road_for_lane(name)
+        if position is None:
             return NOWHERE
-        return self.metres_to_front(where) if where.cell is not None else 0.0
+        return self.metres_to_front(position) if position.cell is not None else 0.0
 
-    def metres_to_front(self, where: OnRoad) -> float:
+    def metres_to_front(self, position: OnRoad) -> float:
         """Metres from the link's begin to the vehicle's front; in a junction the whole link."""
-        link = self.now().map.links[where.link]
-        return (where.cell + 1) * link.metres / link.cells if where.cell is not None else link.metres
+        link = self.now().map.links[position.link]
+        return (position.cell + 1) * link.metres / link.cells if position.cell is not None else link.metres
 
     def getSpeed(self, name: str) -> float:
         """Metres a second, in whole cells of its link."""
-        where = self.on_road(name)
-        return NOWHERE if where is None else where.metres_a_second(self.now().map.links)
+        position = self.on_road(name)
+        return NOWHERE if position is None else position.metres_a_second(self.now().map.links)
 
     def getLength(self, name: str) -> float:
         """Metres of its cells without the gap ahead: 5 for one cell, 12.5 for two."""
@@ -179,9 +179,9 @@ class LaneCalls(StretchCalls[Simulated]):
     def setDisallowed(self, name: str, classes: str | Sequence[str]) -> None:
         """Closes the lane, as `close`, where the classes have all of the import, or "all"; else does nothing."""
         named = {classes} if isinstance(classes, str) else set(classes)
-        for place in self.places(name):
+        for link_lane in self.places(name):
             if "all" in named or set(self.now().map.options["classes"]) <= named:
-                self.close(self.now().map.lane_name(*place))
+                self.close(self.now().map.lane_name(*link_lane))
 
     def close(self, lane: str) -> None:
         """Closes a whole lane, by SUMO's name, as close_lane does."""
@@ -190,6 +190,6 @@ class LaneCalls(StretchCalls[Simulated]):
     def setAllowed(self, name: str, classes: str | Sequence[str]) -> None:
         """Opens the lane again where the classes have one of the import, or "all", or are empty; else does nothing."""
         named = {classes} if isinstance(classes, str) else set(classes)
-        for place in self.places(name):
+        for link_lane in self.places(name):
             if not named or "all" in named or set(self.now().map.options["classes"]) & named:
-                self.now().reopen_lane(self.now().map.lane_name(*place))
+                self.now().reopen_lane(self.now().map.lane_name(*link_lane))

@@ -21,9 +21,9 @@ class RunClient(Client):
 
     def send_soon(self, lines: Iterable[bytes]) -> None:
         """Sends lines ahead of the next ones, or before the next step."""
-        more = list(lines)
-        self.later += more
-        self.changes += more
+        new_lines = list(lines)
+        self.later += new_lines
+        self.changes += new_lines
 
     def exchange(self, lines: Iterable[bytes]) -> Iterator[bytes]:
         """As Client does. ValueError for steps; what a refusal of a line of `later` is, where one is refused."""

@@ -44,12 +44,12 @@ class Streets:
     def by_place(self, name: Callable[[int, int, str], str]) -> list[str]:
         """By twice the slot, and one further on in the junction behind it, a name of (link, lane, what a junction's
         edge is called, empty on the lane)."""
-        found = []
+        names = []
         for number, link in enumerate(self.map.links):
             inside = f":{self.map.nodes[link.end][0]}"
             for lane in (0, 1):
-                found += [name(number, min(lane, len(link.lanes) - 1), edge) for edge in ("", inside)]
-        return found
+                names += [name(number, min(lane, len(link.lanes) - 1), edge) for edge in ("", inside)]
+        return names
 
 
 class VehicleColumns:
@@ -88,12 +88,12 @@ class VehicleColumns:
     def road_name(self, rows: Array) -> Column:
         """The edge, or the junction."""
         names = self.streets.road_names
-        return [names[at] for at in self.place(rows)]
+        return [names[index] for index in self.place(rows)]
 
     def lane_name(self, rows: Array) -> Column:
         """The lane."""
         names = self.streets.lane_names
-        return [names[at] for at in self.place(rows)]
+        return [names[index] for index in self.place(rows)]
 
     def lane_index(self, rows: Array) -> Column:
         """SUMO's index of the lane."""
@@ -135,13 +135,13 @@ class LaneColumns:
     def sums(self, values: Array, slots: Array) -> Array:
         """Values of the rows of the view, whole numbers, summed over the vehicles of each lane."""
         total = np.append(0, np.cumsum(values[: self.view.recorded]))
-        first, last = self.ends(slots)
-        return total[last] - total[first]
+        first_row, row_behind = self.ends(slots)
+        return total[row_behind] - total[first_row]
 
     def count(self, slots: Array) -> Array:
         """How many vehicles are on each."""
-        first, last = self.ends(slots)
-        return last - first
+        first_row, row_behind = self.ends(slots)
+        return row_behind - first_row
 
     def halting(self, slots: Array) -> Array:
         """How many vehicles stand on each."""
@@ -181,7 +181,7 @@ class LaneColumns:
     @cached_property
     def limits(self) -> Array:
         """By slot the limit of SUMO's file, metres a second."""
-        found = np.zeros(2 * len(self.streets.map.links))
+        limits_by_slot = np.zeros(2 * len(self.streets.map.links))
         for name, (link, lane) in self.lane_of.items():
-            found[2 * link + lane] = self.facts.lanes[name].speed
-        return found
+            limits_by_slot[2 * link + lane] = self.facts.lanes[name].speed
+        return limits_by_slot

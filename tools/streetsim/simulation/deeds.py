@@ -37,17 +37,17 @@ def deed(method: Callable[Concatenate[Done, Words], Given]) -> Callable[Concaten
     NAMES.add(method.__name__)
 
     @wraps(method)
-    def noted(doer: Done, *words: Words.args, **more: Words.kwargs) -> Given:
+    def noted(doer: Done, *args: Words.args, **kwargs: Words.kwargs) -> Given:
         """Calls the method."""
         deeds, clock = doer.deeds, doer.clock
         if deeds.under_way:
-            return method(doer, *words, **more)
+            return method(doer, *args, **kwargs)
         deeds.under_way = True
         try:
-            found = method(doer, *words, **more)
+            result = method(doer, *args, **kwargs)
         finally:
             deeds.under_way = False
-        deeds.done.append((clock, doer.part, method.__name__, words))
-        return found
+        deeds.done.append((clock, doer.part, method.__name__, args))
+        return result
 
     return noted

@@ -28,49 +28,49 @@ class VehiclePlaces:
         self.of: object = None  # of which look `rising` is
         self.rising: tuple[Array, Array] = np.zeros((2, 0), np.int64)  # rows by rising place; places
 
-    def point(self, where: OnRoad) -> Point:
+    def point(self, position: OnRoad) -> Point:
         """The point (x, y) of the front of a vehicle on its link's line, or of its junction."""
-        return self.in_cell(where.link, where.cell)
+        return self.in_cell(position.link, position.cell)
 
     def point_in_cell(self, link: int, cell: int | None) -> Point:
         """What `point` gives for a front in a cell of a link; None: in the junction behind it."""
-        own = self.links[link]
+        map_link = self.links[link]
         if cell is None:
-            x, y = self.nodes[own.end][1:3]
+            x, y = self.nodes[map_link.end][1:3]
             return float(x), float(y)
-        return point_along(own.shape, (cell + 1) / own.cells)
+        return point_along(map_link.shape, (cell + 1) / map_link.cells)
 
-    def angle(self, where: OnRoad) -> float:
+    def angle(self, position: OnRoad) -> float:
         """Degrees clockwise from north; in a junction those at the end of the street from which it came."""
-        return self.angle_in_cell(where.link, where.cell)
+        return self.angle_in_cell(position.link, position.cell)
 
     def angle_in_cell(self, link: int, cell: int | None) -> float:
         """What `angle` gives for a front in a cell of a link; None: in the junction behind it."""
-        own = self.links[link]
-        return heading_at(own.shape, (cell + 1) / own.cells if cell is not None else 1.0)
+        map_link = self.links[link]
+        return heading_at(map_link.shape, (cell + 1) / map_link.cells if cell is not None else 1.0)
 
     def points(self, link: Array, cell: Array) -> Array:
         """By row the point (x, y) of a front in a cell of a link; cell below 0: in the junction behind it."""
-        at = self.first[link] + np.where(cell < 0, self.cells[link], cell)
-        found = self.known_points[at]
-        if len(new := np.unique(at[np.isnan(found[:, 0])])):
-            places = self.places_at(new)
-            self.known_points[new] = [self.point_in_cell(*place) for place in places]
-            found = self.known_points[at]
-        return found
+        keys = self.first[link] + np.where(cell < 0, self.cells[link], cell)
+        points_by_row = self.known_points[keys]
+        if len(unknown := np.unique(keys[np.isnan(points_by_row[:, 0])])):
+            link_cells = self.places_at(unknown)
+            self.known_points[unknown] = [self.point_in_cell(*link_cell) for link_cell in link_cells]
+            points_by_row = self.known_points[keys]
+        return points_by_row
 
     def angles(self, link: Array, cell: Array) -> Array:
         """By row what `angle` gives; link, cell: as `points` has them."""
-        at = self.first[link] + np.where(cell < 0, self.cells[link], cell)
-        if len(new := np.unique(at[np.isnan(self.known_angles[at])])):
-            self.known_angles[new] = [self.angle_in_cell(*place) for place in self.places_at(new)]
-        return self.known_angles[at]
+        keys = self.first[link] + np.where(cell < 0, self.cells[link], cell)
+        if len(unknown := np.unique(keys[np.isnan(self.known_angles[keys])])):
+            self.known_angles[unknown] = [self.angle_in_cell(*link_cell) for link_cell in self.places_at(unknown)]
+        return self.known_angles[keys]
 
-    def places_at(self, at: Array) -> list[tuple[int, int | None]]:
+    def places_at(self, keys: Array) -> list[tuple[int, int | None]]:
         """(link, cell; None in the junction behind it) of places in known_points."""
-        link = np.searchsorted(self.first, at, side="right") - 1
-        pairs = zip(link.tolist(), (at - self.first[link]).tolist(), strict=True)
-        return [(one, cell if cell < self.links[one].cells else None) for one, cell in pairs]
+        link = np.searchsorted(self.first, keys, side="right") - 1
+        pairs = zip(link.tolist(), (keys - self.first[link]).tolist(), strict=True)
+        return [(number, cell if cell < self.links[number].cells else None) for number, cell in pairs]
 
     @cached_property
     def boxes(self) -> Array:
@@ -91,14 +91,14 @@ class VehiclePlaces:
         those in it and in all before it). begins, ends: as `stretches` gives them."""
         if self.of is not self.view.number:
             link, cell = self.view.slot >> 1, self.view.cell
-            at = self.first[link] + np.where(cell < 0, self.cells[link], cell)
-            order = np.argsort(at, kind="stable")
-            self.of, self.rising = self.view.number, (order, at[order])
-        order, at = self.rising
-        first, last = np.searchsorted(at, begins), np.searchsorted(at, ends)
-        counts = last - first
+            rising_keys = self.first[link] + np.where(cell < 0, self.cells[link], cell)
+            order = np.argsort(rising_keys, kind="stable")
+            self.of, self.rising = self.view.number, (order, rising_keys[order])
+        order, rising_keys = self.rising
+        first_rows, rows_behind = np.searchsorted(rising_keys, begins), np.searchsorted(rising_keys, ends)
+        counts = rows_behind - first_rows
         through = np.cumsum(counts)
-        rows = np.arange(through[-1] if len(through) else 0) + np.repeat(first - through + counts, counts)
+        rows = np.arange(through[-1] if len(through) else 0) + np.repeat(first_rows - through + counts, counts)
         return order[rows], through
 
     def stretches(self, line: tuple[Point, ...], metres: float) -> tuple[Array, Array]:
@@ -108,23 +108,23 @@ class VehiclePlaces:
         left, low, right, high = self.boxes.T
         meets = (left <= max(x) + metres) & (right >= min(x) - metres)
         meets &= (low <= max(y) + metres) & (high >= min(y) - metres)
-        at = [np.arange(self.first[link], self.first[link + 1]) for link in np.flatnonzero(meets).tolist()]
-        if not at:
+        keys_by_link = [np.arange(self.first[link], self.first[link + 1]) for link in np.flatnonzero(meets).tolist()]
+        if not keys_by_link:
             return np.zeros(0, np.int64), np.zeros(0, np.int64)
-        places = np.concatenate(at)
-        link = np.searchsorted(self.first, places, side="right") - 1
-        points = self.points(link, places - self.first[link])
-        near = places[distances(points, np.array(line, float)) <= metres]
-        if not len(near):
-            return near, near
-        breaks = np.flatnonzero(np.diff(near) != 1)
-        return near[np.append(0, breaks + 1)], near[np.append(breaks, -1)] + 1
+        keys = np.concatenate(keys_by_link)
+        link = np.searchsorted(self.first, keys, side="right") - 1
+        points = self.points(link, keys - self.first[link])
+        near_keys = keys[distances(points, np.array(line, float)) <= metres]
+        if not len(near_keys):
+            return near_keys, near_keys
+        breaks = np.flatnonzero(np.diff(near_keys) != 1)
+        return near_keys[np.append(0, breaks + 1)], near_keys[np.append(breaks, -1)] + 1
 
 
 def distances(points: Array, line: Array) -> Array:
     """Metres from each of some points (x, y) to a line of points, or to its single point."""
-    begin, way = (line[:-1], np.diff(line, axis=0)) if len(line) > 1 else (line, np.zeros((1, 2)))
-    squares = (way**2).sum(axis=1)
-    ahead = ((points[:, None] - begin) * way).sum(axis=2) / np.where(squares, squares, 1.0)
-    off = points[:, None] - (begin + np.clip(ahead, 0, 1)[..., None] * way)
-    return np.hypot(off[..., 0], off[..., 1]).min(axis=1)
+    begin, step = (line[:-1], np.diff(line, axis=0)) if len(line) > 1 else (line, np.zeros((1, 2)))
+    squares = (step**2).sum(axis=1)
+    ahead = ((points[:, None] - begin) * step).sum(axis=2) / np.where(squares, squares, 1.0)
+    offsets = points[:, None] - (begin + np.clip(ahead, 0, 1)[..., None] * step)
+    return np.hypot(offsets[..., 0], offsets[..., 1]).min(axis=1)

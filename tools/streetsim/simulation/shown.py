@@ -21,9 +21,9 @@ CONSTANT = 600  # seconds of a phase that is shown until the next is set
 class LongProgram:
     """The phases of a program that does not fit in one plan; each is sent at its clock."""
 
-    def __init__(self, own: LitNode, begin: int) -> None:
-        """own: the program at a node; begin: the clock from which on it is told."""
-        self.lines = phase_lines(own, begin)
+    def __init__(self, lit_node: LitNode, begin: int) -> None:
+        """lit_node: the program at a node; begin: the clock from which on it is told."""
+        self.lines = phase_lines(lit_node, begin)
         self.clock, self.command = next(self.lines)
 
     def commands_due(self, clock: int) -> Iterator[Command]:
@@ -40,10 +40,10 @@ class SignalsInForce(Controller):
     """The signals in force at the nodes of a map's lights, and those of long programs that are still to be sent, which
     it sends."""
 
-    def __init__(self, mapping: Map, first: Iterable[Command]) -> None:
-        """first: the first commands of the file, of which the signals are taken."""
+    def __init__(self, mapping: Map, first_commands: Iterable[Command]) -> None:
+        """first_commands: the first commands of the file, of which the signals are taken."""
         self.map = mapping
-        self.signals = {command["node"]: command for command in first if command["cmd"] == "signal"}  # by node
+        self.signals = {command["node"]: command for command in first_commands if command["cmd"] == "signal"}  # by node
         self.forgotten: set[int] = set()  # nodes for which lines of the file are no longer sent
         self.coming: dict[int, LongProgram] = {}  # by node, of the programs that are sent phase by phase
         self.nodes_of: dict[str, list[int]] = {}  # by light
@@ -65,7 +65,7 @@ class SignalsInForce(Controller):
 
     def in_force(self) -> Collection[Command]:
         """The signal commands in force."""
-        sent = (one.line.command for one in self.kernel.sent if one.line.command["cmd"] == "signal")
+        sent = (line_sent.line.command for line_sent in self.kernel.sent if line_sent.line.command["cmd"] == "signal")
         return {**self.signals, **{command["node"]: command for command in sent}}.values()
 
     def nodes(self, light: str) -> list[int]:
@@ -84,17 +84,17 @@ class SignalsInForce(Controller):
         shown, as flows are not known here. Fault, before anything is forgotten, where a state is shorter than the
         light's signals, or the cycle rounds to 0 s or is longer than 200,000 s."""
         shown = tuple([(seconds, state) for seconds, state in phases])
-        if (made := self.made.get((light, shown))) is not None:
+        if (commands_known := self.made.get((light, shown))) is not None:
             self.forget(light)
-            return self.lines_with_offset(light, shown, offset), list(made[1])
+            return self.lines_with_offset(light, shown, offset), list(commands_known[1])
         report, commands, coming = Report(), [], {}
         for node in self.nodes(light):
-            own = self.lit_node(light, node, phases, offset, report)
+            lit_node = self.lit_node(light, node, phases, offset, report)
             try:
-                commands.append(signal_command(own))
+                commands.append(signal_command(lit_node))
             except TooLong:
-                report.warn(f"light {light!r}: {cycle_told(own)}; its phases are sent one by one")
-                coming[node] = LongProgram(own, clock)
+                report.warn(f"light {light!r}: {cycle_told(lit_node)}; its phases are sent one by one")
+                coming[node] = LongProgram(lit_node, clock)
                 commands += coming[node].commands_due(clock)
         self.forget(light)
         self.coming |= coming
@@ -144,10 +144,10 @@ class SignalsInForce(Controller):
 
     def forget(self, light: str) -> None:
         """Has nothing more sent of what the file, or a long program, has for a light."""
-        own = self.nodes(light)
-        self.forgotten.update(own)
+        nodes = self.nodes(light)
+        self.forgotten.update(nodes)
         if self.coming:
-            self.coming = {node: phases for node, phases in self.coming.items() if node not in own}
+            self.coming = {node: phases for node, phases in self.coming.items() if node not in nodes}
 
     def commands_due(self, clock: int) -> list[Command]:
         """The commands of the phases of long programs that have begun by a clock; each is given once."""

@@ -35,9 +35,9 @@ class ScriptKernel(Kernel):
 
     def refusal(self, line: Line, reply: bytes) -> Exception:
         """The reply itself as an exception."""
-        found = read_reply(reply)
-        assert isinstance(found, Exception)
-        return found
+        fault = read_reply(reply)
+        assert isinstance(fault, Exception)
+        return fault
 
 
 class Simulation:
@@ -47,15 +47,16 @@ class Simulation:
     kernel_of: type[ScriptKernel] = ScriptKernel
 
     def __init__(
-        self, source: Run, mapping: Map, asked: ScriptSettings, program: str | None = None, workers: int = 1
+        self, source: Run, mapping: Map, script_settings: ScriptSettings, program: str | None = None, workers: int = 1
     ) -> None:
         """program: None: the usual one; workers: its threads. Fault where a round fails or there is no program, what
         the kernel's `refusal` gives where a first line is refused."""
-        if asked.drawn:
+        if script_settings.drawn:
             source, mapping = drawn(source, mapping)
-        self.settings, self.asked, self.map = asked.settings(source, mapping), asked, mapping
+        self.settings, self.asked, self.map = script_settings.settings(source, mapping), script_settings, mapping
         rounds = partial(serving_program, program, source.path, workers)
-        self.source, self.yielding = giving_way(source, mapping, self.settings, asked.rounds, rounds, lambda *_: None)
+        way = giving_way(source, mapping, self.settings, script_settings.rounds, rounds, lambda *_: None)
+        self.source, self.yielding = way
         self.notes = [*self.settings.lights.notes(), *self.settings.buses.notes()]
         self.connections, self.edges = Connections(mapping), [link.edge for link in mapping.links]
         self.lane_of = {mapping.lane_name(link, lane): (link, lane) for link, lane in mapping.lanes()}
@@ -73,9 +74,9 @@ class Simulation:
         self.program = OwnProgram(*self.words)
         self.kernel = self.kernel_of(self.program, self.source, mapping, [], [])
         self.fleet = Fleet(self.source, mapping, self.kernel.vehicles)
-        all_, at = self.steering.controllers, self.steering.controllers.index(self.steering.lights)
-        self.sooner = [*all_[:at], *self.own_sooner()]
-        self.later = [*self.own_later(), *all_[at:], self.shown, *self.asked.controllers]
+        controllers, index = self.steering.controllers, self.steering.controllers.index(self.steering.lights)
+        self.sooner = [*controllers[:index], *self.own_sooner()]
+        self.later = [*self.own_later(), *controllers[index:], self.shown, *self.asked.controllers]
         self.kernel.controllers = [*self.sooner, *self.later]
         self.kernel.observers, self.lookers = self.asked.observers, [*self.own_lookers(), self.view]
         try:
@@ -133,13 +134,13 @@ class Simulation:
         """Has all who look at each second do so for the last steps."""
         (begins, data), owner = self.kernel.part, self.kernel.vehicles.owner
         steps = len(begins) - 1
-        for at in range(steps):
-            block = self.kernel.last if at + 1 == steps else Block((begins[: at + 2], data))
-            gone, left, _ = block.arrived
-            clock = self.clock - steps + at + 1
-            now = FleetSecond(clock, owner[block.car], block.slot, block.cell, block.speed, owner[gone], left)
-            for one in self.lookers:
-                one.see(now)
+        for step in range(steps):
+            block = self.kernel.last if step + 1 == steps else Block((begins[: step + 2], data))
+            arrived, slots_left, _ = block.arrived
+            clock, vehicles = self.clock - steps + step + 1, owner[block.car]
+            second = FleetSecond(clock, vehicles, block.slot, block.cell, block.speed, owner[arrived], slots_left)
+            for looker in self.lookers:
+                looker.see(second)
 
     def finish(self) -> None:
         """Ends the run; what is due at its last clock is done as at that of a run. ProgramEnded where the program
@@ -162,10 +163,10 @@ class Simulation:
         """Shows a cycle of (seconds, state) at a light from the next step on; lines of the file for the light are no
         longer sent, and detectors drive it no more. offset: as in a tlLogic, seconds. Gives warnings. Fault as of
         SignalsInForce.program_lines, after which all is as before."""
-        lines, told = self.shown.program_lines(light, phases, offset, self.clock)
+        lines, warnings = self.shown.program_lines(light, phases, offset, self.clock)
         self.kernel.send_soon(lines)
         self.driver.release(light, self.clock)
-        return told
+        return warnings
 
     def show_constant(self, light: str, state: str, begin: float) -> None:
         """As show_program, but a state without permissive greens, from the clock begin on until another is shown."""
@@ -245,14 +246,14 @@ class Simulation:
         metre in which it ends, as streetsim-run --close allows; raises as close_lane does."""
         number, index = self.lane_of[lane]
         link = self.map.links[number]
-        last = link.metres if end is None else end
+        end_metres = link.metres if end is None else end
         if begin >= link.metres:
             raise ValueError(f"lane {lane!r} ends at {link.metres:g} m, before {begin:g} m")
-        if not 0 <= begin < last:
-            raise ValueError(f"lane {lane!r}: from {begin:g} m to {last:g} m there are no works")
-        if last > ceil(link.metres):
-            raise ValueError(f"lane {lane!r} ends at {link.metres:g} m, before {last:g} m")
-        cells = link.closed_between(begin, last)
+        if not 0 <= begin < end_metres:
+            raise ValueError(f"lane {lane!r}: from {begin:g} m to {end_metres:g} m there are no works")
+        if end_metres > ceil(link.metres):
+            raise ValueError(f"lane {lane!r} ends at {link.metres:g} m, before {end_metres:g} m")
+        cells = link.closed_between(begin, end_metres)
         return {"link": number, "lane": index, "first": cells[0], "last": cells[1]}
 
 

@@ -38,9 +38,9 @@ class Tally(Looker):
         self.kept: list[SecondRows] = []  # the seconds that are not all summed up yet
         self.summed = dict.fromkeys(("now", "ever", "lost", "ways"), 0)  # how many of them are, by what they sum up to
 
-    def see(self, now: FleetSecond) -> None:
+    def see(self, second: FleetSecond) -> None:
         """Takes the next second."""
-        number, slot, speed = now.number, now.slot, now.speed
+        number, slot, speed = second.number, second.slot, second.speed
         if self.view.held:
             held = np.array([pair for pair in self.view.held.items() if pair[0] not in set(number.tolist())], int)
             held = held.reshape(-1, 2)
@@ -52,8 +52,8 @@ class Tally(Looker):
 
     def sum_all(self) -> None:
         """Sums up all that is kept."""
-        for one in (self.sum_now, self.sum_ever, self.sum_lost, self.sum_ways):
-            one()
+        for sum_up in (self.sum_now, self.sum_ever, self.sum_lost, self.sum_ways):
+            sum_up()
         self.kept, self.summed = [], dict.fromkeys(self.summed, 0)
 
     def is_due(self, name: str) -> bool:
@@ -62,8 +62,8 @@ class Tally(Looker):
 
     def take(self, name: str) -> SecondRows:
         """The seconds that are not summed up to something, behind each other; now they count as summed up."""
-        kept, self.summed[name] = self.kept[self.summed[name] :], len(self.kept)
-        return kept[0] if len(kept) == 1 else SecondRows(*map(np.concatenate, zip(*kept)))
+        rows, self.summed[name] = self.kept[self.summed[name] :], len(self.kept)
+        return rows[0] if len(rows) == 1 else SecondRows(*map(np.concatenate, zip(*rows)))
 
     def sum_now(self) -> None:
         """Sums up for how long each has stood without a break."""
@@ -72,10 +72,11 @@ class Tally(Looker):
             order = np.argsort(number, kind="stable")
             number, moves = number[order], speed[order] != 0
             begins = np.append(0, (number[1:] != number[:-1]).nonzero()[0] + 1) if len(number) else order
-            ends, at = np.append(begins[1:], len(number)), np.arange(len(number))
-            last = np.maximum.reduceat(np.where(moves, at, -1), begins) if len(number) else order
-            own = number[begins]
-            self.standing_now[own] = np.where(last >= begins, ends - 1 - last, self.standing_now[own] + ends - begins)
+            ends, row = np.append(begins[1:], len(number)), np.arange(len(number))
+            last_move = np.maximum.reduceat(np.where(moves, row, -1), begins) if len(number) else order
+            vehicles = number[begins]
+            still = self.standing_now[vehicles] + ends - begins  # of those that have not moved
+            self.standing_now[vehicles] = np.where(last_move >= begins, ends - 1 - last_move, still)
 
     def sum_ever(self) -> None:
         """Sums up for how long each has stood in all."""
@@ -98,23 +99,23 @@ class Tally(Looker):
         """Sums up who came to another lane."""
         if self.summed["ways"] == len(self.kept) - 1:  # one second alone, in which each vehicle has one row
             number, slot, _ = self.take("ways")
-            before = self.slot[number] - 1
+            previous_slot = self.slot[number] - 1
             self.slot[number] = slot + 1
-            self.note_ways(number, before, slot)
+            self.note_ways(number, previous_slot, slot)
         elif self.is_due("ways"):
             number, slot, _ = self.take("ways")
             order = np.argsort(number, kind="stable")
             number, slot = number[order], slot[order]
-            first = np.append(True, number[1:] != number[:-1])[: len(number)]
-            before = np.where(first, self.slot[number] - 1, np.append(0, slot[:-1])[: len(slot)])
+            is_first = np.append(True, number[1:] != number[:-1])[: len(number)]
+            previous_slot = np.where(is_first, self.slot[number] - 1, np.append(0, slot[:-1])[: len(slot)])
             self.slot[number] = slot + 1  # of each vehicle the last one counts
-            self.note_ways(number, before, slot)
+            self.note_ways(number, previous_slot, slot)
 
-    def note_ways(self, number: Array, before: Array, slot: Array) -> None:
+    def note_ways(self, number: Array, previous_slot: Array, slot: Array) -> None:
         """Notes which vehicles came to another lane, by rows of the lanes where they were and are; as of go_on."""
-        rows = (before >> 1 != slot >> 1).nonzero()[0]
-        for one in zip(number[rows].tolist(), before[rows].tolist(), slot[rows].tolist()):
-            self.go_on(*one)
+        rows = (previous_slot >> 1 != slot >> 1).nonzero()[0]
+        for lane_change in zip(number[rows].tolist(), previous_slot[rows].tolist(), slot[rows].tolist()):
+            self.go_on(*lane_change)
 
     @property
     def waiting(self) -> Array:
@@ -145,12 +146,13 @@ class Tally(Looker):
         self.sum_ways()
         return int(self.reached[number]) - 1
 
-    def go_on(self, number: int, before: int, slot: int) -> None:
+    def go_on(self, number: int, previous_slot: int, slot: int) -> None:
         """Notes that a vehicle came from a lane (as twice the link and the lane; below 0: it departed) to another."""
-        link, old = slot >> 1, before >> 1
+        link, previous_link = slot >> 1, previous_slot >> 1
         self.reached[number] = self.fleet.plans[number].index(link, self.reached[number]) + 1
-        if before >= 0:
-            self.metres_behind[number] += self.links[old].metres + self.inside.metres(old, before & 1, link)
+        if previous_slot >= 0:
+            inside = self.inside.metres(previous_link, previous_slot & 1, link)
+            self.metres_behind[number] += self.links[previous_link].metres + inside
 
 
 class LoopTally(Looker):
@@ -160,8 +162,8 @@ class LoopTally(Looker):
     def __init__(self, detectors: Sequence[Detector]) -> None:
         """detectors: the loops, by cells."""
         self.detectors = sorted(detectors, key=key_of)
-        self.keys = np.array([key_of(one) for one in self.detectors], np.int64)
-        self.place = {one.name: at for at, one in enumerate(self.detectors)}
+        self.keys = np.array([key_of(detector) for detector in self.detectors], np.int64)
+        self.place = {detector.name: index for index, detector in enumerate(self.detectors)}
         self.lasts = np.zeros(len(detectors), np.int64)  # by place the clock at which one was last on it; 0: none was
         self.clocks: dict[str, int] | None = None  # the same by name, once it was asked for
         self.passing: dict[str, list[int]] = {}  # vehicles of the last second, by the fleet's numbers, by loop
@@ -169,10 +171,10 @@ class LoopTally(Looker):
         # By vehicle where it was a second ago: 1 more than its lane, as twice the link and the lane, 0: on none; cell.
         self.slot, self.cell = (np.zeros(limits.VEHICLES, np.int64) for _ in range(2))
 
-    def see(self, now: FleetSecond) -> None:
+    def see(self, second: FleetSecond) -> None:
         """Takes the next second."""
         if self.detectors:
-            self.kept.append(now)
+            self.kept.append(second)
             if len(self.kept) >= MOST_KEPT:
                 self.look()
 
@@ -192,12 +194,13 @@ class LoopTally(Looker):
     def look(self) -> None:
         """Looks at the seconds that are kept."""
         if self.kept:
-            kept, self.kept, self.passing, self.clocks = self.kept, [], {}, None
-            number, slot, cell = (np.concatenate(parts) for parts in zip(*map(rows_with_gone, kept)))
-            clocks = np.repeat([one.clock for one in kept], [len(one.number) + len(one.gone) for one in kept])
+            seconds, self.kept, self.passing, self.clocks = self.kept, [], {}, None
+            number, slot, cell = (np.concatenate(parts) for parts in zip(*map(rows_with_gone, seconds)))
+            rows_of_each = [len(second.number) + len(second.gone) for second in seconds]
+            clocks = np.repeat([second.clock for second in seconds], rows_of_each)
             order, low, high = self.loops_passed(number, slot, cell)
             for row, loop in self.passed_last(order, low, high, clocks) if len(clocks) else ():
-                if clocks[row] == kept[-1].clock:
+                if clocks[row] == seconds[-1].clock:
                     self.passing.setdefault(self.detectors[loop].name, []).append(int(number[row]))
 
     def loops_passed(self, number: Array, slot: Array, cell: Array) -> tuple[Array, Array, Array]:
@@ -205,15 +208,15 @@ class LoopTally(Looker):
         drove in the second before, and the one behind the last). Rows: of where vehicles are, by clock; a cell below 0
         is behind the stop line."""
         order = np.argsort(number, kind="stable")
-        number, slot, cell, on = number[order], slot[order], cell[order], cell[order] >= 0
-        again = np.append(False, number[1:] == number[:-1])[: len(number)]
-        known = np.where(on, slot + 1, 0)
-        old_slot = np.where(again, np.append(0, known[:-1])[: len(known)], self.slot[number])
-        old_cell = np.where(again, np.append(0, cell[:-1])[: len(cell)], self.cell[number])
-        self.slot[number], self.cell[number] = known, cell  # of each vehicle the last row counts
-        before = np.where((old_slot - 1) >> 1 == slot >> 1, old_cell, BEYOND)
-        front = np.where(on, cell, BEYOND - 1)
-        begin = slot * BEYOND + np.minimum(before, front + ~on)
+        number, slot, cell, is_on_lane = number[order], slot[order], cell[order], cell[order] >= 0
+        is_same_vehicle = np.append(False, number[1:] == number[:-1])[: len(number)]
+        known_slot = np.where(is_on_lane, slot + 1, 0)
+        old_slot = np.where(is_same_vehicle, np.append(0, known_slot[:-1])[: len(known_slot)], self.slot[number])
+        old_cell = np.where(is_same_vehicle, np.append(0, cell[:-1])[: len(cell)], self.cell[number])
+        self.slot[number], self.cell[number] = known_slot, cell  # of each vehicle the last row counts
+        previous_cell = np.where((old_slot - 1) >> 1 == slot >> 1, old_cell, BEYOND)
+        front = np.where(is_on_lane, cell, BEYOND - 1)
+        begin = slot * BEYOND + np.minimum(previous_cell, front + ~is_on_lane)
         low, high = np.searchsorted(self.keys, begin), np.searchsorted(self.keys, slot * BEYOND + front, side="right")
         return order, low, high
 
@@ -226,8 +229,8 @@ class LoopTally(Looker):
         loops = np.repeat(low[passing] - np.cumsum(counts) + counts, counts) + np.arange(counts.sum())
         rows = np.repeat(rows, counts)
         np.maximum.at(self.lasts, loops, clocks[rows])
-        now = clocks[rows] == clocks[-1]
-        return zip(rows[now].tolist(), loops[now].tolist())
+        is_last_clock = clocks[rows] == clocks[-1]
+        return zip(rows[is_last_clock].tolist(), loops[is_last_clock].tolist())
 
 
 def rows_with_gone(second: FleetSecond) -> tuple[Array, Array, Array]:

@@ -29,7 +29,7 @@ class FleetSecond(NamedTuple):
 class Looker:
     """What looks at each second of a run, one after the other."""
 
-    def see(self, now: FleetSecond) -> None:
+    def see(self, second: FleetSecond) -> None:
         """Takes the next second."""
         raise NotImplementedError
 
@@ -58,28 +58,28 @@ class View(Looker):
         """Forgets who has departed and arrived."""
         self.departed, self.arrived = [], []
 
-    def see(self, now: FleetSecond) -> None:
+    def see(self, second: FleetSecond) -> None:
         """Takes the next second."""
-        if self.leaving or len(now.gone):
-            self.arrival[now.gone], self.ended[now.gone] = now.clock, True
-            self.count += len(now.gone)
-            self.arrived += [*self.leaving, *now.gone.tolist()]
+        if self.leaving or len(second.gone):
+            self.arrival[second.gone], self.ended[second.gone] = second.clock, True
+            self.count += len(second.gone)
+            self.arrived += [*self.leaving, *second.gone.tolist()]
             self.leaving = []
-        new = now.number[~self.seen[now.number]]
-        if len(new):
-            self.departed += new.tolist()
-            self.seen[new], self.departure[new] = True, now.clock - 1
+        first_seen = second.number[~self.seen[second.number]]
+        if len(first_seen):
+            self.departed += first_seen.tolist()
+            self.seen[first_seen], self.departure[first_seen] = True, second.clock - 1
         self.before = self.number, self.slot, self.cell, self.speed
-        self.look(now.number, now.slot, now.cell, now.speed)
+        self.look(second.number, second.slot, second.cell, second.speed)
 
     def look(self, number: Array, slot: Array, cell: Array, speed: Array) -> None:
         """Shows the rows of a second of the record, and those who enter anew and are not seen there."""
         columns, self.recorded = (number, slot, np.maximum(cell, IN_JUNCTION), speed), len(number)
         if self.held:
-            there = set(number.tolist())
-            self.held = {one: lane for one, lane in self.held.items() if one not in there}
-            more = [[one, lane, IN_JUNCTION, 0] for one, lane in self.held.items()]
-            columns = np.append(np.array(columns), np.array(more, int).reshape(-1, 4).T, axis=1)
+            recorded_numbers = set(number.tolist())
+            self.held = {vehicle: lane for vehicle, lane in self.held.items() if vehicle not in recorded_numbers}
+            held_rows = [[vehicle, lane, IN_JUNCTION, 0] for vehicle, lane in self.held.items()]
+            columns = np.append(np.array(columns), np.array(held_rows, int).reshape(-1, 4).T, axis=1)
         self.show(*columns)
 
     def show(self, number: Array, slot: Array, cell: Array, speed: Array) -> None:
@@ -112,7 +112,7 @@ class View(Looker):
         rows = (self.number == number).nonzero()[0].tolist()
         if not rows:
             return None
-        slot, cell, speed = (int(one[rows[-1]]) for one in (self.slot, self.cell, self.speed))
+        slot, cell, speed = (int(column[rows[-1]]) for column in (self.slot, self.cell, self.speed))
         return OnRoad(slot >> 1, slot & 1, None if cell < 0 else cell, speed)
 
     @cached_property
@@ -136,19 +136,19 @@ class View(Looker):
         """Where each vehicle was that was on the road a second ago."""
         return places_of(*self.before)
 
-    def on_lane(self, place: Place) -> list[int]:
+    def on_lane(self, link_lane: Place) -> list[int]:
         """The vehicles on the cells of a lane, from the stop line."""
-        key = 4 * place[0] + 2 * place[1]
+        key = 4 * link_lane[0] + 2 * link_lane[1]
         return self.numbers[self.bounds[key] : self.bounds[key + 1]]
 
-    def speeds_on(self, place: Place) -> list[int]:
+    def speeds_on(self, link_lane: Place) -> list[int]:
         """Cells a step of the vehicles of on_lane, in their order."""
-        key = 4 * place[0] + 2 * place[1]
+        key = 4 * link_lane[0] + 2 * link_lane[1]
         return self.speeds[self.bounds[key] : self.bounds[key + 1]]
 
-    def in_buffer(self, place: Place) -> list[int]:
+    def in_buffer(self, link_lane: Place) -> list[int]:
         """Those in the junction behind a lane, first who leaves first."""
-        key = 4 * place[0] + 2 * place[1] + 1
+        key = 4 * link_lane[0] + 2 * link_lane[1] + 1
         return self.numbers[self.bounds[key] : self.bounds[key + 1]]
 
     def remove(self, number: int) -> None:
@@ -161,17 +161,17 @@ class View(Looker):
         """Leaves out the row of a vehicle, where it has one."""
         keep = self.number != number
         self.recorded = int(np.count_nonzero(keep[: self.recorded]))
-        self.show(*(one[keep] for one in (self.number, self.slot, self.cell, self.speed)))
+        self.show(*(column[keep] for column in (self.number, self.slot, self.cell, self.speed)))
 
     def hold(self, number: int, slot: int) -> None:
         """Notes that a vehicle in the junction behind a lane (slot) enters anew there."""
         self.held[number] = slot
         self.drop(number)
         recorded = slice(self.recorded)
-        self.look(*(one[recorded] for one in (self.number, self.slot, self.cell, self.speed)))
+        self.look(*(column[recorded] for column in (self.number, self.slot, self.cell, self.speed)))
 
 
 def places_of(number: Array, slot: Array, cell: Array, speed: Array) -> dict[int, OnRoad]:
     """Where each vehicle is, by rows."""
-    columns = zip(*(one.tolist() for one in (number, slot >> 1, slot & 1, cell, speed)))
-    return {one: OnRoad(link, lane, None if cell < 0 else cell, speed) for one, link, lane, cell, speed in columns}
+    rows = zip(*(column.tolist() for column in (number, slot >> 1, slot & 1, cell, speed)))
+    return {vehicle: OnRoad(link, lane, None if cell < 0 else cell, speed) for vehicle, link, lane, cell, speed in rows}
