@@ -63,7 +63,7 @@ def show(kernel, frames, *observers, parts=1):
         if part:
             blocks = blocks_of(part)
             seconds = seconds_of([blocks], seconds, clock, kernel.vehicles)
-            clock, kernel.last = part[-1][0], Block(blocks)
+            clock, kernel.last_second = part[-1][0], Block(blocks)
             for one in observers:
                 one.see(seconds)
     kernel.clock = kernel.until = clock

@@ -6,7 +6,7 @@ from seen import kernel_of, made, show
 from support import DATA, MAP, PROGRAM, Case, needs_simulator
 from streetsim.control.settings import Settings
 from streetsim.kernel.loop import Observer
-from streetsim.kernel.seconds import Taken
+from streetsim.kernel.seconds import Takeout
 from streetsim.model.mapping import map_from
 from streetsim.model.runs import read_with_map
 from streetsim.observe.link_passings import Passings
@@ -26,7 +26,7 @@ class ByHand(unittest.TestCase):
     def passings(self, frames, plans=((0, 1),), mapping=TWO_LANES, taken=(), **more):
         kernel, passings = kernel_of(map_from("", mapping), [list(plan) for plan in plans], **more), Passings()
         for one in taken:
-            kernel.vehicles.taken.append(one)
+            kernel.vehicles.takeouts.append(one)
             kernel.vehicles.add([int(kernel.vehicles.owner[one.car])], [1])
         for parts in (1, 5):
             show(kernel, frames, passings, parts=parts)
@@ -58,7 +58,7 @@ class ByHand(unittest.TestCase):
         """They go on as cars 2 and 3 on b. The one behind the line has passed it; the other one has not."""
         seen = [(1, [[0, 0, [[0, 1, 0], [1, 0, 0]], []]]), (2, [[0, 0, [[1, 0, 0]], [0]]])]
         anew = [(3, [[1, 0, [[2, 0, 0]], []]]), (4, [[1, 0, [[2, 1, 0], [3, 0, 0]], []]])]
-        taken = Taken(2, 0, 2, 0, False), Taken(3, 1, 3, 0, True)
+        taken = Takeout(2, 0, 2, 0, False), Takeout(3, 1, 3, 0, True)
         frames = [(1, [[0, 0, [[0, 0, 0]], []]]), *((clock + 1, lanes) for clock, lanes in [*seen, *anew])]
         found = self.passings(frames, [(0, 1), (0, 1)], taken=taken)
         self.assertEqual(found, ([[1, 4], [2, 5]], {(0, 0): [(3, 1, 3.0)]}))

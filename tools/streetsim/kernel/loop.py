@@ -13,7 +13,7 @@ from streetsim.base.client import Lane, Vehicle, read_reply
 from streetsim.base.files import Fault
 from streetsim.kernel.plans import Plans
 from streetsim.kernel.program import LINES, Blocks, Program
-from streetsim.kernel.seconds import NOBODY, NOT_ANEW, READY, Block, Seconds, Taken, Vehicles, seconds_of
+from streetsim.kernel.seconds import NOBODY, NOT_ANEW, READY, Block, Seconds, Takeout, Vehicles, seconds_of
 from streetsim.model.mapping import Map, Place
 from streetsim.model.record import ROW
 from streetsim.model.rows import unbroken_stretches
@@ -82,7 +82,7 @@ class Kernel:
         self.most = max(1, min(LINES, NUMBERS // max(1, 2 * len(mapping.links))))  # seconds that are made at once
         self.seconds: Seconds | None = None  # that observers got last
         self.part: Blocks = NOBODY  # what was made last
-        self.last = Block(NOBODY)
+        self.last_second = Block(NOBODY)
 
     @cached_property
     def plans(self) -> Plans:
@@ -131,7 +131,7 @@ class Kernel:
         self.program.begin(target - self.clock)
         self.hand_over(ROWS)
         blocks = self.program.blocks()
-        self.clock, self.part, self.last = target, blocks, Block(blocks)
+        self.clock, self.part, self.last_second = target, blocks, Block(blocks)
         if self.observers:
             self.waiting.append(blocks)
             self.size += len(blocks[1])
@@ -146,7 +146,7 @@ class Kernel:
         """Has those of some controllers act that are due; gives the clock."""
         for controller in controllers:
             if controller.next_clock() <= self.clock:
-                controller.act(self.clock, self.last)
+                controller.act(self.clock, self.last_second)
         return self.clock
 
     def hand_over(self, rows: int) -> None:
@@ -181,7 +181,7 @@ class Kernel:
 
     def send_lines(self, lines: Sequence[Line]) -> list[bytes]:
         """Sends lines and gives the replies; Fault where one is refused."""
-        replies = self.program.ask([line.text.encode() + b"\n" for line in lines])
+        replies = self.program.exchange([line.text.encode() + b"\n" for line in lines])
         for line, reply in zip(lines, replies, strict=True):
             if b'"error"' in reply or b'"starved"' in reply:
                 raise self.refusal(line, reply)
@@ -204,16 +204,17 @@ class Kernel:
 
     def reenter(self, car: int, command: Command) -> None:
         """Takes out a vehicle, by its number in the program, and enters it anew by a command. Fault if refused."""
-        self.take_out(car, self.vehicles.told)
+        self.take_out(car, self.vehicles.entered)
         self.enter(int(self.vehicles.owner[car]), command)
 
     def take_out(self, car: int, anew: int = NOT_ANEW) -> None:
         """Takes out a vehicle, by its number in the program. anew: the number with which it is to be entered next.
         Fault if refused."""
         self.send_lines([own_line({"cmd": "takeout", "car": car})])
-        rows = np.flatnonzero(self.last.car == car)
-        slot, on = (int(self.last.slot[rows[0]]), bool(self.last.cell[rows[0]] >= 0)) if len(rows) else (0, False)
-        self.vehicles.taken.append(Taken(self.clock, car, anew, slot, on))
+        block = self.last_second
+        rows = np.flatnonzero(block.car == car)
+        slot, on_lane = (int(block.slot[rows[0]]), bool(block.cell[rows[0]] >= 0)) if len(rows) else (0, False)
+        self.vehicles.takeouts.append(Takeout(self.clock, car, anew, slot, on_lane))
 
     def enter(self, owner: int, command: Command) -> None:
         """Enters a vehicle by a command; owner: its number in the file, or beyond those where it is not of the file.
@@ -231,7 +232,8 @@ class Kernel:
     def lane_now(self, link_lane: Place) -> Lane | None:
         """What the last second shows on a lane, without who waits to enter it; None where nothing is there."""
         slot = 2 * link_lane[0] + link_lane[1]
-        rows, block, size = self.last.lane(slot), self.last, self.vehicles.size
+        block, size = self.last_second, self.vehicles.size
+        rows = block.lane(slot)
         vehicles = list(zip(*(column[rows].tolist() for column in (block.car, block.cell, block.speed))))
         closed = tuple(unbroken_stretches(self.closed.cells[slot])) if slot in self.closed.cells else ()
         if not vehicles and not closed:

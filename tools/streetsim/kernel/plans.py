@@ -18,11 +18,11 @@ class Plans:
         """The plans of a run; each has a link at least."""
         plans = [line.command["plan"] for line in run.enters]
         self.lengths = np.fromiter(map(len, plans), np.int64, len(plans))
-        self.last = np.cumsum(self.lengths)
-        self.first = self.last - self.lengths
+        self.end_places = np.cumsum(self.lengths)
+        self.first_places = self.end_places - self.lengths
         self.links = np.fromiter(chain.from_iterable(plans), np.int32, int(self.lengths.sum()))
         alone, previous_links = Alone(mapping, run.load.command["dawdle"] / 1000), np.roll(self.links, 1)
-        previous_links[self.first] = -1
+        previous_links[self.first_places] = -1
         # By place the number of its pair of a link and the one before; by number the seconds.
         self.pair, pairs = np.zeros(len(self.links), np.int32), Pairs(alone)
         for begin in range(0, len(self.links), PART):
@@ -35,7 +35,7 @@ class Plans:
         """By place of the plans of some vehicles, from one number to another (not included), the vehicle's number."""
         return np.repeat(np.arange(first_vehicle, vehicle_behind), self.lengths[first_vehicle:vehicle_behind])
 
-    def alone(self, first_places: Array, last_places: Array) -> Array:
+    def seconds_between(self, first_places: Array, last_places: Array) -> Array:
         """The sums of the seconds from some places to others, both included, each added in the plan's order."""
         total = np.zeros(len(first_places))
         for step in range(int((last_places - first_places).max(initial=-1)) + 1):
@@ -46,7 +46,8 @@ class Plans:
     def alone_on_trips(self) -> Array:
         """By vehicle the mean seconds of its trip alone, from the wished departure to arrival; in the first of them it
         stands."""
-        return 1 + self.alone(self.first, self.last - 1) - self.across[self.links[self.last - 1]]
+        last_places = self.end_places - 1
+        return 1 + self.seconds_between(self.first_places, last_places) - self.across[self.links[last_places]]
 
 
 class Pairs:

@@ -37,9 +37,9 @@ class Program(Process):
         os.close(writing_end)
         self.pipes.append(open(self.record, "rb", buffering=0))
         self.lines, self.replies = self.input.fileno(), self.output.fileno()
-        self.rest, self.begun, self.sent, self.recorded = b"", 0, 0, False
+        self.unread, self.begun_steps, self.sent, self.recorded = b"", 0, 0, False
 
-    def ask(self, lines: Sequence[bytes]) -> list[bytes]:
+    def exchange(self, lines: Sequence[bytes]) -> list[bytes]:
         """Sends lines, with their ends, none of them an advance; gives their replies, with refusals among them.
         ProgramEnded where the program ends before."""
         replies: list[bytes] = []
@@ -58,7 +58,7 @@ class Program(Process):
         """Has the program make steps, LINES at most, and does not wait for them; `blocks` does."""
         lines = self.advance(steps)
         self.send(b"".join(lines))
-        self.begun, self.sent = steps, len(lines)
+        self.begun_steps, self.sent = steps, len(lines)
 
     def advance(self, steps: int) -> list[bytes]:
         """The lines by which steps are made."""
@@ -67,13 +67,13 @@ class Program(Process):
     def blocks(self) -> Blocks:
         """The blocks of the steps that were begun. ProgramEnded where the program ends before; Fault where a step is
         refused, or the program answers and records nothing."""
-        data, position, begins = bytearray(self.rest), 0, [0]
-        for _ in range(self.begun):
+        data, position, begins = bytearray(self.unread), 0, [0]
+        for _ in range(self.begun_steps):
             while len(data) < position + HEAD.size or len(data) < position + HEAD.size + ROW * rows_at(data, position):
                 data += self.more_of_record()
             position += HEAD.size + ROW * rows_at(data, position)
             begins.append(position)
-        self.rest = bytes(data[position:])
+        self.unread = bytes(data[position:])
         if bad_reply := next((reply for reply in self.read_replies(self.sent) if is_wrong(reply)), None):
             raise unmade(bad_reply)
         return begins, bytes(data[:position])

@@ -5,7 +5,7 @@ from collections.abc import Iterator
 from streetsim.base.client import NoReply, ProgramEnded, Refused, Starved
 from streetsim.base.files import Fault, FilePath
 from streetsim.base.program import find_program
-from streetsim.kernel.kept import KeptProgram
+from streetsim.kernel.kept import SessionProgram
 from streetsim.kernel.program import Program
 
 
@@ -18,7 +18,7 @@ def serving_program(
     the program cannot be found, ends too early or answers in other words than its own."""
     try:
         program_path = find_program(program)
-        with Program(program_path, workers) if keep is None else KeptProgram(program_path, keep, workers) as process:
+        with Program(program_path, workers) if keep is None else SessionProgram(program_path, keep, workers) as process:
             yield process
     except (Refused, Starved, NoReply, ProgramEnded) as fault:
         raise Fault(f"{path}: {fault}") from None

@@ -1,24 +1,24 @@
-"""Tells how far a run is."""
+"""Reports how far a run is, part by part; `observe` adds it to the observers of a run."""
 from collections.abc import Callable
 
 from streetsim.base.client import Census
 from streetsim.kernel.loop import Observer
 from streetsim.kernel.seconds import Seconds
 
-Tell = Callable[[int, Census | None], object]  # gets the clock and a count of those on the road and arrived
+ReportProgress = Callable[[int, Census | None], object]  # gets the clock and a count of those on the road and arrived
 
 
-class Telling(Observer):
-    """Tells how far the run is, part by part."""
+class ProgressReports(Observer):
+    """Reports how far the run is."""
 
-    def __init__(self, tell: Tell) -> None:
-        """tell: what is told."""
-        self.tell, self.arrived = tell, 0
+    def __init__(self, report: ReportProgress) -> None:
+        """report: gets each report."""
+        self.report, self.arrived = report, 0
 
     def see(self, seconds: Seconds) -> None:
         """Takes some seconds."""
         self.arrived += len(seconds.arrivals.car)
-        clock, rows = int(seconds.clocks[-1]), seconds.last()
+        clock, rows = int(seconds.clocks[-1]), seconds.last_rows()
         cells = int(seconds.on[rows].sum())
         buffers = int(rows.stop - rows.start) - cells
-        self.tell(clock, Census(cells + buffers + self.arrived, self.arrived, buffers, cells, clock, 0, 0))
+        self.report(clock, Census(cells + buffers + self.arrived, self.arrived, buffers, cells, clock, 0, 0))

@@ -48,7 +48,7 @@ class Hand(Controller):
         kernel, name = self.kernel, command["cmd"]
         if name in CLOSING:
             return self.close_or_reopen(command)
-        [text] = kernel.program.ask([line_of(command)])
+        [text] = kernel.program.exchange([line_of(command)])
         if refused := refusal_in(text):
             return refused
         if name == "signal":

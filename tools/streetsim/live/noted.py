@@ -34,9 +34,9 @@ class Noted(Program):
         self.process.kill()
         self.end()
 
-    def ask(self, lines: Sequence[bytes]) -> list[bytes]:
+    def exchange(self, lines: Sequence[bytes]) -> list[bytes]:
         """As Program."""
-        replies = super().ask(lines)
+        replies = super().exchange(lines)
         for line, reply in zip(lines, replies, strict=True):
             if not line.startswith(ASKING) and b'"error"' not in reply and b'"starved"' not in reply:
                 self.noted.append(line)
@@ -45,7 +45,7 @@ class Noted(Program):
 
     def blocks(self) -> Blocks:
         """As Program."""
-        steps, (begins, data) = self.begun, super().blocks()
+        steps, (begins, data) = self.begun_steps, super().blocks()
         steps_before = self.noted.pop() if self.noted and isinstance(self.noted[-1], int) else 0
         assert isinstance(steps_before, int)
         self.noted.append(steps_before + steps)

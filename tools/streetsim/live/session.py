@@ -205,7 +205,7 @@ class PageSession:
     def ask(self, commands: Iterable[Command]) -> bytes:
         """The replies, as JSON, of the traffic as it is to commands that change nothing."""
         with self.running() as world:
-            return b"[%s]" % b",".join(world.program.ask([line_of(command) for command in commands]))
+            return b"[%s]" % b",".join(world.program.exchange([line_of(command) for command in commands]))
 
     def text(self, which: int) -> bytes:
         """The session as lines, or (which is 1) that of the traffic as it was."""

@@ -84,9 +84,9 @@ class World:
     def keep_in(self, path: FilePath) -> None:
         """Has a program go on that keeps its session in a file, which has all that was done so far. Fault where it
         leads to another state."""
-        state = self.program.ask([COUNT])
+        state = self.program.exchange([COUNT])
         self.program = self.kernel.program = self.program.kept_in(path, self.of.workers)
-        if self.program.ask([COUNT]) != state:
+        if self.program.exchange([COUNT]) != state:
             raise Fault(f"{path}: it leads to another state than the page")
 
     # ---- what the page is told
@@ -100,10 +100,10 @@ class World:
         kernel, ledger, clock = self.kernel, self.ledger, self.clock
         whole = self.cars_told < 0
         plans, shown = self.signals()
-        cars, self.cars_told = max(0, self.cars_told), kernel.vehicles.told
+        cars, self.cars_told = max(0, self.cars_told), kernel.vehicles.entered
         points, self.points_told = max(0, self.points_told), len(ledger.points)
         page_message: dict[str, Any] = {
-            "whole": whole, "first": points, "clock": clock, "arrived": kernel.last.gone,
+            "whole": whole, "first": points, "clock": clock, "arrived": kernel.last_second.arrived_count,
             "coming": int(np.count_nonzero(~ledger.seen)),
             "owners": kernel.vehicles.owner[cars : self.cars_told].tolist(), "points": ledger.points_from(points),
             "plans": plans, "shown": shown, "waiting": self.waiting(), "detectors": self.hand.detectors,
@@ -113,7 +113,7 @@ class World:
 
     def rows(self) -> bytes:
         """The vehicles of the last second, each car, slot, cell (below 0 in a buffer) and speed, of 4 bytes each."""
-        block = self.kernel.last
+        block = self.kernel.last_second
         return np.stack([block.car, block.slot, block.cell, block.speed], axis=1).astype("<i4").tobytes()
 
     def signals(self) -> tuple[list[Command], list[Command]]:

@@ -32,7 +32,7 @@ class RunClient(Client):
             raise ValueError("the steps of a run are made by simulationStep")
         ahead, self.later = self.later, []
         self.changes += [line for line in sent if not line.startswith(ASKING)]
-        replies = Program.ask(self.program, [*ahead, *sent])
+        replies = Program.exchange(self.program, [*ahead, *sent])
         for reply in replies[: len(ahead)]:
             if b'"error"' in reply or b'"starved"' in reply:
                 fault = read_reply(reply)
@@ -54,13 +54,13 @@ class OwnProgram(Program):
         super().__init__(path, workers)
         self.client = RunClient(self)
 
-    def ask(self, lines: Sequence[bytes]) -> list[bytes]:
+    def exchange(self, lines: Sequence[bytes]) -> list[bytes]:
         """As Program does."""
         return list(self.client.exchange(lines))
 
     def begin(self, steps: int) -> None:
         """As Program does."""
         if self.client.later:
-            self.ask([])
+            self.exchange([])
         self.client.changes.append(b'%s,"steps":%d}\n' % (ADVANCE, steps))
         super().begin(steps)

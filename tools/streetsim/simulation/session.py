@@ -252,7 +252,7 @@ class TraciSession(Simulation, Doer):
         else:
             plans[number] = (*plans[number][: self.tally.position(number) + 1], *links[1:])
             self.pending[number] = position.link, links[1:]
-            self.turning.act(self.clock, self.kernel.last)
+            self.turning.act(self.clock, self.kernel.last_second)
 
     def wish(self, name: str, links: Sequence[int]) -> None:
         """Has a vehicle that the program was not told of enter with another plan."""

@@ -135,7 +135,7 @@ class Simulation:
         (begins, data), owner = self.kernel.part, self.kernel.vehicles.owner
         steps = len(begins) - 1
         for step in range(steps):
-            block = self.kernel.last if step + 1 == steps else Block((begins[: step + 2], data))
+            block = self.kernel.last_second if step + 1 == steps else Block((begins[: step + 2], data))
             arrived, slots_left, _ = block.arrived
             clock, vehicles = self.clock - steps + step + 1, owner[block.car]
             second = FleetSecond(clock, vehicles, block.slot, block.cell, block.speed, owner[arrived], slots_left)
