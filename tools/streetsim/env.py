@@ -131,23 +131,25 @@ class SignalEnv:
     def observations(self) -> dict[str, Observation]:
         """{light: its observation, as SignalEnv describes it}."""
         columns, slots = self.running_session().lane_columns, self.slots
-        taken, queued = (self.shares_taken(cells) for cells in (columns.taken(slots), columns.queued(slots)))
-        observations_by_light = {}
+        occupied = self.shares_taken(columns.occupied_cells(slots))
+        queued = self.shares_taken(columns.queued_cells(slots))
+        by_light = {}
         for name, agent in self.agents.items():
-            chosen, lanes = [float(index == agent.chosen) for index in range(len(agent.greens))], self.places[name]
-            observations_by_light[name] = [*chosen, float(agent.since >= self.least), *taken[lanes], *queued[lanes]]
-        return observations_by_light
+            lanes = self.lanes_of_light[name]
+            chosen = [float(index == agent.chosen) for index in range(len(agent.greens))]
+            by_light[name] = [*chosen, float(agent.since >= self.least), *occupied[lanes], *queued[lanes]]
+        return by_light
 
     def shares_taken(self, cells: Array) -> list[float]:
         """The share, 0 to 1, of each lane before the lights that some cells of it are; 0 of lanes that are not
         there."""
-        return np.minimum(1.0, cells * limits.CELL_METRES / self.metres * self.there).tolist()
+        return np.minimum(1.0, cells * limits.CELL_METRES / self.metres * self.is_imported).tolist()
 
     def take_rewards(self) -> dict[str, float]:
         """The rewards, in hundreds of seconds, by light; notes what the next ones are reckoned from (waited)."""
-        waited, rewards = (self.running_session().lane_columns.waited(self.slots) * self.there).tolist(), {}
+        waited, rewards = (self.running_session().lane_columns.waited(self.slots) * self.is_imported).tolist(), {}
         for name, agent in self.agents.items():
-            waited_before, agent.waited = agent.waited, sum(waited[self.places[name]]) / 100
+            waited_before, agent.waited = agent.waited, sum(waited[self.lanes_of_light[name]]) / 100
             rewards[name] = waited_before - agent.waited
         return rewards
 
@@ -158,10 +160,10 @@ class SignalEnv:
         lanes = [lane for agent in self.agents.values() for lane in agent.lanes]
         link_lanes = [session.lane_of.get(lane) for lane in lanes]
         self.slots = np.array([2 * place[0] + place[1] if place else 0 for place in link_lanes], np.int64)
-        self.there = np.array([link_lane is not None for link_lane in link_lanes], np.int64)
+        self.is_imported = np.array([link_lane is not None for link_lane in link_lanes], np.int64)
         self.metres = np.array([session.facts.lanes[lane].metres for lane in lanes])
         ends = [0, *accumulate(len(agent.lanes) for agent in self.agents.values())]
-        self.places = {name: slice(*ends[index : index + 2]) for index, name in enumerate(self.agents)}
+        self.lanes_of_light = {name: slice(*ends[index : index + 2]) for index, name in enumerate(self.agents)}
 
     def pressure(self, name: str, action: int) -> int:
         """How many vehicles stand on the lanes from which a green phase (action) lets drive, less those on the lanes to
@@ -178,7 +180,7 @@ class SignalEnv:
 
     def standing_on(self, lane: str) -> list[int]:
         """The numbers of the vehicles that stand on a lane, from the stop line."""
-        there = self.running_session().view.there
+        there = self.running_session().view.positions
         return [number for number in self.vehicles_on(lane) if not there[number].speed]
 
     def figures(self) -> dict:
@@ -358,22 +360,22 @@ class OneSignal:
     def __init__(self, words: Sequence[str], light: str | None = None, **more: int) -> None:
         """light: its name; None: the only one that has two greens. more: as SignalEnv takes them. ValueError where
         there are none or several; raises what reset raises."""
-        self.all = ParallelSignals(words, controlled=None if light is None else [light], **more)
-        if len(self.all.possible_agents) != 1:
-            self.all.close()
-            raise ValueError(f"{len(self.all.possible_agents)} lights have two greens: name one (light=)")
-        [self.light] = self.all.possible_agents
-        self.observation_space = self.all.observation_space(self.light)
-        self.action_space = self.all.action_space(self.light)
+        self.env = ParallelSignals(words, controlled=None if light is None else [light], **more)
+        if len(self.env.possible_agents) != 1:
+            self.env.close()
+            raise ValueError(f"{len(self.env.possible_agents)} lights have two greens: name one (light=)")
+        [self.light] = self.env.possible_agents
+        self.observation_space = self.env.observation_space(self.light)
+        self.action_space = self.env.action_space(self.light)
 
     def reset(self, seed: int | None = None, options: object = None) -> tuple[Array, dict]:
         """Begins a run; gives (observation, figures). options have no effect."""
-        observations, figures = self.all.reset(seed)
+        observations, figures = self.env.reset(seed)
         return observations[self.light], figures[self.light]
 
     def step(self, action: int) -> tuple[Array, float, bool, bool, dict]:
         """Makes a step; gives (observation, reward, whether no vehicle is left, whether the time is over, figures)."""
-        results = self.all.step({self.light: int(action)})
+        results = self.env.step({self.light: int(action)})
         return tuple(by_light[self.light] for by_light in results)  # type: ignore[return-value]
 
     def render(self) -> None:
@@ -381,7 +383,7 @@ class OneSignal:
 
     def close(self) -> None:
         """Ends the run."""
-        self.all.close()
+        self.env.close()
 
     @property
     def unwrapped(self) -> OneSignal:

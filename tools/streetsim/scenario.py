@@ -81,7 +81,7 @@ class Scenario(Running):
         self.lane, self.edge = ScenarioLane(self), ScenarioEdge(self)
         self.inductionloop, self.trafficlight = ScenarioLoop(self), TrafficLight(self)
 
-    def own_later(self) -> Iterable[Controller]:
+    def controllers_after_script(self) -> Iterable[Controller]:
         """What sends vehicles round shut edges."""
         self.detours = Detours(self)
         return [self.detours]
@@ -173,7 +173,7 @@ class Scenario(Running):
         if self.view.ended[number]:
             arrival = int(self.view.arrival[number])
             return (arrival, "arrived") if arrival else (None, "taken")
-        position = self.view.there.get(number)
+        position = self.view.positions.get(number)
         return None, "waiting" if position is None else "buffer" if position.cell is None else "cell"
 
     def write_trips(self, path: FilePath) -> None:
@@ -251,7 +251,7 @@ class ScenarioVehicle(ScenarioPart, VehicleCalls[Scenario]):
 
     def on_road(self, name: str) -> OnRoad | None:
         """Where a vehicle on the road is; None before it departs and after its end, KeyError for an unknown name."""
-        return self.scenario.view.there.get(self.scenario.fleet.numbers[name])
+        return self.scenario.view.positions.get(self.scenario.fleet.numbers[name])
 
     def on_road_for_lane(self, name: str) -> OnRoad | None:
         """As on_road; None in a junction too."""
@@ -271,7 +271,7 @@ class ScenarioStretch(ScenarioPart, StretchCalls[Scenario]):
 
     def speeds(self, name: str) -> list[float]:
         """Metres a second of each vehicle on it, in the order of `numbers`."""
-        there = self.scenario.view.there
+        there = self.scenario.view.positions
         return [there[number].speed * METRES for number in self.numbers(name)]
 
 

@@ -19,7 +19,7 @@ from support import DATA, PROGRAM, TOOLS, Case, needs_package, needs_simulator, 
 import streetsim.traci as traci
 from streetsim.base.files import Fault
 from streetsim.simulation.errors import FatalTraCIError
-from streetsim.simulation.options import options_of
+from streetsim.simulation.options import read_options
 from streetsim.traci import constants as tc, domain, server
 from streetsim.traci.protocol import MOST, BadMessage, WordReader, command, double, string, strings, text
 from streetsim.traci.server import OK, Server, TraciClient, listen
@@ -537,9 +537,9 @@ class Clients(Case):
 class Options(unittest.TestCase):
     def test_the_nearest_word_is_named(self):
         with self.assertRaisesRegex(FatalTraCIError, "'net-fil' exists. The nearest is --net-file"):
-            options_of(["--net-fil", "x"])
+            read_options(["--net-fil", "x"])
         with self.assertRaisesRegex(FatalTraCIError, "'qqqq' exists.$"):
-            options_of(["--qqqq"])
+            read_options(["--qqqq"])
 
 
 if __name__ == "__main__":

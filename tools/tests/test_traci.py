@@ -84,7 +84,7 @@ class Loops(unittest.TestCase):
         detector = Detector("loop", "e1", 0, 0, 3, 3, 60)
         driving = 100 * 5 / 15
         for where, percent in ((OnRoad(1, 0, 3, 2), driving), (OnRoad(0, 1, 3, 2), driving), (OnRoad(0, 0, 3, 0), 100)):
-            view, fleet = SimpleNamespace(there={7: where}, there_before={}), SimpleNamespace(size={7: 1}.get)
+            view, fleet = SimpleNamespace(positions={7: where}, positions_before={}), SimpleNamespace(size={7: 1}.get)
             loops = SimpleNamespace(passed={"loop": [7]}.__getitem__)
             mapping = SimpleNamespace(links=[SimpleNamespace(cell_metres=7.5)])
             session = SimpleNamespace(view=view, fleet=fleet, detectors={"loop": detector}, loops=loops, map=mapping)
@@ -96,7 +96,7 @@ class Vehicles(Started):
     def test_one_vehicle(self):
         """It departs in the first step, whatever the draws, and stands in cell 0."""
         self.start()
-        cell = 75 / traci.vehicle.now().map.links[0].cells
+        cell = 75 / traci.vehicle.session().map.links[0].cells
         self.assertEqual((traci.vehicle.getIDList(), traci.simulation.getMinExpectedNumber()), ((), 2))
         traci.simulationStep()
         self.assertEqual(
@@ -502,7 +502,7 @@ class Vehicles(Started):
         self.assertEqual(traci.vehicle.getNextTLS("v"), (("L", 0, 0.0, "r"),))
         [(*light, metres, state)] = traci.vehicle.getNextTLS("later")
         self.assertEqual((light, state), (["L", 0], "r"))
-        cells = traci.vehicle.now().map.links[0].cells
+        cells = traci.vehicle.session().map.links[0].cells
         self.assertAlmostEqual(metres, 75 / cells)
         self.assertEqual(
             (traci.vehicle.getDrivingDistance("v", "b", 30), traci.vehicle.getDrivingDistance("v", "a", 10)),
@@ -520,8 +520,8 @@ class Vehicles(Started):
         traci.simulationStep()
         self.assertEqual([link[0] for link in traci.lane.getLinks("a_0")], ["b_0"])
         self.assertEqual((traci.lane.getLinkNumber("a_0"), traci.lane.getShape("a_0")), (1, ((0.0, 0.0), (75.0, 0.0))))
-        self.assertIn("b", {link.edge for link in traci.junction.now().map.links})
-        node = traci.junction.now().map.nodes[traci.junction.now().map.links[0].end][0]
+        self.assertIn("b", {link.edge for link in traci.junction.session().map.links})
+        node = traci.junction.session().map.nodes[traci.junction.session().map.links[0].end][0]
         traci.junction.subscribeContext(node, tc.CMD_GET_VEHICLE_VARIABLE, 1000, [tc.VAR_SPEED])
         self.assertEqual(traci.junction.getContextSubscriptionResults(node), {"v": {tc.VAR_SPEED: 0.0}})
         self.assertEqual(traci.junction.getAllContextSubscriptionResults(), {node: {"v": {tc.VAR_SPEED: 0.0}}})
@@ -794,7 +794,7 @@ class Vehicles(Started):
                 raise LookupError
 
         self.start()
-        process = traci._now().client.process
+        process = traci._current_session().client.process
         traci.addStepListener(Listener())
         with self.assertRaises(LookupError):
             traci.close()
@@ -814,7 +814,7 @@ class Vehicles(Started):
     def test_a_run_ends_also_where_its_outputs_fail(self):
         words = ["sumo", "-n", self.write("x.net.xml", SIGNALLED), "-r", self.write("x.rou.xml", ROUTES), "-W"]
         traci.start([*words, "--summary-output", str(self.folder / "x.xml")])
-        session = traci._now()
+        session = traci._current_session()
         self.addCleanup(session.writer.close)
         with unittest.mock.patch.object(session.writer, "close", side_effect=Fault("full")):
             with self.assertRaisesRegex(Fault, "full"):
@@ -1068,7 +1068,7 @@ class Lights(Started):
     def test_a_state_is_sent_as_a_whole_program_of_it(self):
         """By setProgramLogic of Scenario, which looks at each second; in less than a millisecond, the least of many."""
         self.start()
-        session, states = traci._now(), ("rr", "Gr", "yG", "GG", "sO", "uU", "or")
+        session, states = traci._current_session(), ("rr", "Gr", "yG", "GG", "sO", "uU", "or")
         for clock, state in enumerate(states):
             traci.simulationStep(3 * clock + 1)
             traci.trafficlight.setRedYellowGreenState("L", state)

@@ -3,8 +3,8 @@ from collections.abc import Callable
 from functools import wraps
 from typing import Concatenate, ParamSpec, TypeVar
 
-Words = ParamSpec("Words")
-Given = TypeVar("Given")
+Arguments = ParamSpec("Arguments")
+Result = TypeVar("Result")
 NAMES: set[str] = set()  # of the methods that are deeds
 
 
@@ -25,19 +25,21 @@ class Deeds:
 
     def __init__(self) -> None:
         """None is done."""
-        self.done: list[tuple[int, str, str, tuple]] = []
+        self.entries: list[tuple[int, str, str, tuple]] = []
         self.under_way = False
 
 
-Done = TypeVar("Done", bound=Doer)
+DoerKind = TypeVar("DoerKind", bound=Doer)
 
 
-def deed(method: Callable[Concatenate[Done, Words], Given]) -> Callable[Concatenate[Done, Words], Given]:
+def deed(
+    method: Callable[Concatenate[DoerKind, Arguments], Result],
+) -> Callable[Concatenate[DoerKind, Arguments], Result]:
     """A method by which a script changes a run: calls are noted that raise nothing and that no other deed makes."""
     NAMES.add(method.__name__)
 
     @wraps(method)
-    def noted(doer: Done, *args: Words.args, **kwargs: Words.kwargs) -> Given:
+    def noted(doer: DoerKind, *args: Arguments.args, **kwargs: Arguments.kwargs) -> Result:
         """Calls the method."""
         deeds, clock = doer.deeds, doer.clock
         if deeds.under_way:
@@ -47,7 +49,7 @@ def deed(method: Callable[Concatenate[Done, Words], Given]) -> Callable[Concaten
             result = method(doer, *args, **kwargs)
         finally:
             deeds.under_way = False
-        deeds.done.append((clock, doer.part, method.__name__, args))
+        deeds.entries.append((clock, doer.part, method.__name__, args))
         return result
 
     return noted

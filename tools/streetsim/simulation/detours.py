@@ -54,7 +54,7 @@ class Detours(Controller):
     def waiting_and_driving(self) -> tuple[dict[int, PlannedVehicle], dict[int, PlannedVehicle]]:
         """(vehicles that have not departed, or wait for room; vehicles on the road)."""
         simulation, waiting, driving = self.simulation, {}, {}
-        clock, fleet, positions = simulation.clock, simulation.fleet, simulation.view.there
+        clock, fleet, positions = simulation.clock, simulation.fleet, simulation.view.positions
         for number, name in enumerate(fleet.names):
             plan = self.plan_since_entry(number)
             if number in positions:
@@ -69,7 +69,7 @@ class Detours(Controller):
         """Notes that a vehicle on the road leaves its plan for a new one, which begins on its present link, in place
         of what was noted before; nothing where that is its plan."""
         plan = self.plan_since_entry(number)
-        plan = plan[plan.index(self.simulation.view.there[number].link) :]
+        plan = plan[plan.index(self.simulation.view.positions[number].link) :]
         self.turning.pop(number, None)
         if new_plan != plan:
             self.turning[number] = turning_to(plan, new_plan, self.simulation.clock)
@@ -82,7 +82,7 @@ class Detours(Controller):
         """Has the vehicles that are where their other way begins enter its first link anew, and sets for the others
         when to look again; those that have ended, or left the links ahead, are forgotten."""
         for number in [number for number, diversion in self.turning.items() if diversion.due <= clock]:
-            diversion, position = self.turning[number], self.simulation.view.there.get(number)
+            diversion, position = self.turning[number], self.simulation.view.positions.get(number)
             if position is None or position.link not in diversion.ahead:
                 del self.turning[number]
             elif position.cell is not None or position.link != diversion.ahead[-1]:

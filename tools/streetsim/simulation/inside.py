@@ -12,15 +12,15 @@ class Inside:
     def __init__(self, mapping: Map, facts: Facts) -> None:
         """facts: of the network's file."""
         self.map, self.facts = mapping, facts
-        self.known: dict[tuple[int, int | None, int], float] = {}  # by link, lane and next link
+        self.known_metres: dict[tuple[int, int | None, int], float] = {}  # by link, lane and next link
 
     def metres(self, link: int, lane: int | None, following: int) -> float:
         """Metres in the junction from a link to a next one, from a lane, else (or lane None) from any; 0 without a
         way."""
         connection = link, lane, following
-        if connection not in self.known:
-            self.known[connection] = self.metres_by_connections(*connection)
-        return self.known[connection]
+        if connection not in self.known_metres:
+            self.known_metres[connection] = self.metres_by_connections(*connection)
+        return self.known_metres[connection]
 
     def metres_by_connections(self, link: int, lane: int | None, following: int) -> float:
         """What `metres` gives and keeps, looked for among the connections of the link's lanes."""

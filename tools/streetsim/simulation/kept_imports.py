@@ -22,7 +22,7 @@ MARK = b"streetsim import 1\n"  # with which an entry begins; its number is that
 MOST, MOST_BYTES = 32, 256 << 20  # entries; bytes of all of them
 LARGEST = 64 << 20  # bytes of one
 SUM = 32  # bytes of a sum
-OTHERS = stat.S_IRWXG | stat.S_IRWXO
+GROUP_OR_OTHERS = stat.S_IRWXG | stat.S_IRWXO
 
 
 class KeptImport(NamedTuple):
@@ -30,7 +30,7 @@ class KeptImport(NamedTuple):
 
     run: str
     map: str
-    said: str
+    messages: str
 
 
 def kept_folder() -> Path | None:
@@ -44,7 +44,7 @@ def kept_folder() -> Path | None:
     with suppress(OSError):
         folder.mkdir(0o700, parents=True, exist_ok=True)
         status = os.lstat(folder)
-        if stat.S_ISDIR(status.st_mode) and status.st_uid == os.geteuid() and not status.st_mode & OTHERS:
+        if stat.S_ISDIR(status.st_mode) and status.st_uid == os.geteuid() and not status.st_mode & GROUP_OR_OTHERS:
             return folder
     return None
 
@@ -96,7 +96,7 @@ def read_kept(key: str) -> KeptImport | None:
     return None
 
 
-def keep(key: str, import_texts: KeptImport) -> None:
+def write_kept(key: str, import_texts: KeptImport) -> None:
     """Keeps an import by its key, whole or not at all; then leaves out the entries that were taken longest ago, until
     those that are left are within MOST and MOST_BYTES. Does nothing where that cannot be done."""
     body = body_of(import_texts)

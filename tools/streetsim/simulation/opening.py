@@ -12,8 +12,8 @@ from streetsim.base.words import ROUNDS, names_in
 from streetsim.model.replications import DRAWN
 from streetsim.simulation.asked import ScriptSettings
 from streetsim.simulation.errors import FatalTraCIError
-from streetsim.simulation.kept_imports import KeptImport, keep, key_of, read_kept
-from streetsim.simulation.options import IMPORTED, LOGS, NO_FILE, options_of, warnings_of
+from streetsim.simulation.kept_imports import KeptImport, key_of, read_kept, write_kept
+from streetsim.simulation.options import IMPORTED, LOGS, NO_FILE, read_options, warnings_of
 from streetsim.simulation.session import TraciSession
 from streetsim.simulation.street_facts import Facts, read_facts
 from streetsim.simulation.writing import SERVED
@@ -25,7 +25,7 @@ PERIOD = 900  # seconds of the rows of edgeData without a period
 def open_session(arguments: Sequence[str]) -> TraciSession:
     """A session, by the words of SUMO's command line without SUMO's name; tells on standard error what differs from
     SUMO. FatalTraCIError or Fault where it cannot be imported or started."""
-    options = options_of([*arguments])
+    options = read_options([*arguments])
     with TemporaryDirectory() as folder:
         return imported_session(Path(folder), options)
 
@@ -45,7 +45,7 @@ def imported_session(folder: Path, options: Options) -> TraciSession:
     messages = imported(folder, arguments, routes, files)
     try:
         facts = read_facts(options["net-file"], additional, routes)
-        session = TraciSession(folder, facts, options, asked_by(options))
+        session = TraciSession(folder, facts, options, script_settings_of(options))
     except Exception:
         write_warnings(messages, options)
         raise
@@ -67,12 +67,12 @@ def imported(folder: Path, arguments: Sequence[str], routes: Sequence[str], file
     if key is not None and (kept := read_kept(key)) is not None:
         run.write_text(kept.run, encoding="utf-8", newline="")
         mapping.write_text(kept.map, encoding="utf-8", newline="")
-        return kept.said
+        return kept.messages
     with redirect_stderr(StringIO()) as messages:
         import_files([*arguments, "-o", str(run), "--map", str(mapping)], routes)
     if key is not None and key == key_of(all_words, files):  # no file has changed meanwhile
         run_text, map_text = (path.read_text(encoding="utf-8") for path in (run, mapping))
-        keep(key, KeptImport(run_text, map_text, messages.getvalue()))
+        write_kept(key, KeptImport(run_text, map_text, messages.getvalue()))
     return messages.getvalue()
 
 
@@ -90,7 +90,7 @@ def import_files(arguments: Sequence[str], routes: Sequence[str]) -> None:
         importing.main([*arguments, "--trips", *routes])
 
 
-def asked_by(options: Options) -> ScriptSettings:
+def script_settings_of(options: Options) -> ScriptSettings:
     """What the words of streetsim-run among some options ask of a run."""
     return ScriptSettings(
         rounds=int(options.get("rounds", ROUNDS)),
@@ -115,7 +115,7 @@ def notes_of(session: TraciSession) -> str:
         names = ", ".join(dict.fromkeys(session.facts.unwritten))
         instead = "streetsim-run --sumo-output e1,e2,edgedata writes such files"
         lines.append(f"warning: additional files ask for {names}, not written here: {instead}")
-    lines += [*session.told, *(f"warning: {text}" for text in session.notes)]
+    lines += [*session.works_notes, *(f"warning: {text}" for text in session.notes)]
     return "".join(f"{line}\n" for line in lines)
 
 

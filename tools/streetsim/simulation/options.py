@@ -49,10 +49,10 @@ CHANGES = {
     "default.speeddev": ": all vehicles wish the limit; --dawdle changes how they drive",
     "num-clients": "", "remote-port": "", "verbose": "", "no-step-log": "", "step-log.period": "",
 }
-TOLD = ("waiting-time-memory",)  # what scripts are told, and no run
-DONE = ("duration-log.statistics",)  # by streetsim-sumo
+WARNED_ALONE = ("waiting-time-memory",)  # what scripts are told, and no run
+DONE_BY_TOOL = ("duration-log.statistics",)  # by streetsim-sumo
 # SUMO's further options and their families.
-KNOWN = re.compile(
+WITHOUT_EFFECT = re.compile(
     r"weight.*|load-state\..*|junction-taz|(netstate-dump|save-state|[\w-]+-output)\..*|step-method\.ballistic"
     r"|extrapolate-departpos|lateral-resolution|no-internal-links|ignore-.*|collision\..*|max-.*|scale-suffix"
     r"|time-to-(teleport\..*|impatience)|startup-wait-threshold|(sloppy|eager|emergency)-insert|random-depart-offset"
@@ -85,7 +85,7 @@ VALUES: dict[str, tuple[Callable[[str], bool], str]] = {
 }
 
 
-def options_of(arguments: list[str]) -> dict[str, str]:
+def read_options(arguments: list[str]) -> dict[str, str]:
     """SUMO's options, {long name: text}, empty where a word has no value. A first word without "-" names the
     configuration; words count before those of a configuration. FatalTraCIError for what SUMO does not know either, what
     is refused here, and a configuration that cannot be read."""
@@ -97,7 +97,7 @@ def options_of(arguments: list[str]) -> dict[str, str]:
         index += 1
         if not value and index < len(arguments) and is_value(str(arguments[index])):
             value, index = str(arguments[index]), index + 1
-        options[name_of(word)] = value
+        options[long_name(word)] = value
     if "configuration-file" in options:
         try:
             options = {**read_configuration(options["configuration-file"]), **options}
@@ -113,7 +113,7 @@ def is_value(argument: str) -> bool:
     return not argument.startswith("-") or re.match(r"-[\d.]", argument) is not None
 
 
-def name_of(argument: str) -> str:
+def long_name(argument: str) -> str:
     """The long name of an option, of a word as -n or --net-file; FatalTraCIError where it is no option, or an unknown
     short one. Unknown long ones are refused by check_option."""
     if not argument.startswith("-") or argument in ("-", "--"):
@@ -138,7 +138,7 @@ def check_option(name: str, value: str) -> None:
         reason = f"not written here ({', '.join(f'--{served}' for served in SERVED)} are)"
         raise FatalTraCIError(f"--{name} {value}: {reason}; leave it out, or give --{name} /dev/null")
     is_known = name in INPUTS or name in IMPORTED or name in REFUSED or name in LOGS
-    if not (is_known or OUTPUT.fullmatch(name) or SILENT.fullmatch(name) or KNOWN.fullmatch(name)):
+    if not (is_known or OUTPUT.fullmatch(name) or SILENT.fullmatch(name) or WITHOUT_EFFECT.fullmatch(name)):
         matches = get_close_matches(name, (*INPUTS, *IMPORTED, *REFUSED, *LOGS, *SERVED, *SHORT.values(), *CHANGES), 1)
         nearest = f" The nearest is --{matches[0]}." if matches else ""
         raise FatalTraCIError(f"No option with the name '{name}' exists.{nearest}")
@@ -148,11 +148,12 @@ def warnings_of(options: Mapping[str, str]) -> list[str]:
     """Texts on SUMO's options that were given and have no effect here, but for those that change no run in SUMO."""
     lacking = [
         name for name in options
-        if name in TOLD or KNOWN.fullmatch(name) and not SILENT.fullmatch(name) and not OUTPUT.fullmatch(name)
+        if name in WARNED_ALONE
+        or WITHOUT_EFFECT.fullmatch(name) and not SILENT.fullmatch(name) and not OUTPUT.fullmatch(name)
     ]
     warnings = [
         f"--{name} {options[name]}".rstrip() + f" has no effect here{CHANGES.get(name, '')}" for name in lacking
-        if name not in IMPORTED and name not in DONE
+        if name not in IMPORTED and name not in DONE_BY_TOOL
     ]  # fmt: skip
     if not options.get("time-to-teleport", "-1").startswith("-") and options["time-to-teleport"] != "0":
         time = options["time-to-teleport"]

@@ -9,23 +9,24 @@ from streetsim.model.mapping import Map
 from streetsim.simulation.fleet import OnRoad
 from streetsim.simulation.view import View
 
-KEPT = 1 << 18  # cells whose points are kept
+MOST_POINTS = 1 << 18  # cells whose points are kept
 
 
-class VehiclePlaces:
+class VehiclePoints:
     """The points of vehicles, in metres."""
 
     def __init__(self, view: View, mapping: Map) -> None:
         """view: of a run on the map."""
         self.view, self.links, self.nodes = view, mapping.links, mapping.nodes
-        self.in_cell = lru_cache(KEPT)(self.point_in_cell)
+        self.in_cell = lru_cache(MOST_POINTS)(self.point_in_cell)
         self.cells = np.array([link.cells for link in self.links], np.int64)
-        self.first = np.append(0, np.cumsum(self.cells + 1))  # by link the place of its first cell in what follows
-        self.known_points, self.known_angles = np.full((self.first[-1], 2), np.nan), np.full(self.first[-1], np.nan)
-        self.stretches_of = lru_cache(KEPT >> 4)(self.stretches)  # of lines that do not move
+        self.first_keys = np.append(0, np.cumsum(self.cells + 1))  # by link the place of its first cell in what follows
+        count = self.first_keys[-1]
+        self.known_points, self.known_angles = np.full((count, 2), np.nan), np.full(count, np.nan)
+        self.stretches_of = lru_cache(MOST_POINTS >> 4)(self.stretches)  # of lines that do not move
         # Of groups of objects that do not move: begins and ends of their stretches, and how many of each.
         self.joined: dict[Hashable, tuple[Array, Array, Array]] = {}
-        self.of: object = None  # of which look `rising` is
+        self.rising_numbers: object = None  # the view's numbers of which `rising` is
         self.rising: tuple[Array, Array] = np.zeros((2, 0), np.int64)  # rows by rising place; places
 
     def point(self, position: OnRoad) -> Point:
@@ -51,25 +52,25 @@ class VehiclePlaces:
 
     def points(self, link: Array, cell: Array) -> Array:
         """By row the point (x, y) of a front in a cell of a link; cell below 0: in the junction behind it."""
-        keys = self.first[link] + np.where(cell < 0, self.cells[link], cell)
+        keys = self.first_keys[link] + np.where(cell < 0, self.cells[link], cell)
         points_by_row = self.known_points[keys]
         if len(unknown := np.unique(keys[np.isnan(points_by_row[:, 0])])):
-            link_cells = self.places_at(unknown)
+            link_cells = self.link_cells_at(unknown)
             self.known_points[unknown] = [self.point_in_cell(*link_cell) for link_cell in link_cells]
             points_by_row = self.known_points[keys]
         return points_by_row
 
     def angles(self, link: Array, cell: Array) -> Array:
         """By row what `angle` gives; link, cell: as `points` has them."""
-        keys = self.first[link] + np.where(cell < 0, self.cells[link], cell)
+        keys = self.first_keys[link] + np.where(cell < 0, self.cells[link], cell)
         if len(unknown := np.unique(keys[np.isnan(self.known_angles[keys])])):
-            self.known_angles[unknown] = [self.angle_in_cell(*link_cell) for link_cell in self.places_at(unknown)]
+            self.known_angles[unknown] = [self.angle_in_cell(*link_cell) for link_cell in self.link_cells_at(unknown)]
         return self.known_angles[keys]
 
-    def places_at(self, keys: Array) -> list[tuple[int, int | None]]:
+    def link_cells_at(self, keys: Array) -> list[tuple[int, int | None]]:
         """(link, cell; None in the junction behind it) of places in known_points."""
-        link = np.searchsorted(self.first, keys, side="right") - 1
-        pairs = zip(link.tolist(), (keys - self.first[link]).tolist(), strict=True)
+        link = np.searchsorted(self.first_keys, keys, side="right") - 1
+        pairs = zip(link.tolist(), (keys - self.first_keys[link]).tolist(), strict=True)
         return [(number, cell if cell < self.links[number].cells else None) for number, cell in pairs]
 
     @cached_property
@@ -89,11 +90,11 @@ class VehiclePlaces:
     def rows_in(self, begins: Array, ends: Array) -> tuple[Array, Array]:
         """(the rows in the view of the vehicles in stretches of places, stretch by stretch; by stretch the number of
         those in it and in all before it). begins, ends: as `stretches` gives them."""
-        if self.of is not self.view.number:
+        if self.rising_numbers is not self.view.number:
             link, cell = self.view.slot >> 1, self.view.cell
-            rising_keys = self.first[link] + np.where(cell < 0, self.cells[link], cell)
+            rising_keys = self.first_keys[link] + np.where(cell < 0, self.cells[link], cell)
             order = np.argsort(rising_keys, kind="stable")
-            self.of, self.rising = self.view.number, (order, rising_keys[order])
+            self.rising_numbers, self.rising = self.view.number, (order, rising_keys[order])
         order, rising_keys = self.rising
         first_rows, rows_behind = np.searchsorted(rising_keys, begins), np.searchsorted(rising_keys, ends)
         counts = rows_behind - first_rows
@@ -108,12 +109,13 @@ class VehiclePlaces:
         left, low, right, high = self.boxes.T
         meets = (left <= max(x) + metres) & (right >= min(x) - metres)
         meets &= (low <= max(y) + metres) & (high >= min(y) - metres)
-        keys_by_link = [np.arange(self.first[link], self.first[link + 1]) for link in np.flatnonzero(meets).tolist()]
+        links = np.flatnonzero(meets).tolist()
+        keys_by_link = [np.arange(self.first_keys[link], self.first_keys[link + 1]) for link in links]
         if not keys_by_link:
             return np.zeros(0, np.int64), np.zeros(0, np.int64)
         keys = np.concatenate(keys_by_link)
-        link = np.searchsorted(self.first, keys, side="right") - 1
-        points = self.points(link, keys - self.first[link])
+        link = np.searchsorted(self.first_keys, keys, side="right") - 1
+        points = self.points(link, keys - self.first_keys[link])
         near_keys = keys[distances(points, np.array(line, float)) <= metres]
         if not len(near_keys):
             return near_keys, near_keys

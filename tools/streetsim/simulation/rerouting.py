@@ -6,7 +6,7 @@ from streetsim.simulation.fleet import OnRoad
 from streetsim.simulation.session import TraciSession
 
 
-def other_way(session: TraciSession, name: str, position: OnRoad | None, edges: Sequence[str]) -> None:
+def send_along(session: TraciSession, name: str, position: OnRoad | None, edges: Sequence[str]) -> None:
     """Has a vehicle go on along other edges, as a route without a name; nothing where these are its edges already.
     TraCIException where they have no connection, or do not begin where it is (position) or, where None, will depart."""
     plan = session.plan(name)

@@ -16,7 +16,7 @@ def save_state(session: TraciSession, path: str) -> None:
     """Writes to a file what restores a session: the clock, and what a script has done up to it. What merging holds
     closed is opened. Fault where the file cannot be written."""
     session.open_held_lanes()
-    state = {"format": FORMAT, "of": digests_of(session), "clock": session.clock, "done": session.deeds.done}
+    state = {"format": FORMAT, "of": digests_of(session), "clock": session.clock, "done": session.deeds.entries}
     with whole_file(path) as file:
         json.dump(state, file, separators=(",", ":"))
 
@@ -58,7 +58,7 @@ def load_state(session: TraciSession, path: str) -> None:
     except (AttributeError, LookupError, TypeError, ValueError) as fault:
         raise changed(path, fault) from fault
     try:
-        do_again(session, clock, deeds)
+        repeat_deeds(session, clock, deeds)
     except (AttributeError, LookupError, TypeError, ValueError, TraCIException) as fault:
         raise changed(path, fault) from fault
 
@@ -74,7 +74,7 @@ def check_rising(clocks: Sequence[int]) -> None:
         raise ValueError("its clocks do not rise")
 
 
-def do_again(session: TraciSession, clock: int, deeds: Sequence[tuple[int, str, str, list]]) -> None:
+def repeat_deeds(session: TraciSession, clock: int, deeds: Sequence[tuple[int, str, str, list]]) -> None:
     """Starts the program anew and does some deeds again, up to a clock. LookupError for what is no deed."""
     session.restart()
     for deed_clock, part, name, args in deeds:

@@ -20,13 +20,13 @@ from streetsim.simulation.deeds import Deeds, Doer, deed
 from streetsim.simulation.errors import FatalTraCIError, TraCIException
 from streetsim.simulation.inside import Inside
 from streetsim.simulation.lights import Control
-from streetsim.simulation.places import VehiclePlaces
+from streetsim.simulation.places import VehiclePoints
 from streetsim.simulation.simulation import ScriptKernel, Simulation
 from streetsim.simulation.street_facts import Facts
 from streetsim.simulation.tally import LoopTally, Tally
 from streetsim.simulation.types import TypesByVehicle
-from streetsim.simulation.view import Looker
-from streetsim.simulation.ways import Ways
+from streetsim.simulation.view import SecondObserver
+from streetsim.simulation.ways import ShortestPaths
 from streetsim.simulation.writing import Files
 
 
@@ -49,7 +49,7 @@ class TraciSession(Simulation, Doer):
         the works cannot be made, the program not started, or a round fails."""
         run, mapping = read_own_run(folder / "run.jsonl"), read_map(folder / "map.json")
         works = all_works([options.get("close", "")], mapping, run.start(), None)
-        run, mapping, self.told = with_works(run, mapping, folder / "map.json", works)
+        run, mapping, self.works_notes = with_works(run, mapping, folder / "map.json", works)
         self.facts, self.options, self.inside = facts, options, Inside(mapping, facts)
         self.detectors = {detector.name: detector for detector in mapping.detectors}
         self.writer: Outputs | None = None  # of SUMO's output files
@@ -62,9 +62,10 @@ class TraciSession(Simulation, Doer):
         self.pending: dict[int, tuple[int, Sequence[int]]] = {}  # by vehicle: a link, and other links after its end
         super().start()
         self.forget_steps()
-        self.ways, self.places = Ways(self, self.inside, self.view), VehiclePlaces(self.view, self.map)
+        self.paths = ShortestPaths(self, self.inside, self.view)
+        self.vehicle_points = VehiclePoints(self.view, self.map)
         streets = Streets(self.map)
-        self.vehicle_columns = VehicleColumns(self.view, self.tally, self.places, streets)
+        self.vehicle_columns = VehicleColumns(self.view, self.tally, self.vehicle_points, streets)
         self.lane_columns = LaneColumns(self.view, self.tally, self.fleet, streets, self.facts, self.lane_of)
 
     def restart(self) -> None:
@@ -81,12 +82,12 @@ class TraciSession(Simulation, Doer):
         self.began_stops: set[int] = set()
         self.ended_stops: set[int] = set()
 
-    def own_sooner(self) -> Iterable[Controller]:
+    def controllers_before_script(self) -> Iterable[Controller]:
         """What has vehicles turn off."""
         self.turning = TurningVehicles(self)
         return [self.turning]
 
-    def own_later(self) -> Iterable[Controller]:
+    def controllers_after_script(self) -> Iterable[Controller]:
         """What the script's lights show."""
         of_files = self.facts.lights_at({light for light, _ in self.map.signals})
         lights = {
@@ -95,7 +96,7 @@ class TraciSession(Simulation, Doer):
         self.control = Control(self, lights, self.facts.offsets, self.deeds)
         return [self.control]
 
-    def own_lookers(self) -> Iterable[Looker]:
+    def observers_before_view(self) -> Iterable[SecondObserver]:
         """What counts standing and distances, and who passes induction loops."""
         self.tally = Tally(self.view, self.fleet, self.inside, self.dawdle)
         self.loops = LoopTally([detector for detector in self.map.detectors if detector.kind == "e1"])
@@ -143,7 +144,7 @@ class TraciSession(Simulation, Doer):
     def waiting_to_depart(self) -> list[int]:
         """The vehicles that should have departed before now, and found no room."""
         view, enters, vehicles = self.view, self.fleet.enters, np.fromiter(self.kernel.vehicles.car, int)
-        waiting = vehicles[~view.seen[vehicles] & ~view.ended[vehicles]].tolist()
+        waiting = vehicles[~view.has_departed[vehicles] & ~view.ended[vehicles]].tolist()
         return [number for number in waiting if enters[number]["depart"] < self.clock]
 
     # Stops of vehicles of the file
@@ -204,7 +205,7 @@ class TraciSession(Simulation, Doer):
     @deed
     def adapt(self, edge: str, seconds: float | None) -> None:
         """Sets the seconds with which an edge counts for ways; None: those of its traffic again."""
-        self.ways.set_edge_seconds(edge, seconds)
+        self.paths.set_edge_seconds(edge, seconds)
 
     @deed
     def close_lane(self, lane: str, begin: float = 0.0, end: float | None = None) -> None:
@@ -245,8 +246,8 @@ class TraciSession(Simulation, Doer):
         the road takes them from the node behind that link on; one that waits to depart enters anew at once."""
         number, plans = self.fleet.numbers[name], self.fleet.plans
         if self.fleet.car(name) is None:
-            self.wish(name, links)
-        elif (position := self.view.there.get(number)) is None:
+            self.replan_before_entry(name, links)
+        elif (position := self.view.positions.get(number)) is None:
             plans[number] = links
             self.enter_anew(number, links, max(self.clock, self.fleet.enters[number]["depart"]))
         else:
@@ -254,7 +255,7 @@ class TraciSession(Simulation, Doer):
             self.pending[number] = position.link, links[1:]
             self.turning.act(self.clock, self.kernel.last_second)
 
-    def wish(self, name: str, links: Sequence[int]) -> None:
+    def replan_before_entry(self, name: str, links: Sequence[int]) -> None:
         """Has a vehicle that the program was not told of enter with another plan."""
         number, lane = self.fleet.numbers[name], self.connections.departure_lane(links)
         line = own_line({**self.fleet.enters[number], "plan": list(links), "lane": lane})
@@ -265,7 +266,7 @@ class TraciSession(Simulation, Doer):
     def turn_off(self, number: int, link: int, links: Sequence[int]) -> None:
         """Has a vehicle whose other links begin behind a link, where it has not come to their begin, wait for that;
         there it enters the first of them, or, where there are none, is taken out, and arrives in the next step."""
-        position = self.view.there.get(number)
+        position = self.view.positions.get(number)
         if position is None or position.link != link:
             del self.pending[number]
         elif position.cell is None:

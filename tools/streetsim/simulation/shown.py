@@ -33,7 +33,7 @@ class LongProgram:
             self.clock, self.command = next(self.lines, (limits.CLOCK + 1, NOTHING))
 
 
-MOST_MADE = 1 << 12  # programs whose commands are kept, and what is shown whose lines are
+MOST_PROGRAMS = 1 << 12  # programs whose commands are kept, and what is shown whose lines are
 
 
 class SignalsInForce(Controller):
@@ -52,7 +52,7 @@ class SignalsInForce(Controller):
         self.turns_by_node: dict[int, list[MapTurn]] = {}  # what turns_at gave
         # By light and phases the commands that show them and warnings, where they fit in one plan; by light, what it
         # shows and offset the lines of these.
-        self.made: dict[tuple[str, Shown], tuple[list[Command], tuple[str, ...]]] = {}
+        self.known_commands: dict[tuple[str, Shown], tuple[list[Command], tuple[str, ...]]] = {}
         self.lines: dict[tuple[str, Shown, int], list[Line]] = {}
 
     def begin(self, kernel: Kernel) -> None:
@@ -84,7 +84,7 @@ class SignalsInForce(Controller):
         shown, as flows are not known here. Fault, before anything is forgotten, where a state is shorter than the
         light's signals, or the cycle rounds to 0 s or is longer than 200,000 s."""
         shown = tuple([(seconds, state) for seconds, state in phases])
-        if (commands_known := self.made.get((light, shown))) is not None:
+        if (commands_known := self.known_commands.get((light, shown))) is not None:
             self.forget(light)
             return self.lines_with_offset(light, shown, offset), list(commands_known[1])
         report, commands, coming = Report(), [], {}
@@ -99,21 +99,21 @@ class SignalsInForce(Controller):
         self.forget(light)
         self.coming |= coming
         if not coming:
-            if len(self.made) >= MOST_MADE:
-                self.made.clear()
-            self.made[light, shown] = commands, tuple(report.warnings)
+            if len(self.known_commands) >= MOST_PROGRAMS:
+                self.known_commands.clear()
+            self.known_commands[light, shown] = commands, tuple(report.warnings)
         return list(map(own_line, commands)), report.warnings
 
     def lines_with_offset(self, light: str, shown: Shown, offset: float) -> list[Line]:
         """The lines of a program of a light that was made before, with another offset, as in a tlLogic, seconds."""
-        commands, _ = self.made[light, shown]
+        commands, _ = self.known_commands[light, shown]
         cycle = sum(duration for duration, _ in commands[0]["phases"]) if commands else 1
         return self.lines_known((light, shown, round(-offset) % cycle), lambda: commands)
 
     def lines_known(self, key: tuple[str, Shown, int], make: Callable[[], list[Command]]) -> list[Line]:
         """The lines of a light, what it shows and the offset (key); make: gives the commands, whatever their offset."""
         if (lines := self.lines.get(key)) is None:
-            if len(self.lines) >= MOST_MADE:
+            if len(self.lines) >= MOST_PROGRAMS:
                 self.lines.clear()
             lines = self.lines[key] = [own_line({**command, "offset": key[2]}) for command in make()]
         return lines

@@ -20,7 +20,7 @@ from streetsim.simulation.client import OwnProgram
 from streetsim.simulation.connections import Connections
 from streetsim.simulation.fleet import Fleet
 from streetsim.simulation.shown import SignalsInForce
-from streetsim.simulation.view import FleetSecond, Looker, View
+from streetsim.simulation.view import FleetSecond, SecondObserver, View
 
 
 class ScriptKernel(Kernel):
@@ -42,7 +42,7 @@ class ScriptKernel(Kernel):
 
 class Simulation:
     """A run of the program: its map, clock, vehicles, lanes and lights. At each clock at which a script stops it comes
-    before what controllers do there (later), but for merging and buses (sooner): these have acted."""
+    before what controllers do there (after_script), but for merging and buses (before_script): these have acted."""
 
     kernel_of: type[ScriptKernel] = ScriptKernel
 
@@ -53,14 +53,15 @@ class Simulation:
         the kernel's `refusal` gives where a first line is refused."""
         if script_settings.drawn:
             source, mapping = drawn(source, mapping)
-        self.settings, self.asked, self.map = script_settings.settings(source, mapping), script_settings, mapping
+        self.script_settings, self.map = script_settings, mapping
+        self.settings = script_settings.settings(source, mapping)
         rounds = partial(serving_program, program, source.path, workers)
-        way = giving_way(source, mapping, self.settings, script_settings.rounds, rounds, lambda *_: None)
-        self.source, self.yielding = way
+        with_rounds = giving_way(source, mapping, self.settings, script_settings.rounds, rounds, lambda *_: None)
+        self.source, self.yielding = with_rounds
         self.notes = [*self.settings.lights.notes(), *self.settings.buses.notes()]
         self.connections, self.edges = Connections(mapping), [link.edge for link in mapping.links]
         self.lane_of = {mapping.lane_name(link, lane): (link, lane) for link, lane in mapping.lanes()}
-        self.words = find_program(program), workers
+        self.program_and_workers = find_program(program), workers
         self.start()
 
     def start(self) -> None:
@@ -71,29 +72,31 @@ class Simulation:
         self.steering.timed.left_out = self.shown.forgotten
         self.routes: dict[str, Sequence[int]] = {}  # those that a script adds: links
         self.view = View(mapping)
-        self.program = OwnProgram(*self.words)
+        self.program = OwnProgram(*self.program_and_workers)
         self.kernel = self.kernel_of(self.program, self.source, mapping, [], [])
         self.fleet = Fleet(self.source, mapping, self.kernel.vehicles)
         controllers, index = self.steering.controllers, self.steering.controllers.index(self.steering.lights)
-        self.sooner = [*controllers[:index], *self.own_sooner()]
-        self.later = [*self.own_later(), *controllers[index:], self.shown, *self.asked.controllers]
-        self.kernel.controllers = [*self.sooner, *self.later]
-        self.kernel.observers, self.lookers = self.asked.observers, [*self.own_lookers(), self.view]
+        self.before_script = [*controllers[:index], *self.controllers_before_script()]
+        of_script = self.script_settings.controllers
+        self.after_script = [*self.controllers_after_script(), *controllers[index:], self.shown, *of_script]
+        self.kernel.controllers = [*self.before_script, *self.after_script]
+        self.kernel.observers = self.script_settings.observers
+        self.second_observers = [*self.observers_before_view(), self.view]
         try:
             self.kernel.begin(NEVER)
         except BaseException:
             self.kill()
             raise
 
-    def own_sooner(self) -> Iterable[Controller]:
+    def controllers_before_script(self) -> Iterable[Controller]:
         """Further controllers that act before a script, behind merging and buses."""
         return ()
 
-    def own_later(self) -> Iterable[Controller]:
+    def controllers_after_script(self) -> Iterable[Controller]:
         """Further controllers that act behind a script, before lights."""
         return ()
 
-    def own_lookers(self) -> Iterable[Looker]:
+    def observers_before_view(self) -> Iterable[SecondObserver]:
         """What looks at each second before the view."""
         return ()
 
@@ -125,12 +128,12 @@ class Simulation:
     def go_to(self, target: int) -> None:
         """Makes the steps until the clock is at target."""
         while self.clock < target:
-            self.kernel.act_due(self.later)
+            self.kernel.act_due(self.after_script)
             self.kernel.make_steps(target)
-            self.look()
-            self.kernel.act_due(self.sooner)
+            self.observe_steps()
+            self.kernel.act_due(self.before_script)
 
-    def look(self) -> None:
+    def observe_steps(self) -> None:
         """Has all who look at each second do so for the last steps."""
         (begins, data), owner = self.kernel.part, self.kernel.vehicles.owner
         steps = len(begins) - 1
@@ -139,15 +142,15 @@ class Simulation:
             arrived, slots_left, _ = block.arrived
             clock, vehicles = self.clock - steps + step + 1, owner[block.car]
             second = FleetSecond(clock, vehicles, block.slot, block.cell, block.speed, owner[arrived], slots_left)
-            for looker in self.lookers:
-                looker.see(second)
+            for observer in self.second_observers:
+                observer.note_second(second)
 
     def finish(self) -> None:
         """Ends the run; what is due at its last clock is done as at that of a run. ProgramEnded where the program
         failed."""
         try:
             self.kernel.until = self.clock
-            self.kernel.act_due(self.later)
+            self.kernel.act_due(self.after_script)
             self.kernel.end()
         finally:
             self.program.client.close()

@@ -55,7 +55,7 @@ def statistics_of(session: TraciSession) -> Statistics:
         rows["TimeLoss"].append(max(0.0, seconds - free - sum(visit.seconds for visit in stops)))
         rows["DepartDelay"].append(depart - fleet.departs[number])
     means = {name: fmean(values) for name, values in rows.items()}
-    inserted = int(view.seen[: len(fleet.names)].sum())
+    inserted = int(view.has_departed[: len(fleet.names)].sum())
     return Statistics(len(numbers), means, inserted, len(view.numbers), len(session.waiting_to_depart()))
 
 

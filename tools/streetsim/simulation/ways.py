@@ -14,7 +14,7 @@ from streetsim.sumo.way_graph import END, Graph
 SLOWEST = 0.1  # metres a second that an edge counts with where all stand
 
 
-class Ways:
+class ShortestPaths:
     """Shortest ways over the links of a simulation's map, by the turns that its run has; no turn is added. Where an
     edge has parallel links, a way may begin and end on any of them."""
 
@@ -81,7 +81,7 @@ class Ways:
         if edge in self.adapted:
             return self.adapted[edge]
         view, lanes = self.view, self.simulation.lanes_on(edge)
-        positions = [view.there[number] for lane in lanes for number in view.on_lane(lane)]
+        positions = [view.positions[number] for lane in lanes for number in view.on_lane(lane)]
         speeds = [position.metres_a_second(self.map.links) for position in positions]
         limit = self.inside.facts.lanes[self.map.lane_name(*lanes[0])].speed
         mean = sum(speeds) / len(speeds) if speeds else limit

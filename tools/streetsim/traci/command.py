@@ -12,7 +12,7 @@ from streetsim.base.words import Parser
 from streetsim.model import trust
 from streetsim.simulation.errors import FatalTraCIError
 from streetsim.simulation.opening import is_on
-from streetsim.simulation.options import IMPORTED, options_of
+from streetsim.simulation.options import IMPORTED, read_options
 from streetsim.simulation.session import TraciSession
 from streetsim.simulation.statistics import Waited, doubts_of, statistics_of
 from streetsim.traci.checking import checked
@@ -52,7 +52,7 @@ WORDS = (
 
 
 def parser() -> argparse.ArgumentParser:
-    """The parser that tells the words; they are read by options_of, as SUMO reads them."""
+    """The parser that tells the words; they are read by read_options, as SUMO reads them."""
     options_parser = Parser(
         prog="streetsim-sumo",
         formatter_class=argparse.RawDescriptionHelpFormatter,
@@ -86,7 +86,7 @@ def main(arguments: list[str]) -> int:
         args = parser().parse_args(arguments)
         return checked(args.check)
     try:
-        return run_by(arguments, options_of(arguments))
+        return run_by(arguments, read_options(arguments))
     except (FatalTraCIError, Refused, ProgramEnded) as fault:
         raise Fault(str(fault)) from None
 
@@ -104,14 +104,14 @@ def run_by(arguments: Sequence[str], options: Mapping[str, str]) -> int:
         if listening is not None:
             turn_away(listening)
         raise
-    session, start_clock = traci.simulation.now(), traci.simulation.getTime()
+    session, start_clock = traci.simulation.session(), traci.simulation.getTime()
     if is_verbose:
         print(f"Loading done.\nSimulation version streetsim started with time: {start_clock:.2f}.", flush=True)
     lost_clients, reason, waiting_by_minute = 0, "TraCI requested termination.", list[Waited]()
     try:
         if listening is not None:
             lost_clients = Server(listening, count, lambda text: print(text, file=sys.stderr)).serve()
-            session = traci.simulation.now()
+            session = traci.simulation.session()
         else:
             reason, waiting_by_minute = to_end(session, seconds(options["end"]) if "end" in options else inf)
     except BaseException:

@@ -25,9 +25,9 @@ class Domain(CallGroup[TraciSession]):
     kind = "Object"
     usual: tuple[int, ...] = ()  # that are subscribed to where none is told
 
-    def __init__(self, now: Callable[[], TraciSession]) -> None:
-        """now: gives the session; FatalTraCIError where no run is under way."""
-        super().__init__(now)
+    def __init__(self, session: Callable[[], TraciSession]) -> None:
+        """session: gives the session; FatalTraCIError where no run is under way."""
+        super().__init__(session)
         self.subscribed: dict[str, tuple[int, ...]] = {}  # variables by object
         self.around: dict[str, tuple[float, tuple[int, ...]]] = {}  # by object: metres, and variables of the vehicles
         self.parameters: dict[tuple[str, str], str] = {}  # that scripts keep, by object and key
@@ -209,13 +209,13 @@ class Outlined(Domain):
 
     def names_near(self, name: str, metres: float) -> tuple[str, ...]:
         """The vehicles at most some metres from an object."""
-        rows, _ = self.now().places.rows_in(*self.stretches_near(name, metres))
-        return self.now().names_of(self.now().view.number[rows].tolist())
+        rows, _ = self.session().vehicle_points.rows_in(*self.stretches_near(name, metres))
+        return self.session().names_of(self.session().view.number[rows].tolist())
 
     def stretches_near(self, name: str, metres: float) -> tuple[Array, Array]:
         """The stretches of places, as Places has them, at most some metres from an object."""
         line = tuple((point[0], point[1]) for point in self.outline(name))
-        places = self.now().places
+        places = self.session().vehicle_points
         return places.stretches_of(line, metres) if self.stands else places.stretches(line, metres)
 
     def getAllContextSubscriptionResults(self) -> dict[str, dict[str, Values]]:

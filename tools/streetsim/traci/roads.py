@@ -22,13 +22,13 @@ class WithTraffic(Outlined, TrafficCalls[TraciSession]):
 
     def speeds(self, name: str) -> list[float]:
         """Metres a second of the vehicles there, in the order of `numbers`."""
-        positions, links = self.now().view.there, self.now().map.links
+        positions, links = self.session().view.positions, self.session().map.links
         return [positions[number].metres_a_second(links) for number in self.numbers(name)]
 
     def lengths(self, name: str) -> list[float]:
         """The metres of each vehicle's cells without the gap ahead, in the order of `numbers`; not those of its
         type."""
-        size = self.now().fleet.size
+        size = self.session().fleet.size
         return [size(number) * METRES - GAP for number in self.numbers(name)]
 
     def getLastStepLength(self, name: str) -> float:
@@ -56,20 +56,20 @@ class LaneDomain(LaneCalls[TraciSession], Stretches):
 
     def outline(self, name: str) -> Line:
         """The points (x, y) of its link's line, in metres, which the lanes of a joint link share."""
-        return self.now().map.links[self.places(name)[0][0]].shape
+        return self.session().map.links[self.places(name)[0][0]].shape
 
     def subjects(self) -> Collection[str]:
         """The names of all."""
-        return self.now().lane_of.keys()
+        return self.session().lane_of.keys()
 
     def numbers(self, name: str) -> list[int]:
         """The numbers of the vehicles on its cells, from the stop line; of an edge, lane after lane."""
-        on_lane = self.now().view.on_lane
+        on_lane = self.session().view.on_lane
         return [number for link_lane in self.places(name) for number in on_lane(link_lane)]
 
     def speeds(self, name: str) -> list[float]:
         """Metres a second of the vehicles there, in the order of `numbers`."""
-        view, links = self.now().view, self.now().map.links
+        view, links = self.session().view, self.session().map.links
         return [
             speed * links[link_lane[0]].cell_metres
             for link_lane in self.places(name) for speed in view.speeds_on(link_lane)
@@ -79,25 +79,25 @@ class LaneDomain(LaneCalls[TraciSession], Stretches):
         """As Domain does."""
         if variable not in COLUMNS:
             return super().column(variable, names)
-        columns = self.now().lane_columns
+        columns = self.session().lane_columns
         values: Column = getattr(columns, COLUMNS[variable])(columns.slots_of(tuple(names)))
         return values
 
     def getLastStepVehicleNumber(self, name: str) -> int:
         """How many vehicles are there."""
-        view = self.now().view
+        view = self.session().view
         return sum(len(view.speeds_on(link_lane)) for link_lane in self.places(name))
 
     def getLastStepHaltingNumber(self, name: str) -> int:
         """How many vehicles there stand."""
-        view = self.now().view
+        view = self.session().view
         return sum(view.speeds_on(link_lane).count(0) for link_lane in self.places(name))
 
     def getLastStepMeanSpeed(self, name: str) -> float:
         """The mean speed of the vehicles there, metres a second; its limit where there are none, as in SUMO."""
         [link_lane] = self.places(name)
-        speeds = self.now().view.speeds_on(link_lane)
-        metres = self.now().map.links[link_lane[0]].cell_metres
+        speeds = self.session().view.speeds_on(link_lane)
+        metres = self.session().map.links[link_lane[0]].cell_metres
         return float(metres * sum(speeds) / len(speeds)) if speeds else self.speed_of_nobody(name)
 
     def speed_of_nobody(self, name: str) -> float:
@@ -106,12 +106,12 @@ class LaneDomain(LaneCalls[TraciSession], Stretches):
 
     def metres(self, name: str) -> float:
         """Metres of the lane; of an edge, of all its lanes together."""
-        links = self.now().map.links
+        links = self.session().map.links
         return sum(links[link].metres for link, _ in self.places(name))
 
     def getWaitingTime(self, name: str) -> float:
         """Seconds for which the vehicles on it have stood without a break, summed over them."""
-        return float(self.now().tally.waiting[self.numbers(name)].sum())
+        return float(self.session().tally.waiting[self.numbers(name)].sum())
 
     def getTraveltime(self, name: str) -> float:
         """Seconds for its length at the mean speed, 0.1 m/s at least (in SUMO 1,000,000 of a lane where all stand)."""
@@ -119,8 +119,8 @@ class LaneDomain(LaneCalls[TraciSession], Stretches):
 
     def lane_facts(self, name: str) -> LaneFacts:
         """What the network's file says of a lane; TraCIException where the import has no such lane."""
-        self.check_known(name, self.now().lane_of)
-        return self.now().facts.lanes[name]
+        self.check_known(name, self.session().lane_of)
+        return self.session().facts.lanes[name]
 
     def getMaxSpeed(self, name: str) -> float:
         """The limit of SUMO's file, metres a second."""
@@ -128,7 +128,7 @@ class LaneDomain(LaneCalls[TraciSession], Stretches):
 
     def getPendingVehicles(self, name: str) -> tuple[str, ...]:
         """The vehicles that should have departed on it before now and wait for room."""
-        session, link_lanes, waiting = self.now(), set(self.places(name)), []
+        session, link_lanes, waiting = self.session(), set(self.places(name)), []
         for number in session.waiting_to_depart():
             command = session.fleet.enters[number]
             waiting += [number] if (command["plan"][0], command["lane"]) in link_lanes else []
@@ -163,7 +163,7 @@ class LaneDomain(LaneCalls[TraciSession], Stretches):
         """For each connection of SUMO's from it: next lane, has it the right of way, has it green (False without a
         light), False (foes are not known); and extended: lane in the junction, SUMO's letters of the state now and of
         the direction, metres inside."""
-        control, inside = self.now().control, self.now().facts.inside
+        control, inside = self.session().control, self.session().facts.inside
         connections: list[tuple[object, ...]] = []
         for connection in self.lane_facts(name).links:
             has_light, via = connection.light in control.lights, connection.via
@@ -174,11 +174,11 @@ class LaneDomain(LaneCalls[TraciSession], Stretches):
 
     def getEdgeID(self, name: str) -> str:
         """The name of its edge."""
-        return self.now().map.links[self.places(name)[0][0]].edge
+        return self.session().map.links[self.places(name)[0][0]].edge
 
     def close(self, lane: str) -> None:
         """Closes the whole lane; TraCIException where its vehicles could not change to the lane beside it."""
-        if why := why_parallel(self.now().map, lane):
+        if why := why_parallel(self.session().map, lane):
             raise TraCIException(f"{why}: traci.start([.., '--joint', {lane!r}])")
         super().close(lane)
 
@@ -196,27 +196,27 @@ class EdgeDomain(LaneDomain):
 
     def getIDList(self) -> tuple[str, ...]:
         """The edges that the import kept; those inside junctions are not among them."""
-        return tuple(self.now().map.links_of)
+        return tuple(self.session().map.links_of)
 
     def subjects(self) -> Collection[str]:
         """The names of all."""
-        return self.now().map.links_of.keys()
+        return self.session().map.links_of.keys()
 
     def places(self, name: str) -> list[Place]:
         """All its lanes, (link, lane); TraCIException for an unknown edge."""
-        self.check_known(name, self.now().map.links_of)
-        return self.now().lanes_on(name)
+        self.check_known(name, self.session().map.links_of)
+        return self.session().lanes_on(name)
 
     def getLastStepVehicleIDs(self, name: str) -> tuple[str, ...]:
         """The names of the vehicles on it, lane after lane, and on each the rearmost first, as in SUMO."""
-        session, link_lanes = self.now(), self.places(name)
+        session, link_lanes = self.session(), self.places(name)
         on_lane = session.view.on_lane
         return session.names_of(number for link_lane in link_lanes for number in reversed(on_lane(link_lane)))
 
     def getLastStepMeanSpeed(self, name: str) -> float:
         """The mean speed of the vehicles on it, metres a second; each empty lane counts as one at its limit, as in
         SUMO."""
-        session, speeds = self.now(), self.speeds(name)
+        session, speeds = self.session(), self.speeds(name)
         empty = [link_lane for link_lane in self.places(name) if not session.view.on_lane(link_lane)]
         speeds += [session.facts.lanes[session.map.lane_name(*link_lane)].speed for link_lane in empty]
         return sum(speeds) / len(speeds)
@@ -231,31 +231,31 @@ class EdgeDomain(LaneDomain):
 
     def getMaxSpeed(self, name: str) -> float:
         """The limit of the first lane that the import kept, in SUMO's file, metres a second."""
-        return self.now().facts.lanes[self.now().map.lane_name(*self.places(name)[0])].speed
+        return self.session().facts.lanes[self.session().map.lane_name(*self.places(name)[0])].speed
 
     def getStreetName(self, name: str) -> str:
         """The name of its street; empty where the network tells none."""
-        self.check_known(name, self.now().map.links_of)
-        return self.now().facts.streets.get(name, "")
+        self.check_known(name, self.session().map.links_of)
+        return self.session().facts.streets.get(name, "")
 
     def getLastStepPersonIDs(self, name: str) -> tuple[str, ...]:
         """Empty: there are no persons."""
-        self.check_known(name, self.now().map.links_of)
+        self.check_known(name, self.session().map.links_of)
         return ()
 
     def adaptTraveltime(
         self, name: str, time: float | None = None, begin: float | None = None, end: float | None = None
     ) -> None:
         """Sets the seconds with which the edge counts for ways; None: those of traffic. NotHere with begin or end."""
-        self.check_known(name, self.now().map.links_of)
+        self.check_known(name, self.session().map.links_of)
         if begin is not None or end is not None:
             raise NotHere("edge.adaptTraveltime: times of day are not here; set the seconds when they begin to count")
-        self.now().adapt(name, time)
+        self.session().adapt(name, time)
 
     def getAdaptedTraveltime(self, name: str, time: float) -> float:
         """The seconds that adaptTraveltime set; -1 where it set none. time has no effect."""
-        self.check_known(name, self.now().map.links_of)
-        return float(self.now().ways.adapted.get(name, -1.0))
+        self.check_known(name, self.session().map.links_of)
+        return float(self.session().paths.adapted.get(name, -1.0))
 
     def not_of_edges(self, name: str) -> NoReturn:
         """NotHere: SUMO tells this of lanes alone."""
@@ -267,7 +267,7 @@ class EdgeDomain(LaneDomain):
 
     def close(self, lane: str) -> None:
         """Closes a lane of the edge, by its name; none beside it need stay open, as setDisallowed closes all."""
-        self.now().close_lane(lane)
+        self.session().close_lane(lane)
 
 
 class DetectorDomain(WithTraffic):
@@ -277,41 +277,41 @@ class DetectorDomain(WithTraffic):
 
     def getIDList(self) -> tuple[str, ...]:
         """The names of the detectors of this sort."""
-        return tuple(name for name, detector in self.now().detectors.items() if detector.kind == self.sort)
+        return tuple(name for name, detector in self.session().detectors.items() if detector.kind == self.sort)
 
     def detector(self, name: str) -> Detector:
         """A detector of this sort by its name; TraCIException where there is none."""
-        found_detector = self.now().detectors.get(name)
+        found_detector = self.session().detectors.get(name)
         if found_detector is None or found_detector.kind != self.sort:
             raise TraCIException(f"{self.kind} '{name}' is not known.")
         return found_detector
 
     def is_subject(self, name: str) -> bool:
         """Whether a detector of this sort has a name."""
-        detector = self.now().detectors.get(name)
+        detector = self.session().detectors.get(name)
         return detector is not None and detector.kind == self.sort
 
     def getLaneID(self, name: str) -> str:
         """The name of the lane where it lies."""
         detector = self.detector(name)
-        return self.now().map.lane_name(detector.link, detector.lane)
+        return self.session().map.lane_name(detector.link, detector.lane)
 
     def outline(self, name: str) -> Line:
         """A line of one point, where it begins, in metres."""
         detector = self.detector(name)
-        link = self.now().map.links[detector.link]
+        link = self.session().map.links[detector.link]
         return [point_along(link.shape, detector.first / link.cells)]
 
     def getPosition(self, name: str) -> float:
         """Metres from the lane's begin to that of its first cell, which may be before the file's pos."""
         detector = self.detector(name)
-        link = self.now().map.links[detector.link]
+        link = self.session().map.links[detector.link]
         return detector.first * link.metres / link.cells
 
     def speeds(self, name: str) -> list[float]:
         """Metres a second of the vehicles that it saw, in the order of `numbers`; of those that have left, the last."""
-        positions = {**self.now().view.there_before, **self.now().view.there}
-        metres = self.now().map.links[self.detector(name).link].cell_metres
+        positions = {**self.session().view.positions_before, **self.session().view.positions}
+        metres = self.session().map.links[self.detector(name).link].cell_metres
         return [positions[number].speed * metres for number in self.numbers(name) if number in positions]
 
 
@@ -322,12 +322,12 @@ class InductionLoopDomain(DetectorDomain):
 
     def numbers(self, name: str) -> list[int]:
         """The numbers of the vehicles that stood on it or drove over it in the last step."""
-        return self.now().loops.passed(self.detector(name).name)
+        return self.session().loops.passed(self.detector(name).name)
 
     def getLastStepOccupancy(self, name: str) -> float:
         """The percentage of the last step in which a vehicle covered it: 100 where one stands there, else by the
         lengths and speeds of those who drove over it."""
-        detector, positions = self.detector(name), self.now().view.there
+        detector, positions = self.detector(name), self.session().view.positions
         passing = [positions[number] for number in self.numbers(name) if number in positions]
         detector_cell = detector.link, detector.lane, detector.first
         if any((position.link, position.lane, position.cell) == detector_cell for position in passing):
@@ -339,10 +339,10 @@ class InductionLoopDomain(DetectorDomain):
 
     def getTimeSinceDetection(self, name: str) -> float:
         """Seconds since a vehicle was on it; the clock where none was."""
-        session = self.now()
-        if name not in session.loops.place:
+        session = self.session()
+        if name not in session.loops.index_of:
             self.detector(name)  # which says that it is not known
-        return float(session.clock - session.loops.last(name))
+        return float(session.clock - session.loops.last_clock(name))
 
 
 class LaneAreaDomain(Stretches, DetectorDomain):
@@ -353,14 +353,14 @@ class LaneAreaDomain(Stretches, DetectorDomain):
 
     def numbers(self, name: str) -> list[int]:
         """The numbers of the vehicles whose front is in it, from the stop line."""
-        detector, view = self.detector(name), self.now().view
+        detector, view = self.detector(name), self.session().view
         on_lane = view.on_lane((detector.link, detector.lane))
-        return [number for number in on_lane if detector.first <= view.there[number].front_cell <= detector.last]
+        return [number for number in on_lane if detector.first <= view.positions[number].front_cell <= detector.last]
 
     def getLength(self, name: str) -> float:
         """Its length on whole cells, metres."""
         detector = self.detector(name)
-        link = self.now().map.links[detector.link]
+        link = self.session().map.links[detector.link]
         return (detector.last - detector.first + 1) * link.metres / link.cells
 
     metres = getLength
@@ -372,7 +372,7 @@ class LaneAreaDomain(Stretches, DetectorDomain):
     def longest_jam(self, name: str) -> list[int]:
         """The numbers of the vehicles of the longest jam: they stand one behind the other without a gap, and one alone
         is a jam too; of equally many the one nearest to the stop line."""
-        fleet, positions, rear = self.now().fleet, self.now().view.there, -1
+        fleet, positions, rear = self.session().fleet, self.session().view.positions, -1
         longest: list[int] = []
         jam: list[int] = []
         for number in self.numbers(name):
@@ -388,7 +388,7 @@ class LaneAreaDomain(Stretches, DetectorDomain):
 
     def getJamLengthMeters(self, name: str) -> float:
         """Metres of the vehicles of the longest jam, with the gaps ahead of them."""
-        return sum(self.now().fleet.size(number) * METRES for number in self.longest_jam(name))
+        return sum(self.session().fleet.size(number) * METRES for number in self.longest_jam(name))
 
 
 class JunctionDomain(Outlined):
@@ -399,21 +399,21 @@ class JunctionDomain(Outlined):
 
     def getIDList(self) -> tuple[str, ...]:
         """The junctions of the network, without the inner ones, where vehicles wait to turn."""
-        return tuple(self.now().facts.junctions)
+        return tuple(self.session().facts.junctions)
 
     def is_subject(self, name: str) -> bool:
         """Whether the network has a junction of a name."""
-        return name in self.now().facts.junctions
+        return name in self.session().facts.junctions
 
     def getPosition(self, name: str) -> Point:
         """Its point (x, y), metres."""
-        self.check_known(name, self.now().facts.junctions)
-        return self.now().facts.junctions[name].point
+        self.check_known(name, self.session().facts.junctions)
+        return self.session().facts.junctions[name].point
 
     def getShape(self, name: str) -> Sequence[Point]:
         """The points of its outline, metres; empty where the file has none."""
-        self.check_known(name, self.now().facts.junctions)
-        return self.now().facts.junctions[name].shape
+        self.check_known(name, self.session().facts.junctions)
+        return self.session().facts.junctions[name].shape
 
     def outline(self, name: str) -> Line:
         """The points of its shape, in metres, or its one point where it has no shape."""

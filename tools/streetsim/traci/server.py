@@ -9,7 +9,7 @@ from streetsim.base import limits
 from streetsim.base.files import Fault
 from streetsim.base.client import ProgramEnded, Refused
 from streetsim.simulation.errors import FatalTraCIError, NotHere, TraCIException
-from streetsim.simulation.options import options_of
+from streetsim.simulation.options import read_options
 from streetsim.traci import constants as tc
 from streetsim.traci.answering import GET_OF, OK, SET_OF, asked_change, asked_value, whole_message
 from streetsim.traci.protocol import DOUBLE, INT, MOST, BadMessage, WordReader, command, state_of, text
@@ -302,7 +302,7 @@ class Server:
         begin."""
         (arguments,) = reader.given("l")
         try:
-            net = options_of(arguments).get("net-file", "")
+            net = read_options(arguments).get("net-file", "")
         except FatalTraCIError as fault:
             raise TraCIException(str(fault)) from None
         if not os.path.exists(net):

@@ -140,9 +140,9 @@ class Subscriptions:
 
 def told_near(variables: tuple[int, ...], contexts: Sequence[tuple[int, str, float]]) -> Iterator[bytes]:
     """The answers of contexts, (code, object, metres), with equal variables."""
-    session = traci.simulation.now()
+    session = traci.simulation.session()
     begins, ends_of, counts = stretches_of(contexts)
-    rows, through = session.places.rows_in(begins, ends_of)
+    rows, through = session.vehicle_points.rows_in(begins, ends_of)
     distinct_rows, row_places = np.unique(rows, return_inverse=True)
     names = session.names_of(session.view.number[distinct_rows].tolist())
     values = rows_of("vehicle", variables, names)
@@ -160,7 +160,7 @@ def stretches_of(contexts: Sequence[tuple[int, str, float]]) -> tuple[Array, Arr
     there are of it and of those before it). They are kept where all objects stand."""
     domains = {code: domain_of(CONTEXT_OF[code]) for code in {code for code, *_ in contexts}}
     outlined = {code: domain for code, domain in domains.items() if isinstance(domain, Outlined)}
-    key, joined = tuple(contexts), traci.simulation.now().places.joined
+    key, joined = tuple(contexts), traci.simulation.session().vehicle_points.joined
     if (stretches := joined.get(key)) is None:
         by_context = [outlined[code].stretches_near(name, metres) for code, name, metres in contexts]
         begins, ends = (np.concatenate(parts) for parts in zip(*by_context))
