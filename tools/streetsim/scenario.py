@@ -261,13 +261,13 @@ class ScenarioVehicle(ScenarioPart, VehicleCalls[Scenario]):
 class ScenarioStretch(ScenarioPart, StretchCalls[Scenario]):
     """Calls on lanes and edges. KeyError for an unknown name."""
 
-    def places(self, name: str) -> list[Place]:
+    def link_lanes(self, name: str) -> list[Place]:
         """All (link, lane) of a lane or an edge, by its name; each class below gives its own."""
         raise NotImplementedError
 
     def numbers(self, name: str) -> list[int]:
         """The numbers of the vehicles on it, from the stop line; of an edge, lane after lane."""
-        return [number for link_lane in self.places(name) for number in self.scenario.view.on_lane(link_lane)]
+        return [number for link_lane in self.link_lanes(name) for number in self.scenario.view.on_lane(link_lane)]
 
     def speeds(self, name: str) -> list[float]:
         """Metres a second of each vehicle on it, in the order of `numbers`."""
@@ -290,7 +290,7 @@ class ScenarioEdge(ScenarioStretch):
 
     name = "edge"
 
-    def places(self, name: str) -> list[Place]:
+    def link_lanes(self, name: str) -> list[Place]:
         """All (link, lane) of an edge."""
         return self.scenario.lanes_on(name)
 

@@ -21,8 +21,8 @@ from streetsim.base.files import Fault
 from streetsim.simulation.errors import FatalTraCIError
 from streetsim.simulation.options import read_options
 from streetsim.traci import constants as tc, domain, server
-from streetsim.traci.protocol import MOST, BadMessage, WordReader, command, double, string, strings, text
-from streetsim.traci.server import OK, Server, TraciClient, listen
+from streetsim.traci.protocol import MOST_MESSAGE, BadMessage, ValueReader, command, double, string, strings, text
+from streetsim.traci.server import OK_STATES, Server, TraciClient, listen
 from streetsim.traci.table import DOMAINS, GETS, SETS
 
 CROSS = TOOLS / "examples/actuated"
@@ -60,7 +60,7 @@ def answers(data):
             if not length:
                 (length,), head = struct.unpack_from("!i", body, at + 1), 5
             assert head < length <= len(body) - at, (length, body[at:])
-            words = WordReader(body, at + head + 1, at + length)
+            words = ValueReader(body, at + head + 1, at + length)
             result = words.byte()
             if not states or at >= skipped:
                 states.append((body[at + head], result, words.text()))
@@ -161,7 +161,7 @@ class Protocol(Served):
         whole = message(asked("simulation", tc.VAR_TIME))
         for data, why in (
             (struct.pack("!i", 2**31 - 1), "2,147,483,647 bytes"), (struct.pack("!i", -1), "-1 bytes"),
-            (struct.pack("!i", 5), "5 bytes"), (struct.pack("!i", MOST + 1), "bytes"),
+            (struct.pack("!i", 5), "5 bytes"), (struct.pack("!i", MOST_MESSAGE + 1), "bytes"),
             (struct.pack("!ib", 7, 100) + b"xy", "a command of 100 bytes"), (b"\0\0\0\x09\0\x7f\xff\xff\xff", "bytes"),
             (b"\0\0\0\x07\0ab", "ends in the length"), (whole[:4] + b"\x01" + whole[5:], "a command of 1 bytes"),
         ):
@@ -289,7 +289,7 @@ class Protocol(Served):
         with ours, theirs, socket.socket() as unused:
             serving = Server(unused, 0, self.told.append)
             serving.clients = [TraciClient(ours, 3), TraciClient(ours)]
-            words = WordReader(struct.pack("!i", 3), 0, 4)
+            words = ValueReader(struct.pack("!i", 3), 0, 4)
             said = serving.answered(serving.clients[1], tc.CMD_SETORDER, words)
         self.assertIn(b"another client has the place 3", said)
 

@@ -162,7 +162,7 @@ class LaneCalls(StretchCalls[Simulated]):
         """The lanes that the import kept; lanes inside junctions are not among them."""
         return tuple(self.session().lane_of)
 
-    def places(self, name: str) -> list[Place]:
+    def link_lanes(self, name: str) -> list[Place]:
         """Its (link, lane), in a list; of an object of several lanes all. KeyError for an unknown name, or what
         check_known raises."""
         self.check_known(name, self.session().lane_of)
@@ -174,12 +174,12 @@ class LaneCalls(StretchCalls[Simulated]):
 
     def getLength(self, name: str) -> float:
         """Its length in SUMO's file, metres."""
-        return self.session().map.links[self.places(name)[0][0]].metres
+        return self.session().map.links[self.link_lanes(name)[0][0]].metres
 
     def setDisallowed(self, name: str, classes: str | Sequence[str]) -> None:
         """Closes the lane, as `close`, where the classes have all of the import, or "all"; else does nothing."""
         named = {classes} if isinstance(classes, str) else set(classes)
-        for link_lane in self.places(name):
+        for link_lane in self.link_lanes(name):
             if "all" in named or set(self.session().map.options["classes"]) <= named:
                 self.close(self.session().map.lane_name(*link_lane))
 
@@ -190,6 +190,6 @@ class LaneCalls(StretchCalls[Simulated]):
     def setAllowed(self, name: str, classes: str | Sequence[str]) -> None:
         """Opens the lane again where the classes have one of the import, or "all", or are empty; else does nothing."""
         named = {classes} if isinstance(classes, str) else set(classes)
-        for link_lane in self.places(name):
+        for link_lane in self.link_lanes(name):
             if not named or "all" in named or set(self.session().map.options["classes"]) & named:
                 self.session().reopen_lane(self.session().map.lane_name(*link_lane))

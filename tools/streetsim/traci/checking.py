@@ -17,7 +17,7 @@ MODULES = ("traci", "libsumo", "libtraci", "streetsim.traci")
 QUIET = ("gui", "poi", "polygon")
 # By which a call of what may be a domain is known.
 CALL = re.compile(r"(get|set|is|subscribe|unsubscribe|add|remove|change|reroute|slow|move|adapt|open|resume|highlight)")
-TOLD = ("VAR_", "LAST_STEP_", "TL_", "LANE_")  # begins of the names of variables
+VARIABLE_PREFIXES = ("VAR_", "LAST_STEP_", "TL_", "LANE_")  # begins of the names of variables
 # Calls that are done otherwise than in SUMO, and how.
 OTHERWISE = {
     "vehicle.setRoute": "a vehicle on the road takes it from the next junction on",
@@ -46,14 +46,14 @@ OTHERWISE = {
 }
 
 
-class Called(NamedTuple):
+class ScriptCall(NamedTuple):
     """A call in a script."""
 
     domain: str  # empty: of the module itself
     name: str
     line: int
 
-    def told(self) -> str:
+    def full_name(self) -> str:
         """As it is written behind traci."""
         return f"{self.domain}.{self.name}" if self.domain else self.name
 
@@ -67,7 +67,7 @@ class ScriptNames(ast.NodeVisitor):
         self.domains: dict[str, str] = {}
         self.sure: set[str] = set()  # the names of domains that are such for sure
         self.constants: set[str] = set()
-        self.calls: list[Called] = []
+        self.calls: list[ScriptCall] = []
         self.variables: list[tuple[str, int]] = []
 
     def visit_Import(self, node: ast.Import) -> None:
@@ -94,7 +94,7 @@ class ScriptNames(ast.NodeVisitor):
     def visit_Assign(self, node: ast.Assign) -> None:
         """Notes names of connections and domains."""
         for target in node.targets:
-            name = written(target)
+            name = dotted_name(target)
             if name and self.is_module(node.value):
                 self.modules.add(name)
             elif name and (domain := self.domain_of(node.value)):
@@ -105,10 +105,11 @@ class ScriptNames(ast.NodeVisitor):
         """Notes the call of a domain or of the module, and a variable."""
         domain = self.domain_of(node.value)
         if domain and (self.is_sure(node.value) or CALL.match(node.attr)):
-            self.calls.append(Called(domain, node.attr, node.lineno))
+            self.calls.append(ScriptCall(domain, node.attr, node.lineno))
         elif self.is_module(node.value) and node.attr not in DOMAINS and node.attr[:1].islower():
-            self.calls.append(Called("", node.attr, node.lineno))
-        if node.attr.startswith(TOLD) and (written(node.value) in self.constants or self.is_constants(node.value)):
+            self.calls.append(ScriptCall("", node.attr, node.lineno))
+        of_constants = dotted_name(node.value) in self.constants or self.is_constants(node.value)
+        if node.attr.startswith(VARIABLE_PREFIXES) and of_constants:
             self.variables.append((node.attr, node.lineno))
         self.generic_visit(node)
 
@@ -116,7 +117,8 @@ class ScriptNames(ast.NodeVisitor):
         """Whether an expression is TraCI's module or a connection."""
         if isinstance(node, ast.Call):
             return isinstance(node.func, ast.Attribute) and node.func.attr in ("getConnection", "connect")
-        return written(node) in self.modules or written(node) in MODULES and written(node).split(".")[0] in self.modules
+        name = dotted_name(node)
+        return name in self.modules or name in MODULES and name.split(".")[0] in self.modules
 
     def is_constants(self, node: ast.expr) -> bool:
         """Whether an expression is the module of constants."""
@@ -127,24 +129,24 @@ class ScriptNames(ast.NodeVisitor):
         is none."""
         if isinstance(node, ast.Attribute) and node.attr in DOMAINS:
             return node.attr
-        return self.domains.get(written(node), "")
+        return self.domains.get(dotted_name(node), "")
 
     def is_sure(self, node: ast.expr) -> bool:
         """Whether an expression that may be a domain is one for sure."""
-        return not isinstance(node, ast.Attribute) and written(node) in self.sure or (
+        return not isinstance(node, ast.Attribute) and dotted_name(node) in self.sure or (
             isinstance(node, ast.Attribute) and self.is_module(node.value)
         )
 
 
-def written(node: ast.expr) -> str:
+def dotted_name(node: ast.expr) -> str:
     """A name, or names with dots between, as it is written; empty for another expression."""
     if isinstance(node, ast.Attribute):
-        owner = written(node.value)
+        owner = dotted_name(node.value)
         return f"{owner}.{node.attr}" if owner else ""
     return node.id if isinstance(node, ast.Name) else ""
 
 
-def checked(path: str) -> int:
+def check_script(path: str) -> int:
     """Prints which calls of a script are here; gives 1 where some are not, else 0. Fault where it cannot be read."""
     try:
         with open(path, encoding="utf-8") as file:
@@ -158,7 +160,7 @@ def checked(path: str) -> int:
     script.visit(tree)
     kinds: dict[str, dict[str, list[int]]] = {kind: defaultdict(list) for kind in ("here", "otherwise", "not here")}
     for call in script.calls:
-        kind, message = judged(call)
+        kind, message = classify_call(call)
         kinds[kind][message].append(call.line)
     for message, line in variables_not_here(script):
         kinds["not here"][message].append(line)
@@ -169,20 +171,20 @@ def checked(path: str) -> int:
     return int(bool(kinds["not here"]))
 
 
-def judged(call: Called) -> tuple[str, str]:
+def classify_call(call: ScriptCall) -> tuple[str, str]:
     """(whether a call is here, otherwise or not here; the call, and how else or what to do instead)."""
-    call_name = call.told()
+    call_name = call.full_name()
     if call.domain in QUIET:
         is_quiet = call.name in getattr(traci, call.domain).calls
-        return ("otherwise", f"{call_name}: shows nothing") if is_quiet else ("not here", advised(call_name))
+        return ("otherwise", f"{call_name}: shows nothing") if is_quiet else ("not here", with_advice(call_name))
     owner = type(vars(traci)[call.domain]) if call.domain in vars(traci) else None
     if hasattr(owner, call.name) if call.domain else call.name in vars(traci):
         how = OTHERWISE.get(call_name)
         return ("otherwise", f"{call_name}: {how}") if how else ("here", call_name)
-    return "not here", advised(call_name)
+    return "not here", with_advice(call_name)
 
 
-def advised(call_name: str) -> str:
+def with_advice(call_name: str) -> str:
     """A call, and what to do instead."""
     return f"{call_name}: {advice_on(call_name)}"
 

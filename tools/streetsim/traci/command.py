@@ -15,15 +15,15 @@ from streetsim.simulation.opening import is_on
 from streetsim.simulation.options import IMPORTED, read_options
 from streetsim.simulation.session import TraciSession
 from streetsim.simulation.statistics import Waited, doubts_of, statistics_of
-from streetsim.traci.checking import checked
+from streetsim.traci.checking import check_script
 from streetsim.traci.server import HOST, Server, listen, turn_away
 
 PORTS, CLIENTS, CHECK = "remote-port", "num-clients", "--check"
 MINUTE, MOST_CLIENTS = 60, 64
 ALL_LEFT = "All vehicles have left the simulation."
-RUN_WORDS = ("departures", "lights", "merge", "close", "stops", "priority", "seen")
+RUN_OPTIONS = ("departures", "lights", "merge", "close", "stops", "priority", "seen")
 # SUMO's words and those of the tools that are done, as --help, the manual page and the completion tell them.
-WORDS = (
+OPTION_HELP = (
     ("-c, --configuration-file FILE", "a configuration, whose options count behind those of the command line"),
     ("-n, --net-file FILE", "the network"),
     ("-r, --route-files FILES", "vehicles, flows and trips, with commas between"),
@@ -46,14 +46,14 @@ WORDS = (
     ("--rescue SECONDS", "rescues who stands so long, in place of --time-to-teleport"),
     ("--rounds NUMBER", "of runs before, by which vehicles give way without a light (2)"),
     *((f"--{name} ..", "as of streetsim-import") for name in sorted(IMPORTED - {"seed", "begin"})),
-    *((f"--{name} ..", "as of streetsim-run") for name in RUN_WORDS),
+    *((f"--{name} ..", "as of streetsim-run") for name in RUN_OPTIONS),
     ("--check SCRIPT.py", "reads a script for TraCI, and says which of its calls are here"),
 )
 
 
-def parser() -> argparse.ArgumentParser:
+def make_parser() -> argparse.ArgumentParser:
     """The parser that tells the words; they are read by read_options, as SUMO reads them."""
-    options_parser = Parser(
+    parser = Parser(
         prog="streetsim-sumo",
         formatter_class=argparse.RawDescriptionHelpFormatter,
         examples=(
@@ -64,34 +64,34 @@ def parser() -> argparse.ArgumentParser:
         epilog="SUMO's other words have no effect, which a line tells, or are refused by name (tools/PYTHON.md).\n"
         "SUMO_BINARY=streetsim-sumo has scripts that ask sumolib.checkBinary('sumo') start it.",
     )
-    for names, help_text in WORDS:
+    for names, help_text in OPTION_HELP:
         flags = [word for word in names.replace(",", "").split() if word.startswith("-")]
         value = names.split()[-1]
         if value in flags:
-            options_parser.add_argument(*flags, help=help_text, action="store_true")
+            parser.add_argument(*flags, help=help_text, action="store_true")
         else:
-            options_parser.add_argument(*flags, help=help_text, metavar=value)
-    return options_parser
+            parser.add_argument(*flags, help=help_text, metavar=value)
+    return parser
 
 
 def main(arguments: list[str]) -> int:
     """Runs streetsim-sumo; gives 0, or 1 where a client went away without closing or a script has calls that are not
     here. Fault for wrong words, files that cannot be read, and a port that is taken."""
     if not arguments or {"-h", "--help", "-?"} & set(arguments):
-        parser().print_help()
+        make_parser().print_help()
         return 0
     if {"-V", "--version"} & set(arguments):
-        parser().parse_args(["--version"])
+        make_parser().parse_args(["--version"])
     if arguments[0].partition("=")[0] == CHECK:
-        args = parser().parse_args(arguments)
-        return checked(args.check)
+        args = make_parser().parse_args(arguments)
+        return check_script(args.check)
     try:
-        return run_by(arguments, read_options(arguments))
+        return run_with_options(arguments, read_options(arguments))
     except (FatalTraCIError, Refused, ProgramEnded) as fault:
         raise Fault(str(fault)) from None
 
 
-def run_by(arguments: Sequence[str], options: Mapping[str, str]) -> int:
+def run_with_options(arguments: Sequence[str], options: Mapping[str, str]) -> int:
     """Makes the run that SUMO's words ask for, which have these options, by clients or alone; gives the status."""
     count, port = number_in(options, CLIENTS, 1, 1, MOST_CLIENTS), number_in(options, PORTS, 0, 0, (1 << 16) - 1)
     listening = listen(port) if port else None
@@ -113,11 +113,11 @@ def run_by(arguments: Sequence[str], options: Mapping[str, str]) -> int:
             lost_clients = Server(listening, count, lambda text: print(text, file=sys.stderr)).serve()
             session = traci.simulation.session()
         else:
-            reason, waiting_by_minute = to_end(session, seconds(options["end"]) if "end" in options else inf)
+            reason, waiting_by_minute = run_to_end(session, seconds(options["end"]) if "end" in options else inf)
     except BaseException:
         session.kill()
         raise
-    tell_end(session, options, reason, time.monotonic() - started, waiting_by_minute)
+    print_end(session, options, reason, time.monotonic() - started, waiting_by_minute)
     traci.close()
     return int(lost_clients > 0)
 
@@ -130,7 +130,7 @@ def number_in(options: Mapping[str, str], name: str, default: int, least: int, m
     return int(text)
 
 
-def to_end(session: TraciSession, end: float) -> tuple[str, list[Waited]]:
+def run_to_end(session: TraciSession, end: float) -> tuple[str, list[Waited]]:
     """Makes a run to its end: until no vehicle is left, or to a clock; gives (why it has ended, in SUMO's words; how
     many waited to enter at each minute)."""
     waiting_by_minute, last_departure = [], max((line.command["depart"] for line in session.source.enters), default=0)
@@ -142,7 +142,7 @@ def to_end(session: TraciSession, end: float) -> tuple[str, list[Waited]]:
     return "The final simulation step has been reached." if session.clock >= end else ALL_LEFT, waiting_by_minute
 
 
-def tell_end(
+def print_end(
     session: TraciSession, options: Mapping[str, str], reason: str, wall_seconds: float,
     waiting_by_minute: Sequence[Waited],
 ) -> None:  # fmt: skip

@@ -10,8 +10,8 @@ from streetsim.simulation.columns import Column
 from streetsim.traci import constants as tc
 from streetsim.traci.protocol import ENCODERS, TYPES
 
-KEPT = 1 << 16  # texts whose bytes are kept
-FIXED = {"d": [("x", ">f8")], "i": [("x", ">i4")], "o": [("x", ">f8"), ("y", ">f8")]}  # fields, by type of a value
+MOST_TEXTS = 1 << 16  # texts whose bytes are kept
+FIXED_SIZE = {"d": [("x", ">f8")], "i": [("x", ">i4")], "o": [("x", ">f8"), ("y", ">f8")]}  # fields, by type of a value
 
 
 @lru_cache(256)
@@ -20,7 +20,7 @@ def layout_of(variables: tuple[tuple[int, str], ...]) -> tuple[Array, bytes]:
     its type; the bytes of a row of zeros)."""
     fields: list[tuple[str, str]] = []
     for index, (_, letter) in enumerate(variables):
-        fields += [(f"head{index}", "S3"), *((f"{name}{index}", kind) for name, kind in FIXED[letter])]
+        fields += [(f"head{index}", "S3"), *((f"{name}{index}", kind) for name, kind in FIXED_SIZE[letter])]
     layout = np.dtype(fields)
     row = np.zeros(1, layout)
     for index, (variable, letter) in enumerate(variables):
@@ -50,7 +50,7 @@ def other_rows(variable: int, kind: str, column: Column) -> list[bytes]:
     return [head + encode(value) for value in column]
 
 
-@lru_cache(KEPT)
+@lru_cache(MOST_TEXTS)
 def text_row(variable: int, value: str) -> bytes:
     """The bytes of a text."""
     return bytes((variable, tc.RTYPE_OK)) + ENCODERS["s"](value)
@@ -60,7 +60,7 @@ def packed_rows(kinds: Sequence[tuple[int, str]], columns: Sequence[Column], cou
     """By row the bytes of all values; kinds: (number, type) of the variable of each column."""
     parts: list[list[bytes]] = []
     pairs = zip(kinds, columns, strict=True)
-    for is_fixed, group in groupby(pairs, lambda pair: pair[0][1] in FIXED):
+    for is_fixed, group in groupby(pairs, lambda pair: pair[0][1] in FIXED_SIZE):
         group_pairs = list(group)
         if is_fixed:
             group_kinds, group_columns = zip(*group_pairs)

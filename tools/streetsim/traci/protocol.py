@@ -10,9 +10,9 @@ from typing import Any
 
 from streetsim.traci import constants as tc
 
-MOST = 1 << 24  # bytes of a message that are taken, at most
-DEEP = 8  # compounds within each other that are taken, at most
-SHORT = 255  # bytes of a command whose length is one byte, at most
+MOST_MESSAGE = 1 << 24  # bytes of a message that are taken, at most
+MOST_DEPTH = 8  # compounds within each other that are taken, at most
+SHORT_COMMAND = 255  # bytes of a command whose length is one byte, at most
 INT, DOUBLE, BYTE, UBYTE, POINT, SPACE, COLOUR = (
     struct.Struct(f"!{letters}") for letters in ("i", "d", "b", "B", "dd", "ddd", "4B")
 )
@@ -32,37 +32,37 @@ class BadMessage(Exception):
     """Bytes that are no value, command or message of the protocol."""
 
 
-class WordReader:
+class ValueReader:
     """Reads values from bytes, and nothing beyond their end: BadMessage there, and for what is no value."""
 
     def __init__(self, data: bytes, position: int, end: int) -> None:
         """position, end: of the bytes that are read."""
-        self.data, self.at, self.end = data, position, end
+        self.data, self.position, self.end = data, position, end
 
-    def take(self, layout: struct.Struct) -> tuple[Value, ...]:
+    def unpack(self, layout: struct.Struct) -> tuple[Value, ...]:
         """The next values of a layout."""
-        if self.at + layout.size > self.end:
+        if self.position + layout.size > self.end:
             raise BadMessage("a command ends before its values do")
-        values = layout.unpack_from(self.data, self.at)
-        self.at += layout.size
+        values = layout.unpack_from(self.data, self.position)
+        self.position += layout.size
         return values
 
     def count(self) -> int:
         """The next number of things, each of which takes at least a byte."""
-        (count,) = self.take(INT)
-        if not 0 <= count <= self.end - self.at:
-            raise BadMessage(f"{count:,} are announced, where {self.end - self.at:,} bytes are left")
+        (count,) = self.unpack(INT)
+        if not 0 <= count <= self.end - self.position:
+            raise BadMessage(f"{count:,} are announced, where {self.end - self.position:,} bytes are left")
         return int(count)
 
     def text(self) -> str:
         """The next text."""
         size = self.count()
-        self.at += size
-        return self.data[self.at - size : self.at].decode("latin1")
+        self.position += size
+        return self.data[self.position - size : self.position].decode("latin1")
 
     def byte(self) -> int:
         """The next byte without sign."""
-        return int(self.take(UBYTE)[0])
+        return int(self.unpack(UBYTE)[0])
 
     def typed(self, depth: int = 0) -> Typed:
         """The next value by the mark of its type; depth: the compounds around it."""
@@ -75,8 +75,8 @@ class WordReader:
 
     def parts(self, depth: int) -> int:
         """How many parts the next compound has, which is within so many others."""
-        if depth >= DEEP:
-            raise BadMessage(f"more than {DEEP} compounds within each other")
+        if depth >= MOST_DEPTH:
+            raise BadMessage(f"more than {MOST_DEPTH} compounds within each other")
         return self.count()
 
     def value(self, letter: str) -> Value:
@@ -86,16 +86,16 @@ class WordReader:
         if letter == "l":
             return [self.text() for _ in range(self.count())]
         if letter == "f":
-            return [self.take(DOUBLE)[0] for _ in range(self.count())]
+            return [self.unpack(DOUBLE)[0] for _ in range(self.count())]
         if letter == "r":
-            return self.text(), *self.take(PLACE_END)
+            return self.text(), *self.unpack(PLACE_END)
         if letter == "p":
-            return [self.take(POINT) for _ in range(self.byte() or self.count())]
+            return [self.unpack(POINT) for _ in range(self.byte() or self.count())]
         layout = LAYOUTS[letter]
-        values = self.take(layout)
+        values = self.unpack(layout)
         return values[0] if len(values) == 1 else values
 
-    def given(self, letters: str) -> list[Value]:
+    def typed_values(self, letters: str) -> list[Value]:
         """The next values, of types by their letters; BadMessage where others come."""
         values = []
         for letter in letters:
@@ -157,11 +157,12 @@ def point(value: Sequence[float]) -> bytes:
 def line(values: Sequence[Sequence[float]]) -> bytes:
     """A line of points."""
     size = len(values)
-    head = bytes((tc.TYPE_POLYGON, size)) if 0 < size <= SHORT else struct.pack("!BBi", tc.TYPE_POLYGON, 0, size)
+    is_short = 0 < size <= SHORT_COMMAND
+    head = bytes((tc.TYPE_POLYGON, size)) if is_short else struct.pack("!BBi", tc.TYPE_POLYGON, 0, size)
     return head + b"".join(POINT.pack(*point_xy[:2]) for point_xy in values)
 
 
-def place(value: tuple[str, float, int]) -> bytes:
+def road_position(value: tuple[str, float, int]) -> bytes:
     """A place on a lane: (edge, metres from its begin, index of the lane)."""
     return bytes((tc.POSITION_ROADMAP,)) + text(value[0]) + PLACE_END.pack(*value[1:])
 
@@ -277,13 +278,14 @@ def nothing_counted(_: object) -> bytes:
 
 
 ENCODERS: dict[str, Callable[[Value], bytes]] = {
-    "i": integer, "d": double, "B": ubyte, "s": string, "l": strings, "o": point, "p": line, "c": colour, "r": place,
-    "neighbour": neighbour, "lights": lights_ahead, "stops": stops, "next stops": stops_shortly, "turns": turns,
+    "i": integer, "d": double, "B": ubyte, "s": string, "l": strings, "o": point, "p": line, "c": colour,
+    "r": road_position, "neighbour": neighbour, "lights": lights_ahead, "stops": stops, "next stops": stops_shortly,
+    "turns": turns,
     "signals": signals, "logics": logics, "stage": stage, "pair": pair, "none": nothing_counted,
 }
 
 
-def told_command(code: int, body: bytes) -> bytes:
+def subscription_answer(code: int, body: bytes) -> bytes:
     """An answer to a subscription, whose length is a whole number however short it is."""
     return LONG_HEAD.pack(0, len(body) + 6, code) + body
 
@@ -291,7 +293,7 @@ def told_command(code: int, body: bytes) -> bytes:
 def command(code: int, body: bytes) -> bytes:
     """A command, or the answer to one, with its length before it."""
     size = len(body) + 2
-    return bytes((size, code)) + body if size <= SHORT else LONG_HEAD.pack(0, size + 4, code) + body
+    return bytes((size, code)) + body if size <= SHORT_COMMAND else LONG_HEAD.pack(0, size + 4, code) + body
 
 
 def state_of(code: int, result: int = tc.RTYPE_OK, why: str = "") -> bytes:

@@ -18,7 +18,7 @@ from streetsim.traci.domain import Outlined
 class WithTraffic(Outlined, TrafficCalls[TraciSession]):
     """A domain of lanes, edges or detectors, by the vehicles that are there."""
 
-    usual = (tc.LAST_STEP_VEHICLE_NUMBER,)
+    default_variables = (tc.LAST_STEP_VEHICLE_NUMBER,)
 
     def speeds(self, name: str) -> list[float]:
         """Metres a second of the vehicles there, in the order of `numbers`."""
@@ -56,7 +56,7 @@ class LaneDomain(LaneCalls[TraciSession], Stretches):
 
     def outline(self, name: str) -> Line:
         """The points (x, y) of its link's line, in metres, which the lanes of a joint link share."""
-        return self.session().map.links[self.places(name)[0][0]].shape
+        return self.session().map.links[self.link_lanes(name)[0][0]].shape
 
     def subjects(self) -> Collection[str]:
         """The names of all."""
@@ -65,14 +65,14 @@ class LaneDomain(LaneCalls[TraciSession], Stretches):
     def numbers(self, name: str) -> list[int]:
         """The numbers of the vehicles on its cells, from the stop line; of an edge, lane after lane."""
         on_lane = self.session().view.on_lane
-        return [number for link_lane in self.places(name) for number in on_lane(link_lane)]
+        return [number for link_lane in self.link_lanes(name) for number in on_lane(link_lane)]
 
     def speeds(self, name: str) -> list[float]:
         """Metres a second of the vehicles there, in the order of `numbers`."""
         view, links = self.session().view, self.session().map.links
         return [
             speed * links[link_lane[0]].cell_metres
-            for link_lane in self.places(name) for speed in view.speeds_on(link_lane)
+            for link_lane in self.link_lanes(name) for speed in view.speeds_on(link_lane)
         ]
 
     def column(self, variable: int, names: Sequence[str]) -> Column:
@@ -86,16 +86,16 @@ class LaneDomain(LaneCalls[TraciSession], Stretches):
     def getLastStepVehicleNumber(self, name: str) -> int:
         """How many vehicles are there."""
         view = self.session().view
-        return sum(len(view.speeds_on(link_lane)) for link_lane in self.places(name))
+        return sum(len(view.speeds_on(link_lane)) for link_lane in self.link_lanes(name))
 
     def getLastStepHaltingNumber(self, name: str) -> int:
         """How many vehicles there stand."""
         view = self.session().view
-        return sum(view.speeds_on(link_lane).count(0) for link_lane in self.places(name))
+        return sum(view.speeds_on(link_lane).count(0) for link_lane in self.link_lanes(name))
 
     def getLastStepMeanSpeed(self, name: str) -> float:
         """The mean speed of the vehicles there, metres a second; its limit where there are none, as in SUMO."""
-        [link_lane] = self.places(name)
+        [link_lane] = self.link_lanes(name)
         speeds = self.session().view.speeds_on(link_lane)
         metres = self.session().map.links[link_lane[0]].cell_metres
         return float(metres * sum(speeds) / len(speeds)) if speeds else self.speed_of_nobody(name)
@@ -107,7 +107,7 @@ class LaneDomain(LaneCalls[TraciSession], Stretches):
     def metres(self, name: str) -> float:
         """Metres of the lane; of an edge, of all its lanes together."""
         links = self.session().map.links
-        return sum(links[link].metres for link, _ in self.places(name))
+        return sum(links[link].metres for link, _ in self.link_lanes(name))
 
     def getWaitingTime(self, name: str) -> float:
         """Seconds for which the vehicles on it have stood without a break, summed over them."""
@@ -128,7 +128,7 @@ class LaneDomain(LaneCalls[TraciSession], Stretches):
 
     def getPendingVehicles(self, name: str) -> tuple[str, ...]:
         """The vehicles that should have departed on it before now and wait for room."""
-        session, link_lanes, waiting = self.session(), set(self.places(name)), []
+        session, link_lanes, waiting = self.session(), set(self.link_lanes(name)), []
         for number in session.waiting_to_depart():
             command = session.fleet.enters[number]
             waiting += [number] if (command["plan"][0], command["lane"]) in link_lanes else []
@@ -152,7 +152,7 @@ class LaneDomain(LaneCalls[TraciSession], Stretches):
 
     def getFriction(self, name: str) -> float:
         """1.0: all roads are dry."""
-        self.places(name)
+        self.link_lanes(name)
         return 1.0
 
     def getLinkNumber(self, name: str) -> int:
@@ -174,7 +174,7 @@ class LaneDomain(LaneCalls[TraciSession], Stretches):
 
     def getEdgeID(self, name: str) -> str:
         """The name of its edge."""
-        return self.session().map.links[self.places(name)[0][0]].edge
+        return self.session().map.links[self.link_lanes(name)[0][0]].edge
 
     def close(self, lane: str) -> None:
         """Closes the whole lane; TraCIException where its vehicles could not change to the lane beside it."""
@@ -202,14 +202,14 @@ class EdgeDomain(LaneDomain):
         """The names of all."""
         return self.session().map.links_of.keys()
 
-    def places(self, name: str) -> list[Place]:
+    def link_lanes(self, name: str) -> list[Place]:
         """All its lanes, (link, lane); TraCIException for an unknown edge."""
         self.check_known(name, self.session().map.links_of)
         return self.session().lanes_on(name)
 
     def getLastStepVehicleIDs(self, name: str) -> tuple[str, ...]:
         """The names of the vehicles on it, lane after lane, and on each the rearmost first, as in SUMO."""
-        session, link_lanes = self.session(), self.places(name)
+        session, link_lanes = self.session(), self.link_lanes(name)
         on_lane = session.view.on_lane
         return session.names_of(number for link_lane in link_lanes for number in reversed(on_lane(link_lane)))
 
@@ -217,7 +217,7 @@ class EdgeDomain(LaneDomain):
         """The mean speed of the vehicles on it, metres a second; each empty lane counts as one at its limit, as in
         SUMO."""
         session, speeds = self.session(), self.speeds(name)
-        empty = [link_lane for link_lane in self.places(name) if not session.view.on_lane(link_lane)]
+        empty = [link_lane for link_lane in self.link_lanes(name) if not session.view.on_lane(link_lane)]
         speeds += [session.facts.lanes[session.map.lane_name(*link_lane)].speed for link_lane in empty]
         return sum(speeds) / len(speeds)
 
@@ -227,11 +227,11 @@ class EdgeDomain(LaneDomain):
 
     def getLaneNumber(self, name: str) -> int:
         """How many of its lanes the import kept; their indexes need not begin at 0."""
-        return len(self.places(name))
+        return len(self.link_lanes(name))
 
     def getMaxSpeed(self, name: str) -> float:
         """The limit of the first lane that the import kept, in SUMO's file, metres a second."""
-        return self.session().facts.lanes[self.session().map.lane_name(*self.places(name)[0])].speed
+        return self.session().facts.lanes[self.session().map.lane_name(*self.link_lanes(name)[0])].speed
 
     def getStreetName(self, name: str) -> str:
         """The name of its street; empty where the network tells none."""
@@ -349,7 +349,7 @@ class LaneAreaDomain(Stretches, DetectorDomain):
     """As SUMO's traci.lanearea (e2): of the last step."""
 
     kind, name, sort = "Lane area detector", "lanearea", "e2"
-    usual = (tc.JAM_LENGTH_VEHICLE,)
+    default_variables = (tc.JAM_LENGTH_VEHICLE,)
 
     def numbers(self, name: str) -> list[int]:
         """The numbers of the vehicles whose front is in it, from the stop line."""
@@ -395,7 +395,7 @@ class JunctionDomain(Outlined):
     """As SUMO's traci.junction: names, points and shapes. TraCIException for an unknown junction."""
 
     kind, name = "Junction", "junction"
-    usual = (tc.VAR_POSITION,)
+    default_variables = (tc.VAR_POSITION,)
 
     def getIDList(self) -> tuple[str, ...]:
         """The junctions of the network, without the inner ones, where vehicles wait to turn."""

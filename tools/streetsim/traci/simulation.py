@@ -38,7 +38,7 @@ class SimulationDomain(Domain, SimulationCalls[TraciSession]):
     """As SUMO's traci.simulation: seconds, metres; lists and counts are of the steps of the last simulationStep."""
 
     kind, name = "Simulation", "simulation"
-    usual = (tc.VAR_DEPARTED_VEHICLES_IDS,)
+    default_variables = (tc.VAR_DEPARTED_VEHICLES_IDS,)
 
     def subjects(self) -> tuple[str, ...]:
         """The empty name that the one simulation has."""
@@ -240,7 +240,7 @@ class RouteDomain(Domain):
     """As SUMO's traci.route: names and edges."""
 
     kind, name = "Route", "route"
-    usual = (tc.VAR_EDGES,)
+    default_variables = (tc.VAR_EDGES,)
 
     def getIDList(self) -> tuple[str, ...]:
         """The routes of the files that have a name, and those that route.add named."""

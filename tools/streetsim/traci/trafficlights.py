@@ -50,7 +50,7 @@ class TrafficLightDomain(Domain):
 
     kind, name = "Traffic light", "trafficlight"
     Phase, Logic = Phase, Logic
-    usual = (tc.TL_CURRENT_PHASE,)
+    default_variables = (tc.TL_CURRENT_PHASE,)
 
     def getIDList(self) -> tuple[str, ...]:
         """The names of the lights that the import kept, sorted."""

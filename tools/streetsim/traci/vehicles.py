@@ -17,7 +17,7 @@ from streetsim.simulation.session import TraciSession
 from streetsim.sumo.types import DEFAULT, Kind
 from streetsim.traci import constants as tc
 from streetsim.traci.domain import Outlined
-from streetsim.traci.looks import Colour, Looking
+from streetsim.traci.looks import Colour, LookDomain
 
 COLUMNS = {
     tc.VAR_SPEED: "speed", tc.VAR_POSITION: "position", tc.VAR_ANGLE: "angle", tc.VAR_ROAD_ID: "road_name",
@@ -43,12 +43,12 @@ class StopData:
     until: float
 
 
-class VehicleDomain(VehicleCalls[TraciSession], Looking, Outlined):
+class VehicleDomain(VehicleCalls[TraciSession], LookDomain, Outlined):
     """As SUMO's traci.vehicle: metres, metres a second, seconds; before it departs places and speeds are SUMO's value
     for "nowhere" (-1073741824). TraCIException for a vehicle that is not known or has ended."""
 
     kind, name = "Vehicle", "vehicle"
-    usual, stands = (tc.VAR_ROAD_ID, tc.VAR_LANEPOSITION), False
+    default_variables, is_fixed = (tc.VAR_ROAD_ID, tc.VAR_LANEPOSITION), False
 
     def __init__(self, session: Callable[[], TraciSession]) -> None:
         """session: gives the session; FatalTraCIError where no run is under way."""
@@ -63,7 +63,7 @@ class VehicleDomain(VehicleCalls[TraciSession], Looking, Outlined):
     def forget_one(self, name: str) -> None:
         """Forgets subscriptions to a vehicle that has ended and what scripts keep of it, as its name is used again."""
         self.unsubscribe(name)
-        self.around.pop(name, None)
+        self.contexts.pop(name, None)
         self.colours.pop(name, None)
         self.forget_parameters(name)
 
@@ -80,7 +80,7 @@ class VehicleDomain(VehicleCalls[TraciSession], Looking, Outlined):
         """Whether a vehicle is known and has not ended."""
         return name in self.session().fleet.numbers and not self.session().has_ended(name)
 
-    def there(self, names: Iterable[str]) -> list[str]:
+    def existing(self, names: Iterable[str]) -> list[str]:
         """Of some vehicles those on the road, whose subscriptions are told."""
         numbers, rows = self.session().fleet.numbers, self.session().view.rows
         return [name for name in names if numbers.get(name) in rows]
@@ -449,11 +449,11 @@ class VehicleDomain(VehicleCalls[TraciSession], Looking, Outlined):
         self.changeTarget(name, self.getRoute(name)[-1])
 
 
-class VehicleTypeDomain(Looking):
+class VehicleTypeDomain(LookDomain):
     """As SUMO's traci.vehicletype, of the files' types: metres, metres a second. TraCIException for an unknown one."""
 
     kind, name = "Vehicle type", "vehicletype"
-    usual = (tc.VAR_MAXSPEED,)
+    default_variables = (tc.VAR_MAXSPEED,)
 
     def getIDList(self) -> tuple[str, ...]:
         """The names of the files' types, sorted, without those of SUMO's own that no file tells but DEFAULT_VEHTYPE."""
