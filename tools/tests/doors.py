@@ -252,7 +252,7 @@ def by_live(files):
     try:
         session.step(150)
         session.go_back(1)
-        while (left := UNTIL - session.now.clock) > 0:
+        while (left := UNTIL - session.current.clock) > 0:
             session.step(min(left, next(parts)))
     finally:
         session.close()

@@ -238,7 +238,7 @@ class Runs(Case):
         self.assertEqual(told_by(session.step(300))["worlds"][0]["shown"], [])
 
     def set_plan(self, session, command):
-        change = [{"clock": session.now.clock, "command": command}]
+        change = [{"clock": session.current.clock, "command": command}]
         return told_by(session.change("plan", change))
 
     def test_a_plan_that_is_undone_gives_the_light_back(self):

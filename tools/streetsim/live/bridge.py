@@ -17,7 +17,7 @@ from streetsim.base import limits
 from streetsim.base.client import ProgramEnded
 from streetsim.base.files import Fault, Json
 from streetsim.control.merging_links import CLOSING
-from streetsim.live.hand import DONE
+from streetsim.live.hand import HAND_COMMANDS
 from streetsim.live.session import PageSession
 from streetsim.live.world import PageRun
 
@@ -28,14 +28,14 @@ MOST_PASSED_OVER = 4 * MOST_BODY  # bytes of a refused body that are still read
 PASSED_OVER_FOR = 2.0  # seconds that the bridge waits for them
 Join = Callable[[Iterable[str]], tuple[bytes, PageRun]]  # the page and its run with some lanes joint
 # What a page sends of its session, by the verbs, which are methods of PageSession: what each is given.
-ASKED: dict[str, dict[str, Any]] = {
+REQUEST_FIELDS: dict[str, dict[str, Any]] = {
     "step": {"steps": int}, "change": {"text": str, "commands": list}, "works": {"asked": dict},
     "go_back": {"clock": int}, "undo": {"number": int}, "compare": {"wanted": (bool, type(None)), "shows_was": bool},
     "watch": {"node": int}, "ask": {"commands": list}, "text": {"which": int},
 }  # fmt: skip
-VERBS = ("begin", "stay", "take", "leave", "join", *ASKED)
+VERBS = ("begin", "stay", "take", "leave", "join", *REQUEST_FIELDS)
 SPAN = ("link", "lane", "first", "last")
-ASKING = ("vehicle", "lane", "count", "read")  # commands that change nothing
+QUESTIONS = ("vehicle", "lane", "count", "read")  # commands that change nothing
 POLICY = (
     "default-src 'none'; script-src 'unsafe-inline'; style-src 'unsafe-inline'; img-src data: blob:; connect-src 'self'"
 )
@@ -196,7 +196,7 @@ class Handler(BaseHTTPRequestHandler):
             self.stay(name)
             return None
         else:
-            answer = getattr(server.session, verb)(**checked(verb, body, server.session.of))
+            answer = getattr(server.session, verb)(**read_request(verb, body, server.session.page_run))
         return answer, "application/octet-stream"
 
     def stay(self, name: str) -> None:
@@ -246,12 +246,12 @@ class Handler(BaseHTTPRequestHandler):
         """Writes nothing: requests are not logged."""
 
 
-def checked(verb: str, body: bytes, page_run: PageRun) -> Json:
-    """What a page sends with a verb of ASKED, by name; Refusal where it is of another form, or out of its bounds in the
-    run of the page (page_run). What the program refuses is left to it."""
+def read_request(verb: str, body: bytes, page_run: PageRun) -> Json:
+    """What a page sends with a verb of REQUEST_FIELDS, by name; Refusal where it is of another form, or out of its
+    bounds in the run of the page (page_run). What the program refuses is left to it."""
     try:
         arguments = json.loads(body)
-        kinds = ASKED[verb]
+        kinds = REQUEST_FIELDS[verb]
         if arguments.keys() != kinds.keys() or not all(is_a(arguments[name], kind) for name, kind in kinds.items()):
             raise ValueError("other names or kinds of values")
         check_bounds(verb, arguments, page_run)
@@ -271,7 +271,7 @@ def check_bounds(verb: str, arguments: Json, page_run: PageRun) -> None:
     elif verb == "change":
         is_within = bool(arguments["commands"]) and all(map(is_change, arguments["commands"]))
     elif verb == "ask":
-        is_within = all(command["cmd"] in ASKING for command in arguments["commands"])
+        is_within = all(command["cmd"] in QUESTIONS for command in arguments["commands"])
     else:
         most = {"steps": limits.STEPS, "clock": limits.CLOCK, "which": 1, "node": len(page_run.mapping.nodes) - 1}
         numbers_by_name = {name: value for name, value in arguments.items() if is_a(value, int)}
@@ -284,7 +284,8 @@ def is_change(change: Json) -> bool:
     """Whether one of the commands of a change has its form: {clock, command}."""
     command = change["command"]
     fields = SPAN if command["cmd"] in CLOSING else ("node",) if command["cmd"] == "signal" else ()
-    return is_a(change["clock"], int) and command["cmd"] in DONE and all(is_a(command[name], int) for name in fields)
+    is_known = is_a(change["clock"], int) and command["cmd"] in HAND_COMMANDS
+    return is_known and all(is_a(command[name], int) for name in fields)
 
 
 def is_a(value: object, kind: Any) -> bool:

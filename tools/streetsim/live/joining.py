@@ -21,7 +21,7 @@ class Joining:
     mapping: Map
     map_path: FilePath
     program: str  # which runs it, and makes the rounds
-    asked: Callable[[Run, Map], Settings]  # what is asked of a run
+    make_settings: Callable[[Run, Map], Settings]  # of a run
     proved: bool = False  # whether the program is the one that ./build made
     names: tuple[str, ...] = ()  # of the lanes and edges that are joint beside those of the import
     rounds: int = 0  # by which vehicles give way without a light
@@ -40,7 +40,7 @@ class Joining:
         run, mapping, notes = self.joint_run()
         if self.departures == DRAWN:
             run, mapping = drawn(run, mapping)
-        settings = self.asked(run, mapping)
+        settings = self.make_settings(run, mapping)
         notes += [*settings.lights.notes(), *settings.buses.notes()]
         if self.rounds and mapping.yields:
             program_settings = self.program, self.workers, settings.lights

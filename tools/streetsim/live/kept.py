@@ -19,7 +19,7 @@ from streetsim.model.runs import Run, texts_of
 PATIENCE = 10  # seconds for a program whose bridge was killed to end
 
 
-class Kept:
+class SessionFiles:
     """The files of a session that is kept."""
 
     def __init__(self, file: Path, run: Run, settings: Any) -> None:

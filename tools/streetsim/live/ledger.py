@@ -24,7 +24,7 @@ class Ledger(Observer):
     def begin(self, kernel: Kernel) -> None:
         """Nobody has lost anything."""
         self.ends = np.repeat([link.end for link in kernel.map.links], 2)
-        self.seen = np.zeros(len(kernel.run.enters), bool)  # by vehicle of the file
+        self.has_departed = np.zeros(len(kernel.run.enters), bool)  # by vehicle of the file
         self.points.append((kernel.start, 0.0, 0, None))
 
     def watch(self, node: int | None) -> None:
@@ -34,11 +34,11 @@ class Ledger(Observer):
 
     def see(self, seconds: Seconds) -> None:
         """Takes some seconds."""
-        self.seen[seconds.owner] = True
-        self.seen[seconds.vehicles.owner[seconds.arrivals.car]] = True
+        self.has_departed[seconds.owner] = True
+        self.has_departed[seconds.vehicles.owner[seconds.arrivals.car]] = True
         clocks, count = seconds.clocks[1:], len(seconds.clocks)
         arrived = self.arrived + np.cumsum(np.bincount(seconds.arrivals.second, minlength=count)[1:])
-        ended = arrived + np.searchsorted(self.hand.taken, clocks)
+        ended = arrived + np.searchsorted(self.hand.takeout_clocks, clocks)
         lost = self.lost + np.cumsum(np.searchsorted(self.free, clocks, "right") - ended)
         wished = np.maximum(1, np.searchsorted(self.departs, clocks, "right"))
         queue = self.standing(seconds)[1:].tolist() if self.node is not None else [None] * len(clocks)

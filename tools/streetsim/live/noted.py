@@ -13,19 +13,19 @@ from streetsim.model.record import HEAD
 SHOWN = 8  # of the last lines with their replies
 
 
-class Noted(Program):
+class LoggedProgram(Program):
     """A program that notes what was sent, but for what only asks or was refused."""
 
     def __init__(self, path: str, workers: int = 1, arguments: Sequence[str] = ()) -> None:
         """As Program."""
         super().__init__(path, workers, arguments)
-        self.noted: list[bytes | int] = []  # lines, and of advances so many steps on end
-        self.last: deque[tuple[bytes, bytes]] = deque(maxlen=SHOWN)  # lines and replies
+        self.log: list[bytes | int] = []  # lines, and of advances so many steps on end
+        self.last_exchanges: deque[tuple[bytes, bytes]] = deque(maxlen=SHOWN)  # lines and replies
 
     def kept_in(self, path: FilePath, workers: int) -> Self:
         """Another process that goes on from a file that has all that was noted; this one is killed."""
         successor = type(self)(self.path, workers, ["--keep", os.fspath(path)])
-        successor.noted, successor.last = self.noted, self.last
+        successor.log, successor.last_exchanges = self.log, self.last_exchanges
         self.kill()
         return successor
 
@@ -39,22 +39,22 @@ class Noted(Program):
         replies = super().exchange(lines)
         for line, reply in zip(lines, replies, strict=True):
             if not line.startswith(ASKING) and b'"error"' not in reply and b'"starved"' not in reply:
-                self.noted.append(line)
-                self.last.append((line, reply))
+                self.log.append(line)
+                self.last_exchanges.append((line, reply))
         return replies
 
     def blocks(self) -> Blocks:
         """As Program."""
         steps, (begins, data) = self.begun_steps, super().blocks()
-        steps_before = self.noted.pop() if self.noted and isinstance(self.noted[-1], int) else 0
+        steps_before = self.log.pop() if self.log and isinstance(self.log[-1], int) else 0
         assert isinstance(steps_before, int)
-        self.noted.append(steps_before + steps)
-        self.last.append((advance(steps), b'{"clock":%d}' % HEAD.unpack_from(data, begins[-2])[0]))
+        self.log.append(steps_before + steps)
+        self.last_exchanges.append((advance(steps), b'{"clock":%d}' % HEAD.unpack_from(data, begins[-2])[0]))
         return begins, data
 
     def session(self) -> Iterator[bytes]:
         """All lines that were noted, each with its end."""
-        for entry in self.noted:
+        for entry in self.log:
             if isinstance(entry, bytes):
                 yield entry
             else:

@@ -13,15 +13,15 @@ from streetsim.model.names import Names, wind
 from streetsim.model.runs import Run
 from streetsim.observe.junction_layout import turn_name
 
-PLACE = Path(__file__).parent
-PICTURES = PLACE.parent / "report"
+FOLDER = Path(__file__).parent
+PICTURES = FOLDER.parent / "report"
 # In the order in which they stand in the page.
 SCRIPT_NAMES = (
     "bridge", "movements", "bars", "colours", "elements", "world", "view", "plan_editor", "charts", "tables", "works",
     "chosen", "wave", "controls", "live",
 )
-SCRIPTS = (PICTURES / "drawing.js", PICTURES / "charts.js", *(PLACE / f"{name}.js" for name in SCRIPT_NAMES))
-KINDS = {"L": "left", "T": "straight", "R": "right", "U": "back"}  # by the names of junction tables
+SCRIPTS = (PICTURES / "drawing.js", PICTURES / "charts.js", *(FOLDER / f"{name}.js" for name in SCRIPT_NAMES))
+TURN_WORDS = {"L": "left", "T": "straight", "R": "right", "U": "back"}  # by the names of junction tables
 INNER = ("", "second", "third", "fourth", "fifth")
 MOST_BYTES = 100_000_000  # of the packed data; browsers are slow with more
 
@@ -72,8 +72,8 @@ def page_nodes(run: Run, mapping: Map, areas: dict[str, list]) -> list[Json]:
 
 
 def turn_kind(mapping: Map, turn: MapTurn) -> str:
-    """Which way a turn leads, of KINDS."""
-    return KINDS[turn_name(mapping.links[turn.link].shape, mapping.links[turn.next].shape)]
+    """Which way a turn leads, of TURN_WORDS."""
+    return TURN_WORDS[turn_name(mapping.links[turn.link].shape, mapping.links[turn.next].shape)]
 
 
 def page_data(page_run: PageRun, map_path: FilePath = "", proved: bool = False) -> Json:
@@ -109,7 +109,7 @@ def live_page(page_run: PageRun, map_path: FilePath = "", proved: bool = False) 
         "@DATA@": packed(data),
         "/*SCRIPTS*/": "\n".join(path.read_text(encoding="utf-8") for path in SCRIPTS),
     }
-    text = (PLACE / "live.html").read_text(encoding="utf-8")
+    text = (FOLDER / "live.html").read_text(encoding="utf-8")
     for mark, part in parts.items():
         text = text.replace(mark, part)
     if len(text) > MOST_BYTES:

@@ -3,7 +3,7 @@ from streetsim.base.program import is_unproved
 from streetsim.base.report import first_few
 from streetsim.live.world import PageRun, World
 
-LEAST = 0.05  # seconds a trip that are told as a difference
+LEAST_DIFFERENCE_S = 0.05  # seconds a trip that are told as a difference
 
 
 def claim_of(page_run: PageRun, proved: bool) -> str:
@@ -41,9 +41,9 @@ def gain_of(unchanged: World, current: World) -> tuple[float, int]:
     return seconds, current.ledger.ended - unchanged.ledger.ended
 
 
-def gain_told(seconds: float, ended: int) -> str:
+def gain_text(seconds: float, ended: int) -> str:
     """What gain_of gives, in words."""
     delay_word, arrival_word = "less" if seconds > 0 else "more", "more" if ended > 0 else "fewer"
     delay = f"{abs(seconds):.1f} s a trip {delay_word} so far"
-    trips = delay if abs(seconds) >= LEAST else "no difference in delay so far"
+    trips = delay if abs(seconds) >= LEAST_DIFFERENCE_S else "no difference in delay so far"
     return f"{trips}; {f'{abs(ended):,} {arrival_word}' if ended else 'as many'} have arrived"
