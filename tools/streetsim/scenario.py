@@ -14,11 +14,11 @@ from streetsim.model.freeflow import Alone
 from streetsim.model.mapping import Place
 from streetsim.model.runs import Line, read_with_map
 from streetsim.observe.trips import End, seconds_at_stops, trip_rows
-from streetsim.simulation.asked import ScriptSettings
 from streetsim.simulation.calls import METRES, CallGroup, LaneCalls, SimulationCalls, StretchCalls, VehicleCalls
 from streetsim.simulation.detours import Detours
 from streetsim.simulation.errors import NotHere
 from streetsim.simulation.fleet import NOWHERE, OnRoad
+from streetsim.simulation.script_settings import ScriptSettings
 from streetsim.simulation.simulation import Simulation as Running
 
 __all__ = ["NOWHERE", "ListedScenario", "NotHere", "Scenario", "TrafficLight"]

@@ -10,8 +10,8 @@ from test_page_works import street
 from streetsim.base import limits
 from streetsim.control.settings import Settings
 from streetsim.live.facts import departures_and_ends
+from streetsim.live.page_texts import gain_text
 from streetsim.live.session import PageSession
-from streetsim.live.words import gain_text
 from streetsim.live.world import PageRun
 
 

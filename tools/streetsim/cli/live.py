@@ -18,8 +18,8 @@ from streetsim.cli.words import add_departures, add_simulator
 from streetsim.control.settings import Settings
 from streetsim.live.bridge import HOST, Bridge
 from streetsim.live.joining import Joining
-from streetsim.live.kept import SessionFiles
 from streetsim.live.session import PageSession
+from streetsim.live.session_files import SessionFiles
 from streetsim.model.mapping import Map
 from streetsim.model.replications import LISTED
 from streetsim.model.runs import Run, read_with_map

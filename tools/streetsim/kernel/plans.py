@@ -1,4 +1,5 @@
-"""The plans of a run's vehicles as columns."""
+"""The plans of a run's vehicles as columns, with the seconds that a vehicle alone takes; `observe` reckons delays by
+them."""
 from itertools import chain
 
 from streetsim.base.arrays import Array

@@ -1,4 +1,4 @@
-"""What the record shows: the last second, and some seconds on end, as columns."""
+"""The record of a run as columns: the last second (for controllers), and some hundred on end (for observers)."""
 from __future__ import annotations
 
 from collections.abc import Sequence

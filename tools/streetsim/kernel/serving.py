@@ -5,8 +5,8 @@ from collections.abc import Iterator
 from streetsim.base.client import NoReply, ProgramEnded, Refused, Starved
 from streetsim.base.files import Fault, FilePath
 from streetsim.base.program import find_program
-from streetsim.kernel.kept import SessionProgram
 from streetsim.kernel.program import Program
+from streetsim.kernel.session_program import SessionProgram
 
 
 @contextlib.contextmanager

@@ -1,4 +1,5 @@
-"""What a page tells of a network beside its map, and when vehicles would end if nobody were in their way."""
+"""What a page needs beside the map: streets, outlines of junctions, and when vehicles would end if nobody were in their
+way."""
 import os
 
 from streetsim.base.files import Fault, FilePath, elements

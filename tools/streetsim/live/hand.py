@@ -1,4 +1,4 @@
-"""What a user does to a run by hand: commands of now, and others as their clocks come."""
+"""The controller that sends a user's commands: those of the present second, and others as their clocks come."""
 from collections.abc import Iterable
 
 from streetsim.base.client import Refused, Starved, line_of, read_reply

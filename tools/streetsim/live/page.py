@@ -6,7 +6,7 @@ from pathlib import Path
 
 from streetsim.base.files import Fault, FilePath, Json
 from streetsim.live.facts import streets_and_areas
-from streetsim.live.words import claim_of
+from streetsim.live.page_texts import claim_of
 from streetsim.live.world import PageRun
 from streetsim.model.mapping import Map, MapTurn
 from streetsim.model.names import Names, wind

@@ -1,4 +1,5 @@
-"""What a page does: its traffic as it is and as it was, its changes, and what it is told of both."""
+"""The session of a page: its traffic as it is (current) and without changes (unchanged), and the user's changes.
+`bridge` calls it for each request of the page."""
 import json
 import threading
 import time
@@ -11,8 +12,8 @@ from streetsim.base.client import line_of
 from streetsim.base.files import Fault, Json
 from streetsim.control.works_sites import why_parallel
 from streetsim.live.hand import CHANGING
-from streetsim.live.kept import SessionFiles
-from streetsim.live.words import gain_of, gain_text
+from streetsim.live.page_texts import gain_of, gain_text
+from streetsim.live.session_files import SessionFiles
 from streetsim.live.world import PageRun, World
 from streetsim.model.runs import Command, Sent
 
@@ -157,12 +158,13 @@ class PageSession:
         if closing and (why := why_parallel(self.page_run.mapping, name)):
             with self.running():
                 return self.message(refused=why, joint=None if self.files else name)
-        first, last = self.page_run.mapping.links[link].closed_between(asked["begin"], asked["end"])
+        bounds = self.page_run.mapping.links[link].closed_between(asked["begin"], asked["end"])
+        cells = dict(zip(("first", "last"), bounds))
         sent = [("close" if closing else "reopen", asked["from"])]
         sent += [("reopen", asked["until"])] if closing and asked["until"] is not None else []
         commands = [
-            {"clock": at, "command": {"cmd": cmd, "link": link, "lane": lane, "first": first, "last": last}}
-            for cmd, at in sent
+            {"clock": clock, "command": {"cmd": cmd, "link": link, "lane": lane, **cells}}
+            for cmd, clock in sent
             for lane in lanes
         ]
         return self.change(asked["text"], commands)
@@ -254,9 +256,10 @@ class PageSession:
             parts.append(world.message())
         rows = [world.rows() if world is self.current or self.shows_unchanged else b"" for world in worlds]
         log = [[text.decode().strip() for text in pair] for pair in self.current.program.last_exchanges]
+        changes = [[change["made"], change["text"]] for change in self.changes]
         page_message: Json = {
             "refused": refused, "wanted": self.wants_unchanged, "log": log, "gain": None,
-            "said": self.why_not_compared(), "changed": self.is_changed(), "changes": [[change["made"], change["text"]] for change in self.changes],
+            "said": self.why_not_compared(), "changed": self.is_changed(), "changes": changes,
             "worlds": [{**part, "bytes": len(row)} for part, row in zip(parts, rows, strict=True)], **further_fields,
         }  # fmt: skip
         if self.unchanged is not None:

@@ -1,4 +1,5 @@
-"""One traffic of a page: a run that goes on as the page asks, and what the page was told of it."""
+"""One traffic of a page: a run that goes on as the page asks, and what was sent to the page of it. A session has one,
+or two: with the user's changes and without."""
 from collections.abc import Collection, Iterable
 from dataclasses import dataclass
 from functools import cached_property
@@ -10,12 +11,12 @@ from streetsim.base.arrays import numpy as np
 from streetsim.base.files import Fault, FilePath, Json
 from streetsim.control.settings import Settings
 from streetsim.control.steering import Steering
-from streetsim.kernel.kept import COUNT
 from streetsim.kernel.loop import Kernel
+from streetsim.kernel.session_program import COUNT
 from streetsim.live.facts import departures_and_ends, nodes_giving_way
 from streetsim.live.hand import Hand
 from streetsim.live.ledger import Ledger
-from streetsim.live.noted import LoggedProgram
+from streetsim.live.logged_program import LoggedProgram
 from streetsim.model.mapping import Map
 from streetsim.model.runs import Command, Run, Sent
 

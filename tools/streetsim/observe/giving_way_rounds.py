@@ -13,8 +13,8 @@ from streetsim.control.settings import Settings
 from streetsim.control.steering import Steering
 from streetsim.kernel.loop import Kernel
 from streetsim.kernel.program import Program
+from streetsim.kernel.progress import ProgressReports, ReportProgress
 from streetsim.kernel.serving import serving_program
-from streetsim.kernel.telling import ProgressReports, ReportProgress
 from streetsim.model.mapping import Map
 from streetsim.model.runs import Line, Run
 from streetsim.observe.giving_way_crowded import crowded_edges

@@ -23,8 +23,8 @@ from streetsim.control.steering import Steering
 from streetsim.control.works_crowding import crowded_works
 from streetsim.control.works_watched import doubts_of
 from streetsim.kernel.loop import Kernel, Observer, Sent
+from streetsim.kernel.progress import ProgressReports, ReportProgress
 from streetsim.kernel.serving import serving_program
-from streetsim.kernel.telling import ProgressReports, ReportProgress
 from streetsim.model import tables, trust
 from streetsim.model.folder import NAME, POLLS
 from streetsim.model.mapping import Map

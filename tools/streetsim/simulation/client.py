@@ -2,8 +2,8 @@
 from collections.abc import Iterable, Iterator, Sequence
 
 from streetsim.base.client import Client, NoReply, read_reply
-from streetsim.kernel.kept import ASKING
 from streetsim.kernel.program import Program
+from streetsim.kernel.session_program import QUESTION_PREFIXES
 
 ADVANCE = b'{"cmd":"advance"'
 
@@ -31,7 +31,7 @@ class RunClient(Client):
         if any(line.startswith(ADVANCE) for line in sent):
             raise ValueError("the steps of a run are made by simulationStep")
         ahead, self.later = self.later, []
-        self.changes += [line for line in sent if not line.startswith(ASKING)]
+        self.changes += [line for line in sent if not line.startswith(QUESTION_PREFIXES)]
         replies = Program.exchange(self.program, [*ahead, *sent])
         for reply in replies[: len(ahead)]:
             if b'"error"' in reply or b'"starved"' in reply:

@@ -8,9 +8,9 @@ from streetsim.base import limits
 from streetsim.base.arrays import Array, numpy as np
 from streetsim.model.mapping import Map, Place
 from streetsim.simulation.fleet import Fleet
-from streetsim.simulation.places import VehiclePoints
 from streetsim.simulation.street_facts import Facts
 from streetsim.simulation.tally import Tally
+from streetsim.simulation.vehicle_points import VehiclePoints
 from streetsim.simulation.view import View
 
 Column = Array | Sequence[object]  # of numbers or, by rows, of points (x, y); else texts and the like

@@ -1,4 +1,4 @@
-"""What a script does to a session, so that another one can do it again."""
+"""Notes what a script does to a session (@deed), so that a saved state can do it again."""
 from collections.abc import Callable
 from functools import wraps
 from typing import Concatenate, ParamSpec, TypeVar

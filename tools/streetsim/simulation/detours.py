@@ -1,4 +1,5 @@
-"""Ways round shut edges for the vehicles of a run under way, also for those on the road."""
+"""The controller that sends vehicles of a run under way round shut edges, also those on the road. A scenario has it;
+`search.route_underway` reckons the new plans."""
 from collections.abc import Sequence
 
 from streetsim.kernel.loop import NEVER, Controller, Kernel

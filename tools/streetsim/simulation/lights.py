@@ -11,7 +11,7 @@ from streetsim.kernel.loop import NEVER, Controller, Kernel
 from streetsim.kernel.seconds import Block
 from streetsim.simulation.deeds import Deeds, Doer, deed
 from streetsim.simulation.errors import TraCIException
-from streetsim.simulation.shown import CONSTANT
+from streetsim.simulation.signals_in_force import CONSTANT
 from streetsim.simulation.simulation import Simulation
 from streetsim.sumo.crossing import PERMISSIVE
 

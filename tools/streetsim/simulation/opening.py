@@ -10,10 +10,10 @@ from tempfile import TemporaryDirectory
 from streetsim.base.files import whole_file
 from streetsim.base.words import ROUNDS, names_in
 from streetsim.model.replications import DRAWN
-from streetsim.simulation.asked import ScriptSettings
 from streetsim.simulation.errors import FatalTraCIError
 from streetsim.simulation.kept_imports import KeptImport, key_of, read_kept, write_kept
 from streetsim.simulation.options import IMPORTED, LOGS, NO_FILE, read_options, warnings_of
+from streetsim.simulation.script_settings import ScriptSettings
 from streetsim.simulation.session import TraciSession
 from streetsim.simulation.street_facts import Facts, read_facts
 from streetsim.simulation.writing import SERVED

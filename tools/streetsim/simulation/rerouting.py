@@ -1,4 +1,4 @@
-"""Other ways for the vehicles of a session, as scripts name them."""
+"""Sends a vehicle of a session along other edges, as TraCI's setRoute and changeTarget do."""
 from collections.abc import Sequence
 
 from streetsim.simulation.errors import TraCIException

@@ -1,4 +1,5 @@
-"""A run under a script that asks what stands where after each step."""
+"""The session of streetsim.traci: a run whose script adds, removes and reroutes vehicles and sets lights. `opening`
+makes it of SUMO's files."""
 from collections.abc import Iterable, Mapping, Sequence
 from dataclasses import replace
 from pathlib import Path
@@ -13,20 +14,20 @@ from streetsim.model.mapping import read_map
 from streetsim.model.runs import Line, read_own_run
 from streetsim.model.stops import STANDING, Visit
 from streetsim.observe.sumo_writing import Outputs
-from streetsim.simulation.asked import ScriptSettings
 from streetsim.simulation.client import RunClient
 from streetsim.simulation.columns import LaneColumns, Streets, VehicleColumns
 from streetsim.simulation.deeds import Deeds, Doer, deed
 from streetsim.simulation.errors import FatalTraCIError, TraCIException
 from streetsim.simulation.inside import Inside
 from streetsim.simulation.lights import Control
-from streetsim.simulation.places import VehiclePoints
+from streetsim.simulation.script_settings import ScriptSettings
+from streetsim.simulation.shortest_paths import ShortestPaths
 from streetsim.simulation.simulation import ScriptKernel, Simulation
 from streetsim.simulation.street_facts import Facts
 from streetsim.simulation.tally import LoopTally, Tally
 from streetsim.simulation.types import TypesByVehicle
+from streetsim.simulation.vehicle_points import VehiclePoints
 from streetsim.simulation.view import SecondObserver
-from streetsim.simulation.ways import ShortestPaths
 from streetsim.simulation.writing import Files
 
 

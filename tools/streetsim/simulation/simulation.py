@@ -15,11 +15,11 @@ from streetsim.model.mapping import Map, Place
 from streetsim.model.replications import drawn
 from streetsim.model.runs import Command, Line, Run
 from streetsim.observe.giving_way_rounds import giving_way
-from streetsim.simulation.asked import ScriptSettings
 from streetsim.simulation.client import OwnProgram
 from streetsim.simulation.connections import Connections
 from streetsim.simulation.fleet import Fleet
-from streetsim.simulation.shown import SignalsInForce
+from streetsim.simulation.script_settings import ScriptSettings
+from streetsim.simulation.signals_in_force import SignalsInForce
 from streetsim.simulation.view import FleetSecond, SecondObserver, View
 
 

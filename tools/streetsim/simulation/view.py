@@ -1,4 +1,4 @@
-"""Who is where in a simulation, by the record of its run."""
+"""Where each vehicle of a simulation is, by the record of its run."""
 from functools import cached_property
 from typing import NamedTuple
 

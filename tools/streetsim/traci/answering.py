@@ -1,4 +1,4 @@
-"""Answers commands of TraCI's protocol that tell or change something, by the calls of streetsim.traci."""
+"""Answers get and set commands of TraCI's protocol, by the calls of streetsim.traci; `server` has them come."""
 from collections.abc import Callable, Mapping, Sequence
 from functools import cache
 from math import isfinite

@@ -1,4 +1,4 @@
-"""Which of a script's calls of TraCI are here: read of its text, without running it."""
+"""streetsim-sumo --check: which of a script's calls of TraCI are here, read from its text, without running it."""
 from __future__ import annotations
 
 import ast

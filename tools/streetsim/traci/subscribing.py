@@ -1,4 +1,4 @@
-"""What a client of TraCI's protocol is told after each step: variables of objects, and of the vehicles around them."""
+"""Subscriptions of a client of TraCI's protocol: what it is sent of objects, and vehicles near them, after each step."""
 from __future__ import annotations
 
 from collections import defaultdict

@@ -1,4 +1,4 @@
-"""Shortest ways in a simulation, by the travel times at its clock or by metres."""
+"""Shortest paths between edges in a session, by the travel times at its clock or by metres."""
 from functools import cached_property
 from math import inf
 from operator import itemgetter

@@ -1,4 +1,4 @@
-"""What is shown at the nodes of lights: programs as one plan, and long ones phase by phase."""
+"""The signal plans in force at the nodes of lights: programs as one plan, and long ones phase by phase."""
 from collections.abc import Callable, Collection, Iterable, Iterator, Sequence
 
 from streetsim.base import limits

@@ -1,4 +1,4 @@
-"""Where the vehicles of a session are in the plane."""
+"""Points and angles of vehicles in the plane, and the vehicles near a point or line, for TraCI's calls."""
 from collections.abc import Hashable
 from functools import cached_property, lru_cache
 

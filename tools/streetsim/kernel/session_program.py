@@ -11,7 +11,8 @@ from streetsim.kernel.program import Blocks, Program
 
 ADVANCE = b'{"cmd":"advance","steps":1}\n'
 COUNT = b'{"cmd":"count"}\n'
-ASKING = COUNT[:-2], b'{"cmd":"vehicle"', b'{"cmd":"lane"', b'{"cmd":"read"'  # begins of lines that change nothing
+# Begins of lines that change nothing.
+QUESTION_PREFIXES = COUNT[:-2], b'{"cmd":"vehicle"', b'{"cmd":"lane"', b'{"cmd":"read"'
 
 
 class SessionProgram(Program):
@@ -87,7 +88,7 @@ class SessionProgram(Program):
                 return count
             if line == self.next_line:
                 self.next_line, self.line_number = self.session_file.readline(), self.line_number + 1
-            elif not line.startswith(ASKING):
+            elif not line.startswith(QUESTION_PREFIXES):
                 raise Fault(f"{self.file}: line {self.line_number} is not of this run: it has another session")
         return len(lines)
 

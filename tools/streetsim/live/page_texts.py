@@ -1,4 +1,4 @@
-"""What a page says in words: what it is, and what its changes gained."""
+"""The sentences of a page: what it is, and what its changes gained."""
 from streetsim.base.program import is_unproved
 from streetsim.base.report import first_few
 from streetsim.live.world import PageRun, World

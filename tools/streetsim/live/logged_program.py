@@ -1,4 +1,5 @@
-"""The program of a page, with the lines that were sent: by them streetsim does the same again."""
+"""The program of a page, with a log of the lines that were sent: by them streetsim does the same again. `world` starts
+it."""
 import os
 from collections import deque
 from collections.abc import Iterator, Sequence
@@ -6,15 +7,15 @@ from typing import Self
 
 from streetsim.base.files import FilePath
 from streetsim.base.limits import STEPS
-from streetsim.kernel.kept import ASKING
 from streetsim.kernel.program import Blocks, Program
+from streetsim.kernel.session_program import QUESTION_PREFIXES
 from streetsim.model.record import HEAD
 
 SHOWN = 8  # of the last lines with their replies
 
 
 class LoggedProgram(Program):
-    """A program that notes what was sent, but for what only asks or was refused."""
+    """A program that logs what was sent, but for what only asks or was refused."""
 
     def __init__(self, path: str, workers: int = 1, arguments: Sequence[str] = ()) -> None:
         """As Program."""
@@ -23,7 +24,7 @@ class LoggedProgram(Program):
         self.last_exchanges: deque[tuple[bytes, bytes]] = deque(maxlen=SHOWN)  # lines and replies
 
     def kept_in(self, path: FilePath, workers: int) -> Self:
-        """Another process that goes on from a file that has all that was noted; this one is killed."""
+        """Another process that goes on from a file that has the whole log; this one is killed."""
         successor = type(self)(self.path, workers, ["--keep", os.fspath(path)])
         successor.log, successor.last_exchanges = self.log, self.last_exchanges
         self.kill()
@@ -38,7 +39,7 @@ class LoggedProgram(Program):
         """As Program."""
         replies = super().exchange(lines)
         for line, reply in zip(lines, replies, strict=True):
-            if not line.startswith(ASKING) and b'"error"' not in reply and b'"starved"' not in reply:
+            if not line.startswith(QUESTION_PREFIXES) and b'"error"' not in reply and b'"starved"' not in reply:
                 self.log.append(line)
                 self.last_exchanges.append((line, reply))
         return replies
@@ -53,7 +54,7 @@ class LoggedProgram(Program):
         return begins, data
 
     def session(self) -> Iterator[bytes]:
-        """All lines that were noted, each with its end."""
+        """All lines of the log, each with its end."""
         for entry in self.log:
             if isinstance(entry, bytes):
                 yield entry

@@ -1,4 +1,4 @@
-"""A page's session that is kept in a file, so that the page goes on after it, the bridge or the program has ended.
+"""The files of a page's session that is kept, so that the page goes on after it, the bridge or the program has ended.
 
 FILE has the lines that changed something, which the program keeps. FILE.page has what the page alone knows, its
 changes in words, one note a line, each written before the lines that it is of are sent. FILE.new is a session in the
