@@ -180,8 +180,8 @@ class SignalEnv:
 
     def standing_on(self, lane: str) -> list[int]:
         """The numbers of the vehicles that stand on a lane, from the stop line."""
-        there = self.running_session().view.positions
-        return [number for number in self.vehicles_on(lane) if not there[number].speed]
+        positions = self.running_session().view.positions
+        return [number for number in self.vehicles_on(lane) if not positions[number].speed]
 
     def figures(self) -> dict:
         """{"time": clock in seconds, "vehicles": on the road, "standing": of these, "arrived": since the reset}."""
@@ -335,8 +335,8 @@ class ParallelSignals:
         observations, rewards, ended, over, figures = self.env.step(actions)
         agents = self.agents
         self.agents = [] if ended or over else agents
-        gone, late = dict.fromkeys(agents, ended), dict.fromkeys(agents, over)
-        return arrays_of(observations), rewards, gone, late, {name: figures for name in agents}
+        terminated, truncated = dict.fromkeys(agents, ended), dict.fromkeys(agents, over)
+        return arrays_of(observations), rewards, terminated, truncated, {name: figures for name in agents}
 
     def render(self) -> None:
         """Does nothing: streetsim-live shows runs."""

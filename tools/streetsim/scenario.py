@@ -271,8 +271,8 @@ class ScenarioStretch(ScenarioPart, StretchCalls[Scenario]):
 
     def speeds(self, name: str) -> list[float]:
         """Metres a second of each vehicle on it, in the order of `numbers`."""
-        there = self.scenario.view.positions
-        return [there[number].speed * METRES for number in self.numbers(name)]
+        positions = self.scenario.view.positions
+        return [positions[number].speed * METRES for number in self.numbers(name)]
 
 
 class ScenarioLane(LaneCalls[Scenario], ScenarioStretch):

@@ -43,15 +43,15 @@ class Program(Process):
         """Sends lines, with their ends, none of them an advance; gives their replies, with refusals among them.
         ProgramEnded where the program ends before."""
         replies: list[bytes] = []
-        first = 0
-        while first < len(lines):
-            end, size = first, 0
-            while end < len(lines) and end - first < LINES and (size + len(lines[end]) <= BYTES or end == first):
+        begin = 0
+        while begin < len(lines):
+            end, size = begin, 0
+            while end < len(lines) and end - begin < LINES and (size + len(lines[end]) <= BYTES or end == begin):
                 size += len(lines[end])
                 end += 1
-            self.send(b"".join(lines[first:end]))
-            replies += self.read_replies(end - first)
-            first = end
+            self.send(b"".join(lines[begin:end]))
+            replies += self.read_replies(end - begin)
+            begin = end
         return replies
 
     def begin(self, steps: int) -> None:

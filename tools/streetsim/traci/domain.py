@@ -215,8 +215,8 @@ class Outlined(Domain):
     def stretches_near(self, name: str, metres: float) -> tuple[Array, Array]:
         """The stretches of places, as Places has them, at most some metres from an object."""
         line = tuple((point[0], point[1]) for point in self.outline(name))
-        places = self.session().vehicle_points
-        return places.stretches_of(line, metres) if self.is_fixed else places.stretches(line, metres)
+        points = self.session().vehicle_points
+        return points.stretches_of(line, metres) if self.is_fixed else points.stretches(line, metres)
 
     def getAllContextSubscriptionResults(self) -> dict[str, dict[str, Values]]:
         """By object, of those that are there, what getContextSubscriptionResults gives."""

@@ -1,4 +1,4 @@
-"""Subscriptions of a client of TraCI's protocol: what it is sent of objects, and vehicles near them, after each step."""
+"""Subscriptions of a client of TraCI's protocol: what it is sent of objects and vehicles near them after each step."""
 from __future__ import annotations
 
 from collections import defaultdict
