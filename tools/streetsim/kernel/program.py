@@ -74,8 +74,8 @@ class Program(Process):
             position += HEAD.size + ROW * rows_at(data, position)
             begins.append(position)
         self.unread = bytes(data[position:])
-        if bad_reply := next((reply for reply in self.read_replies(self.sent) if is_wrong(reply)), None):
-            raise unmade(bad_reply)
+        if bad_reply := next((reply for reply in self.read_replies(self.sent) if is_refusal(reply)), None):
+            raise step_fault(bad_reply)
         return begins, bytes(data[:position])
 
     def more_of_record(self) -> bytes:
@@ -85,7 +85,7 @@ class Program(Process):
             readable, _, _ = select.select([self.record, self.replies], [], [])
             if self.record not in readable and not select.select([self.record], [], [], 0)[0]:
                 [reply] = self.read_replies(1)
-                raise unmade(reply) if self.recorded else self.unrecorded()
+                raise step_fault(reply) if self.recorded else self.unrecorded()
         self.recorded = True
         if not (data := os.read(self.record, AT_ONCE)):
             raise self.early_end()
@@ -124,12 +124,12 @@ class Program(Process):
         return self.unrecorded() if self.pipe in messages else ProgramEnded(status, messages)
 
 
-def is_wrong(reply: bytes) -> bool:
+def is_refusal(reply: bytes) -> bool:
     """Whether a reply to an advance says that it was not, or not all, made."""
     return not reply.startswith(b'{"clock":') or b'"short"' in reply
 
 
-def unmade(reply: bytes) -> Fault:
+def step_fault(reply: bytes) -> Fault:
     """What is raised for such a reply."""
     return Fault(f"a step was not made: {reply.decode(errors='replace')}")
 

@@ -97,7 +97,7 @@ def page_data(page_run: PageRun, map_path: FilePath = "", proved: bool = False) 
     }
 
 
-def packed(value: bytes) -> str:
+def pack_text(value: bytes) -> str:
     """Bytes as a page holds them: gzip in base 64; equal bytes give equal texts."""
     return base64.b64encode(gzip.compress(value, mtime=0)).decode()
 
@@ -106,7 +106,7 @@ def live_page(page_run: PageRun, map_path: FilePath = "", proved: bool = False) 
     """The page as bytes, which asks the bridge; arguments as of page_data. Fault where it is larger than MOST_BYTES."""
     data = json.dumps(page_data(page_run, map_path, proved), separators=(",", ":")).encode()
     parts = {
-        "@DATA@": packed(data),
+        "@DATA@": pack_text(data),
         "/*SCRIPTS*/": "\n".join(path.read_text(encoding="utf-8") for path in SCRIPTS),
     }
     text = (FOLDER / "live.html").read_text(encoding="utf-8")

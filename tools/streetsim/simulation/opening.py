@@ -27,10 +27,10 @@ def open_session(arguments: Sequence[str]) -> TraciSession:
     SUMO. FatalTraCIError or Fault where it cannot be imported or started."""
     options = read_options([*arguments])
     with TemporaryDirectory() as folder:
-        return imported_session(Path(folder), options)
+        return import_session(Path(folder), options)
 
 
-def imported_session(folder: Path, options: Options) -> TraciSession:
+def import_session(folder: Path, options: Options) -> TraciSession:
     """The session of some options (long names), imported into a folder; tells warnings as write_warnings does. Output
     files are written that are asked for, edgeData by its period in whole seconds, PERIOD where that is below 1.
     FatalTraCIError where they name no network, Fault where the import or the run cannot be made."""
@@ -42,7 +42,7 @@ def imported_session(folder: Path, options: Options) -> TraciSession:
     arguments += [argument for name in sorted(IMPORTED & options.keys()) for argument in (f"--{name}", options[name])]
     arguments += ["--ignore-route-errors"] if is_on(options.get("ignore-route-errors", "false")) else []
     files = [options["net-file"], *additional, *routes, *filter(None, [options.get("drivers")])]
-    messages = imported(folder, arguments, routes, files)
+    messages = import_or_take_kept(folder, arguments, routes, files)
     try:
         facts = read_facts(options["net-file"], additional, routes)
         session = TraciSession(folder, facts, options, script_settings_of(options))
@@ -59,7 +59,7 @@ def imported_session(folder: Path, options: Options) -> TraciSession:
     return session
 
 
-def imported(folder: Path, arguments: Sequence[str], routes: Sequence[str], files: Sequence[str]) -> str:
+def import_or_take_kept(folder: Path, arguments: Sequence[str], routes: Sequence[str], files: Sequence[str]) -> str:
     """Imports into a folder, as run.jsonl and map.json, or takes the import of equal words and files that is kept;
     gives what was said. files: all that the words and routes name. Fault where the import cannot be made."""
     all_words = [str(folder.parent.resolve()), *arguments, "--routes", *routes]

@@ -56,14 +56,14 @@ def load_state(session: TraciSession, path: str) -> None:
         clock, deeds = state["clock"], state["done"]
         check_rising([session.source.start(), *(clock for clock, *_ in deeds), clock])
     except (AttributeError, LookupError, TypeError, ValueError) as fault:
-        raise changed(path, fault) from fault
+        raise changed_state_fault(path, fault) from fault
     try:
         repeat_deeds(session, clock, deeds)
     except (AttributeError, LookupError, TypeError, ValueError, TraCIException) as fault:
-        raise changed(path, fault) from fault
+        raise changed_state_fault(path, fault) from fault
 
 
-def changed(path: str, fault: Exception) -> Fault:
+def changed_state_fault(path: str, fault: Exception) -> Fault:
     """What is raised for a state that cannot have been written so."""
     return Fault(f"{path}: was changed after saveState wrote it ({fault!r}): close the run")
 

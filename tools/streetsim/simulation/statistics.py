@@ -11,7 +11,7 @@ from streetsim.model.freeflow import Alone, FreeFlow
 from streetsim.simulation.session import TraciSession
 
 
-class Waited(NamedTuple):
+class WaitingCount(NamedTuple):
     """How many vehicles waited to enter at a clock."""
 
     clock: int
@@ -59,7 +59,7 @@ def statistics_of(session: TraciSession) -> Statistics:
     return Statistics(len(numbers), means, inserted, len(view.numbers), len(session.waiting_to_depart()))
 
 
-def doubts_of(session: TraciSession, waiting_by_minute: Sequence[Waited]) -> list[str]:
+def doubts_of(session: TraciSession, waiting_by_minute: Sequence[WaitingCount]) -> list[str]:
     """What speaks against a session at its clock, a text each; waiting_by_minute: of each minute."""
     view, fleet, mapping = session.view, session.fleet, session.map
     free, rows = FreeFlow(mapping, session.dawdle), []

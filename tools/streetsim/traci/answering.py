@@ -74,7 +74,7 @@ def read_get_command(code: int, reader: ValueReader) -> ReadCall:
             raise not_here(domain, variable, "get")
         call, arguments, gives = special_call(name, reader)
         return ReadCall(code, call, arguments, head, gives)
-    objects = () if nameless(domain, get) else (name,)
+    objects = () if takes_no_name(domain, get) else (name,)
     call_read = ReadCall(code, call_of(domain, get.call), (*objects, *reader.typed_values(get.takes)), head, get.gives)
     if get.gives not in FIXED_SIZE:
         return call_read
@@ -83,7 +83,7 @@ def read_get_command(code: int, reader: ValueReader) -> ReadCall:
     return call_read._replace(head=whole[: -len(pack(0))], fixed=pack)
 
 
-def nameless(domain: str, get: Get) -> bool:
+def takes_no_name(domain: str, get: Get) -> bool:
     """Whether a call takes no name of an object."""
     return get.call in WITHOUT_OBJECT or domain == "simulation" and not get.call.startswith("getParameter")
 

@@ -14,7 +14,7 @@ from streetsim.simulation.errors import FatalTraCIError
 from streetsim.simulation.opening import is_on
 from streetsim.simulation.options import IMPORTED, read_options
 from streetsim.simulation.session import TraciSession
-from streetsim.simulation.statistics import Waited, doubts_of, statistics_of
+from streetsim.simulation.statistics import WaitingCount, doubts_of, statistics_of
 from streetsim.traci.checking import check_script
 from streetsim.traci.server import HOST, Server, listen, turn_away
 
@@ -107,7 +107,7 @@ def run_with_options(arguments: Sequence[str], options: Mapping[str, str]) -> in
     session, start_clock = traci.simulation.session(), traci.simulation.getTime()
     if is_verbose:
         print(f"Loading done.\nSimulation version streetsim started with time: {start_clock:.2f}.", flush=True)
-    lost_clients, reason, waiting_by_minute = 0, "TraCI requested termination.", list[Waited]()
+    lost_clients, reason, waiting_by_minute = 0, "TraCI requested termination.", list[WaitingCount]()
     try:
         if listening is not None:
             lost_clients = Server(listening, count, lambda text: print(text, file=sys.stderr)).serve()
@@ -130,7 +130,7 @@ def number_in(options: Mapping[str, str], name: str, default: int, least: int, m
     return int(text)
 
 
-def run_to_end(session: TraciSession, end: float) -> tuple[str, list[Waited]]:
+def run_to_end(session: TraciSession, end: float) -> tuple[str, list[WaitingCount]]:
     """Makes a run to its end: until no vehicle is left, or to a clock; gives (why it has ended, in SUMO's words; how
     many waited to enter at each minute)."""
     waiting_by_minute, last_departure = [], max((line.command["depart"] for line in session.source.enters), default=0)
@@ -138,13 +138,13 @@ def run_to_end(session: TraciSession, end: float) -> tuple[str, list[Waited]]:
         minute = session.clock - session.clock % MINUTE + MINUTE
         session.step(min(minute, end) if session.clock < last_departure else 0)
         if session.clock % MINUTE == 0:
-            waiting_by_minute.append(Waited(session.clock, len(session.waiting_to_depart())))
+            waiting_by_minute.append(WaitingCount(session.clock, len(session.waiting_to_depart())))
     return "The final simulation step has been reached." if session.clock >= end else ALL_LEFT, waiting_by_minute
 
 
 def print_end(
     session: TraciSession, options: Mapping[str, str], reason: str, wall_seconds: float,
-    waiting_by_minute: Sequence[Waited],
+    waiting_by_minute: Sequence[WaitingCount],
 ) -> None:  # fmt: skip
     """Prints SUMO's last lines, as far as the options ask for them, and that a run is not to be trusted, if so."""
     with_means = is_on(options.get("duration-log.statistics", "false"))

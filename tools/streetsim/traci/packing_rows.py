@@ -15,7 +15,7 @@ FIXED_SIZE = {"d": [("x", ">f8")], "i": [("x", ">i4")], "o": [("x", ">f8"), ("y"
 
 
 @lru_cache(256)
-def layout_of(variables: tuple[tuple[int, str], ...]) -> tuple[Array, bytes]:
+def make_layout(variables: tuple[tuple[int, str], ...]) -> tuple[Array, bytes]:
     """(NumPy's layout of the values of variables of fixed size behind each other, each with number, state and mark of
     its type; the bytes of a row of zeros)."""
     fields: list[tuple[str, str]] = []
@@ -28,9 +28,9 @@ def layout_of(variables: tuple[tuple[int, str], ...]) -> tuple[Array, bytes]:
     return layout, row.tobytes()
 
 
-def fixed_rows(variables: tuple[tuple[int, str], ...], columns: Sequence[Column], count: int) -> list[bytes]:
+def pack_fixed_rows(variables: tuple[tuple[int, str], ...], columns: Sequence[Column], count: int) -> list[bytes]:
     """By row the bytes of values of fixed size; variables: (number, type) of each column."""
-    layout, row = layout_of(variables)
+    layout, row = make_layout(variables)
     table = np.frombuffer(bytearray(row * count), layout)
     for index, ((_, letter), column) in enumerate(zip(variables, columns, strict=True)):
         if letter == "o":
@@ -42,7 +42,7 @@ def fixed_rows(variables: tuple[tuple[int, str], ...], columns: Sequence[Column]
     return [data[begin : begin + size] for begin in range(0, size * count, size)]
 
 
-def other_rows(variable: int, kind: str, column: Column) -> list[bytes]:
+def pack_other_rows(variable: int, kind: str, column: Column) -> list[bytes]:
     """By row the bytes of values of another size."""
     if kind == "s":
         return [text_row(variable, value) for value in column]
@@ -56,7 +56,7 @@ def text_row(variable: int, value: str) -> bytes:
     return bytes((variable, tc.RTYPE_OK)) + ENCODERS["s"](value)
 
 
-def packed_rows(kinds: Sequence[tuple[int, str]], columns: Sequence[Column], count: int) -> list[bytes]:
+def pack_rows(kinds: Sequence[tuple[int, str]], columns: Sequence[Column], count: int) -> list[bytes]:
     """By row the bytes of all values; kinds: (number, type) of the variable of each column."""
     parts: list[list[bytes]] = []
     pairs = zip(kinds, columns, strict=True)
@@ -64,9 +64,9 @@ def packed_rows(kinds: Sequence[tuple[int, str]], columns: Sequence[Column], cou
         group_pairs = list(group)
         if is_fixed:
             group_kinds, group_columns = zip(*group_pairs)
-            parts.append(fixed_rows(group_kinds, group_columns, count))
+            parts.append(pack_fixed_rows(group_kinds, group_columns, count))
         else:
-            parts += [other_rows(*kind, column) for kind, column in group_pairs]
+            parts += [pack_other_rows(*kind, column) for kind, column in group_pairs]
     if len(parts) == 1:
         return parts[0]
     return [b"".join(row) for row in zip(*parts, strict=True)] if parts else count * [b""]

@@ -14,7 +14,7 @@ from streetsim.traci import constants as tc
 from streetsim.traci.advice import advice_on
 from streetsim.traci.answering import subscribed_value
 from streetsim.traci.domain import Domain, Outlined
-from streetsim.traci.packing_rows import packed_rows
+from streetsim.traci.packing_rows import pack_rows
 from streetsim.traci.protocol import (
     DOUBLE, INT, LONG_HEAD, BadMessage, Value, ValueReader, known_text, subscription_answer, text,
 )  # fmt: skip
@@ -234,4 +234,4 @@ def rows_of(domain: str, variables: Sequence[int], names: Sequence[str]) -> list
     """By object, of some that are all there, the bytes of its variables."""
     columns_domain = domain_of(domain)
     kinds = [(variable, GETS[domain][variable].gives) for variable in variables]
-    return packed_rows(kinds, columns_domain.columns(variables, names), len(names))
+    return pack_rows(kinds, columns_domain.columns(variables, names), len(names))
