@@ -26,7 +26,7 @@ class KeptImports(Case):
         """(what an import into a new folder said, its run, its map)."""
         folder = self.folder / name
         folder.mkdir()
-        said = opening.imported(folder, [NET, *words], [ROUTES], [NET, ROUTES])
+        said = opening.import_or_take_kept(folder, [NET, *words], [ROUTES], [NET, ROUTES])
         return said, (folder / "run.jsonl").read_bytes(), (folder / "map.json").read_bytes()
 
     def test_a_second_start_imports_nothing_and_has_the_same_bytes(self):

@@ -184,7 +184,7 @@ class Protocol(Served):
                 body = bytes((variable,)) + text("WJ") + words
                 [states] = answers(self.talk(message((DOMAINS["edge"].set, body))))
                 self.assertEqual([result for _, result, _ in states], [tc.RTYPE_ERR])
-        with patch.object(server, "MOST_TOLD", 1000):
+        with patch.object(server, "MOST_ANSWER", 1000):
             [*_, states] = answers(self.talk(message(*100 * [asked("lane", tc.TRACI_ID_LIST)])))
         self.assertIn("would have more than 1,000 bytes", states[-1][2])
 
@@ -290,7 +290,7 @@ class Protocol(Served):
             serving = Server(unused, 0, self.told.append)
             serving.clients = [TraciClient(ours, 3), TraciClient(ours)]
             words = ValueReader(struct.pack("!i", 3), 0, 4)
-            said = serving.answered(serving.clients[1], tc.CMD_SETORDER, words)
+            said = serving.answer_command(serving.clients[1], tc.CMD_SETORDER, words)
         self.assertIn(b"another client has the place 3", said)
 
     def test_a_run_begins_anew_by_load(self):
