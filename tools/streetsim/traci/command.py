@@ -51,9 +51,9 @@ OPTION_HELP = (
 )
 
 
-def make_parser() -> argparse.ArgumentParser:
+def parser() -> argparse.ArgumentParser:
     """The parser that tells the words; they are read by read_options, as SUMO reads them."""
-    parser = Parser(
+    options_parser = Parser(
         prog="streetsim-sumo",
         formatter_class=argparse.RawDescriptionHelpFormatter,
         examples=(
@@ -68,22 +68,22 @@ def make_parser() -> argparse.ArgumentParser:
         flags = [word for word in names.replace(",", "").split() if word.startswith("-")]
         value = names.split()[-1]
         if value in flags:
-            parser.add_argument(*flags, help=help_text, action="store_true")
+            options_parser.add_argument(*flags, help=help_text, action="store_true")
         else:
-            parser.add_argument(*flags, help=help_text, metavar=value)
-    return parser
+            options_parser.add_argument(*flags, help=help_text, metavar=value)
+    return options_parser
 
 
 def main(arguments: list[str]) -> int:
     """Runs streetsim-sumo; gives 0, or 1 where a client went away without closing or a script has calls that are not
     here. Fault for wrong words, files that cannot be read, and a port that is taken."""
     if not arguments or {"-h", "--help", "-?"} & set(arguments):
-        make_parser().print_help()
+        parser().print_help()
         return 0
     if {"-V", "--version"} & set(arguments):
-        make_parser().parse_args(["--version"])
+        parser().parse_args(["--version"])
     if arguments[0].partition("=")[0] == CHECK:
-        args = make_parser().parse_args(arguments)
+        args = parser().parse_args(arguments)
         return check_script(args.check)
     try:
         return run_with_options(arguments, read_options(arguments))
