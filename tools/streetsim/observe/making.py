@@ -6,7 +6,7 @@ import json
 import os
 from collections import defaultdict
 from collections.abc import Iterable, Iterator, Sequence
-from dataclasses import asdict, dataclass, field
+from dataclasses import asdict, dataclass, field, replace
 from functools import partial
 from heapq import merge
 from operator import itemgetter
@@ -264,7 +264,7 @@ def write_setting(
     of.update(until=clock, rescue=settings.rescue, vehicles=len(given.enters))
     of.update(program=program_digest(making.program), **proof_note(making.program), **making.again)
     content = {
-        "map": made.mapping.written(),
+        "map": replace(made.mapping, timings=[]).written(),  # which lights.json has
         "signals": given.signals(),
         "dawdle": command["dawdle"],
         "every": made.every,
