@@ -34,6 +34,11 @@ PLACES = ((1, 52.502, 13.400), (2, 52.502, 13.403), (3, 52.502, 13.406), (4, 52.
 NODE = '<node id="{}" lat="{}" lon="{}" version="1">{}</node>'
 
 
+def commands_in(text):
+    """The commands that a page has, in its order."""
+    return [html.unescape(re.sub("<[^>]*>", "", one)) for one in re.findall(r"<code>(.*?)</code>", text)]
+
+
 class Open(Case):
     def opens(self, *words, status=0):
         """Runs the tool in the test's folder; gives its two outputs."""
@@ -101,7 +106,7 @@ class Open(Case):
     def commands_are_taken(self, text, commands):
         """What is printed, and what the page advises next, are words that the commands take."""
         found = re.search(r'id="next">.*?</section>', text, re.S)[0]
-        told = [html.unescape(one) for one in re.findall(r"<code>(.*?)</code>", found)]
+        told = commands_in(found)
         self.assertGreaterEqual(len(told), 5)
         known = parsers()
         for line in (*told, *(command.removeprefix("$ ") for command in commands)):
@@ -111,8 +116,9 @@ class Open(Case):
 
     def works_end_well(self, text):
         """The works that the page advises to try leave a lane open, and what leads to it."""
-        [line] = [html.unescape(one) for one in re.findall(r"<code>(.*?)</code>", text) if " --close " in one]
+        [line] = [one for one in commands_in(text) if " --close " in one]
         _, *words = shlex.split(line)
+        self.assertRegex(line, r" --close \S+:00:05-00:15 ", "round clock times about the middle of the run")
         done = subprocess.run(
             [TOOLS / "streetsim-run", *words, "--until", "1200"], cwd=self.folder, capture_output=True, text=True,
             check=True, env={**os.environ, "STREETSIM_PROGRAM": PROGRAM},

@@ -22,7 +22,7 @@ from streetsim.model.tables import APPROACHES, JUNCTIONS, MOVEMENTS, SEEDS, TRIP
 from streetsim.report.forecast_errors import PAGE, errors_table
 from streetsim.report.page_drawings import anchor, queue_picture
 from streetsim.report.page_junctions import full_mark
-from streetsim.report.page_summary import trips_told
+from streetsim.report.page_summary import state_verdict, trips_told
 from streetsim.report.plan_costs import PlanCosts
 from streetsim.report.plan_differences import difference_of, mean_delays
 from streetsim.report.run_tables import ResultRow, read_runs
@@ -84,6 +84,12 @@ class Numbers(unittest.TestCase):
         self.assertIn("30, 75, 148 of 150 m, fills the edge", picture)
         self.assertEqual(picture.count("fills"), 1)
         self.assertEqual(queue_picture(rows).count("fills"), 2)
+
+    def test_names_before_bars_have_room(self):
+        """Of 40 letters at 7 pixels: 280 pixels, and 630 are left for names and bars."""
+        picture = queue_picture([("along the long street, from the north-east"[:40], 0, 0, 0, 100)])
+        self.assertIn('<text x="280"', picture)
+        self.assertIn('<rect width="350.0" height="18"', picture)
 
     def test_letters_in_grey(self):
         """Each letter is darker than the better one, and its writing has the contrast 4.5 that WCAG 2 asks for."""
@@ -149,6 +155,19 @@ class Marks(unittest.TestCase):
 
 
 class Pages(Given):
+    def test_the_verdict_of_one_plan_names_the_worst_junction(self):
+        runs, shown = read_runs(str(self.folder / "before")), (0, 900)
+        junctions = runs.rows["junctions", *shown]
+        self.assertIn("Junction B has level of service F.", state_verdict(runs, shown))
+        level = {"vehicles": 9.0, "vehicles_per_hour": 99.0}
+        for name, delay in (("C", 40.0), ("D", 20.0)):
+            junctions[name,] = ResultRow((name,), "signals", "", {**level, "control_delay_s": delay}, {})
+        told = "One of three junctions has a level of service worse than D; the worst is F, at Junction B."
+        self.assertIn(told, state_verdict(runs, shown))
+        del junctions["B",]
+        told = "Every junction has level of service D or better; the worst is D, at Junction C."
+        self.assertIn(told, state_verdict(runs, shown))
+
     def test_means_over_seeds(self):
         runs = read_runs(str(self.folder / "before"))
         row = runs.rows["movements", 0, 900]["B", "a", "b"]
@@ -167,7 +186,7 @@ class Pages(Given):
             # Changes of -60 and -62, quantile 12.706.
             "A vehicle's mean delay at a junction is 31.0 s, and 92.0 s before: 61.0 s less "
             "(95 % interval of dawdling alone: 48.3 to 73.7 s less); at one of one junction it is less beyond the "
-            "chance of dawdling, at no more.",
+            "chance of dawdling, at none more.",
             "two runs of each plan, simulated by streetsim; departures as listed: the seeds differ by dawdling alone, "
             "so nothing is sure of another day.",
             "2 vehicles, departures as listed",
@@ -177,7 +196,7 @@ class Pages(Given):
             "from the west to the east B: a to b 92.0 31.0",
             "Junction B: 31.0 s C , 40 vehicles an hour, signals",
             "program SHA-256 abc",
-            "0:00 to 0:30, seeds 1, 2, dawdle 170",
+            "0:00 to 0:30, seeds 1, 2, dawdle 170 (in each second 17 % of drivers slow down by chance)",
             "2 <turns> & more",
             "8, 15, 22 of 75 m",
             "L, T, R, U: left, straight on, right, back. Queues: what half of the cycles",

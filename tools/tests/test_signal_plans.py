@@ -176,11 +176,19 @@ class Climbing(unittest.TestCase):
         self.assertEqual((plan["L"].offset, plan["M"].offset), (30, 50))
         self.assertEqual(len({(one["L"].offset, one["M"].offset) for one in asked}), len(asked))
 
+    def streets(self):
+        return type("Streets", (), {"order": ["L", "M"], "behind": {"L": ["L", "M"], "M": ["M"]}, "hops": {}, "loads": {}})
+
+    def test_how_many_climbs_there_are_is_known_before(self):
+        for changed in (["offsets"], ["offsets", "splits"]):
+            search, _ = self.search(1000)
+            search_plan(search, self.plan, {"L": self.light, "M": self.light}, self.streets(), changed, [])
+            self.assertEqual(len(search.climbed) - 1, search.climbs)
+            self.assertEqual(search.expected(), search.simulations)
+
     def test_ends_with_its_budget(self):
         search, asked = self.search(7)
-        streets = type(
-            "Streets", (), {"order": ["L", "M"], "behind": {"L": ["L"], "M": ["M"]}, "hops": {}, "loads": {}}
-        )
+        streets = self.streets()
         search_plan(search, self.plan, {"L": self.light, "M": self.light}, streets, ["offsets"], [])
         self.assertEqual((len(asked), search.simulations), (7, 7))
         self.assertEqual(search.best[0], min(trial.value for trial in search.trials))
@@ -426,7 +434,7 @@ class Tool(Searching):
             told = tool.stdout.read()
         os.close(terminal)
         self.assertRegex(
-            shown, r"\[#* *\] [\d,]+ of 100,000 simulations, best [\d.]+ s \([-+][\d.]+ %\), [\d.]+ min left"
+            shown, r"\[#* *\] [\d,]+ of [\d,]+ simulations, best [\d.]+ s \([-+][\d.]+ %\), [\d.]+ (s|min|h) left"
         )
         self.assertTrue(told.startswith("stopped: the best plan found so far is written\nmean trip "), told)
         trials = self.table("search.csv")

@@ -26,9 +26,14 @@ from streetsim.report.picture_plots import draw_queues
 from streetsim.report.run_tables import Runs, read_folders, read_runs
 from streetsim.report.timing_sheets import clashes
 
-SEARCH = "(some minutes; Ctrl-C ends it with the best so far; where SUMO is installed --verify-sumo judges by it too)"
+SEARCH = (
+    "(some minutes; Ctrl-C ends it with the best so far; where SUMO is installed "
+    '<span class="ids">--verify-sumo</span> judges by it too)'
+)
 ONLY = "(the only lane of its street: who comes meanwhile waits, as ways round it are found by streetsim-route --close)"
 PLAYED = 600  # seconds that the page plays
+SHORT = 40  # letters of a word of a command that stays on one line
+ROUND = (3600, 1800, 900, 300, 60, 10, 1)  # seconds between the clock times that a command advises
 STYLE = "width: 100%; height: min(75vh, 600px); border: 1px solid #555"
 FRAME = f'<iframe title="The vehicles as they drive" style="{STYLE}" srcdoc="{{page}}"></iframe>'
 
@@ -90,8 +95,10 @@ def player_told(folder: Folder, begin: int) -> str:
 
 
 def command(*words: str) -> str:
-    """A command of the shell, as HTML."""
-    return f"<code>{escape(shlex.join(words))}</code>"
+    """A command of the shell, as HTML, of which no line ends within a short word."""
+    quoted = (escape(shlex.quote(word)) for word in words)
+    kept = (f'<span class="ids">{word}</span>' if len(word) <= SHORT else word for word in quoted)
+    return f"<code>{' '.join(kept)}</code>"
 
 
 def next_told(runs: Runs, run: str) -> str:
@@ -105,7 +112,7 @@ def next_told(runs: Runs, run: str) -> str:
     questions = (
         (
             "Would another cycle, other greens or offsets be better?",
-            command("streetsim-signals", name, "--plans", net) + f"<br>{escape(SEARCH)}",
+            command("streetsim-signals", name, "--plans", net) + f"<br>{SEARCH}",
         ),
         (
             "What if a lane is closed?",
@@ -141,6 +148,11 @@ def lane_to_close(folder: Folder) -> tuple[str, float, bool]:
 
 
 def closing(folder: Folder) -> str:
-    """The middle half of a run, as --close takes it: seconds from and to."""
-    start, until = folder.made.get("start", 0), folder.made.get("until", 3600)
-    return f"{start + (until - start) // 4}-{until - (until - start) // 4}"
+    """About the middle half of the time in which vehicles depart, as --close takes it: round clock times, and of less
+    than four minutes round seconds."""
+    departs = [int(row["depart"]) for row in folder.trips()] or [folder.made.get("start", 0)]
+    start, until = min(departs), min(max(departs), folder.made.get("until", max(departs)))
+    quarter = max(1, (until - start) // 4)
+    step = next(step for step in ROUND if quarter >= step)
+    clocks = [step * round(second / step) for second in (start + quarter, max(until - quarter, start + 2 * quarter))]
+    return "-".join(f"{one // 3600:02d}:{one // 60 % 60:02d}" if step >= 60 else str(one) for one in clocks)

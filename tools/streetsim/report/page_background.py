@@ -44,10 +44,15 @@ def what_was_run(all_runs: Sequence[Runs]) -> str:
             ("files of the import", escape(", ".join(files)) or "not told by the map"),
             ("network", f"{places}, {len(mapping.signals):,} with signals"),
             ("demand", f"{runs.vehicles:,.0f} vehicles, departures {departs}"),
-            ("time", f"{times}, seeds {seeds}, dawdle {runs.first.dawdle}"),
-            ("program", f'<span class="sum">SHA-256 {escape(made.get("program") or "not told")}</span>'),
+            ("time", f"{times}, seeds {seeds}, {dawdle_told(runs.first.dawdle)}"),
+            ("program", f"SHA-256 {escape(made.get('program') or 'not told')}"),
         ]
     return facts(rows)
+
+
+def dawdle_told(dawdle: int) -> str:
+    """The word of the import for drivers who are slower than they could be, with what it is; dawdle: of 1,000."""
+    return f"dawdle {dawdle} (in each second {dawdle / 10:g} % of drivers slow down by chance)"
 
 
 def warnings(all_runs: Sequence[Runs]) -> str:

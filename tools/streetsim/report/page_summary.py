@@ -101,26 +101,28 @@ def change_verdict(plans: Sequence[Runs], shown: Interval) -> str:
     rows = ranked_rows(plans, shown)
     changed = changes_that_stand_out(rows).values()
     less, more = (sum((change > 0) == up for change in changed) for up in (False, True))
-    fewer, all_, greater = count_in_words(less), counted_noun(len(rows), "junction"), count_in_words(more)
-    counts = f"at {fewer} of {all_} it is less {how_sure(drawn)}, at {greater} more"
+    fewer, greater = (count_in_words(count) if count else "none" for count in (less, more))
+    counts = f"at {fewer} of {counted_noun(len(rows), 'junction')} it is less {how_sure(drawn)}, at {greater} more"
     means = f"{delay.after:.1f} s, and {delay.before:.1f} s before"
     return f"{first} A vehicle's mean delay at a junction is {means}: {change_in_words(delay)}; {counts}."
 
 
 def state_verdict(runs: Runs, shown: Interval) -> str:
-    """How long trips and delays are with one plan, how many junctions are worse than D and which most, plain text."""
+    """How long trips and delays are with one plan, how many junctions are worse than D, and the worst, plain text."""
     delays = mean_delays(runs.rows["junctions", *shown].values())
     rows = ranked_rows([runs], shown)
-    bad = [one for one in rows if one.is_bad]
+    bad, worst = sum(one.is_bad for one in rows), max(rows, key=lambda one: (one.row.letter(), one.row.delay))
     trip = f"A trip takes {mean_told(runs.mean_trips().values(), runs.is_drawn)} s on average"
     first = f"{trip}, and a vehicle's delay at a junction is {mean_told(delays.values(), runs.is_drawn)} s"
     first += f" (±: {interval_name(runs.is_drawn)})." if len(runs.folders) > 1 else "."
-    if not bad:
-        all_ = f"All {len(rows):,} junctions have" if len(rows) != 1 else "The one junction has"
-        return f"{first} {all_} level of service D or better."
-    worst = runs.names.junction_told(bad[0].key[0])
-    have = f"{'has' if len(bad) == 1 else 'have'} a level of service worse than D, most of all {worst}"
-    return f"{first} {count_in_words(len(bad)).capitalize()} of {counted_noun(len(rows), 'junction')} {have}."
+    letter, name = worst.row.letter(), runs.names.junction_told(worst.key[0])
+    if len(rows) == 1:
+        return f"{first} {name} has level of service {letter}."
+    all_ = "Every junction has level of service D or better"
+    if bad:
+        have = f"{'has' if bad == 1 else 'have'} a level of service worse than D"
+        all_ = f"{count_in_words(bad).capitalize()} of {counted_noun(len(rows), 'junction')} {have}"
+    return f"{first} {all_}; the worst is {letter}, at {name}."
 
 
 def service_and_works_map(runs: Runs, shown: Interval, rows: Sequence[RowChange] = (), detailed: int = 0) -> str:
@@ -227,7 +229,7 @@ def groups_table(found: PlanCosts) -> str:
         [escape(group), f"{count:,}", f"{one.before:.1f}", f"{one.after:.1f}", change_told(one)]
         for group, (count, one) in ((group, found.groups[group]) for group in told)
     ]
-    left = f" (those that lose and that win most, of {len(ranked):,})" if len(told) < len(ranked) else ""
+    left = f" ({len(told)} of {len(ranked):,}: most lost, most won)" if len(told) < len(ranked) else ""
     return table([f"trips by flow{left}", "trips", "before, s", "after, s", "change, s"], rows)
 
 
@@ -275,8 +277,8 @@ def doubted(plans: Sequence[Runs], more: Sequence[str] = ()) -> str:
     heavy = list(dict.fromkeys(row[1] for runs in plans for row in runs.first.mapping.told if row[0] == HEAVY))
     if heavy:
         first = heavy[0] if len(heavy[0]) < LONG else heavy[0][: LONG - 3] + ".."
-        told = f"The import did {counted_noun(len(heavy), 'thing')} otherwise than SUMO that may change results"
-        texts.append(f"{told} (appendix); the first: {first}.")
+        told = f"The import told {counted_noun(len(heavy), 'thing')} that may change results"
+        texts.append(f"{told} (appendix){'; the first' if len(heavy) > 1 else ''}: {first}.")
     texts.append("These are numbers of a simulation: the street may do otherwise, and nobody here changes the way.")
     return bullets(texts) + (errors_told() if len(plans) == 2 else "")
 
