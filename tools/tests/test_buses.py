@@ -111,6 +111,11 @@ class Files(Case):
         text = f'<trip id="t" depart="0">{AT_FIRST}<stop busStop="second" duration="5"/></trip>'
         self.assertEqual(self.visits(text, trips=True), [("t", "first", 20, None), ("t", "second", 5, None)])
 
+    def test_a_stop_without_a_name_is_told_by_its_lane_and_end(self):
+        stops = '<stop lane="a_0" endPos="150" duration="5"/><stop lane="b_0" endPos="72.5" duration="9"/>'
+        text = f'<vehicle id="v" depart="0"><route edges="a b"/>{stops}</vehicle>'
+        self.assertEqual(self.visits(text), [("v", "a_0:150", 5, None), ("v", "b_0:72.5", 9, None)])
+
     def test_what_can_not_be_made_is_told_by_name(self):
         for stop, why in (
             ('lane="a_0" endPos="99" duration="9" parking="true"', "in a bay beside the lane (parking): v at a_0"),

@@ -15,6 +15,7 @@ from streetsim.sumo.heads import Heads, passing_heads
 from streetsim.sumo.import_files import convert
 from streetsim.sumo.net import NetConnection, NetEdge, SumoNet, request_of, wait_inside
 from streetsim.sumo.network import Options
+from streetsim.sumo.signals import AS_MAIN, shown_by_gaps
 from streetsim.sumo.yielding import lane_here, lane_queue, lane_there, seconds_for, settle, time_of
 
 # SUMO's vehicles a green by case and way, of the demand with seed 1; a tenth or 0.6 of a vehicle off is allowed.
@@ -183,6 +184,28 @@ class OneLane(Lanes):
         _, left, east, _ = self.lanes(80, 20, 1700, 0)
         self.assertEqual(lane_queue(left, east, 1.0), east.green)
         self.assertAlmostEqual(lane_there(left, 0, 42, 1.0), 4.0 * (1 - 0.8 ** 20.598) + 1, places=1)  # and one after
+
+
+class OneIndex(Lanes):
+    """Movements that share a letter of the light's state."""
+
+    def shown(self, *those, foes=True, stops=()):
+        """What is shown of the green from second 0 on, of (seconds, parts, seconds before them) of each movement."""
+        made = [self.movement(("w", "left"), ("w", 0), 100, [0]) for _ in those]
+        for one, (seconds, parts, lead) in zip(made, those, strict=True):
+            one.shown, one.parts, one.leads, one.stops = {0: seconds}, parts, {0: lead}, dict.fromkeys(stops, 9)
+            one.foes = made if foes else []
+        return shown_by_gaps(dict(enumerate(made)))[0][0]
+
+    def test_the_most_seconds_are_shown(self):
+        """12 s in one part are more than 8 s in two; of as many seconds those in more parts."""
+        for those, most in (((8, 2, 4), (12, 1, 5)), (12, 1, 5)), (((8, 2, 4), (8, 1, 5)), (8, 2, 4)):
+            self.assertEqual([self.shown(*those), self.shown(*reversed(those))], [most, most])
+
+    def test_one_without_foes_goes_as_if_first(self):
+        """But a red in which it goes after a stop keeps its parts."""
+        self.assertEqual(self.shown((8, 2, 4), foes=False), (8, AS_MAIN, 4))
+        self.assertEqual(self.shown((8, 2, 4), foes=False, stops=[0]), (8, 2, 4))
 
 
 class Heading(Lanes):

@@ -10,6 +10,7 @@ import time
 import unittest
 import xml.etree.ElementTree as ElementTree
 from collections import Counter
+from itertools import permutations
 from math import exp, lgamma, pi, sqrt
 from unittest import mock
 from unittest.mock import Mock
@@ -149,6 +150,12 @@ class Formulas(unittest.TestCase):
         parents, behind = heaviest_tree(["b", "a", "c", "d"], ways)
         self.assertEqual(parents, {"a": "b", "c": "b"})
         self.assertEqual(behind, {"b": ["b", "c", "a"], "a": ["a"], "c": ["c"], "d": ["d"]})
+
+    def test_equal_flows_are_taken_by_names(self):
+        """Of the ring a-b, a-c, b-c, each of 5, the first two are the tree, whichever was seen first."""
+        ways = [(pair, Counter({(at,): 5})) for at, pair in enumerate((("a", "b"), ("a", "c"), ("c", "b")))]
+        for seen in permutations(ways):
+            self.assertEqual(heaviest_tree(["a", "b", "c"], dict(seen))[0], {"b": "a", "c": "a"})
 
 
 class Climbing(unittest.TestCase):
