@@ -7,6 +7,8 @@ from contextlib import redirect_stderr, redirect_stdout
 from io import StringIO
 from math import sqrt
 
+import numpy
+
 from support import DATA, FORK, PROGRAM, TOOLS, Case, needs_simulator
 from test_counts import needs_scipy
 from streetsim.base.files import Fault
@@ -266,6 +268,14 @@ class Fitting(unittest.TestCase):
         self.assertAlmostEqual(dict(result.drivers.speeds)[""], 0.8, delta=0.02)
         self.assertLess(result.errors[0], 0.05)
         self.assertEqual(result.untold, [])
+
+    def test_the_cost_is_of_squares(self):
+        """Eight ways of 50 s, each measured 100 times with a deviation of 1 s, and a model that is off by 7 %: errors of
+        (0.1^2 + 3.5^2)^0.5 = 3.50143 s. All slower by two errors, and a speed that is off by its spread, are 33."""
+        fit = self.fit(self.day([50.0] * 8), lambda _: [50 + 2 * 3.50143] * 8)
+        values = [value(SPEED, 1.0, 0.1, 0.04)]
+        fit.take([fit.drivers(values, numpy.array([1.1]))])
+        self.assertAlmostEqual(fit.cost(values, numpy.array([1.1]), numpy.array([1.0])), 8 * 2**2 + 1, places=3)
 
     def test_what_they_do_not_tell_stays_at_its_prior(self):
         def seconds_of(drivers):

@@ -1,9 +1,11 @@
 """Vehicles that leave in each green of a lone cross, beside SUMO 1.15 on the same demand; who gives way to whom."""
 import unittest
 from types import SimpleNamespace
+from unittest import mock
 
 from crosses import LAST, a_green, cases, demand
 from support import DATA, PROGRAM, Case, lane, needs_simulator, net
+from streetsim.base import limits
 from streetsim.base.report import Report
 from streetsim.model.folder import read_folder
 from streetsim.report.beside_sumo import trip_times_of
@@ -345,6 +347,9 @@ class Lanes(Case):
         report = Report()
         network, *_ = convert(self.write("x.net.xml", net(edges, turns)), [], [], Options(), report)
         self.assertEqual((len(network.links), list(network.over_limits())), (4095, []))
+        for most, told in ((4095, []), (4094, ["4,095 links, at most 4,094"])):
+            with mock.patch.object(limits, "LINKS", most):
+                self.assertEqual(list(network.over_limits()), told)
         self.assertIn("turn lanes are joined with the lanes beside them", report.warnings[0])
 
 

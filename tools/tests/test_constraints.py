@@ -51,6 +51,10 @@ class Constraints(Case):
                 constraints_of("L", made)
             self.assertIn(told, str(raised.exception))
 
+    def test_a_green_may_be_fixed_and_as_long_as_a_phase_may_be(self):
+        [first, second, *_] = constraints_of("L", program((20, 20), (600, None), (None, None), (None, None)))
+        self.assertEqual((first, second), (Constraint(20, 20), Constraint(600)))
+
     def test_a_file_may_tighten_and_not_loosen(self):
         own = constraints_of("L", program((12, 40), (None, None), (None, None), (None, None)))
         found = with_given("L", program(), own, {0: Constraint(15, None, 18), 2: Constraint(9)})

@@ -18,6 +18,7 @@ from streetsim.cli import compare, demand
 from streetsim.demand import checking, demanding, judging, matrices, ratios, reading, science, zones
 from streetsim.demand.candidates import Pair, Way, with_given_routes
 from streetsim.demand.cells import clock_of
+from streetsim.demand.correcting import full_edges
 from streetsim.demand.fitting import Expecting
 from streetsim.demand.judging import ComparedCount, differences_of, is_part_of, without_parts
 from streetsim.demand.passing import CountsByEdges, Slices
@@ -244,6 +245,22 @@ class Inputs(Case):
         with mock.patch("streetsim.demand.judging.is_part_of", wraps=is_part_of) as looks:
             self.assertEqual([one.edges for one in without_parts(hourly)], [("a",)] * 300)
         self.assertLessEqual(looks.call_count, 2 * len(hourly))
+
+    def test_a_count_is_part_of_one_with_time_in_common(self):
+        """The turns from a and the trucks on it are parts of the count on a of the same hour, not of those beside."""
+        def count(hour, edges, kind=""):
+            return ComparedCount(hour * 3600, hour * 3600 + 3600, edges, kind, "", 9.0, 8.0, 3600)
+
+        for part in (("a", "b"), ""), (("a",), "truck"), (("a", "b"), "truck"):
+            found = [is_part_of(count(1, *part), count(hour, ("a",))) for hour in (0, 1, 2)]
+            self.assertEqual(found, [False, True, False], part)
+        self.assertFalse(is_part_of(count(1, ("a",)), count(1, ("a", "b"))))
+
+    def test_edges_that_are_full(self):
+        """Those of which a movement loses more than 120 s."""
+        graph = Graph("abc", [("a", "b"), ("a", "c"), ("b", "c")], {name: (name, name + "+") for name in "abc"})
+        lost = dict.fromkeys(graph.movements, 0.0) | {(0, 1): 120.5, (0, 2): 150.0, (1, 2): 120.0}
+        self.assertEqual(full_edges(graph, list(lost.values())), {0: 150.0})
 
     def test_ratios_of_many_periods_are_read_once_each(self):
         class Watched(Ratio):

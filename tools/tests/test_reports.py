@@ -22,7 +22,7 @@ from streetsim.model.tables import APPROACHES, JUNCTIONS, MOVEMENTS, SEEDS, TRIP
 from streetsim.report.forecast_errors import PAGE, errors_table
 from streetsim.report.page_drawings import anchor, queue_picture
 from streetsim.report.page_junctions import full_mark
-from streetsim.report.page_summary import trips_told
+from streetsim.report.page_summary import groups_table, trips_told
 from streetsim.report.plan_costs import PlanCosts
 from streetsim.report.plan_differences import difference_of, mean_delays
 from streetsim.report.run_tables import ResultRow, read_runs
@@ -75,6 +75,18 @@ class Numbers(unittest.TestCase):
         self.assertEqual(trips_told(PlanCosts(lost=2, won=3)), ["No trip arrived with both plans.", alone])
         self.assertEqual(trips_told(PlanCosts([20], lost=2, won=3))[1:], [alone])
         self.assertEqual(trips_told(PlanCosts()), ["No trip arrived with both plans."])
+
+    def test_flows_that_lose_and_that_win(self):
+        """Six flows all stand in the table; of seven the three that lose most and the three that win most."""
+        def shown(count):
+            sides = {f"f{at}": ({1: 50.0, 2: 50.0}, {1: 50.0 + at, 2: 50.0 + at}) for at in range(count)}
+            flows = {name: (10, difference_of(*both, drawn=False)) for name, both in sides.items()}
+            text = groups_table(PlanCosts(groups=flows))
+            return "".join(re.findall(r"f\d", text)), re.findall(r"of [\d,]+\)", text)
+
+        self.assertEqual(shown(6), ("f5f4f3f2f1f0", []))
+        self.assertEqual(shown(7), ("f6f5f4f2f1f0", ["of 7)"]))
+        self.assertEqual(groups_table(PlanCosts()), "")
 
     def test_queues(self):
         """Bars of 480 pixels for the longest: 75 of 150 m are 240. A full edge has the gap behind its last vehicle."""

@@ -27,7 +27,7 @@ from streetsim.search.run_giving_way import (
     for_search, giving_session, outcome_giving_way, seconds_of_run, with_gap_lines,
 )
 from streetsim.search.run_prepared import Outcome, outcome, session_of, vehicle_seconds
-from streetsim.search.signal_formulas import heaviest_tree, webster_cycle
+from streetsim.search.signal_formulas import Hop, StreetFlows, heaviest_tree, waved, webster_cycle
 from streetsim.search.signal_found import doubts_of, verdict
 from streetsim.search.signal_in_sumo import mean_trip, sumo_for
 from streetsim.search.signal_lines import LightLines, read_plans
@@ -157,6 +157,13 @@ class Formulas(unittest.TestCase):
         for seen in permutations(ways):
             self.assertEqual(heaviest_tree(["a", "b", "c"], dict(seen))[0], {"b": "a", "c": "a"})
 
+    def test_green_comes_when_the_platoon_does(self):
+        """It leaves L in its third phase, at 10 + 33 s, and comes 22 s later to M's second one, 30 s behind the begin of
+        M's cycle: an offset of 35 s."""
+        plan = {"L": PlannedTiming(10, (30, 3, 20, 3)), "M": PlannedTiming(7, (30, 26))}
+        streets = StreetFlows(["L", "M"], {"L": ["L", "M"], "M": ["M"]}, {"M": Hop("L", 22.0, 2, 1)}, {})
+        self.assertEqual(waved(plan, streets), {**plan, "M": PlannedTiming(35, (30, 26))})
+
 
 class Climbing(unittest.TestCase):
     """The search over a value that is known: how far offsets are from 30 and 50."""
@@ -182,6 +189,13 @@ class Climbing(unittest.TestCase):
                 plan = climb(search, plan, "offset", shift_of([light], seconds))
         self.assertEqual((plan["L"].offset, plan["M"].offset), (30, 50))
         self.assertEqual(len({(one["L"].offset, one["M"].offset) for one in asked}), len(asked))
+
+    def test_climbs_from_the_best_proposal(self):
+        """A wave with M 50 s behind L is 30 off and the given plan 80: the first step moves L, with M at 50."""
+        search, asked = self.search(3)
+        streets = StreetFlows(["L", "M"], {"L": ["L", "M"], "M": ["M"]}, {"M": Hop("L", 50.0, 0, 0)}, {})
+        search_plan(search, self.plan, {"L": self.light, "M": self.light}, streets, ["offsets"], [])
+        self.assertEqual([plan["M"].offset for plan in asked], [0, 50, 50])
 
     def test_ends_with_its_budget(self):
         search, asked = self.search(7)
