@@ -270,8 +270,8 @@ class Fitting(unittest.TestCase):
         self.assertEqual(result.untold, [])
 
     def test_the_cost_is_of_squares(self):
-        """Eight ways of 50 s, each measured 100 times with a deviation of 1 s, and a model that is off by 7 %: errors of
-        (0.1^2 + 3.5^2)^0.5 = 3.50143 s. All slower by two errors, and a speed that is off by its spread, are 33."""
+        """Eight ways of 50 s, each measured 100 times with a deviation of 1 s, and a model that is off by 7 %: an error
+        of (0.1^2 + 3.5^2)^0.5 = 3.50143 s. All slower by two errors, and a speed that is off by its spread, are 33."""
         fit = self.fit(self.day([50.0] * 8), lambda _: [50 + 2 * 3.50143] * 8)
         values = [value(SPEED, 1.0, 0.1, 0.04)]
         fit.take([fit.drivers(values, numpy.array([1.1]))])

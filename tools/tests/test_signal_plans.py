@@ -158,8 +158,8 @@ class Formulas(unittest.TestCase):
             self.assertEqual(heaviest_tree(["a", "b", "c"], dict(seen))[0], {"b": "a", "c": "a"})
 
     def test_green_comes_when_the_platoon_does(self):
-        """It leaves L in its third phase, at 10 + 33 s, and comes 22 s later to M's second one, 30 s behind the begin of
-        M's cycle: an offset of 35 s."""
+        """It leaves L in its third phase, at 10 + 33 s, and comes 22 s later to M's second one, 30 s into M's cycle: an
+        offset of 35 s."""
         plan = {"L": PlannedTiming(10, (30, 3, 20, 3)), "M": PlannedTiming(7, (30, 26))}
         streets = StreetFlows(["L", "M"], {"L": ["L", "M"], "M": ["M"]}, {"M": Hop("L", 22.0, 2, 1)}, {})
         self.assertEqual(waved(plan, streets), {**plan, "M": PlannedTiming(35, (30, 26))})
