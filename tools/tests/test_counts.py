@@ -16,7 +16,7 @@ from streetsim.base.files import Fault
 from streetsim.base.report import Report
 from streetsim.cli import compare, demand
 from streetsim.demand import checking, demanding, judging, matrices, ratios, reading, science, zones
-from streetsim.demand.candidates import Pair, Way, with_given_routes
+from streetsim.demand.candidates import End, Pair, Way, with_given_routes
 from streetsim.demand.cells import clock_of
 from streetsim.demand.correcting import full_edges
 from streetsim.demand.fitting import Expecting
@@ -579,6 +579,14 @@ class Fit(Tool):
         expecting = Expecting(ways, pairs, Slices((0, 900), False), 0.05)
         found = expecting.vehicles_by_counts(passing, numpy.array([90.0, 10.0, 100.0]))
         self.assertGreater(found[2], 2 * found[3])
+
+    def test_ends_outside_double_what_is_expected(self):
+        """Of three ways one has both ends at the border, one its begin, and one none: four, two and one."""
+        outside, within = End(1.0, True), End(1.0, False)
+        ends = (outside, outside), (outside, within), (within, within)
+        pairs = [Pair(f"from {at}", f"to {at}", {}, {}, *both) for at, both in enumerate(ends)]
+        ways = [Way(at, (2 * at, 2 * at + 1), 60.0, 1.0, 60.0, 1.0) for at in range(3)]
+        self.assertEqual(Expecting(ways, pairs, Slices((0, 900), False), 0.05).outside.tolist(), [4, 2, 1])
 
     def test_a_route_of_a_file_that_turns_back(self):
         """10 s on each of both edges, and TURN_BACK between, as by the costs of the fit."""
