@@ -349,9 +349,12 @@ class Judging(Case):
 
     def test_slope(self):
         counts = [Count(0, 3600, (name,), value, "") for name, value in (("a", 100), ("b", 200), ("c", 300))]
-        r, slope = judging.correlation_and_slope(judging.judged(counts, [110, 210, 310]).each)
+        fit, single = judging.judged(counts, [110, 210, 310]), judging.judged(counts[:1], [1])
+        r, slope = judging.correlation_and_slope(fit.each)
         self.assertEqual((round(r, 6), round(slope, 6)), (1, 1))
-        self.assertIsNone(judging.correlation_and_slope(judging.judged(counts[:1], [1]).each))
+        self.assertEqual([*fit.lines()][1:], ["all 3 counts: r = 1.000, slope 1.000"])
+        self.assertIsNone(judging.correlation_and_slope(single.each))
+        self.assertEqual([*single.lines()][1:], [])
 
 
 class Passing(unittest.TestCase):

@@ -8,6 +8,7 @@ import subprocess
 import unittest
 from dataclasses import asdict, replace
 from importlib.util import find_spec
+from types import SimpleNamespace
 from unittest import mock
 
 from support import MAP, PROGRAM, TOOLS, Case, needs_package, needs_simulator
@@ -20,7 +21,8 @@ from streetsim.model.replications import WORD
 from streetsim.model.service import COLOURS, WHITE_LETTERS
 from streetsim.model.tables import APPROACHES, JUNCTIONS, MOVEMENTS, SEEDS, TRIPS, write_table
 from streetsim.report.forecast_errors import PAGE, errors_table
-from streetsim.report.page_drawings import anchor, queue_picture
+from streetsim.report.page_choice import RowChange
+from streetsim.report.page_drawings import anchor, letter_mark, queue_picture
 from streetsim.report.page_junctions import full_mark
 from streetsim.report.page_summary import groups_table, trips_told
 from streetsim.report.plan_costs import PlanCosts
@@ -87,6 +89,20 @@ class Numbers(unittest.TestCase):
         self.assertEqual(shown(6), ("f5f4f3f2f1f0", []))
         self.assertEqual(shown(7), ("f6f5f4f2f1f0", ["of 7)"]))
         self.assertEqual(groups_table(PlanCosts()), "")
+
+    def test_what_is_told_of_a_movement(self):
+        """E and F are worse than D; a change is told from 5 s on, or where it comes with another level of service."""
+        def row(letter, before="C", seconds=0.0):
+            own = [SimpleNamespace(letter=lambda one=one: one) for one in (letter, before)]
+            delays = [dict.fromkeys((1, 2), delay) for delay in (50.0, 50.0 + seconds)]
+            return RowChange((), *own, difference_of(*delays, drawn=False))
+
+        self.assertEqual([letter for letter in "ABCDEF" if row(letter).is_bad], ["E", "F"])
+        self.assertEqual([letter_mark(letter) for letter in "AF"],
+                         [f'<span class="los los-{letter}">{letter}</span>' for letter in "AF"])
+        noticed = row("C", seconds=5.0), row("C", seconds=-5.0), row("D", seconds=4.9)
+        self.assertEqual([one.changes_noticeably for one in noticed], [True] * 3)
+        self.assertEqual([one.changes_noticeably for one in (row("C", seconds=4.9), row("D"))], [False] * 2)
 
     def test_queues(self):
         """Bars of 480 pixels for the longest: 75 of 150 m are 240. A full edge has the gap behind its last vehicle."""
