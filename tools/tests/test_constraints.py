@@ -76,9 +76,10 @@ class Constraints(Case):
     def test_crossings_of_a_network(self):
         text = (
             '<net><edge id=":L_c0" function="crossing"><lane id=":L_c0_0" index="0" speed="1" length="9.6"/></edge>'
+            '<edge id=":L_c1" function="crossing"/><connection from=":L_w1" to=":L_c1" tl="L" linkIndex="5"/>'
             '<connection from=":L_w0" to=":L_c0" fromLane="0" toLane="0" tl="L" linkIndex="4" dir="s" state="M"/></net>'
         )
-        self.assertEqual(read_crossings(self.write("x.net.xml", text)), {"L": {4: 9.6}})
+        self.assertEqual(read_crossings(self.write("x.net.xml", text)), {"L": {4: 9.6, 5: 0.0}})
 
     def test_bounds_of_a_phase_are_within_what_it_must_keep(self):
         made = program((40, 60), (None, None), (5, 12), (None, None))

@@ -160,6 +160,11 @@ class Inputs(Case):
             cells = matrices.read_matrices([self.write(name, text)], None)
             known = [(one.begin, one.end, one.source, one.target, one.vehicles) for one in cells]
             self.assertEqual(known[:2], [(25_200, 28_800, "1", "1", 2.0), (25_200, 28_800, "1", "2", 4.0)])
+        for lines in (v.splitlines(), o[: o.index("* some")].splitlines()):
+            for count in range(1, len(lines)):
+                cut = self.write("cut", "\n".join(lines[:count]))
+                with self.subTest(cut=lines[:count]), self.assertRaisesRegex(Fault, "ends (before|after)|from-time"):
+                    matrices.read_matrices([cut], None)
         cells = matrices.read_matrices([self.write("p", "from,to,vehicles\n1,2,7\n")], (0, 900))
         self.assertEqual((cells[0].begin, cells[0].end), (0, 900))
 

@@ -28,6 +28,7 @@ from streetsim.report.page_summary import groups_table, trips_told
 from streetsim.report.plan_costs import PlanCosts
 from streetsim.report.plan_differences import difference_of, mean_delays
 from streetsim.report.run_tables import ResultRow, read_runs
+from streetsim.report.works_queues import LinkOnWay, note_standing
 
 CHROMIUM = shutil.which("chromium") or shutil.which("chromium-browser")
 CORRIDOR = TOOLS / "examples/corridor"
@@ -89,6 +90,16 @@ class Numbers(unittest.TestCase):
         self.assertEqual(shown(6), ("f5f4f3f2f1f0", []))
         self.assertEqual(shown(7), ("f6f5f4f2f1f0", ["of 7)"]))
         self.assertEqual(groups_table(PlanCosts()), "")
+
+    def test_who_stands_at_works(self):
+        """The works begin at 30 m: who stands on the cell from 22.5 to 30 m is right before them, and one on the next
+        cell stands in them. Before they begin, and behind their end, nobody does."""
+        polls = [{"clock": clock, "lanes": [[0, 0, [[1, 3, 0], [2, 4, 0], [3, 1, 0], [4, 0, 2]], [], []]]}
+                 for clock in (290, 300, 600, 610)]  # fmt: skip
+        mapping = SimpleNamespace(links=[SimpleNamespace(metres=75.0, cells=10)])
+        place = SimpleNamespace(begin=300, end=600, way=[LinkOnWay(0, -45.0, 30.0)], standing=[])
+        note_standing(SimpleNamespace(mapping=mapping, polls=lambda: polls), [place])
+        self.assertEqual(place.standing, [(300, 0), (300, 15), (600, 0), (600, 15)])
 
     def test_what_is_told_of_a_movement(self):
         """E and F are worse than D; a change is told from 5 s on, or where it comes with another level of service."""

@@ -23,10 +23,12 @@ from streetsim.control.settings import Settings
 from streetsim.model.mapping import map_from, read_map
 from streetsim.model.runs import Line, Run, read_run
 from streetsim.model.trust import missing_doubts
+from streetsim.observe.giving_way_rounds import Yielding
+from streetsim.search import run_giving_way
 from streetsim.search.run_giving_way import (
-    for_search, giving_session, outcome_giving_way, seconds_of_run, with_gap_lines,
+    for_search, gap_lines, giving_session, outcome_giving_way, seconds_of_run, with_gap_lines,
 )
-from streetsim.search.run_prepared import Outcome, outcome, session_of, vehicle_seconds
+from streetsim.search.run_prepared import Giving, Outcome, outcome, session_of, vehicle_seconds
 from streetsim.search.signal_formulas import Hop, StreetFlows, heaviest_tree, waved, webster_cycle
 from streetsim.search.signal_found import doubts_of, verdict
 from streetsim.search.signal_in_sumo import mean_trip, sumo_for
@@ -163,6 +165,20 @@ class Formulas(unittest.TestCase):
         plan = {"L": PlannedTiming(10, (30, 3, 20, 3)), "M": PlannedTiming(7, (30, 26))}
         streets = StreetFlows(["L", "M"], {"L": ["L", "M"], "M": ["M"]}, {"M": Hop("L", 22.0, 2, 1)}, {})
         self.assertEqual(waved(plan, streets), {**plan, "M": PlannedTiming(35, (30, 26))})
+
+
+class GivingWay(unittest.TestCase):
+    def test_rounds_are_made_where_somebody_gives_way(self):
+        """By runs without rescues, from the search's first clock to its last; without a giving there are none."""
+        giving = Giving(mock.sentinel.run, mock.sentinel.map, 600, frozenset(), 2)
+        parts = dict.fromkeys(("gaps_of", "with_load", "with_signals"), mock.DEFAULT)
+        with mock.patch.multiple(run_giving_way, **parts) as made:
+            self.assertEqual(gap_lines(Mock(giving=None), b"", 7), ([], Yielding()))
+            made["gaps_of"].assert_not_called()
+            self.assertIs(gap_lines(Mock(giving=giving), b"", 7), made["gaps_of"].return_value)
+        made["with_load"].assert_called_with(mock.sentinel.run, seed=7)
+        _, mapping, settings, rounds, *_ = made["gaps_of"].call_args.args
+        self.assertEqual((mapping, settings.until, settings.rescue, rounds), (mock.sentinel.map, 600, 0, 2))
 
 
 class Climbing(unittest.TestCase):

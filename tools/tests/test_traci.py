@@ -24,6 +24,7 @@ from streetsim.base.files import Fault
 from streetsim.model.detectors import Detector
 from streetsim.report.beside_sumo import geh
 from streetsim.scenario import TrafficLight
+from streetsim.simulation import tally
 from streetsim.simulation.fleet import OnRoad
 from streetsim.simulation.lights import LightShow
 from streetsim.simulation.options import OUTPUT, SHORT, check_option
@@ -205,6 +206,16 @@ class Vehicles(Started):
         )
         self.assertEqual((traci.edge.getLastStepMeanSpeed("b"), traci.edge.getTraveltime("b")), (13.89, 75 / 13.89))
         self.assertEqual(traci.vehicle.getWaitingTime("v"), traci.edge.getWaitingTime("a"))
+        self.assertEqual((traci.edge.getLastStepPersonIDs("a"), traci.edge.getLastStepVehicleIDs("a")), ((), ("v",)))
+
+    def test_waiting_is_summed_up_in_parts(self):
+        self.start()
+        with unittest.mock.patch.object(tally, "MOST_KEPT", 3):
+            traci.trafficlight.setRedYellowGreenState("L", "rr")
+            self.steps(30)
+            before = traci.vehicle.getWaitingTime("v")
+            self.steps(10)
+            self.assertEqual(traci.vehicle.getWaitingTime("v") - before, 10)
 
     def test_loop(self):
         """Each vehicle is seen, and the time since counts from the step at which it last was."""
