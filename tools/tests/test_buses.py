@@ -211,6 +211,15 @@ class Bounds(unittest.TestCase):
         others = met(10, 16), met(21, 25), met(18, 18, end=100), met(18, 18, lane=1)
         self.assertEqual(others, (False,) * 4)
 
+    def test_cells_that_works_have_closed(self):
+        """Cells 3 to 5 of lane 0, from 300 s until 600 s: at 600 s they are open."""
+        fleet = BusFleet.__new__(BusFleet)
+        fleet.works = [Closure(0, 0, 3, 5, 300, 600)]
+        found = [fleet.is_at_works(clock, 0, 0, 4) for clock in (299, 300, 599, 600)]
+        self.assertEqual(found, [False, True, True, False])
+        others = [fleet.is_at_works(300, *place) for place in ((0, 0, 2), (0, 0, 6), (0, 1, 4), (1, 0, 4))]
+        self.assertEqual([fleet.is_at_works(300, 0, 0, cell) for cell in (3, 5)] + others, [True] * 2 + [False] * 4)
+
     def test_greens_that_wait_for_a_bus(self):
         """Without bounds of its own a green of 31 s may be as short as its half and longer by the 15 s in which the bus
         is seen; none is shorter than 5 s, or than it is listed. A yellow lasts as long as it does."""

@@ -18,6 +18,7 @@ from streetsim.sumo.import_files import convert
 from streetsim.sumo.net import NetConnection, NetEdge, SumoNet, request_of, wait_inside
 from streetsim.sumo.network import Options
 from streetsim.sumo.signals import AS_MAIN, shown_by_gaps
+from streetsim.sumo.way_minor import Minor
 from streetsim.sumo.yielding import lane_here, lane_queue, lane_there, seconds_for, settle, time_of
 
 # SUMO's vehicles a green by case and way, of the demand with seed 1; a tenth or 0.6 of a vehicle off is allowed.
@@ -150,6 +151,14 @@ class OneLane(Lanes):
         self.assertAlmostEqual(gap_wait(600), 5.227, places=3)
         self.assertAlmostEqual(gap_wait(360), 2.655, places=3)
         self.assertEqual(gap_wait(0), 0)
+
+    def test_wait_without_a_light(self):
+        """For a gap of 6.5 s by Adams' formula, as above; nobody waits where nobody comes, and none for minutes."""
+        minor, gap = Minor.__new__(Minor), SimpleNamespace(before=lambda *_: 6.5)
+        minor.foes = {7: [(1, gap), (2, gap)]}
+        for flows, wait in (((600, 0), 5.227), ((180, 180), 2.655), ((0, 0), 0), ((3600, 3600), 150)):
+            self.assertAlmostEqual(minor.wait(7, [None, *flows].__getitem__), wait, places=3)
+        self.assertEqual(minor.wait(8, None), 0)
 
     def test_until_the_first_that_waits(self):
         # Of three with a share of a half: 1/2 + 1/4 + 1/8.

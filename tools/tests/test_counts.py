@@ -336,6 +336,7 @@ class Judging(Case):
         fit = judging.judged(counts, [90, 110, 100, 104, 500, 0])
         # GEH of 404 and 400 is 0.2; of 500 and 400 it is sqrt(2 * 100^2 / 900) = 4.71.
         self.assertEqual([round(one.geh, 2) for one in fit.hourly], [0.2, 4.71, 0])
+        self.assertEqual([one.meets_criteria for one in (fit, judging.judged(counts[1:2], [101]))], [False, True])
         hours = [(one.counts, one.good, one.meets_criteria) for one in fit.hours]
         self.assertEqual(hours, [(2, 2, False), (1, 1, True)])
         self.assertEqual([(one.group, one.counted, one.passed) for one in fit.groups], [("north", 800, 904)])
@@ -595,6 +596,9 @@ class Fit(Tool):
         pairs = [Pair(f"from {at}", f"to {at}", {}, {}, *both) for at, both in enumerate(ends)]
         ways = [Way(at, (2 * at, 2 * at + 1), 60.0, 1.0, 60.0, 1.0) for at in range(3)]
         self.assertEqual(Expecting(ways, pairs, Slices((0, 900), False), 0.05).outside.tolist(), [4, 2, 1])
+
+    def test_slices_have_their_seconds(self):
+        self.assertEqual(Slices((0, 900, 1200), False).widths(), [900, 300])
 
     def test_a_route_of_a_file_that_turns_back(self):
         """10 s on each of both edges, and TURN_BACK between, as by the costs of the fit."""

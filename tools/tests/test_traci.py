@@ -216,6 +216,7 @@ class Vehicles(Started):
             before = traci.vehicle.getWaitingTime("v")
             self.steps(10)
             self.assertEqual(traci.vehicle.getWaitingTime("v") - before, 10)
+            self.assertEqual(traci.vehicle.getAccumulatedWaitingTime("v"), traci.vehicle.getWaitingTime("v") + 1)
 
     def test_loop(self):
         """Each vehicle is seen, and the time since counts from the step at which it last was."""
