@@ -208,6 +208,14 @@ class Vehicles(Started):
         self.assertEqual(traci.vehicle.getWaitingTime("v"), traci.edge.getWaitingTime("a"))
         self.assertEqual((traci.edge.getLastStepPersonIDs("a"), traci.edge.getLastStepVehicleIDs("a")), ((), ("v",)))
 
+    def test_junctions(self):
+        """Their outlines are closed, as SUMO's are."""
+        outline = SIGNALLED.replace('<junction id="B"', '<junction id="B" shape="0,0 5,0 5,5"')
+        self.start(outline)
+        self.assertEqual(traci.junction.getIDList(), ("A", "B", "C", "D"))
+        shapes = [tuple(traci.junction.getShape(name)) for name in "AB"]
+        self.assertEqual(shapes, [(), ((0, 0), (5, 0), (5, 5), (0, 0))])
+
     def test_waiting_is_summed_up_in_parts(self):
         self.start()
         with unittest.mock.patch.object(tally, "MOST_KEPT", 3):
