@@ -1135,6 +1135,13 @@ class Lights(Started):
         self.assertEqual([light.phase_at(clock) for clock in (105, 106)], [(1, 20), (1, 19)])
 
 
+class Facts(Case):
+    def test_types_and_routes_of_files(self):
+        path = self.write("r.xml", '<routes><vType id="t" accel="1"/><route id="r" edges="a b"/><vType/></routes>')
+        facts = read_facts(self.write("x.net.xml", FORK), [], [path])
+        self.assertEqual((facts.types, facts.routes), ({"t": {"id": "t", "accel": "1"}}, {"r": ("a", "b")}))
+
+
 class Spoilt(Case):
     def test_an_attribute_that_cannot_be_read(self):
         text = SIGNALLED.replace("<junction", '<location convBoundary="0,0,1,1"/><junction', 1).replace(
