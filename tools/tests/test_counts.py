@@ -18,7 +18,7 @@ from streetsim.cli import compare, demand
 from streetsim.demand import checking, demanding, judging, matrices, ratios, reading, science, zones
 from streetsim.demand.candidates import End, Pair, Way, with_given_routes
 from streetsim.demand.cells import clock_of
-from streetsim.demand.correcting import full_edges
+from streetsim.demand.correcting import corrected_counts, full_edges
 from streetsim.demand.fitting import Expecting
 from streetsim.demand.judging import ComparedCount, differences_of, is_part_of, without_parts
 from streetsim.demand.passing import CountsByEdges, Slices
@@ -266,6 +266,19 @@ class Inputs(Case):
         graph = Graph("abc", [("a", "b"), ("a", "c"), ("b", "c")], {name: (name, name + "+") for name in "abc"})
         lost = dict.fromkeys(graph.movements, 0.0) | {(0, 1): 120.5, (0, 2): 150.0, (1, 2): 120.0}
         self.assertEqual(full_edges(graph, list(lost.values())), {0: 150.0})
+
+    def test_counts_that_the_next_fit_is_to_meet(self):
+        """100 were counted on each edge, and the last fit was to meet 80 and 100; by the seconds of its run 100 would
+        pass, and 120 and 90 did: 90 less half of 20, and 100 more half of 10. At a full edge it is what was counted."""
+        counts = [Count(0, 900, (edge,), 100, "") for edge in "ab"]
+        graph = Graph("ab", [], {name: (name, name + "+") for name in "ab"})
+        basis = SimpleNamespace(counts=counts, town=SimpleNamespace(graph=graph))
+        fitted = SimpleNamespace(whole=numpy.array([100.0, 100.0]))
+        for full, wanted in (({}, [80, 105]), ({0: 150.0}, [100, 105])):
+            one = SimpleNamespace(fitted=fitted, passed=[120.0, 90.0], full=full)
+            with mock.patch("streetsim.demand.correcting.passing_by_class", return_value=numpy.eye(2)):
+                found = corrected_counts(basis, one, None, numpy.array([100.0, 100.0]), numpy.array([80.0, 100.0]))
+            self.assertEqual(found.tolist(), wanted)
 
     def test_ratios_of_many_periods_are_read_once_each(self):
         class Watched(Ratio):

@@ -85,6 +85,9 @@ class Logic(unittest.TestCase):
         told = drive(program, {6: range(11)}, 15)
         self.assertEqual(told, [(1, 0, 5, "gap"), (2, 10, 5, "gap"), (6, 0, 15, "barrier")])
 
+    def test_a_green_is_thought_to_last_the_mean_of_its_bounds(self):
+        self.assertEqual(RingPhase(2, "G", 5.0, 41.0, 2.0, 3.0, 1.0, ()).usual, 23.0)
+
     def test_greens_under_way_end_with_the_run(self):
         """Of one from 100 s on 30 are told up to 130 s; none of one that begins then, nor of a yellow."""
         def running(number, began, green):
