@@ -5,11 +5,12 @@ import unittest
 from math import inf
 from types import SimpleNamespace
 
-from support import PROGRAM, Case, lane, needs_simulator, net
+from support import MAP, PROGRAM, Case, lane, needs_simulator, net
 from streetsim.base.report import Report
 from streetsim.control.actuated_detectors import DetectorSpot, Layout, LeadingLane, LitLane, LitTurn, extending, spots
 from streetsim.control.actuated_driver import Driver
-from streetsim.control.actuated_lights import Driven, driven_lights, phase_of
+from streetsim.control.actuated_kept import Cell, Listed
+from streetsim.control.actuated_lights import Driven, driven_lights, own_detectors, phase_of
 from streetsim.control.actuated_logic import Actuated, ActuatedPhase as Phase, EndedPhase
 from streetsim.control.actuated_showing import NodesOfLight, lasting, plan_command
 from streetsim.control.bus_coordinated import Coordinated
@@ -172,6 +173,19 @@ class Detectors(unittest.TestCase):
     def test_a_lane_that_leads_to_a_red_one_of_the_same_light_does_not(self):
         row = [LitTurn(0, "a_0", "b_0"), LitTurn(1, "b_0", "y_0")]
         self.assertEqual(self.extended(row, ["Gr", "GG"]), [[], ["a_0", "b_0"]])
+
+
+class OwnLoops(unittest.TestCase):
+    def test_lanes_with_loops_of_the_user(self):
+        """As SUMO has it: a lane's name is the parameter, its value the loop, or NO_DETECTOR; an e2 is no loop."""
+        mapping = map_from("", {**MAP, "detectors": [["loop", "e1", 0, 0, 3, 3, 10], ["area", "e2", 0, 0, 0, 5, 10]]})
+
+        def found(**parameters):
+            return own_detectors(Layout([], ["a_0", "b_0"], parameters), mapping)
+
+        self.assertEqual(found(a_0="NO_DETECTOR", b_0="loop", z="area"), {"b_0": Cell(0, 0, 3)})
+        with self.assertRaisesRegex(Listed, "no inductionLoop area"):
+            found(a_0="area")
 
 
 class Reading(unittest.TestCase):

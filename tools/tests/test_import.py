@@ -2,18 +2,38 @@
 import gzip
 import json
 import unittest
+from types import SimpleNamespace
 
 from support import FORK, PROGRAM, SCENARIOS, SHARED, Case, lane, needs_simulator, needs_sumo_tools, net
 from streetsim.base.client import Client
 from streetsim.base.files import Fault
 from streetsim.base.report import Report
+from streetsim.model.fullness import LEFT, RIGHT, STRAIGHT, TURNAROUND
 from streetsim.sumo.converting import refuse_over_limits
+from streetsim.sumo.full import ways_of
 from streetsim.sumo.import_files import convert
-from streetsim.sumo.net import read_net
-from streetsim.sumo.network import Options
+from streetsim.sumo.net import SumoNet, read_net
+from streetsim.sumo.network import Options, names_of
 
 # Seconds for a metre by km/h, of SUMO 1.15's usual cars.
 SUMO_SECONDS = {20: 0.20667, 30: 0.13197, 50: 0.07648, 70: 0.05388, 100: 0.03730, 130: 0.02854}
+
+
+class Parts(unittest.TestCase):
+    """What is taken of a network."""
+
+    def test_names(self):
+        net = SumoNet(called={"B": "Market", "Z": "nowhere"})
+        edges = [SimpleNamespace(name="a", street="Hill Street"), SimpleNamespace(name="b", street="")]
+        self.assertEqual(names_of(net, edges, "AB"), {"edges": {"a": "Hill Street"}, "junctions": {"B": "Market"}})
+        self.assertEqual([names_of(net, edges[1:], "AB"), names_of(net, edges, "A"), names_of(net, [], "A")],
+                         [{"junctions": {"B": "Market"}}, {"edges": {"a": "Hill Street"}}, {}])
+
+    def test_directions(self):
+        """As SUMO writes them: l and L (partly left), r and R, t (back), s, and what else there is is straight on."""
+        pairs = [SimpleNamespace(source="a", target=direction, direction=direction) for direction in "lLrRts"]
+        told = {"l": LEFT, "L": LEFT, "r": RIGHT, "R": RIGHT, "t": TURNAROUND, "s": STRAIGHT}
+        self.assertEqual(ways_of(SumoNet(connections=pairs)), {("a", name): way for name, way in told.items()})
 
 
 class Networks(Case):

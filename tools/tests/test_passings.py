@@ -6,6 +6,7 @@ from seen import kernel_of, made, show
 from support import DATA, MAP, PROGRAM, Case, needs_simulator
 from streetsim.control.settings import Settings
 from streetsim.kernel.loop import Observer
+from streetsim.kernel.progress import ProgressReports
 from streetsim.kernel.seconds import Takeout
 from streetsim.model.mapping import map_from
 from streetsim.model.runs import read_with_map
@@ -20,6 +21,15 @@ ONE = [
     *((clock, [[0, 1, [], []]]) for clock in (10, 11)),
     *((clock, [[1, 0, [[0, clock - 12, 1]], []]]) for clock in range(12, 15)),
 ]
+
+
+class Told(unittest.TestCase):
+    def test_how_far_a_run_is(self):
+        """Two are on cells, and then one of them behind its stop line."""
+        told, frames = [], [(1, [[0, 0, [[0, 5, 2], [1, 3, 2]], []]]), (2, [[0, 0, [[1, 5, 2]], [0]]])]
+        show(kernel_of(map_from("", MAP), [[0, 1]] * 2), frames, ProgressReports(lambda *one: told.append(one)), parts=2)
+        found = [(clock, one.cells, one.buffers, one.admitted) for clock, one in told]
+        self.assertEqual(found, [(1, 2, 0, 2), (2, 1, 1, 2)])
 
 
 class ByHand(unittest.TestCase):

@@ -8,6 +8,7 @@ import subprocess
 import unittest
 from dataclasses import asdict, replace
 from importlib.util import find_spec
+from types import SimpleNamespace
 from unittest import mock
 
 from support import MAP, PROGRAM, TOOLS, Case, needs_package, needs_simulator
@@ -20,12 +21,14 @@ from streetsim.model.replications import WORD
 from streetsim.model.service import COLOURS, WHITE_LETTERS
 from streetsim.model.tables import APPROACHES, JUNCTIONS, MOVEMENTS, SEEDS, TRIPS, write_table
 from streetsim.report.forecast_errors import PAGE, errors_table
-from streetsim.report.page_drawings import anchor, queue_picture
+from streetsim.report.page_choice import RowChange
+from streetsim.report.page_drawings import anchor, letter_mark, queue_picture
 from streetsim.report.page_junctions import full_mark
-from streetsim.report.page_summary import state_verdict, trips_told
+from streetsim.report.page_summary import groups_table, state_verdict, trips_told
 from streetsim.report.plan_costs import PlanCosts
 from streetsim.report.plan_differences import difference_of, mean_delays
 from streetsim.report.run_tables import ResultRow, read_runs
+from streetsim.report.works_queues import LinkOnWay, note_standing
 
 CHROMIUM = shutil.which("chromium") or shutil.which("chromium-browser")
 CORRIDOR = TOOLS / "examples/corridor"
@@ -75,6 +78,42 @@ class Numbers(unittest.TestCase):
         self.assertEqual(trips_told(PlanCosts(lost=2, won=3)), ["No trip arrived with both plans.", alone])
         self.assertEqual(trips_told(PlanCosts([20], lost=2, won=3))[1:], [alone])
         self.assertEqual(trips_told(PlanCosts()), ["No trip arrived with both plans."])
+
+    def test_flows_that_lose_and_that_win(self):
+        """Six flows all stand in the table; of seven the three that lose most and the three that win most."""
+        def shown(count):
+            sides = {f"f{at}": ({1: 50.0, 2: 50.0}, {1: 50.0 + at, 2: 50.0 + at}) for at in range(count)}
+            flows = {name: (10, difference_of(*both, drawn=False)) for name, both in sides.items()}
+            text = groups_table(PlanCosts(groups=flows))
+            return "".join(re.findall(r"f\d", text)), re.findall(r"of [\d,]+\)", text)
+
+        self.assertEqual(shown(6), ("f5f4f3f2f1f0", []))
+        self.assertEqual(shown(7), ("f6f5f4f2f1f0", ["of 7)"]))
+        self.assertEqual(groups_table(PlanCosts()), "")
+
+    def test_who_stands_at_works(self):
+        """The works begin at 30 m: who stands on the cell from 22.5 to 30 m is right before them, and one on the next
+        cell stands in them. Before they begin, and behind their end, nobody does."""
+        polls = [{"clock": clock, "lanes": [[0, 0, [[1, 3, 0], [2, 4, 0], [3, 1, 0], [4, 0, 2]], [], []]]}
+                 for clock in (290, 300, 600, 610)]  # fmt: skip
+        mapping = SimpleNamespace(links=[SimpleNamespace(metres=75.0, cells=10)])
+        place = SimpleNamespace(begin=300, end=600, way=[LinkOnWay(0, -45.0, 30.0)], standing=[])
+        note_standing(SimpleNamespace(mapping=mapping, polls=lambda: polls), [place])
+        self.assertEqual(place.standing, [(300, 0), (300, 15), (600, 0), (600, 15)])
+
+    def test_what_is_told_of_a_movement(self):
+        """E and F are worse than D; a change is told from 5 s on, or where it comes with another level of service."""
+        def row(letter, before="C", seconds=0.0):
+            own = [SimpleNamespace(letter=lambda one=one: one) for one in (letter, before)]
+            delays = [dict.fromkeys((1, 2), delay) for delay in (50.0, 50.0 + seconds)]
+            return RowChange((), *own, difference_of(*delays, drawn=False))
+
+        self.assertEqual([letter for letter in "ABCDEF" if row(letter).is_bad], ["E", "F"])
+        self.assertEqual([letter_mark(letter) for letter in "AF"],
+                         [f'<span class="los los-{letter}">{letter}</span>' for letter in "AF"])
+        noticed = row("C", seconds=5.0), row("C", seconds=-5.0), row("D", seconds=4.9)
+        self.assertEqual([one.changes_noticeably for one in noticed], [True] * 3)
+        self.assertEqual([one.changes_noticeably for one in (row("C", seconds=4.9), row("D"))], [False] * 2)
 
     def test_queues(self):
         """Bars of 480 pixels for the longest: 75 of 150 m are 240. A full edge has the gap behind its last vehicle."""

@@ -21,6 +21,7 @@ from streetsim.base.files import Fault
 from streetsim.simulation.errors import FatalTraCIError
 from streetsim.simulation.options import read_options
 from streetsim.traci import constants as tc, domain, server
+from streetsim.traci.answering import ReadCall
 from streetsim.traci.protocol import MOST_MESSAGE, BadMessage, ValueReader, command, double, string, strings, text
 from streetsim.traci.server import OK_STATES, Server, TraciClient, listen
 from streetsim.traci.table import DOMAINS, GETS, SETS
@@ -87,6 +88,17 @@ def values_behind(body, at, state):
             break
         at += length
     return at - begin
+
+
+class Answers(unittest.TestCase):
+    def test_a_message_begins_with_its_length(self):
+        """The four bytes of the length count too, as SUMO's pages on TraCI's messages have it."""
+        whole = ReadCall(0xA4, lambda: 7, (), b"head", "i", struct.Struct(">i").pack)
+        sized = ReadCall(0xA4, lambda: ("a", "bc"), (), b"head", "l")
+        self.assertEqual(whole.message()(), struct.pack(">i4si", 12, b"head", 7))
+        for one in (whole, sized):
+            made = one.message()()
+            self.assertEqual((int.from_bytes(made[:4], "big"), made[4:]), (len(made), one.answer()))
 
 
 @needs_simulator

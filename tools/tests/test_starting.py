@@ -72,6 +72,11 @@ class Asked(Case):
         with redirect_stderr(StringIO()) as said:
             self.assertEqual(status_of(main), 130)
         self.assertIn(": ended by Ctrl-C: nothing was written\n", said.getvalue())
+        for number, name in ((signal.SIGTERM, "SIGTERM"), (signal.SIGHUP, "SIGHUP")):
+            ASKED[:] = [number]
+            with redirect_stderr(StringIO()) as said:
+                self.assertEqual(status_of(lambda _: int("wrong")), 128 + number)
+            self.assertIn(f": ended by {name}: nothing was written\n", said.getvalue())
         ASKED.clear()
         with self.assertRaisesRegex(ValueError, "wrong"):
             status_of(lambda _: int("wrong"))

@@ -24,6 +24,7 @@ from streetsim.base.files import Fault
 from streetsim.model.detectors import Detector
 from streetsim.report.beside_sumo import geh
 from streetsim.scenario import TrafficLight
+from streetsim.simulation import tally
 from streetsim.simulation.fleet import OnRoad
 from streetsim.simulation.lights import LightShow
 from streetsim.simulation.options import OUTPUT, SHORT, check_option
@@ -205,6 +206,25 @@ class Vehicles(Started):
         )
         self.assertEqual((traci.edge.getLastStepMeanSpeed("b"), traci.edge.getTraveltime("b")), (13.89, 75 / 13.89))
         self.assertEqual(traci.vehicle.getWaitingTime("v"), traci.edge.getWaitingTime("a"))
+        self.assertEqual((traci.edge.getLastStepPersonIDs("a"), traci.edge.getLastStepVehicleIDs("a")), ((), ("v",)))
+
+    def test_junctions(self):
+        """Their outlines are closed, as SUMO's are."""
+        outline = SIGNALLED.replace('<junction id="B"', '<junction id="B" shape="0,0 5,0 5,5"')
+        self.start(outline)
+        self.assertEqual(traci.junction.getIDList(), ("A", "B", "C", "D"))
+        shapes = [tuple(traci.junction.getShape(name)) for name in "AB"]
+        self.assertEqual(shapes, [(), ((0, 0), (5, 0), (5, 5), (0, 0))])
+
+    def test_waiting_is_summed_up_in_parts(self):
+        self.start()
+        with unittest.mock.patch.object(tally, "MOST_KEPT", 3):
+            traci.trafficlight.setRedYellowGreenState("L", "rr")
+            self.steps(30)
+            before = traci.vehicle.getWaitingTime("v")
+            self.steps(10)
+            self.assertEqual(traci.vehicle.getWaitingTime("v") - before, 10)
+            self.assertEqual(traci.vehicle.getAccumulatedWaitingTime("v"), traci.vehicle.getWaitingTime("v") + 1)
 
     def test_loop(self):
         """Each vehicle is seen, and the time since counts from the step at which it last was."""
@@ -1113,6 +1133,13 @@ class Lights(Started):
         self.assertEqual(told, [(1, 0), (0, 9), (0, 0), (1, 19), (1, 0), (0, 9)])
         light.since = 105  # a script has set its second phase then
         self.assertEqual([light.phase_at(clock) for clock in (105, 106)], [(1, 20), (1, 19)])
+
+
+class Facts(Case):
+    def test_types_and_routes_of_files(self):
+        path = self.write("r.xml", '<routes><vType id="t" accel="1"/><route id="r" edges="a b"/><vType/></routes>')
+        facts = read_facts(self.write("x.net.xml", FORK), [], [path])
+        self.assertEqual((facts.types, facts.routes), ({"t": {"id": "t", "accel": "1"}}, {"r": ("a", "b")}))
 
 
 class Spoilt(Case):
