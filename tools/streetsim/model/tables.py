@@ -73,7 +73,10 @@ def guarded_rows(rows: Iterable[Iterable[object]]) -> Iterator[Iterable[object]]
     left = map(tuple, rows)
     while part := list(islice(left, AT_ONCE)):
         texts = (cell for cell in set(chain.from_iterable(part)) if isinstance(cell, str))
-        yield from part if all(guarded(text) == text for text in texts) else map(guarded_row, part)
+        if all(guarded(text) == text for text in texts):
+            yield from part
+        else:
+            yield from map(guarded_row, part)
 
 
 def guarded_row(row: Iterable[object]) -> list[object]:
