@@ -70,10 +70,13 @@ def open_table(path: FilePath, header: Sequence[str]) -> Iterator[Write]:
 
 def guarded_rows(rows: Iterable[Iterable[object]]) -> Iterator[Iterable[object]]:
     """Rows whose texts are guarded. Of many rows each text is looked at once, as hardly any needs it."""
-    left = map(tuple, rows)
+    left = (tuple(row) for row in rows)
     while part := list(islice(left, AT_ONCE)):
         texts = (cell for cell in set(chain.from_iterable(part)) if isinstance(cell, str))
-        yield from part if all(guarded(text) == text for text in texts) else map(guarded_row, part)
+        if all(guarded(text) == text for text in texts):
+            yield from part
+        else:
+            yield from map(guarded_row, part)
 
 
 def guarded_row(row: Iterable[object]) -> list[object]:
