@@ -48,9 +48,8 @@ def common_seeds(plans: Sequence[Runs]) -> int:
 def departures_told(plans: Sequence[Runs]) -> str:
     """How the vehicles of the runs depart, and of what days intervals are, in plain text."""
     drawn, seeds = are_drawn(plans), common_seeds(plans)
-    if seeds > 1:
-        return "; ".join(told_of_days(drawn, seeds))
-    return "departures drawn" if drawn else "departures as listed"
+    usual = "departures drawn" if drawn else "departures as listed"
+    return "; ".join(told_of_days(drawn, seeds)) if seeds > 1 else usual
 
 
 def question_html(question: str, plans: Sequence[Runs], shown: Interval) -> str:
@@ -118,11 +117,11 @@ def state_verdict(runs: Runs, shown: Interval) -> str:
     letter, name = worst.row.letter(), runs.names.junction_told(worst.key[0])
     if len(rows) == 1:
         return f"{first} {name} has level of service {letter}."
-    all_ = "Every junction has level of service D or better"
+    told = "Every junction has level of service D or better"
     if bad:
         have = f"{'has' if bad == 1 else 'have'} a level of service worse than D"
-        all_ = f"{count_in_words(bad).capitalize()} of {counted_noun(len(rows), 'junction')} {have}"
-    return f"{first} {all_}; the worst is {letter}, at {name}."
+        told = f"{count_in_words(bad).capitalize()} of {counted_noun(len(rows), 'junction')} {have}"
+    return f"{first} {told}; the worst is {letter}, at {name}."
 
 
 def service_and_works_map(runs: Runs, shown: Interval, rows: Sequence[RowChange] = (), detailed: int = 0) -> str:
@@ -247,9 +246,8 @@ def worst_movements(movements: Sequence[RowChange], runs: Runs) -> list[str]:
         return f"{names.movement(edge, to)} ({edge} to {to}) at {names.junction_told(junction)}"
 
     worst = max(busy, key=lambda one: one.row.delay)
-    level = f"level of service {worst.row.letter()}"
-    hourly = f"{worst.row.values['vehicles_per_hour']:.0f} vehicles an hour"
-    texts = [f"Longest delay: {called(worst)}, {worst.row.delay:.0f} s, {level}, {hourly}."]
+    level, hourly = worst.row.letter(), f"{worst.row.values['vehicles_per_hour']:.0f} vehicles an hour"
+    texts = [f"Longest delay: {called(worst)}, {worst.row.delay:.0f} s, level of service {level}, {hourly}."]
     losing = [(one.change, one) for one in busy if one.change and one.change.stands_out() and one.change.change > 0]
     if losing:
         change, most = max(losing, key=lambda pair: pair[0].change)
@@ -268,14 +266,12 @@ def doubted(plans: Sequence[Runs], more: Sequence[str] = ()) -> str:
         texts += [f"{runs.name} is not to be trusted: {doubt}" for doubt in doubts]
         if not doubts:
             texts.append(f"{runs.name}: nothing that a run checks of itself speaks against it.")
-    texts += more
-    texts += growth_doubts(plans)
+    texts += [*more, *growth_doubts(plans)]
     if (seeds := common_seeds(plans)) < 2:
         texts.append("One run says nothing of chance: streetsim-run --seeds 1-5 makes several.")
     elif not are_drawn(plans):
         texts += [f"{text.capitalize()}." for text in told_of_days(False, seeds)]
-    heavy = list(dict.fromkeys(row[1] for runs in plans for row in runs.first.mapping.told if row[0] == HEAVY))
-    if heavy:
+    if heavy := [*dict.fromkeys(row[1] for runs in plans for row in runs.first.mapping.told if row[0] == HEAVY)]:
         first = heavy[0] if len(heavy[0]) < LONG else heavy[0][: LONG - 3] + ".."
         told = f"The import told {counted_noun(len(heavy), 'thing')} that may change results"
         texts.append(f"{told} (appendix){'; the first' if len(heavy) > 1 else ''}: {first}.")
