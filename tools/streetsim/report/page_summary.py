@@ -97,13 +97,16 @@ def change_verdict(plans: Sequence[Runs], shown: Interval) -> str:
         first = f"With '{name}' a trip takes {means}: {change_in_words(trip)}."
     if not delay:
         return f"{first} No junction has vehicles with both plans."
+    means = f"{delay.after:.1f} s, and {delay.before:.1f} s before"
+    told = f"{first} A vehicle's mean delay at a junction is {means}: {change_in_words(delay)}"
+    if delay.half is None:
+        return f"{told}."
     rows = ranked_rows(plans, shown)
     changed = changes_that_stand_out(rows).values()
     less, more = (sum((change > 0) == up for change in changed) for up in (False, True))
     fewer, greater = (count_in_words(count) if count else "none" for count in (less, more))
-    counts = f"at {fewer} of {counted_noun(len(rows), 'junction')} it is less {how_sure(drawn)}, at {greater} more"
-    means = f"{delay.after:.1f} s, and {delay.before:.1f} s before"
-    return f"{first} A vehicle's mean delay at a junction is {means}: {change_in_words(delay)}; {counts}."
+    of = f"{fewer} of {counted_noun(len(rows), 'junction')}"
+    return f"{told}; at {of} it is less {how_sure(drawn)}, at {greater} more."
 
 
 def state_verdict(runs: Runs, shown: Interval) -> str:
@@ -117,11 +120,10 @@ def state_verdict(runs: Runs, shown: Interval) -> str:
     letter, name = worst.row.letter(), runs.names.junction_told(worst.key[0])
     if len(rows) == 1:
         return f"{first} {name} has level of service {letter}."
-    told = "Every junction has level of service D or better"
-    if bad:
-        have = f"{'has' if bad == 1 else 'have'} a level of service worse than D"
-        told = f"{count_in_words(bad).capitalize()} of {counted_noun(len(rows), 'junction')} {have}"
-    return f"{first} {told}; the worst is {letter}, at {name}."
+    if not bad:
+        return f"{first} Every junction has level of service {letter} or better; the worst is {name}."
+    have = f"{'has' if bad == 1 else 'have'} a level of service worse than D; the worst is {letter}, at {name}"
+    return f"{first} {count_in_words(bad).capitalize()} of {counted_noun(len(rows), 'junction')} {have}."
 
 
 def service_and_works_map(runs: Runs, shown: Interval, rows: Sequence[RowChange] = (), detailed: int = 0) -> str:
