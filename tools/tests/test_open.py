@@ -124,7 +124,7 @@ class Open(Case):
             check=True, env={**os.environ, "STREETSIM_PROGRAM": PROGRAM},
         )  # fmt: skip
         self.assertNotIn("not to be trusted", done.stdout)
-        self.assertGreater(int((self.folder / "works/works.csv").read_text().splitlines()[1].split(",")[6]), 0)
+        self.assertGreater(int((self.folder / "works/seed-1/works.csv").read_text().splitlines()[1].split(",")[6]), 0)
 
     @needs_simulator
     def test_a_folder_with_a_configuration(self):

@@ -204,7 +204,7 @@ class Pages(Given):
         told = "One of three junctions has a level of service worse than D; the worst is F, at Junction B."
         self.assertIn(told, state_verdict(runs, shown))
         del junctions["B",]
-        told = "Every junction has level of service D or better; the worst is D, at Junction C."
+        told = "Every junction has level of service D or better; the worst is Junction C."
         self.assertIn(told, state_verdict(runs, shown))
 
     def test_means_over_seeds(self):

@@ -207,7 +207,8 @@ class Climbing(unittest.TestCase):
         self.assertEqual(len({(one["L"].offset, one["M"].offset) for one in asked}), len(asked))
 
     def streets(self):
-        return type("Streets", (), {"order": ["L", "M"], "behind": {"L": ["L", "M"], "M": ["M"]}, "hops": {}, "loads": {}})
+        behind = {"L": ["L", "M"], "M": ["M"]}
+        return type("Streets", (), {"order": ["L", "M"], "behind": behind, "hops": {}, "loads": {}})
 
     def test_how_many_climbs_there_are_is_known_before(self):
         for changed in (["offsets"], ["offsets", "splits"]):

@@ -430,8 +430,8 @@ def end_by_signal(number: int, _frame: FrameType | None) -> NoReturn:
 
 
 def end_again(_number: int, _frame: FrameType | None) -> None:
-    """Handles the timer that end_by_signal has set: raises its SystemExit again where that got lost, as Python drops what
-    is raised while it forgets an object; leaves it alone where it is on its way, through what cleans up."""
+    """Handles the timer that end_by_signal has set: raises its SystemExit again where that got lost, as Python drops
+    what is raised while it forgets an object; leaves it alone where it is on its way, through what cleans up."""
     fault = sys.exc_info()[1]
     while fault and not isinstance(fault, SystemExit):
         fault = fault.__context__

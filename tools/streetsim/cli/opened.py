@@ -27,8 +27,8 @@ from streetsim.report.run_tables import Runs, read_folders, read_runs
 from streetsim.report.timing_sheets import clashes
 
 SEARCH = (
-    "(some minutes; Ctrl-C ends it with the best so far; where SUMO is installed "
-    '<span class="ids">--verify-sumo</span> judges by it too)'
+    "(some minutes; Ctrl-C ends it with the best so far; where vehicles that turn wait for gaps in oncoming traffic, "
+    'the plan is trusted only if SUMO judges it too: <span class="ids">--verify-sumo</span>)'
 )
 ONLY = "(the only lane of its street: who comes meanwhile waits, as ways round it are found by streetsim-route --close)"
 PLAYED = 600  # seconds that the page plays
@@ -108,6 +108,8 @@ def next_told(runs: Runs, run: str) -> str:
     net = net_of(folder, name)
     lane, metres, is_only = lane_to_close(folder)
     works = f"{lane}:{int(metres / 2)}-{int(metres / 2 + min(metres / 4, 100))}:{closing(folder)}"
+    edge, seeds = lane.rpartition("_")[0], ("--seeds", "1-5", "--junctions", "900")
+    joint = () if is_only or len(folder.mapping.links_of[edge]) == 1 else ("--joint", edge)
     own = os.path.normpath(folder.path)
     questions = (
         (
@@ -116,11 +118,14 @@ def next_told(runs: Runs, run: str) -> str:
         ),
         (
             "What if a lane is closed?",
-            command("streetsim-run", name, "--close", works, "--junctions", "900", "--out", "works")
-            + "<br>" + command("streetsim-report", own, "works") + (f"<br>{escape(ONLY)}" if is_only else ""),
+            "<br>".join((
+                command("streetsim-run", name, *joint, *seeds, "--out", "before"),
+                command("streetsim-run", name, "--close", works, *seeds, "--out", "works"),
+                command("streetsim-report", "before", "works"), *([escape(ONLY)] if is_only else []),
+            )),  # fmt: skip
         ),
         ("Does it fit counts?", command("streetsim-compare", own, "--counts", "counts.csv")),
-        ("Is it chance? Five other days:", command("streetsim-run", name, "--seeds", "1-5", "--junctions", "900")),
+        ("Is it chance? Five other days:", command("streetsim-run", name, *seeds)),
         ("A report to hand in:", command("streetsim-report", own, "--title", "Title", "-o", "report.html")),
     )
     return facts(questions)

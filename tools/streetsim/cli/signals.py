@@ -46,8 +46,8 @@ def parser() -> Parser:
             "streetsim-signals zero.jsonl --plans corridor.net.xml.gz --until 4500 --vary splits,cycle --budget 200",
         ),
         description="Finds signal plans by simulation: cycles, splits and offsets under which trips are shorter. "
-        "The order of phases, yellow and all-red stay. What is found is a proposal to be checked. A terminal shows how far "
-        "the search is; elsewhere each stage ends with a line on standard error.",
+        "The order of phases, yellow and all-red stay. What is found is a proposal to be checked. A terminal shows how "
+        "far the search is; elsewhere each stage ends with a line on standard error.",
     )
     add_run(made)
     made.add_argument(

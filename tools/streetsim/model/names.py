@@ -61,11 +61,11 @@ class Names:
 
     def movement(self, edge: str, to: str) -> str:
         """What the movement from an edge to the next is called: 'Hill Street into Market Street, from the north', or
-        'along Hill Street, from the north to the south'; by directions where a street has no name."""
+        'along Hill Street, from the north to the south' or 'and back'; by directions where a street has no name."""
         street, following = self.street(edge), self.street(to)
         coming, going = self.coming_from(edge), self.going_to(to)
         if coming and coming.removeprefix("from ") == going.removeprefix("to "):
-            going = f"back {going}"
+            going = "and back"
         if street and street == following:
             return f"along {street}, {coming} {going}"
         target = f"into {following}" if following else going

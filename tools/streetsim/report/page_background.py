@@ -38,21 +38,17 @@ def what_was_run(all_runs: Sequence[Runs]) -> str:
         places = f"{len(mapping.links_of):,} edges, {len(mapping.nodes):,} junctions"
         times = f"{time_of_day(made.get('start', 0))} to {time_of_day(made.get('until', 0))}"
         seeds = ", ".join(map(str, runs.folders))
-        departs = "drawn by each seed" if runs.is_drawn else "as listed"
+        departs, dawdle = "drawn by each seed" if runs.is_drawn else "as listed", runs.first.dawdle
+        slow = f"dawdle {dawdle} (in each second {dawdle / 10:g} % of drivers slow down by chance)"
         rows += [
             (f"<b>{escape(runs.name)}</b>", escape(made.get("run", ""))),
             ("files of the import", escape(", ".join(files)) or "not told by the map"),
             ("network", f"{places}, {len(mapping.signals):,} with signals"),
             ("demand", f"{runs.vehicles:,.0f} vehicles, departures {departs}"),
-            ("time", f"{times}, seeds {seeds}, {dawdle_told(runs.first.dawdle)}"),
+            ("time", f"{times}, seeds {seeds}, {slow}"),
             ("program", f"SHA-256 {escape(made.get('program') or 'not told')}"),
         ]
     return facts(rows)
-
-
-def dawdle_told(dawdle: int) -> str:
-    """The word of the import for drivers who are slower than they could be, with what it is; dawdle: of 1,000."""
-    return f"dawdle {dawdle} (in each second {dawdle / 10:g} % of drivers slow down by chance)"
 
 
 def warnings(all_runs: Sequence[Runs]) -> str:

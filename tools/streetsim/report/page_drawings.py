@@ -107,8 +107,7 @@ def queue_picture(rows: Sequence[tuple[str, float, float, float, float]]) -> str
         title = f"{name}: 50 % {half:.0f} m, 95 % {usual:.0f} m, greatest {greatest:.0f} m of {room:.0f} m"
         over = ", fills the edge" if greatest > 0 and fills(greatest, room) else ""
         parts.append(
-            f"<g><title>{escape(title)}</title>"
-            f'<text x="{left:g}" y="{y + 13}" text-anchor="end">{escape(name)}</text>'
+            f'<g><title>{escape(title)}</title><text x="{left:g}" y="{y + 13}" text-anchor="end">{escape(name)}</text>'
             f'<g transform="translate({left + 6:g} {y})">'
             f'<rect width="{room * scale:.1f}" height="18" fill="#fff" stroke="#666"/>'
             f'<rect y="3" width="{usual * scale:.1f}" height="12" fill="#9ecae1"/>'
@@ -116,5 +115,5 @@ def queue_picture(rows: Sequence[tuple[str, float, float, float, float]]) -> str
             f'<line x1="{greatest * scale:.1f}" x2="{greatest * scale:.1f}" y2="18" class="greatest"/></g>'
             f'<text x="646" y="{y + 13}">{half:.0f}, {usual:.0f}, {greatest:.0f} of {room:.0f} m{over}</text></g>'
         )
-    tall = 12 + 26 * len(rows)
-    return f'<svg class="queues" viewBox="0 0 {WIDE} {tall}" role="img" aria-label="Queues">{"".join(parts)}</svg>'
+    shape = f'viewBox="0 0 {WIDE} {12 + 26 * len(rows)}" role="img" aria-label="Queues"'
+    return f'<svg class="queues" {shape}>{"".join(parts)}</svg>'

@@ -78,10 +78,9 @@ function draw() {
   if (!playing) linking = setTimeout(link, 300);
 }
 
-// The page's address leads to what is shown; a frame in another page has no address of its own.
-const isFrame = location.protocol === "about:";
+// The page's address leads to what is shown; a frame in another page has no address of its own, and no button for it.
 function link() {
-  if (isFrame) return;
+  if (at("copy").hidden) return;
   const { x, y, scale, moved } = sides[0].scene, place = moved ? [x, y, scale].map(value => `,${+value.toFixed(3)}`).join("") : "";
   history.replaceState(null, "", `#${clocks[step]}${place}`);
 }
@@ -166,7 +165,7 @@ unpack(at("data").textContent).then(answer => answer.json()).then(runs => {
   at("names").onchange = draw;
   at("charts").onchange = () => { resize(); draw(); };
   at("chart").onclick = goToChart;
-  at("copy").hidden = isFrame;
+  at("copy").hidden = location.protocol === "about:";
   at("copy").onclick = () => { link(); navigator.clipboard?.writeText(location.href); };
   slider.oninput = () => { step = +slider.value; draw(); };
   onresize = () => { resize(); draw(); };

@@ -42,8 +42,8 @@ def ended_search(
 ) -> tuple[PlanSearch, bool]:
     """Makes a search, and shows on the terminal how far it is; gives (search when it has ended, whether the user ended
     it by Ctrl-C). trips: of plans, gives the mean trip (s) of each with each seed, plan by plan; budget, seeds, key: as
-    PlanSearch has them (key_of); search_to_end: searches until the search has ended; after: seconds that what comes after it
-    takes."""
+    PlanSearch has them (key_of); search_to_end: searches until the search has ended; after: seconds that what comes
+    after it takes."""
     shown = SearchShown(budget, after)
 
     def values(plans: Sequence[Any]) -> Generator[float, None, None]:

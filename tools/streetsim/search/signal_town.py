@@ -184,8 +184,8 @@ class Runner:
             yield seconds / self.cars
 
     def outcomes(self, plans: Sequence[Plan], seeds: Sequence[int], jobs: int) -> list[list[Outcome]]:
-        """For each plan and each seed, what the plan gives by the session of the report, with gaps found under it; shows on
-        the terminal how many of the runs, so many side by side (jobs), are done."""
+        """For each plan and each seed, what the plan gives by the session of the report, with gaps found under it;
+        shows on the terminal how many of the runs, so many side by side (jobs), are done."""
         shown, found = Meanwhile("runs by other seeds", len(plans) * len(seeds), abreast=jobs), []
         for outcome in self.ordered(outcome_giving_way, plans, seeds):
             found.append(outcome)
