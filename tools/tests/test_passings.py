@@ -1,6 +1,7 @@
 """When vehicles come to links and pass stop lines, of seconds by hand and of a run."""
 import unittest
 from collections import defaultdict
+from types import SimpleNamespace
 
 from seen import kernel_of, made, show
 from support import DATA, MAP, PROGRAM, Case, needs_simulator
@@ -11,6 +12,7 @@ from streetsim.kernel.telling import Telling
 from streetsim.model.mapping import map_from
 from streetsim.model.runs import read_with_map
 from streetsim.observe.link_passings import Passings
+from streetsim.observe.polls import ClosedLanes
 
 TWO_LANES = {**MAP, "links": [["a", [0, 1], *MAP["links"][0][2:]], MAP["links"][1]]}
 # One comes to a at 1 s, stands in its first cell until 3 s and passes its line at 9; it is on b from 12 s on.
@@ -21,6 +23,21 @@ ONE = [
     *((clock, [[0, 1, [], []]]) for clock in (10, 11)),
     *((clock, [[1, 0, [[0, clock - 12, 1]], []]]) for clock in range(12, 15)),
 ]
+
+
+class Closed(unittest.TestCase):
+    def test_what_is_closed_at_a_poll(self):
+        """A line of the file at its clock and one that a controller sends for it count; what is passed on then counts
+        from the next poll on."""
+        def sent(clock, name, lane, passed_on=False):
+            line = SimpleNamespace(command={"cmd": name, "link": 0, "lane": lane, "first": 2, "last": 3})
+            return SimpleNamespace(clock=clock, passed_on=passed_on, line=line)
+
+        lines = [sent(5, "close", 0), sent(5, "close", 1, True), sent(9, "reopen", 0)]
+        kernel = SimpleNamespace(run=SimpleNamespace(first=[]), sent=lines)
+        closed = ClosedLanes(kernel, [True] * 2)
+        found = [closed.at(clock) for clock in (4, 5, 6, 9)]
+        self.assertEqual(found, [{}, {0: [(2, 3)]}, {0: [(2, 3)], 1: [(2, 3)]}, {1: [(2, 3)]}])
 
 
 class Told(unittest.TestCase):
