@@ -15,7 +15,7 @@ from support import DATA, FORK, MAP, NUMBERED, PROGRAM, Case, lane, needs_packag
 from streetsim.base.files import Fault
 from streetsim.base.report import Report
 from streetsim.cli import compare, demand
-from streetsim.demand import checking, demanding, judging, matrices, ratios, reading, science, zones
+from streetsim.demand import checking, correcting, demanding, judging, making, matrices, ratios, reading, science, zones
 from streetsim.demand.candidates import End, Pair, Way, with_given_routes
 from streetsim.demand.cells import clock_of
 from streetsim.demand.correcting import corrected_counts, full_edges
@@ -609,6 +609,16 @@ class Fit(Tool):
         pairs = [Pair(f"from {at}", f"to {at}", {}, {}, *both) for at, both in enumerate(ends)]
         ways = [Way(at, (2 * at, 2 * at + 1), 60.0, 1.0, 60.0, 1.0) for at in range(3)]
         self.assertEqual(Expecting(ways, pairs, Slices((0, 900), False), 0.05).outside.tolist(), [4, 2, 1])
+
+    def test_runs_go_on_behind_the_last_slice(self):
+        """By two hours at most, in which those who are on their way arrive."""
+        basis = SimpleNamespace(slices=Slices((0, 900, 1800), False), town=SimpleNamespace(graph=None))
+        wanted = SimpleNamespace(program="p", runs=1, rounds=0)
+        names = "RunGround", "program_digest", "correcting"
+        with mock.patch.multiple(making, **dict.fromkeys(names, mock.DEFAULT)) as made:
+            made["correcting"].AFTER, made["correcting"].try_demands.return_value = correcting.AFTER, []
+            self.assertEqual(making.run_and_tell(basis, None, wanted, None, None, None), [])
+        self.assertEqual(made["RunGround"].call_args.args[4], 1800 + 2 * 3600)
 
     def test_slices_have_their_seconds(self):
         self.assertEqual(Slices((0, 900, 1200), False).widths(), [900, 300])

@@ -13,6 +13,7 @@ from streetsim.model.mapping import map_from
 from streetsim.model.runs import read_with_map
 from streetsim.observe.link_passings import Passings
 from streetsim.observe.polls import ClosedLanes
+from streetsim.observe.queues import Summary
 
 TWO_LANES = {**MAP, "links": [["a", [0, 1], *MAP["links"][0][2:]], MAP["links"][1]]}
 # One comes to a at 1 s, stands in its first cell until 3 s and passes its line at 9; it is on b from 12 s on.
@@ -47,6 +48,15 @@ class Told(unittest.TestCase):
         show(kernel_of(map_from("", MAP), [[0, 1]] * 2), frames, Telling(lambda *one: told.append(one)), parts=2)
         found = [(clock, one.cells, one.buffers, one.admitted) for clock, one in told]
         self.assertEqual(found, [(1, 2, 0, 2), (2, 1, 1, 2)])
+
+
+    def test_all_are_counted_at_the_end_once(self):
+        """Also where the end is a clock at which they are counted anyway."""
+        frames = [(1, [[0, 0, [[0, 5, 2], [1, 3, 2]], []]]), (2, [[0, 0, [[1, 5, 2]], [0]]])]
+        for looks, expected in (((), [(2, 1, 1)]), ((1,), [(1, 2, 0), (2, 1, 1)]), ((2,), [(2, 1, 1)])):
+            summary = Summary(None, looks)
+            show(kernel_of(map_from("", MAP), [[0, 1]] * 2), frames, summary)
+            self.assertEqual(summary.found, expected)
 
 
 class ByHand(unittest.TestCase):
