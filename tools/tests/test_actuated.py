@@ -175,6 +175,17 @@ class Detectors(unittest.TestCase):
         self.assertEqual(self.extended(row, ["Gr", "GG"]), [[], ["a_0", "b_0"]])
 
 
+class Due(unittest.TestCase):
+    def test_a_phase_of_more_than_its_plan_goes_on(self):
+        """At the second at which the plan of 600 s would begin anew, and not before."""
+        light = SimpleNamespace(stopped=inf, logic=SimpleNamespace(due=900), wraps=600, goes_on=lambda: ["goes on"])
+        driver = Driver.__new__(Driver)
+        driver.controllers = [light]
+        self.assertEqual([[*driver.commands_after_look(clock, None)] for clock in (599, 600)], [[], ["goes on"]])
+        light.stopped = 0
+        self.assertEqual([*driver.commands_after_look(600, None)], [])
+
+
 class OwnLoops(unittest.TestCase):
     def test_lanes_with_loops_of_the_user(self):
         """As SUMO has it: a lane's name is the parameter, its value the loop, or NO_DETECTOR; an e2 is no loop."""

@@ -610,6 +610,19 @@ class Fit(Tool):
         ways = [Way(at, (2 * at, 2 * at + 1), 60.0, 1.0, 60.0, 1.0) for at in range(3)]
         self.assertEqual(Expecting(ways, pairs, Slices((0, 900), False), 0.05).outside.tolist(), [4, 2, 1])
 
+    def test_pairs_without_a_way_are_told(self):
+        """Those of a matrix that no way joins."""
+        pairs = [Pair(source, target, {}, {}) for source, target in ("ab", "cd")]
+        town = SimpleNamespace(types=SimpleNamespace(report=Report()))
+        basis = SimpleNamespace(
+            town=town, contradictions=[], counts=[], ways=[SimpleNamespace(pair=0)], pairs=pairs, given=True,
+            kept_pairs=(2, 2),
+        )  # fmt: skip
+        with mock.patch.object(making, "unreachable_counts", return_value=[]), redirect_stderr(io.StringIO()) as said:
+            making.tell_inputs(basis, SimpleNamespace(passing=None))
+        told = "warning: no way leads from c to d: vehicles of the matrix are left out\n"
+        self.assertEqual(said.getvalue(), told)
+
     def test_runs_go_on_behind_the_last_slice(self):
         """By two hours at most, in which those who are on their way arrive."""
         basis = SimpleNamespace(slices=Slices((0, 900, 1800), False), town=SimpleNamespace(graph=None))
