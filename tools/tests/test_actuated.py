@@ -226,6 +226,21 @@ class Reading(unittest.TestCase):
         light.ended.append(EndedPhase(0, 16, 11, "gap"))
         self.assertEqual(shown.learn(light), (31, 3))
 
+    def test_a_plan_is_of_the_phase_under_way(self):
+        """Of a cycle of 42, 3, 42 and 3 s: two seconds of red and then green of one turn, yellow, green of another one,
+        yellow. At the begin of a run, which has 10 s left of its first phase, the last 10 s of that."""
+        shown = NodesOfLight(Driven("L", 0, TWO, 2.0, (), (), ()), SimpleNamespace(links=[]))
+        one, other, none = frozenset({(0, 0, 1)}), frozenset({(0, 0, 2)}), frozenset()
+        shown.nodes = [(None, SimpleNamespace(node=7))]
+        shown.greens_by_second = lambda *_: [none] * 2 + [one] * 40 + [none] * 3 + [other] * 42 + [none] * 3
+        ended = [EndedPhase(3, 0, 3, "listed")]
+        for at, before, phases in (
+            (0, ended, [[2, []], [600, [[0, 0, 1]]]]), (1, ended, [[600, []]]), (2, ended, [[600, [[0, 0, 2]]]]),
+            (0, [], [[600, [[0, 0, 1]]]]),
+        ):  # fmt: skip
+            [command] = shown.plans(SimpleNamespace(at=at, ended=before, due=110), 100)
+            self.assertEqual((command["node"], command["phases"]), (7, phases))
+
     def test_a_plan_begins_now_and_stays(self):
         rows = [frozenset({(0, 0, 1)})] * 3 + [frozenset()] * 2
         command = plan_command(7, rows, 1000)

@@ -6,6 +6,7 @@ import random
 import sys
 import unittest
 from contextlib import redirect_stderr, redirect_stdout
+from importlib.util import find_spec
 from types import SimpleNamespace
 from unittest import mock
 
@@ -22,10 +23,12 @@ from streetsim.demand.correcting import corrected_counts, full_edges
 from streetsim.demand.fitting import Expecting
 from streetsim.demand.judging import ComparedCount, differences_of, is_part_of, without_parts
 from streetsim.demand.passing import CountsByEdges, Slices
+from streetsim.demand.pictures import draw_fit
 from streetsim.demand.seen import NEVER, Visits, edge_rows, movement_rows, passed_by_rows, passed_in
 from streetsim.demand.values import Count, Ratio
 from streetsim.demand.walking import Turns
 from streetsim.model.folder import read_folder
+from streetsim.model.mapping import map_from
 from streetsim.model.tables import EDGES, TRIPS
 from streetsim.search.route_loading import read_town
 from streetsim.sumo.network import Options
@@ -374,6 +377,18 @@ class Judging(Case):
         self.assertEqual([*fit.lines()][1:], ["all 3 counts: r = 1.000, slope 1.000"])
         self.assertIsNone(judging.correlation_and_slope(single.each))
         self.assertEqual([*single.lines()][1:], [])
+
+
+class Pictures(Case):
+    @needs_package("python3-matplotlib", find_spec("matplotlib"))
+    def test_a_fit_is_drawn_where_matplotlib_is(self):
+        fit, links = judging.judged([Count(0, 3600, ("a",), 100, "")], [110]), map_from("", MAP).links
+        with mock.patch("streetsim.report.picture_files.pyplot_if_installed", return_value=None):
+            draw_fit(str(self.folder), fit, links, "passed in the run")
+        self.assertEqual(list(self.folder.iterdir()), [])
+        draw_fit(str(self.folder), fit, links, "passed in the run")
+        begins = {path.name: path.read_bytes()[:8] for path in self.folder.iterdir()}
+        self.assertEqual(begins, dict.fromkeys(("fit.png", "differences.png"), b"\x89PNG\r\n\x1a\n"))
 
 
 class Passing(unittest.TestCase):
