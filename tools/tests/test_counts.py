@@ -6,6 +6,7 @@ import random
 import sys
 import unittest
 from contextlib import redirect_stderr, redirect_stdout
+from importlib.util import find_spec
 from types import SimpleNamespace
 from unittest import mock
 
@@ -15,17 +16,19 @@ from support import DATA, FORK, MAP, NUMBERED, PROGRAM, Case, lane, needs_packag
 from streetsim.base.files import Fault
 from streetsim.base.report import Report
 from streetsim.cli import compare, demand
-from streetsim.demand import checking, demanding, judging, matrices, ratios, reading, science, zones
+from streetsim.demand import checking, correcting, demanding, judging, making, matrices, ratios, reading, science, zones
 from streetsim.demand.candidates import End, Pair, Way, with_given_routes
 from streetsim.demand.cells import clock_of
 from streetsim.demand.correcting import corrected_counts, full_edges
 from streetsim.demand.fitting import Expecting
 from streetsim.demand.judging import ComparedCount, differences_of, is_part_of, without_parts
 from streetsim.demand.passing import CountsByEdges, Slices
+from streetsim.demand.pictures import draw_fit
 from streetsim.demand.seen import NEVER, Visits, edge_rows, movement_rows, passed_by_rows, passed_in
 from streetsim.demand.values import Count, Ratio
 from streetsim.demand.walking import Turns
 from streetsim.model.folder import read_folder
+from streetsim.model.mapping import map_from
 from streetsim.model.tables import EDGES, TRIPS
 from streetsim.search.route_loading import read_town
 from streetsim.sumo.network import Options
@@ -376,6 +379,18 @@ class Judging(Case):
         self.assertEqual([*single.lines()][1:], [])
 
 
+class Pictures(Case):
+    @needs_package("python3-matplotlib", find_spec("matplotlib"))
+    def test_a_fit_is_drawn_where_matplotlib_is(self):
+        fit, links = judging.judged([Count(0, 3600, ("a",), 100, "")], [110]), map_from("", MAP).links
+        with mock.patch("streetsim.report.picture_files.pyplot_if_installed", return_value=None):
+            draw_fit(str(self.folder), fit, links, "passed in the run")
+        self.assertEqual(list(self.folder.iterdir()), [])
+        draw_fit(str(self.folder), fit, links, "passed in the run")
+        begins = {path.name: path.read_bytes()[:8] for path in self.folder.iterdir()}
+        self.assertEqual(begins, dict.fromkeys(("fit.png", "differences.png"), b"\x89PNG\r\n\x1a\n"))
+
+
 class Passing(unittest.TestCase):
     """Edges a, b, .. have the numbers 0, 1, .."""
 
@@ -609,6 +624,29 @@ class Fit(Tool):
         pairs = [Pair(f"from {at}", f"to {at}", {}, {}, *both) for at, both in enumerate(ends)]
         ways = [Way(at, (2 * at, 2 * at + 1), 60.0, 1.0, 60.0, 1.0) for at in range(3)]
         self.assertEqual(Expecting(ways, pairs, Slices((0, 900), False), 0.05).outside.tolist(), [4, 2, 1])
+
+    def test_pairs_without_a_way_are_told(self):
+        """Those of a matrix that no way joins."""
+        pairs = [Pair(source, target, {}, {}) for source, target in ("ab", "cd")]
+        town = SimpleNamespace(types=SimpleNamespace(report=Report()))
+        basis = SimpleNamespace(
+            town=town, contradictions=[], counts=[], ways=[SimpleNamespace(pair=0)], pairs=pairs, given=True,
+            kept_pairs=(2, 2),
+        )  # fmt: skip
+        with mock.patch.object(making, "unreachable_counts", return_value=[]), redirect_stderr(io.StringIO()) as said:
+            making.tell_inputs(basis, SimpleNamespace(passing=None))
+        told = "warning: no way leads from c to d: vehicles of the matrix are left out\n"
+        self.assertEqual(said.getvalue(), told)
+
+    def test_runs_go_on_behind_the_last_slice(self):
+        """By two hours at most, in which those who are on their way arrive."""
+        basis = SimpleNamespace(slices=Slices((0, 900, 1800), False), town=SimpleNamespace(graph=None))
+        wanted = SimpleNamespace(program="p", runs=1, rounds=0)
+        names = "RunGround", "program_digest", "correcting"
+        with mock.patch.multiple(making, **dict.fromkeys(names, mock.DEFAULT)) as made:
+            made["correcting"].AFTER, made["correcting"].try_demands.return_value = correcting.AFTER, []
+            self.assertEqual(making.run_and_tell(basis, None, wanted, None, None, None), [])
+        self.assertEqual(made["RunGround"].call_args.args[4], 1800 + 2 * 3600)
 
     def test_slices_have_their_seconds(self):
         self.assertEqual(Slices((0, 900, 1200), False).widths(), [900, 300])

@@ -9,9 +9,11 @@ from streetsim.base.client import Client
 from streetsim.base.files import Fault
 from streetsim.base.report import Report
 from streetsim.model.fullness import LEFT, RIGHT, STRAIGHT, TURNAROUND
+from streetsim.model.mapping import read_map
 from streetsim.sumo.converting import refuse_over_limits
 from streetsim.sumo.full import ways_of
-from streetsim.sumo.import_files import convert
+from streetsim.sumo.import_files import convert, write_run
+from streetsim.sumo.links import limit_of
 from streetsim.sumo.net import SumoNet, read_net
 from streetsim.sumo.network import Options, names_of
 
@@ -34,6 +36,24 @@ class Parts(unittest.TestCase):
         pairs = [SimpleNamespace(source="a", target=direction, direction=direction) for direction in "lLrRts"]
         told = {"l": LEFT, "L": LEFT, "r": RIGHT, "R": RIGHT, "t": TURNAROUND, "s": STRAIGHT}
         self.assertEqual(ways_of(SumoNet(connections=pairs)), {("a", name): way for name, way in told.items()})
+
+
+    def test_limits(self):
+        """A free vehicle has 7.5 m/s a cell of its limit less the share of steps in which it dawdles: of 50, 80, 95 and
+        100 km/h the speeds of limits of 2, 3, 4 and 4 are the nearest, 13.7, 21.2 and 28.7 m/s."""
+        for kmh, limit in ((50, 2), (80, 3), (95, 4), (100, 4)):
+            nearest = min(range(1, 7), key=lambda cells: abs((cells - 0.17) * 7.5 - kmh / 3.6))
+            found = limit_of(SimpleNamespace(speed=kmh / 3.6), 0.17, range(1, 7), False)
+            self.assertEqual((found, nearest), (limit, limit), kmh)
+
+
+class Written(Case):
+    def test_a_map_has_the_end_of_its_configuration(self):
+        run, mapped = str(self.folder / "run.jsonl"), str(self.folder / "map.json")
+        made = convert(self.write("x.net.xml", FORK), [], [], Options(), Report())
+        for more, end in (({}, 0), ({"end": 900}, 900)):
+            write_run(run, mapped, made, Report(), **more)
+            self.assertEqual(read_map(mapped).end, end)
 
 
 class Networks(Case):

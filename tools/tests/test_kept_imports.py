@@ -16,6 +16,16 @@ MADE = KeptImport('{"cmd":"load"}\n', "{}", "warning: ä\n")
 KEY = "0" * 64
 
 
+class Bodies(unittest.TestCase):
+    def test_texts_behind_each_other(self):
+        """Each with its length in bytes before it; a body that is cut off is none."""
+        body = kept_imports.body_of(MADE)
+        self.assertTrue(body.startswith(b"\0" * 7 + b"\x0f" + b'{"cmd":"load"}\n'))
+        self.assertEqual([part.decode() for part in kept_imports.parts_of(body)], list(MADE))
+        with self.assertRaises(ValueError):
+            list(kept_imports.parts_of(body[:-1]))
+
+
 class KeptImports(Case):
     def setUp(self):
         super().setUp()

@@ -7,7 +7,10 @@ import shutil
 import subprocess
 import unittest
 from collections import Counter
+from contextlib import redirect_stdout
 from importlib.util import find_spec
+from io import StringIO
+from unittest import mock
 
 from support import DATA, FORK, PROGRAM, SCENARIOS, TOOLS, Case, lane, needs_package, needs_simulator, needs_sumo
 from support import needs_sumo_tools, net
@@ -16,6 +19,7 @@ from test_help import parsers
 
 from streetsim.base.files import Fault
 from streetsim.base.report import Report
+from streetsim.cli.open_ import run_tool
 from streetsim.demand.invented import invented_trips
 from streetsim.model.mapping import TOLD_INVENTED
 from streetsim.sumo.net import read_net
@@ -187,6 +191,14 @@ class Open(Case):
         summary = (self.folder / "cross-run/summary.csv").read_text().splitlines()
         self.assertEqual(summary[-1].split(",")[0], "180", "the end of the configuration")
         self.assertIn('id="player"', self.page("cross.html"))
+
+
+class Statuses(unittest.TestCase):
+    def test_a_tool_that_is_run_gives_its_status(self):
+        for status in (0, 3):
+            with mock.patch("streetsim.cli.live.main", return_value=status), redirect_stdout(StringIO()) as told:
+                self.assertEqual(run_tool("live", ["a b", "--no-open"]), status)
+            self.assertEqual(told.getvalue(), "$ streetsim-live 'a b' --no-open\n")
 
 
 class Invented(Case):

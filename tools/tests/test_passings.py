@@ -1,6 +1,7 @@
 """When vehicles come to links and pass stop lines, of seconds by hand and of a run."""
 import unittest
 from collections import defaultdict
+from types import SimpleNamespace
 
 from seen import kernel_of, made, show
 from support import DATA, MAP, PROGRAM, Case, needs_simulator
@@ -11,6 +12,8 @@ from streetsim.kernel.seconds import Takeout
 from streetsim.model.mapping import map_from
 from streetsim.model.runs import read_with_map
 from streetsim.observe.link_passings import Passings
+from streetsim.observe.polls import ClosedLanes
+from streetsim.observe.queues import Summary
 
 TWO_LANES = {**MAP, "links": [["a", [0, 1], *MAP["links"][0][2:]], MAP["links"][1]]}
 # One comes to a at 1 s, stands in its first cell until 3 s and passes its line at 9; it is on b from 12 s on.
@@ -23,6 +26,21 @@ ONE = [
 ]
 
 
+class Closed(unittest.TestCase):
+    def test_what_is_closed_at_a_poll(self):
+        """A line of the file at its clock and one that a controller sends for it count; what is passed on then counts
+        from the next poll on."""
+        def sent(clock, name, lane, passed_on=False):
+            line = SimpleNamespace(command={"cmd": name, "link": 0, "lane": lane, "first": 2, "last": 3})
+            return SimpleNamespace(clock=clock, passed_on=passed_on, line=line)
+
+        lines = [sent(5, "close", 0), sent(5, "close", 1, True), sent(9, "reopen", 0)]
+        kernel = SimpleNamespace(run=SimpleNamespace(first=[]), sent=lines)
+        closed = ClosedLanes(kernel, [True] * 2)
+        found = [closed.at(clock) for clock in (4, 5, 6, 9)]
+        self.assertEqual(found, [{}, {0: [(2, 3)]}, {0: [(2, 3)], 1: [(2, 3)]}, {1: [(2, 3)]}])
+
+
 class Told(unittest.TestCase):
     def test_how_far_a_run_is(self):
         """Two are on cells, and then one of them behind its stop line."""
@@ -30,6 +48,15 @@ class Told(unittest.TestCase):
         show(kernel_of(map_from("", MAP), [[0, 1]] * 2), frames, ProgressReports(lambda *one: told.append(one)), parts=2)
         found = [(clock, one.cells, one.buffers, one.admitted) for clock, one in told]
         self.assertEqual(found, [(1, 2, 0, 2), (2, 1, 1, 2)])
+
+
+    def test_all_are_counted_at_the_end_once(self):
+        """Also where the end is a clock at which they are counted anyway."""
+        frames = [(1, [[0, 0, [[0, 5, 2], [1, 3, 2]], []]]), (2, [[0, 0, [[1, 5, 2]], [0]]])]
+        for looks, expected in (((), [(2, 1, 1)]), ((1,), [(1, 2, 0), (2, 1, 1)]), ((2,), [(2, 1, 1)])):
+            summary = Summary(None, looks)
+            show(kernel_of(map_from("", MAP), [[0, 1]] * 2), frames, summary)
+            self.assertEqual(summary.found, expected)
 
 
 class ByHand(unittest.TestCase):

@@ -16,12 +16,15 @@ from io import StringIO
 from pathlib import Path
 from types import SimpleNamespace
 
+import numpy
+
 from support import (
-    DATA, FORK, PROGRAM, SCENARIOS, TOOLS, Case, lane, needs_package, needs_simulator, needs_sumo, needs_sumo_tools,
-    net,
+    DATA, FORK, MAP, PROGRAM, SCENARIOS, TOOLS, Case, lane, needs_package, needs_simulator, needs_sumo,
+    needs_sumo_tools, net,
 )
 from streetsim.base.files import Fault
 from streetsim.model.detectors import Detector
+from streetsim.model.mapping import map_from
 from streetsim.report.beside_sumo import geh
 from streetsim.scenario import TrafficLight
 from streetsim.simulation import tally
@@ -30,6 +33,7 @@ from streetsim.simulation.lights import LightShow
 from streetsim.simulation.options import OUTPUT, SHORT, check_option
 from streetsim.simulation.session import TraciSession
 from streetsim.simulation.street_facts import read_facts
+from streetsim.simulation.view import View
 from streetsim.traci import constants as tc
 import streetsim.traci as traci
 from streetsim.traci.advice import NOTHING
@@ -1133,6 +1137,15 @@ class Lights(Started):
         self.assertEqual(told, [(1, 0), (0, 9), (0, 0), (1, 19), (1, 0), (0, 9)])
         light.since = 105  # a script has set its second phase then
         self.assertEqual([light.phase_at(clock) for clock in (105, 106)], [(1, 20), (1, 19)])
+
+
+class Seen(unittest.TestCase):
+    def test_who_is_seen_first_departed_a_second_before(self):
+        view, nobody = View(map_from("", MAP)), numpy.zeros(0, int)
+        for clock, numbers in ((7, [3]), (8, [3, 5])):
+            rows = dict.fromkeys(("slot", "cell", "speed"), numpy.zeros(len(numbers), int))
+            view.see(SimpleNamespace(clock=clock, number=numpy.array(numbers), gone=nobody, **rows))
+        self.assertEqual((view.departed, view.departure[[3, 5]].tolist()), ([3, 5], [6, 7]))
 
 
 class Facts(Case):

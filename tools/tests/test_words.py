@@ -39,6 +39,15 @@ class Given(unittest.TestCase):
         self.assertEqual(given_words(made, made.parse_args(["f", "--seed", "3"]), ["out"]), [])
 
 
+    def test_the_first_word_that_a_command_does_not_have(self):
+        """Short forms are known, and what stands behind a word is not looked at."""
+        made = Parser(prog="streetsim-x", description="x")
+        made.add_argument("--until")
+        for words, told in ((["--until", "--colour"], None), (["--unt=9", "x"], None), (["--", "--colour"], None),
+                            (["--until", "9", "--colour", "red"], "unrecognized arguments: --colour")):  # fmt: skip
+            self.assertEqual(made.unknown_in(words), told)
+
+
 class Words(Case):
     def test_faults_are_one_line(self):
         for tool, words in (
