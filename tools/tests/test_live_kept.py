@@ -16,8 +16,9 @@ from urllib.parse import urlsplit
 from pages import LiveCase, state_after, told_by
 from support import PROGRAM, TOOLS, Case, needs_simulator
 from streetsim.base.files import Fault
-from streetsim.live import kept as live_kept
+from streetsim.live import session_files
 from streetsim.live.session import PageSession
+from streetsim.live.session_files import SessionFiles
 
 CLOSE = {"cmd": "close", "link": 1, "lane": 0, "first": 4, "last": 5}
 REOPEN = {**CLOSE, "cmd": "reopen"}
@@ -44,7 +45,7 @@ DONE = (
 class Waiting(Case):
     def test_a_program_that_ends_is_waited_for(self):
         """One that has the file for 0.3 s more; one that keeps it is a fault."""
-        kept = live_kept.Kept.__new__(live_kept.Kept)
+        kept = SessionFiles.__new__(SessionFiles)
         kept.file = Path(self.write("session", ""))
         with open(kept.file, "rb") as other:
             fcntl.flock(other, fcntl.LOCK_EX)
@@ -53,8 +54,8 @@ class Waiting(Case):
             kept.await_end()
             self.assertGreaterEqual(time.monotonic() - begin, 0.3)
             fcntl.flock(other, fcntl.LOCK_EX)
-            with mock.patch.object(live_kept, "PATIENCE", 0.1), self.assertRaisesRegex(Fault, "another program keeps"):
-                kept.await_end()
+            with mock.patch.object(session_files, "PATIENCE", 0.1):
+                self.assertRaisesRegex(Fault, "another program keeps", kept.await_end)
 
 
 class KeptCase(LiveCase):

@@ -85,10 +85,10 @@ class Numbers(unittest.TestCase):
             sides = {f"f{at}": ({1: 50.0, 2: 50.0}, {1: 50.0 + at, 2: 50.0 + at}) for at in range(count)}
             flows = {name: (10, difference_of(*both, drawn=False)) for name, both in sides.items()}
             text = groups_table(PlanCosts(groups=flows))
-            return "".join(re.findall(r"f\d", text)), re.findall(r"of [\d,]+\)", text)
+            return "".join(re.findall(r"f\d", text)), re.findall(r"\d of [\d,]+", text)
 
         self.assertEqual(shown(6), ("f5f4f3f2f1f0", []))
-        self.assertEqual(shown(7), ("f6f5f4f2f1f0", ["of 7)"]))
+        self.assertEqual(shown(7), ("f6f5f4f2f1f0", ["6 of 7"]))
         self.assertEqual(groups_table(PlanCosts()), "")
 
     def test_who_stands_at_works(self):

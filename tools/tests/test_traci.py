@@ -1144,7 +1144,7 @@ class Seen(unittest.TestCase):
         view, nobody = View(map_from("", MAP)), numpy.zeros(0, int)
         for clock, numbers in ((7, [3]), (8, [3, 5])):
             rows = dict.fromkeys(("slot", "cell", "speed"), numpy.zeros(len(numbers), int))
-            view.see(SimpleNamespace(clock=clock, number=numpy.array(numbers), gone=nobody, **rows))
+            view.note_second(SimpleNamespace(clock=clock, number=numpy.array(numbers), arrived=nobody, **rows))
         self.assertEqual((view.departed, view.departure[[3, 5]].tolist()), ([3, 5], [6, 7]))
 
 
