@@ -52,7 +52,7 @@ pub record IsTold (session : ℕ) (firsts : List (List ℕ)) (replies : List ℕ
   pub served : Goes DeskServes before (firsts ++ more) replies after
   pub begins : BeginsWith history after.seen
 
--- so of both sessions, in one history of at least so many calls, whose tape this is
+-- the replies of both sessions are those of one history of at least `calls` calls, whose tape this is
 pub record AreTold (calls : ℕ) (firsts seconds : List (List ℕ)) (told : Told) : Type 0 where
   pub history : List Entry
   pub is_history : IsHistory 2 history

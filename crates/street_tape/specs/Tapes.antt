@@ -48,7 +48,7 @@ tape_text es = head_line (length es) ++ entry_lines es
 abbrev pub old_head_data : Data
 old_head_data = object (number_at (codes "tape") 1 no_members)
 
--- its first line does not say how many calls follow
+-- the first line of a tape of version 1, which does not say how many calls follow
 unfoldable pub old_head_line : List ℕ
 old_head_line = line_of old_head_data
 
