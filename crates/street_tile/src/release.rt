@@ -110,7 +110,7 @@ impl Tile {
         requires view { length view.now ≡ 2 * length net.now.links }
         ensures { ReleasePhase net.now view.now self.old self.new }
     {
-        self.release_by(net, view.mouths());
+        self.release_by(net, &view.mouths);
     }
 
     /// As [`phase_release`](Self::phase_release), by the mouths of a view, as a team shows them to its workers. Takes no memory.

@@ -108,7 +108,7 @@ pub fn step_all<R: Threads + Sync, G: Gate + Sync>(
     share(rt, net, gate, threads, LANE_CHANGES, &[], tiles);
     share(rt, net, gate, threads, MOTION, &[], tiles);
     publish(net, tiles, view);
-    share(rt, net, gate, threads, RELEASES, view.mouths(), tiles);
+    share(rt, net, gate, threads, RELEASES, &view.mouths, tiles);
     move_all(net, tiles, hints);
     share(rt, net, gate, threads, ENTRIES, &[], tiles);
     share(rt, net, gate, threads, DETECTORS, &[], tiles);
@@ -134,7 +134,7 @@ pub fn step_by<L: Lender>(
 {
     lender.lend(net, DRIVE, &[], tiles);
     publish(net, tiles.as_slice(), view);
-    lender.lend(net, RELEASES, view.mouths(), tiles);
+    lender.lend(net, RELEASES, &view.mouths, tiles);
     move_all(net, tiles.as_mut_slice(), hints);
     lender.lend(net, SETTLE, &[], tiles);
 }

@@ -18,7 +18,8 @@ use street_net::{Network, slot};
 /// For each lane of a network whether its cell 0 is empty and not closed, by `street_net::slot`: two entries a link, of which a
 /// link of one lane uses the first. Contracts see the list.
 pub struct View {
-    mouths: Vec<bool>,
+    /// Of each lane, by slot, whether its mouth is open.
+    pub(crate) mouths: Vec<bool>,
 }
 
 impl Drop for View {
@@ -54,13 +55,6 @@ impl View {
         ensures { result ≡ length self.now }
     {
         self.mouths.len()
-    }
-
-    /// Of each lane, by slot, whether its mouth is open.
-    pub(crate) fn mouths(&self) -> &[bool]
-        ensures { result.now ≡ self.now }
-    {
-        &self.mouths
     }
 }
 

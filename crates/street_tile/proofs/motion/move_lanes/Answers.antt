@@ -4,7 +4,6 @@ use Rattle.std.proofs.lemmas.Bool.{cases_lt}
 use Rattle.std.proofs.lemmas.Option.{slice_get_within}
 use Rattle.street_base.specs.declared.names.Place.{Place}
 use Rattle.street_base.specs.Prelude.{Traffic, lane_at, driven, driven_lane, arrival, leaver_of, arrived_spot}
-use Rattle.street_base.specs.declared.record.RecordRow.{RecordRow}
 use Rattle.street_lanes.specs.declared.motion.ArrivedCar.{ArrivedCar}
 use Rattle.street_record.specs.Rows.{arrival_row, arrival_at}
 use Rattle.street_tile.specs.Record.{arrived_from}

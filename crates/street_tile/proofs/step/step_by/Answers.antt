@@ -22,44 +22,44 @@ lend-requires-clause-may g c i d l =
 
 pub lend-requires-2-clause-may : goal.lend-requires-2-clause-may
 lend-requires-2-clause-may g c i d l =
-    (tiles-each c.args.net.now c.lend.new.tiles.items (tiles-drive c.args.net.now c.args.tiles.now.items c.lend.new.tiles.items c.lend.ensures.len c.lend.ensures.does c.requires.ready.tiles) i d l, handed-drive c.args.net.now c.args.tiles.now.items c.lend.new.tiles.items c.lend.ensures.len c.lend.ensures.does c.requires.ready.idle i d l, ap length c.mouths.ensures ∙ c.publish.ensures.wide ∙ c.requires.view)
+    (tiles-each c.args.net.now c.lend.new.tiles.items (tiles-drive c.args.net.now c.args.tiles.now.items c.lend.new.tiles.items c.lend.ensures.len c.lend.ensures.does c.requires.ready.tiles) i d l, handed-drive c.args.net.now c.args.tiles.now.items c.lend.new.tiles.items c.lend.ensures.len c.lend.ensures.does c.requires.ready.idle i d l, ap length (c.deref.ensures.value ∙ c.view.view_is) ∙ c.publish.ensures.wide ∙ c.requires.view)
 
 pub move_all-requires-clause-tiles : goal.move_all-requires-clause-tiles
 move_all-requires-clause-tiles g c =
     let shows = subst (λ (xs : List TileView). (m : Traffic) → AllStand c.args.net.now xs m → Shows c.args.net.now c.publish.new.view m) c.as_slice.ensures.value c.publish.ensures.shows in
-    let seen = subst (λ (v : List Bool). (m : Traffic) → AllStand c.args.net.now c.lend.new.tiles.items m → Shows c.args.net.now v m) (sym c.mouths.ensures) shows in
-    rw c.as_mut_slice.ensures.value (tiles-released c.args.net.now c.args.tiles.now.items c.lend.new.tiles.items c.lend.ensures.len c.lend.ensures.does c.requires.ready c.mouths.result.now c.lend-2.new.tiles.items c.lend-2.ensures.len seen c.lend-2.ensures.does)
+    let seen = subst (λ (v : List Bool). (m : Traffic) → AllStand c.args.net.now c.lend.new.tiles.items m → Shows c.args.net.now v m) (sym (c.deref.ensures.value ∙ c.view.view_is)) shows in
+    rw c.as_mut_slice.ensures.value (tiles-released c.args.net.now c.args.tiles.now.items c.lend.new.tiles.items c.lend.ensures.len c.lend.ensures.does c.requires.ready c.deref.result.now c.lend-2.new.tiles.items c.lend-2.ensures.len seen c.lend-2.ensures.does)
 
 pub move_all-requires-clause-nobody : goal.move_all-requires-clause-nobody
 move_all-requires-clause-nobody g c =
     let shows = subst (λ (xs : List TileView). (m : Traffic) → AllStand c.args.net.now xs m → Shows c.args.net.now c.publish.new.view m) c.as_slice.ensures.value c.publish.ensures.shows in
-    let seen = subst (λ (v : List Bool). (m : Traffic) → AllStand c.args.net.now c.lend.new.tiles.items m → Shows c.args.net.now v m) (sym c.mouths.ensures) shows in
-    rw c.as_mut_slice.ensures.value (nobody-released c.args.net.now c.args.tiles.now.items c.lend.new.tiles.items c.lend.ensures.len c.lend.ensures.does c.requires.ready c.mouths.result.now c.lend-2.new.tiles.items c.lend-2.ensures.len seen c.lend-2.ensures.does)
+    let seen = subst (λ (v : List Bool). (m : Traffic) → AllStand c.args.net.now c.lend.new.tiles.items m → Shows c.args.net.now v m) (sym (c.deref.ensures.value ∙ c.view.view_is)) shows in
+    rw c.as_mut_slice.ensures.value (nobody-released c.args.net.now c.args.tiles.now.items c.lend.new.tiles.items c.lend.ensures.len c.lend.ensures.does c.requires.ready c.deref.result.now c.lend-2.new.tiles.items c.lend-2.ensures.len seen c.lend-2.ensures.does)
 
 pub move_all-requires-clause-lanes : goal.move_all-requires-clause-lanes
 move_all-requires-clause-lanes g c =
     let shows = subst (λ (xs : List TileView). (m : Traffic) → AllStand c.args.net.now xs m → Shows c.args.net.now c.publish.new.view m) c.as_slice.ensures.value c.publish.ensures.shows in
-    let seen = subst (λ (v : List Bool). (m : Traffic) → AllStand c.args.net.now c.lend.new.tiles.items m → Shows c.args.net.now v m) (sym c.mouths.ensures) shows in
-    rw c.as_mut_slice.ensures.value (lanes-released c.args.net.now c.args.tiles.now.items c.lend.new.tiles.items c.lend.ensures.len c.lend.ensures.does c.requires.ready c.mouths.result.now c.lend-2.new.tiles.items c.lend-2.ensures.len seen c.lend-2.ensures.does)
+    let seen = subst (λ (v : List Bool). (m : Traffic) → AllStand c.args.net.now c.lend.new.tiles.items m → Shows c.args.net.now v m) (sym (c.deref.ensures.value ∙ c.view.view_is)) shows in
+    rw c.as_mut_slice.ensures.value (lanes-released c.args.net.now c.args.tiles.now.items c.lend.new.tiles.items c.lend.ensures.len c.lend.ensures.does c.requires.ready c.deref.result.now c.lend-2.new.tiles.items c.lend-2.ensures.len seen c.lend-2.ensures.does)
 
 pub lend-requires-3-clause-may : goal.lend-requires-3-clause-may
 lend-requires-3-clause-may g c =
     let shows = subst (λ (xs : List TileView). (m : Traffic) → AllStand c.args.net.now xs m → Shows c.args.net.now c.publish.new.view m) c.as_slice.ensures.value c.publish.ensures.shows in
-    let seen = subst (λ (v : List Bool). (m : Traffic) → AllStand c.args.net.now c.lend.new.tiles.items m → Shows c.args.net.now v m) (sym c.mouths.ensures) shows in
+    let seen = subst (λ (v : List Bool). (m : Traffic) → AllStand c.args.net.now c.lend.new.tiles.items m → Shows c.args.net.now v m) (sym (c.deref.ensures.value ∙ c.view.view_is)) shows in
     let long : length c.move_all.new.tiles ≡ length c.lend-2.new.tiles.items = (let e = c.move_all.auto in let f = c.as_mut_slice.ensures.len in omega arith) in
     let moved = subst (λ (ys : List TileView). Each (λ x y. y ≡ received (all_handed ys) x) ys c.move_all.new.tiles) c.as_mut_slice.ensures.value c.move_all.ensures.moved in
     let items : (with_items c.lend-2.new.tiles c.move_all.new.tiles).items ≡ c.move_all.new.tiles = with_items_is c.lend-2.new.tiles c.move_all.new.tiles (let ok = c.lend-2.new.tiles.ok in omega arith) in
     rw items (λ i d l. (
-      tiles-each c.args.net.now c.move_all.new.tiles (tiles-moved c.args.net.now c.args.tiles.now.items c.lend.new.tiles.items c.lend.ensures.len c.lend.ensures.does c.requires.ready c.mouths.result.now c.lend-2.new.tiles.items c.lend-2.ensures.len seen c.lend-2.ensures.does c.move_all.new.tiles long moved) i d l,
-      prepared-moved c.args.net.now c.args.tiles.now.items c.lend.new.tiles.items c.lend.ensures.len c.lend.ensures.does c.requires.ready c.mouths.result.now c.lend-2.new.tiles.items c.lend-2.ensures.len seen c.lend-2.ensures.does c.move_all.new.tiles long moved i d l,
-      in-time-moved c.args.net.now c.args.tiles.now.items c.lend.new.tiles.items c.lend.ensures.len c.lend.ensures.does c.requires.ready c.mouths.result.now c.lend-2.new.tiles.items c.lend-2.ensures.len seen c.lend-2.ensures.does c.move_all.new.tiles long moved i d l,
+      tiles-each c.args.net.now c.move_all.new.tiles (tiles-moved c.args.net.now c.args.tiles.now.items c.lend.new.tiles.items c.lend.ensures.len c.lend.ensures.does c.requires.ready c.deref.result.now c.lend-2.new.tiles.items c.lend-2.ensures.len seen c.lend-2.ensures.does c.move_all.new.tiles long moved) i d l,
+      prepared-moved c.args.net.now c.args.tiles.now.items c.lend.new.tiles.items c.lend.ensures.len c.lend.ensures.does c.requires.ready c.deref.result.now c.lend-2.new.tiles.items c.lend-2.ensures.len seen c.lend-2.ensures.does c.move_all.new.tiles long moved i d l,
+      in-time-moved c.args.net.now c.args.tiles.now.items c.lend.new.tiles.items c.lend.ensures.len c.lend.ensures.does c.requires.ready c.deref.result.now c.lend-2.new.tiles.items c.lend-2.ensures.len seen c.lend-2.ensures.does c.move_all.new.tiles long moved i d l,
     ))
 
 pub returns-clause-steps : goal.returns-clause-steps
 returns-clause-steps g c =
     let shows = subst (λ (xs : List TileView). (m : Traffic) → AllStand c.args.net.now xs m → Shows c.args.net.now c.publish.new.view m) c.as_slice.ensures.value c.publish.ensures.shows in
-    let seen = subst (λ (v : List Bool). (m : Traffic) → AllStand c.args.net.now c.lend.new.tiles.items m → Shows c.args.net.now v m) (sym c.mouths.ensures) shows in
+    let seen = subst (λ (v : List Bool). (m : Traffic) → AllStand c.args.net.now c.lend.new.tiles.items m → Shows c.args.net.now v m) (sym (c.deref.ensures.value ∙ c.view.view_is)) shows in
     let long : length c.move_all.new.tiles ≡ length c.lend-2.new.tiles.items = (let e = c.move_all.auto in let f = c.as_mut_slice.ensures.len in omega arith) in
     let moved = subst (λ (ys : List TileView). Each (λ x y. y ≡ received (all_handed ys) x) ys c.move_all.new.tiles) c.as_mut_slice.ensures.value c.move_all.ensures.moved in
     let items : (with_items c.lend-2.new.tiles c.move_all.new.tiles).items ≡ c.move_all.new.tiles = with_items_is c.lend-2.new.tiles c.move_all.new.tiles (let ok = c.lend-2.new.tiles.ok in omega arith) in
-    lent-step c.args.net.now c.args.tiles.now.items c.lend.new.tiles.items c.lend.ensures.len c.lend.ensures.does c.requires.ready c.mouths.result.now c.lend-2.new.tiles.items c.lend-2.ensures.len seen c.lend-2.ensures.does c.move_all.new.tiles long moved c.lend-3.new.tiles.items (c.lend-3.ensures.len ∙ ap (λ (ws : List TileView). length ws) items) (subst (λ (ws : List TileView). Each (Then (EnterPhase c.args.net.now) (MeterPhase c.args.net.now)) ws c.lend-3.new.tiles.items) items c.lend-3.ensures.does)
+    lent-step c.args.net.now c.args.tiles.now.items c.lend.new.tiles.items c.lend.ensures.len c.lend.ensures.does c.requires.ready c.deref.result.now c.lend-2.new.tiles.items c.lend-2.ensures.len seen c.lend-2.ensures.does c.move_all.new.tiles long moved c.lend-3.new.tiles.items (c.lend-3.ensures.len ∙ ap (λ (ws : List TileView). length ws) items) (subst (λ (ws : List TileView). Each (Then (EnterPhase c.args.net.now) (MeterPhase c.args.net.now)) ws c.lend-3.new.tiles.items) items c.lend-3.ensures.does)
