@@ -41,8 +41,7 @@ pub record EndsDesk (sessions calls : ℕ) (one two : Client) (told : Told) : Ty
   pub first : one.replies ≡ Some told.first
   pub second : two.replies ≡ Some told.second
 
--- the replies are the whole output of lines of which these are the first, from the session's first call on; each is the machine's at
--- the place of its call in the history
+-- the replies are the whole output of lines of which these are the first, from the session's first call on; each is the machine's at the place of its call in the history
 pub record IsTold (session : ℕ) (firsts : List (List ℕ)) (replies : List ℕ) (history : List Entry) : Type 0 where
   pub before : PassView
   pub after : PassView

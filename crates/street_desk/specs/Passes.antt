@@ -74,8 +74,7 @@ pub record Answered (p : PassView) (command : Command) (answer : Reply) (q : Pas
   pub kept : p.count ≤ q.count
   pub same : Same p q
 
--- pass q has learned from p on: the history that q has seen is legal and begins with what p had seen, has no new call of the pass's own session, and the
--- count that q knows is not lower
+-- pass q has learned from p on: the history that q has seen is legal and begins with what p had seen, has no new call of the pass's own session, and the count that q knows is not lower
 pub record Learns (p q : PassView) : Type 0 where
   pub is_history : IsHistory p.desk.sessions q.seen
   pub begins : BeginsWith q.seen p.seen

@@ -22,8 +22,7 @@ streets_of tiles sites clock ends = record { tiles = tiles; sites = sites; clock
 abbrev pub no_streets : StreetsView
 no_streets = record { tiles = record { network = no_network; tiles = [] }; sites = []; clock = 0; ends = [] }
 
--- the tiles stand for the traffic; the traffic has each number in one place or ended, a signal plan or none for each node, and the detectors of these
--- sites
+-- the tiles stand for the traffic; the traffic has each number in one place or ended, a signal plan or none for each node, and the detectors of these sites
 pub record IsTrafficOf (x : StreetsView) (m : Traffic) : Type 0 where
   pub clock : x.clock ≡ m.clock
   pub ends : x.ends ≡ m.ends
@@ -50,8 +49,7 @@ abbrev pub StreetsSignal : ℕ → SignalPlan → StreetsView → StreetsView �
 StreetsSignal node plan x y = (id : ℕ) (other : SignalPlan) → node_of x.tiles.network id ≡ Some node → ShowsAs plan other
     → StreetsGo (λ m. signalled m id other) x y
 
--- what holds of the streets between commands: each vehicle that arrived is noted, the clock is in its range, and there is traffic for which the streets
--- stand
+-- what holds of the streets between commands: each vehicle that arrived is noted, the clock is in its range, and there is traffic for which the streets stand
 pub record IsKept (x : StreetsView) : Type 0 where
   pub nobody : NobodyArrived x.tiles
   pub in_time : x.clock ≤ last_clock

@@ -43,8 +43,7 @@ abbrev pub entry_of : Bool → List ℕ → List ℕ
 entry_of true line = line ++ 10 ∷ []
 entry_of false line = []
 
--- what is kept of a line whose command was served so: the line itself or nothing. An advance that stopped short is not answered, and nothing is kept of
--- its line
+-- what is kept of a line whose command was served so: the line itself or nothing. An advance that stopped short is not answered, and nothing is kept of its line
 abbrev pub IsEntry : List ℕ → Served → List ℕ → Type 0
 IsEntry line (Answered reply) entry = (is_short reply ≡ false) × (entry ≡ entry_of (is_change reply) line)
 IsEntry line Full entry = entry ≡ []
@@ -93,9 +92,8 @@ module _ {S : Type 0} (serves : S → Command → Served → S → Type 0) where
     pub holds : Appends log held kept
     pub stays : synced ≡ held
 
-  -- what a fault left that came as these lines were served. Where the log failed, no reply is out, and the log holds the first bytes of what is kept of
-  -- the lines, of which the first may stay. Where the writer failed, all that is kept of the lines is held and stays, and of their output the first bytes
-  -- are written. Else nothing was called
+  -- what a fault left that came as these lines were served. Where the log failed, no reply is out, and the log holds the first bytes of what is kept of the lines, of which the first may stay. Where
+  -- the writer failed, all that is kept of the lines is held and stays, and of their output the first bytes are written. Else nothing was called
   abbrev pub PassStops : S → Option (List ℕ) → Option (List ℕ) → Option (List ℕ) → List (List ℕ) → KeptFault → Option (List ℕ) → Option (List ℕ) → Option (List ℕ) → Type 0
   PassStops old log stayed before ls Log held synced after =
       (out : List ℕ) × (kept : List ℕ) × (new : S) × GoesKept old ls out kept new × (after ≡ before)
@@ -130,8 +128,7 @@ module _ {S : Type 0} (serves : S → Command → Served → S → Type 0) where
     pub passed : Passed start log before (cut seen).0 mid owed owed told
     pub stops : PassStops mid owed owed told last fault held synced after
 
-  -- what every fault leaves in common: of the output of the first lines the first bytes are written, and all that is kept of these lines is held, and
-  -- stays
+  -- what every fault leaves in common: of the output of the first lines the first bytes are written, and all that is kept of these lines is held, and stays
   pub record KeptFirst (start : S) (unread log before : Option (List ℕ)) (left held synced after : Option (List ℕ)) : Type 0 where
     pub text : List ℕ
     pub done : List (List ℕ)

@@ -84,8 +84,7 @@ module _ {S : Type 0} (serves : S → Command → Served → S → Type 0) where
   Redoes old [] new = new ≡ old
   Redoes old (l ∷ ls) new = (mid : S) × RedoSaid old (said l) mid × Redoes mid ls new
 
-  -- lines of a text that stand behind so many others were done up to a fault: before a bad line, which has this number; up to where memory ran out; or all that
-  -- have ended
+  -- lines of a text that stand behind so many others were done up to a fault: before a bad line, which has this number; up to where memory ran out; or all that have ended
   abbrev pub RedoHalts : S → ℕ → List ℕ → RedoFault → S → Type 0
   RedoHalts old before text (BadLine number) new = (done : List (List ℕ)) × (bad : List ℕ) × (rest : List (List ℕ)) × (mid : S)
       × ((cut text).0 ≡ done ++ bad ∷ rest) × Redoes old done mid × BadSaid mid (said bad) new × (number ≡ before + length done + 1)
@@ -96,8 +95,7 @@ module _ {S : Type 0} (serves : S → Command → Served → S → Type 0) where
   RedoHalts old before text (Run kind.Endless) new = Redoes old (cut text).0 new
   RedoHalts old before text (Run kind.Write) new = ⊥
 
-  -- a text was read to its end, and those of its lines that have ended were done: `redo.lines` lines of `redo.bytes` bytes. What stands behind the last LF
-  -- was not looked at
+  -- a text was read to its end, and those of its lines that have ended were done: `redo.lines` lines of `redo.bytes` bytes. What stands behind the last LF was not looked at
   pub record RedoDone (start : S) (unread : Option (List ℕ)) (now : S) (left : Option (List ℕ)) (redo : RedoneLines) : Type 0 where
     pub text : List ℕ
     pub read : Consumes unread left text

@@ -53,8 +53,7 @@ module _ {D W : Type 0} (remaining : D → Option (List ℕ)) (contents : W → 
   EngineServesAll before reader writer after read written tally = (old : State) → StandsFor before old
       → (new : State) × StandsFor after new × ServesAll MachineServes remaining contents old reader writer new read written tally
 
-  -- whatever state the engine stood for, the machine serves the first lines of the reader from there on, until a fault ends the run, and the engine then
-  -- stands for the state to which these lead
+  -- whatever state the engine stood for, the machine serves the first lines of the reader from there on, until a fault ends the run, and the engine then stands for the state to which these lead
   abbrev pub EngineServesFirst : EngineView → Counted D → Counted W → EngineView → Counted D → Counted W → RunFault → Type 0
   EngineServesFirst before reader writer after read written fault = (old : State) → StandsFor before old
       → (new : State) × StandsFor after new × ServesFirst MachineServes remaining contents old reader writer new read written fault

@@ -51,8 +51,7 @@ fault_of_tape tape.NotTape from to = BadTape 1
 fault_of_tape (tape.BadEntry line) from to = BadTape line
 fault_of_tape (tape.Run fault) from to = fault_of_run fault.kind from to
 
--- what the program tells where the lines of the file of this name were not done again; a line that is no command, or is refused, is told as a bad line
--- of a tape
+-- what the program tells where the lines of the file of this name were not done again; a line that is no command, or is refused, is told as a bad line of a tape
 abbrev pub redo_fault : RedoFault → Bor (List ℕ) → ProgramFault
 redo_fault (redo.Run kind) name = fault_of_run kind name name
 redo_fault (redo.BadLine line) name = BadTape line

@@ -26,8 +26,7 @@ Awaits entries x = x.coming ≡ map (entry_in entries) x.own.places
 abbrev pub moved_at : ℕ → List Transfer → List Transfer → ℕ → TileView → TileView
 moved_at i left moved j x = record x { handed = if j == i then left else x.handed; coming = map (entry_in moved) x.own.places }
 
--- each tile is as it was but for the hand-overs of tile i, of which those in `left` are still there and those in `moved` came to the tiles of their
--- lanes
+-- each tile is as it was but for the hand-overs of tile i, of which those in `left` are still there and those in `moved` came to the tiles of their lanes
 abbrev pub IsMoved : ℕ → List Transfer → List Transfer → List TileView → List TileView → Type 0
 IsMoved i left moved xs ys = (j : ℕ) (d : TileView) → j < length xs → slice_index_or ys j d ≡ moved_at i left moved j (slice_index_or xs j d)
 

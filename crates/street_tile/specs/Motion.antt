@@ -24,8 +24,7 @@ HasPlanFor step p = is_own step.net.now step.low (step.low + length step.signals
 
 -- ---- one lane
 
--- lane n was driven: it stands for what motion makes of the lane that it stood for, in whatever traffic of the step, and the vehicle that arrived is
--- told; the other lanes are as they were
+-- lane n was driven: it stands for what motion makes of the lane that it stood for, in whatever traffic of the step, and the vehicle that arrived is told; the other lanes are as they were
 pub record DrivesLane (step : MotionStep) (n : ℕ) (old new : Lanes) (told : Option ArrivedCar) : Type 0 where
   pub same : Same old new
   pub others : Others n old new
@@ -43,8 +42,7 @@ pub record WatchesLane (step : MotionStep) (n : ℕ) (own : Lanes) (old new : De
 
 -- ---- all lanes of a tile
 
--- the lanes may drive: they are lanes of the step's network, the step has the signal plans of the nodes to which their links run, and these are their
--- detectors
+-- the lanes may drive: they are lanes of the step's network, the step has the signal plans of the nodes to which their links run, and these are their detectors
 pub record MayDrive (step : MotionStep) (own : Lanes) (detectors : List Detectors) : Type 0 where
   pub of : IsOf step.net.now own
   pub roads : IsRoads step.net.now

@@ -29,8 +29,7 @@ pub record LanePhase (net : NetSpec) (x y : TileView) : Type 0 where
   pub arrived : y.arrived ≡ x.arrived
   pub detectors : y.detectors ≡ x.detectors
 
--- motion on a tile. The tile also holds the numbers and the rows of those who arrived, lane by lane, and its mouths after motion; and the watches have
--- seen the motion
+-- motion on a tile. The tile also holds the numbers and the rows of those who arrived, lane by lane, and its mouths after motion; and the watches have seen the motion
 pub record MotionPhase (net : NetSpec) (x y : TileView) : Type 0 where
   pub goes : GoesBy net driven x y
   pub arrived : (m : Traffic) → IsOn net m → StandsFor x m → y.arrived ≡ filter_map (λ p. arrival (leaver_of m p)) x.own.places

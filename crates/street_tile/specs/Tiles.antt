@@ -45,9 +45,8 @@ ShowSignals low high signals m = (node : ℕ) → low ≤ node → node < high
 
 -- ---- a tile
 
--- what contracts see of a tile: its nodes from low up to high, how many links the network has, its own lanes, the clock and
--- the signal plans of its nodes; what it holds of mouths, as a view has them; who was let go and not yet moved, who comes to
--- each of its lanes, and who arrived; the rows of those who arrived in the last step; and the detectors of each own lane
+-- what contracts see of a tile: its nodes from low up to high, how many links the network has, its own lanes, the clock and the signal plans of its nodes; what it holds of mouths, as a view has
+-- them; who was let go and not yet moved, who comes to each of its lanes, and who arrived; the rows of those who arrived in the last step; and the detectors of each own lane
 pub record TileView : Type 0 where
   pub low : ℕ
   pub high : ℕ

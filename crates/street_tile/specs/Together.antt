@@ -17,8 +17,7 @@ pub record TilesView : Type 0 where
 abbrev pub tiles_of : NetSpec → List TileView → TilesView
 tiles_of net xs = record { network = net; tiles = xs }
 
--- what holds of all tiles between calls: they are the tiles of the network, at most one a worker; nobody is on the way between them; and there is a
--- mouth in the view for each lane
+-- what holds of all tiles between calls: they are the tiles of the network, at most one a worker; nobody is on the way between them; and there is a mouth in the view for each lane
 pub record AreKept (net : NetSpec) (xs : List TileView) (mouths : ℕ) : Type 0 where
   pub tiles : AreTiles net xs
   pub few : length xs ≤ most_workers
