@@ -102,11 +102,9 @@ def change_verdict(plans: Sequence[Runs], shown: Interval) -> str:
     if delay.half is None:
         return f"{told}."
     rows = ranked_rows(plans, shown)
-    changed = changes_that_stand_out(rows).values()
-    less, more = (sum((change > 0) == up for change in changed) for up in (False, True))
-    fewer, greater = (count_in_words(count) if count else "none" for count in (less, more))
-    of = f"{fewer} of {counted_noun(len(rows), 'junction')}"
-    return f"{told}; at {of} it is less {how_sure(drawn)}, at {greater} more."
+    changed = [change > 0 for change in changes_that_stand_out(rows).values()]
+    less, more = (count_in_words(changed.count(up)) if up in changed else "none" for up in (False, True))
+    return f"{told}; at {less} of {counted_noun(len(rows), 'junction')} it is less {how_sure(drawn)}, at {more} more."
 
 
 def state_verdict(runs: Runs, shown: Interval) -> str:
