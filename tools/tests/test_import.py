@@ -39,11 +39,11 @@ class Parts(unittest.TestCase):
 
 
     def test_limits(self):
-        """A free vehicle has 7.5 m/s a cell of its limit less the share of steps in which it dawdles: of 50, 80, 95 and
-        100 km/h the speeds of limits of 2, 3, 4 and 4 are the nearest, 13.7, 21.2 and 28.7 m/s."""
-        for kmh, limit in ((50, 2), (80, 3), (95, 4), (100, 4)):
+        """A free vehicle has 7.5 m/s a cell of its limit less the share of steps in which it dawdles: of 50, 80 and 100
+        km/h the speeds of limits of 2, 3 and 4 are the nearest, 13.7, 21.2 and 28.7 m/s; in a ring of 45 km/h 13.7."""
+        for kmh, limit, in_ring in ((50, 2, False), (80, 3, False), (100, 4, False), (45, 2, True)):
             nearest = min(range(1, 7), key=lambda cells: abs((cells - 0.17) * 7.5 - kmh / 3.6))
-            found = limit_of(SimpleNamespace(speed=kmh / 3.6), 0.17, range(1, 7), False)
+            found = limit_of(SimpleNamespace(speed=kmh / 3.6), 0.17, range(1, 7), in_ring)
             self.assertEqual((found, nearest), (limit, limit), kmh)
 
 

@@ -108,17 +108,17 @@ class Nesting:
 
     def __init__(self) -> None:
         """Before the root."""
-        self.depth, self.count = 0, 0  # elements open; begun below the root
+        self.depth, self.count, self.passed = 0, 0, 0  # elements open; begun below the root; begun or ended in all
 
     def begin(self) -> None:
         """An element begins; TooMuch where it is too deep, or one too many."""
-        self.depth, self.count = self.depth + 1, self.count + 1
+        self.depth, self.count, self.passed = self.depth + 1, self.count + 1, self.passed + 1
         if (self.depth > DEEPEST or self.count > MOST_BELOW) and not lifted():
             raise TooMuch(f"has an element with more than {DEEPEST} in one another, or {MOST_BELOW:,} in all, in it")
 
     def end(self) -> None:
         """An element ends."""
-        self.depth -= 1
+        self.depth, self.passed = self.depth - 1, self.passed + 1
         if self.depth <= 1:
             self.count = 0
 
