@@ -45,10 +45,10 @@ class Told(unittest.TestCase):
     def test_how_far_a_run_is(self):
         """Two are on cells, and then one of them behind its stop line."""
         told, frames = [], [(1, [[0, 0, [[0, 5, 2], [1, 3, 2]], []]]), (2, [[0, 0, [[1, 5, 2]], [0]]])]
-        show(kernel_of(map_from("", MAP), [[0, 1]] * 2), frames, ProgressReports(lambda *one: told.append(one)), parts=2)
+        reports = ProgressReports(lambda *one: told.append(one))
+        show(kernel_of(map_from("", MAP), [[0, 1]] * 2), frames, reports, parts=2)
         found = [(clock, one.cells, one.buffers, one.admitted) for clock, one in told]
         self.assertEqual(found, [(1, 2, 0, 2), (2, 1, 1, 2)])
-
 
     def test_all_are_counted_at_the_end_once(self):
         """Also where the end is a clock at which they are counted anyway."""

@@ -222,7 +222,7 @@ class Vehicles(Started):
 
     def test_waiting_is_summed_up_in_parts(self):
         self.start()
-        with unittest.mock.patch.object(tally, "MOST_KEPT", 3):
+        with unittest.mock.patch.object(tally, "MOST_SECONDS", 3):
             traci.trafficlight.setRedYellowGreenState("L", "rr")
             self.steps(30)
             before = traci.vehicle.getWaitingTime("v")
