@@ -1,21 +1,7 @@
-#!/usr/bin/python3
-"""Compares delays, letters and queues of approaches with SUMO's own detectors (e3, e2), for tools/CLOSENESS.md.
+"""Delays, letters and queues of approaches beside SUMO's detectors."""
 
-Usage: bench/delays PROGRAM --work FOLDER [--seeds 1-5] [--only NAME,..] [--all] [--sumo-only] [--movements]
-                    [--calibrate] [--chains LANES]
-
-An e3 of each approach begins where a departing vehicle stands and ends as far into the next edges (SUMO 1.15 ends at an
-assertion where it lies nearer to their begins); an e2 lies on each of its lanes and tells the longest jam in each
-cycle. In SUMO vehicles depart at the speed of traffic (departSpeed="max"), so that a departure is no delay. An e3
-counts as lost what a vehicle loses that nobody hinders: it drives below its speed by chance, and slower in turns. So
-from each approach that is taken off which a tenth of the demand loses where all lights are green. It needs Debian's
-sumo and sumo-tools; what SUMO wrote is kept in FOLDER and used again. --calibrate: the loss of a stop, from lone
-crosses. --chains: the same from chains of four lights of so many lanes, one for each seed. --movements: of the first
-seed the delays of left turns, straight on and right turns, here without the loss of a stop.
-"""
 import csv
 import gzip
-import random
 import re
 import shlex
 import sys
@@ -24,26 +10,24 @@ from collections import defaultdict
 from dataclasses import dataclass, replace
 from itertools import product
 from pathlib import Path
-from statistics import fmean, stdev
+from statistics import fmean
 from types import SimpleNamespace
 
 import shared
+from crosses import demand
+from seen import kernel_of, show
 from shared import CORRIDOR, RANDOM_TRIPS, SAMPLES, SHIPPED, TOP, run
-
-sys.path.insert(0, str(TOP / "tools/tests"))
-from crosses import demand  # noqa: E402
-from seen import kernel_of, show  # noqa: E402
-from streetsim.base.report import Report  # noqa: E402
-from streetsim.model.folder import read_folder  # noqa: E402
-from streetsim.model.mapping import read_map  # noqa: E402
-from streetsim.model.runs import read_run  # noqa: E402
-from streetsim.model.service import LETTERS, SIGNALS, level, percentile  # noqa: E402
-from streetsim.observe import junction_measures as measuring  # noqa: E402
-from streetsim.observe.crossings import Crossings  # noqa: E402
-from streetsim.observe.junction_layout import approaches_of  # noqa: E402
-from streetsim.observe.passages import Passages  # noqa: E402
-from streetsim.report.beside_sumo import correlation  # noqa: E402
-from streetsim.sumo.net import read_net  # noqa: E402
+from streetsim.base.report import Report
+from streetsim.model.folder import read_folder
+from streetsim.model.mapping import read_map
+from streetsim.model.runs import read_run
+from streetsim.model.service import LETTERS, SIGNALS, level, percentile
+from streetsim.observe import junction_measures as measuring
+from streetsim.observe.crossings import Crossings
+from streetsim.observe.junction_layout import approaches_of
+from streetsim.observe.passages import Passages
+from streetsim.report.beside_sumo import correlation
+from streetsim.sumo.net import read_net
 
 ACOSTA = SHIPPED / "acosta"
 ENTRY = 8.0  # metres: just ahead of a car that departs with its rear at the lane's begin
@@ -294,8 +278,6 @@ def compare(case, args, seeds):
     for seed in seeds:
         write_detectors(case, mapping, folder, seed, cycle)
         run_sumo(case, routes, folder, seed)
-    if args.sumo_only:
-        return
     run_here(case, folder, args.seeds, args.program)
     found = list(judged(case, folder, seeds, mapping, free))
     groups = [(control, [one for one in found if one.control == control]) for control in (SIGNALS, "priority")]
@@ -397,148 +379,35 @@ def plain_crossings(folder, mapping):
     kernel = kernel_of(mapping, plans, dawdle=there.dawdle)
     show(kernel, [(poll["clock"], [lane[:4] for lane in poll["lanes"]]) for poll in there.polls()], seen)
     found = Crossings(seen, kernel.plans, seen.done({}))
-    columns = (one.tolist() for one in (found.movement, found.delay, found.stops, found.owner))
-    return [SimpleNamespace(movement=found.names[at], delay=delay, stops=stops, car=car)
-            for at, delay, stops, car in zip(*columns, strict=True)]  # fmt: skip
+    columns = (one.tolist() for one in (found.movement, found.delay, found.stops))
+    return [SimpleNamespace(movement=found.names[at], delay=delay, stops=stops)
+            for at, delay, stops in zip(*columns, strict=True)]  # fmt: skip
 
 
-CHAIN = "--grid --grid.x-number 4 --grid.y-number 1 --grid.y-length 300 --grid.attach-length 400 -j traffic_light"
-ALONG = "left0A0 A0B0 B0C0 C0D0 D0right0", "right0D0 D0C0 C0B0 B0A0 A0left0"
-FIRSTS = "left0A0", "right0D0"  # the approaches of the first light
-CHAIN_FLOW = 300  # vehicles an hour and lane, each way
+def main_delays(argv: list[str]) -> int | None:
+    """Control delays, letters and queues of approaches beside SUMO; the loss of a stop.
 
+    Takes minutes a seed; needs sumo, sumo-tools.
 
-def chains(args, numbers):
-    """The loss of a stop where it is the first one of a trip, and where it is not: at the first lights of chains of
-    four, and at the others. Of a chain of each number; the 95 % intervals are those over chains."""
-    found = [list(along_chain(args, number)) for number in numbers]
-    losses = stop_losses(found)
-    draws = random.Random(1)
-    drawn = [stop_losses(draws.choices(found, k=len(found))) for _ in range(400)]
-    for told, loss, others in zip(("first stop", "later stop"), losses, zip(*drawn, strict=True), strict=True):
-        print(f"{args.chains} lanes, {told}: {loss:.2f} ± {1.96 * stdev(others):.2f} s ({len(found)} chains)")
-
-
-def stop_losses(found):
-    """Least squares over approaches: (of first stops, of later ones)."""
-    rows = [row for those in found for row in those]
-    first = slope([(share, more) for edge, share, _, more in rows if edge in FIRSTS])
-    return first, slope([(later, more - first * share) for edge, share, later, more in rows if edge not in FIRSTS])
-
-
-def slope(pairs):
-    return sum(x * y for x, y in pairs) / sum(x * x for x, _ in pairs)
-
-
-def along_chain(args, number):
-    """Of each approach of a chain: (edge, shares of first stops and of later ones, seconds by which SUMO's delay is
-    longer)."""
-    folder, draws = args.work / f"chain-{args.chains}-{number}", random.Random(number)
-    folder.mkdir(parents=True, exist_ok=True)
-    case = Case("chain", folder / "net.net.xml", folder / "one.rou.xml")
-    write_chain(case, args.chains, draws)
-    case.routes.write_text(along(CHAIN_FLOW * args.chains, number), encoding="utf-8")
-    routes = at_speed(case.routes, folder)
-    mapping = convert(case, routes, folder)
-    cycle = cycles(mapping, folder)
-    write_detectors(case, mapping, folder, number, cycle, queues=False)
-    there, _ = run_sumo(case, routes, folder, number)
-    free = alone(case, mapping, routes, folder, cycle)
-    simulate(case, folder, args.program, "--every", 1)
-    for edge, rows in stops_of(plain_crossings(folder, mapping)).items():
-        delay, first, later = (fmean(row[place] for row in rows) for place in range(3))
-        yield edge, first, later, there[edge][1] - free[edge] - delay
-
-
-def write_chain(case, lanes, draws):
-    """Four lights in a row, at a random distance and of random offsets."""
-    words = f"--grid.x-length {draws.randint(180, 450)} -L {lanes} --tls.cycle.time 90 --no-turnarounds true --seed 1"
-    run(["netgenerate", *shlex.split(f"{CHAIN} {words}"), "-o", case.net], case.net.parent)
-    text = case.net.read_text(encoding="utf-8")
-    case.net.write_text(re.sub('offset="0"', lambda _: f'offset="{draws.randint(0, 89)}"', text), encoding="utf-8")
-
-
-def along(hourly, seed):
-    """Vehicles at random from one end of a chain to the other, both ways."""
-    draws, found = random.Random(seed), []
-    for edges in ALONG:
-        clock = 0.0
-        while (clock := clock + draws.expovariate(hourly / 3600)) < 3600:
-            found.append((clock, edges))
-    rows = (
-        f'<vehicle id="{number}" depart="{clock:.1f}" departLane="best"><route edges="{edges}"/></vehicle>'
-        for number, (clock, edges) in enumerate(sorted(found))
-    )
-    return f"<routes>{''.join(rows)}</routes>"
-
-
-def stops_of(crossings):
-    """By approach, for each vehicle: its delay, whether its first stop was there, whether a later one."""
-    stopped, found = set(), defaultdict(list)
-    for one in crossings:
-        stops, before = one.stops > 0, one.car in stopped
-        found[one.movement[0]].append((one.delay, stops and not before, stops and before))
-        if stops:
-            stopped.add(one.car)
-    return found
-
-
-KINDS = {"L": "left", "T": "straight on", "R": "right"}
-
-
-def by_movement(case, args, seed):
-    """Prints delays by where vehicles go."""
-    case, folder = prepared(case, args.work / case.name), args.work / case.name / "movements"
-    folder.mkdir(parents=True, exist_ok=True)
-    routes = at_speed(case.routes, folder)
-    mapping, net = convert(case, routes, folder), read_net(str(case.net), ("passenger",), Report())
-    approaches = approaches_of(mapping)
-    ways = {f"{edge} {target}": (edge, target) for edge in approaches for target in targets_of(net, edge)}
-    for name in (LONE, seed):
-        rows = [row for way, (edge, target) in ways.items() for row in e3(case, net, edge, [target], way, name)]
-        (folder / f"detectors-{name}.add.xml").write_text("<additional>\n" + "\n".join(rows) + "\n</additional>")
-    write_greens(case, folder)
-    lone, theirs = (run_sumo(case, routes, folder, name)[0] for name in (LONE, seed))
-    simulate(case, folder, args.program, "--every", 1)
-    crossings = plain_crossings(folder, mapping)
-    for kind, told in KINDS.items():
-        own = {way for way, (edge, target) in ways.items() if approaches[edge].movements.get(target) == kind}
-        there, free = ([found[way] for way in own if way in found] for found in (theirs, lone))
-        ours = [one.delay for one in crossings if " ".join(one.movement) in own]
-        if there and free and ours:
-            less = mean_delay(free)
-            beyond = f"SUMO {mean_delay(there) - less:.1f} s ({less:.1f} s alone), here {fmean(ours):.1f} s"
-            print(f"{case.name}, {told}: {beyond}", flush=True)
-
-
-def main():
-    parser = shared.parser_of(__doc__)
-    parser.add_argument("--work", required=True, type=lambda text: Path(text).resolve())
+    An e3 of each approach begins where a departing vehicle stands and ends as far into the next edges (SUMO 1.15 ends
+    at an assertion where it lies nearer to their begins); an e2 lies on each of its lanes and tells the longest jam in
+    each cycle. In SUMO vehicles depart at the speed of traffic (departSpeed="max"), so that a departure is no delay. An
+    e3 counts as lost what a vehicle loses that nobody hinders: it drives below its speed by chance, and slower in
+    turns. So from each approach that is taken off which a tenth of the demand loses where all lights are green.
+    --calibrate: the loss of a stop, from lone crosses.
+    """
+    parser = shared.parser_of(main_delays, work=True)
     parser.add_argument("--seeds", default="1-5")
     parser.add_argument("--only", default="", help="names of networks, with commas between")
     parser.add_argument("--calibrate", action="store_true")
-    parser.add_argument("--chains", type=int, default=0, metavar="LANES", help="the loss of first and of later stops")
     parser.add_argument("--all", action="store_true", help="print each approach")
-    parser.add_argument("--movements", action="store_true", help="print delays of left turns, straight on, right turns")
-    parser.add_argument("--sumo-only", action="store_true", help="only SUMO, whose files are kept")
-    args = parser.parse_args()
-    args.program = str(Path(args.program).resolve())
+    args = parser.parse_args(argv)
     seeds = shared.numbers(args.seeds)
     if args.calibrate:
         return calibrate(args, seeds)
-    if args.chains:
-        return chains(args, seeds)
-    if not (args.movements or args.sumo_only):
-        delays = "delay as SUMO counts it, s | beyond a vehicle alone, s | here, s | r | same letter, within one"
-        print(f"| Network, approaches at | approaches | {delays} | 95 % queue: SUMO, m | here, m |")
-        print("|---|---|---|---|---|---|---|---|---|")
+    delays = "delay as SUMO counts it, s | beyond a vehicle alone, s | here, s | r | same letter, within one"
+    shared.print_heads(f"Network, approaches at | approaches | {delays} | 95 % queue: SUMO, m | here, m")
     for case in CASES:
         if not args.only or case.name in args.only.split(","):
-            if args.movements:
-                by_movement(case, args, seeds[0])
-            else:
-                compare(case, args, seeds)
+            compare(case, args, seeds)
     return None
-
-
-main()

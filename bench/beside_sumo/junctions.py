@@ -1,23 +1,15 @@
-#!/usr/bin/python3
-"""Prints how many vehicles an hour of a minor street that is always full pass lone junctions without a light, \
-in SUMO and here, by
-the vehicles an hour that they give way to.
+"""Lone junctions beside SUMO: who passes them against full streams, and what the few lose."""
 
-Usage: bench/junctions PROGRAM --work FOLDER [--cases one] [--seed 1] [--picture FILE.png]
-
-Cases: one (one stream that goes first), streams (one, two and four, of so many each), stops (stop signs), all-way (all
-have to stop), light (seconds of a trip of 100 minor vehicles an hour, at stop signs and without). All junctions of
-some cases stand in one network that netconvert makes. It needs Debian's sumo, and keeps what SUMO wrote in FOLDER.
-"""
-
+import random
+from collections import defaultdict
 from collections.abc import Callable
 from dataclasses import dataclass
+from statistics import fmean
 
-import lone
 import shared
-from lone import Junction, Stream, Trips
+from networks import lone
+from networks.lone import Junction, Stream, Trips
 from streetsim.report.picture_files import load_pyplot, save_picture
-
 
 @dataclass(frozen=True)
 class Case:
@@ -128,13 +120,20 @@ def draw(cases: Cases, theirs, ours, path):
     save_picture(figure, path)
 
 
-def main():
-    parser = shared.parser_of(__doc__)
-    parser.add_argument("--work", required=True, help="a folder for what is made")
+def main_junctions(argv: list[str]) -> int | None:
+    """Who passes lone junctions without a light against full streams, beside SUMO.
+
+    Takes minutes; needs sumo.
+
+    Cases: one (one stream that goes first), streams (one, two and four, of so many each), stops (stop signs), all-way
+    (all have to stop), light (seconds of a trip of 100 minor vehicles an hour, at stop signs and without). All
+    junctions of some cases stand in one network that netconvert makes. What SUMO wrote is kept in the folder of --work.
+    """
+    parser = shared.parser_of(main_junctions, work=True)
     parser.add_argument("--cases", default="one", choices=CASES)
     parser.add_argument("--seed", type=int, default=1)
     parser.add_argument("--picture", help="draw the table too")
-    args = parser.parse_args()
+    args = parser.parse_args(argv)
     folder, cases = shared.work_of(args) / args.cases, CASES[args.cases]
     folder.mkdir(exist_ok=True)
     net, routes = lone.prepare([junction for *_, junction in cases.junctions()], folder, args.seed)
@@ -145,4 +144,165 @@ def main():
         draw(cases, theirs, ours, args.picture)
 
 
-main()
+LEVELS = (0.1, 0.5, 1.0)
+LIT = ("--tls.cycle.time", "80")
+KINDS = {
+    **{"mains": "priority", "stops": "stop", "all-way": "allway", "equal": "equal", "roundabouts": "roundabout"},
+    **{"light": "traffic_light", "right-on-red": "traffic_light_right_on_red"},
+}
+MOST = {"mains": 260, "stops": 200, "all-way": 250, "equal": 250, "roundabouts": 300}  # vehicles an hour of a minor arm
+STRAIGHT, LEFT, RIGHT = (dict(zip("wens", to, strict=True)) for to in ("ewsn", "nsew", "snwe"))
+TURNS = {"straight": STRAIGHT, "left": LEFT, "right": RIGHT}
+
+
+def drawn(kind: str, seed: int, count: int) -> list[Junction]:
+    """The junctions of a kind: of each as many as there are levels."""
+    draws, found = random.Random(f"{kind} {seed}"), []
+    for at in range(count):
+        arms = "wes" if at % 4 == 3 and kind != "roundabouts" else "wens"
+        flows, arm = flows_of(kind, arms, draws), draws.randrange(120, 301, 10)
+        radius = draws.randrange(16, 29)
+        for level in LEVELS:
+            streams = tuple(Stream(ends, flow * level) for ends, flow in flows.items())
+            name = f"j{at}_{round(100 * level)}"
+            found.append(Junction(name, arms, KINDS[kind], streams, arm=arm, out=arm, radius=radius))
+    return found
+
+
+def flows_of(kind: str, arms: str, draws: random.Random) -> dict[str, float]:
+    """Vehicles an hour of one junction, by from and to."""
+    most = MOST.get(kind, 300)
+    flows = {arm: draws.uniform(0.3 * most, most) * (1.8 if is_main(kind, arm) else 1.0) for arm in arms}
+    shares = {arm: (draws.uniform(0.05, 0.35), draws.uniform(0.05, 0.35)) for arm in arms}
+    found: dict[str, float] = {}
+    for arm, (left, right) in shares.items():
+        for share, to in ((1 - left - right, STRAIGHT), (left, LEFT), (right, RIGHT)):
+            if to[arm] in arms:
+                found[arm + to[arm]] = flows[arm] * share
+    return found
+
+
+def is_main(kind: str, arm: str) -> bool:
+    return kind in ("mains", "stops") and arm in "we"
+
+
+def way_of(kind: str, ends: str) -> str:
+    """Who goes so: by whether it comes from the main street, and its turn."""
+    turn = next(name for name, to in TURNS.items() if to[ends[0]] == ends[1])
+    return f"{'main' if is_main(kind, ends[0]) else 'minor'} {turn}"
+
+
+def means(kind: str, trips: Trips) -> dict[tuple[int, str], list[float]]:
+    """The trips of those who depart in the count, by (percent of the flows, way), and of all ways ("")."""
+    found = defaultdict(list)
+    for name, (depart, arrival) in trips.items():
+        if lone.FIRST <= depart < lone.LAST - lone.FIRST:
+            junction, _, _, ends = name.split(".")
+            for way in ("", way_of(kind, ends)):
+                found[int(junction.partition("_")[2]), way].append(arrival - depart)
+    return found
+
+
+def main_lone_trips(argv: list[str]) -> int | None:
+    """Mean trips over lone junctions of all kinds, by drawn arms, flows and turns, beside SUMO.
+
+    Takes a minute; needs sumo.
+
+    Each junction stands there with a tenth, a half and all of its flows. The table has, by kind and share of the flows,
+    SUMO's mean trip and by how many seconds ours is longer, and last of whom: by way with --ways. What waits and losses
+    are chosen by. All junctions of a kind stand in one network that netconvert makes. What SUMO wrote is kept in the
+    folder of --work.
+    """
+    parser = shared.parser_of(main_lone_trips, work=True)
+    parser.add_argument("--draw", type=int, default=81, help="the seed of arms, flows and turns")
+    parser.add_argument("--count", type=int, default=8, help="junctions of a kind, each at three levels")
+    parser.add_argument("--seed", type=int, default=1, help="of departures, and of SUMO")
+    parser.add_argument("--kinds", default=",".join(KINDS))
+    parser.add_argument("--ways", action="store_true", help="a row for each way")
+    parser.add_argument("--tools", default=shared.TOOLS, type=shared.whole, help="other tools than these")
+    args = parser.parse_args(argv)
+    folder = shared.work_of(args)
+    shared.print_heads(f"SUMO, s, and here more | {' | '.join(f'{level:.0%} of the flows' for level in LEVELS)}")
+    for kind in args.kinds.split(","):
+        own = folder / f"{kind}-{args.draw}"
+        own.mkdir(exist_ok=True)
+        junctions = drawn(kind, args.draw, args.count)
+        net, routes = lone.prepare(junctions, own, args.seed, " ".join(LIT))
+        theirs = means(kind, lone.in_sumo(net, routes, own, args.seed))
+        ours = means(kind, lone.here(net, routes, own, args.program, args.tools))
+        for way in sorted({way for _, way in theirs}) if args.ways else [""]:
+            pairs = [(theirs.get((round(100 * level), way)), ours.get((round(100 * level), way))) for level in LEVELS]
+            cells = (f"{fmean(a):.1f} {fmean(b) - fmean(a):+.2f}" if a and b else "" for a, b in pairs)
+            print(f"| {kind}{f', {way}' if way else ''} | {' | '.join(cells)} |", flush=True)
+
+
+WAITS = {  # kind, arms, from and to of the minor street and of those that go first
+    "cross, straight on": ("priority", "wens", "sn", "we"),
+    "cross, left from the main street": ("priority", "wens", "wn", "ew"),
+    "T, right turn (joining)": ("priority", "wes", "se", "we"),
+    "roundabout, entry": ("roundabout", "wens", "se", "we"),
+    "right before left, straight on": ("equal", "wens", "sn", "ew"),
+    "right before left, left turn (joining)": ("equal", "wens", "sw", "ew"),
+}
+FIRST, MINOR = (0, 100, 200, 400), (40, 160)  # vehicles an hour
+LAST = 14400  # seconds
+Key = tuple[str, int, int]  # case, vehicles an hour of the minor street and of the others
+
+
+def waiting_junctions() -> dict[Key, Junction]:
+    return {
+        (title, minor, first): Junction(f"j{at}_{minor}_{first}", arms, kind, arm=200, out=150)
+        for at, (title, (kind, arms, *_)) in enumerate(WAITS.items()) for minor in MINOR for first in FIRST
+    }  # fmt: skip
+
+
+def waiting_demand(every: dict[Key, Junction]) -> str:
+    """The routes: each minor street's vehicles are drawn alike against each stream."""
+    found = []
+    for (title, minor, first), junction in every.items():
+        *_, own, other = WAITS[title]
+        for kind, ends, hourly, seed in (("minor", own, minor, f"{title}{minor}"), ("major", other, first, title)):
+            draws, clock = random.Random(f"{kind} {seed} {hourly}"), 0.0
+            while hourly and (clock := clock + draws.expovariate(hourly / 3600)) < LAST - 300:
+                factor = min(1.3, max(0.7, draws.gauss(1, 0.1)))
+                found.append((clock, f"{junction.name}.{kind}.{len(found)}", factor, lone.way(junction, ends)))
+    lines = (
+        f'<vehicle id="{name}" depart="{clock:.1f}" departSpeed="max" speedFactor="{factor:.3f}">'
+        f'<route edges="{edges}"/></vehicle>'
+        for clock, name, factor, edges in sorted(found)
+    )
+    return f"<routes>{''.join(lines)}</routes>"
+
+
+def lost_by(trips: Trips, every: dict[Key, Junction]) -> dict[Key, float]:
+    """Mean seconds of the minor street's trips, less those against nobody."""
+    means = {}
+    for key, junction in every.items():
+        own = [to - at for name, (at, to) in trips.items() if name.startswith(f"{junction.name}.minor.")]
+        means[key] = fmean(own)
+    return {key: mean - means[*key[:2], 0] for key, mean in means.items()}
+
+
+def main_light_waits(argv: list[str]) -> int | None:
+    """What few vehicles lose that give way to a stream, beside SUMO.
+
+    Takes a minute; needs sumo.
+
+    A street has the same vehicles against each stream, so their trips less those against nobody are what they lose.
+    What one needs who comes while nobody stands at the line is chosen by. What SUMO wrote is kept in the folder of
+    --work.
+    """
+    parser = shared.parser_of(main_light_waits, work=True)
+    parser.add_argument("--tools", default=shared.TOOLS, type=shared.whole, help="other tools than these")
+    args = parser.parse_args(argv)
+    folder, every, lone.LAST = shared.work_of(args), waiting_junctions(), LAST
+    routes = folder / "demand-1.rou.xml"
+    routes.write_text(waiting_demand(every), encoding="utf-8")
+    net, _ = lone.prepare(list(every.values()), folder, 1)
+    theirs = lost_by(lone.in_sumo(net, routes, folder, 1), every)
+    ours = lost_by(lone.here(net, routes, folder, args.program, args.tools), every)
+    columns = [(minor, first) for minor in MINOR for first in FIRST if first]
+    shared.print_heads(f"SUMO / here, s | {' | '.join(f'{minor} against {first}' for minor, first in columns)}")
+    for title in WAITS:
+        keys = [(title, *column) for column in columns]
+        print(f"| {title} | {' | '.join(f'{theirs[key]:.1f} / {ours[key]:.1f}' for key in keys)} |")

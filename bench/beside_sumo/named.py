@@ -1,29 +1,28 @@
-#!/usr/bin/python3
-"""Runs networks in SUMO and in streetsim with several seeds each, and prints the table of tools/CLOSENESS.md.
-
-Usage: bench/closeness PROGRAM --work FOLDER [--seeds 1-3] [--only NAME,..] [--import "WORDS"] [--sumo-only] [--jobs N]
-                       [--tools FOLDER] [--rows NAME]
-
-It needs Debian's sumo and sumo-tools. What SUMO wrote is kept in FOLDER and used again. Networks of netgenerate and
-their demands come from fixed seeds; those of sumo-tools are read where Debian has put them.
-"""
+"""Networks with names beside SUMO: the samples, those of sumo-tools, and some of netgenerate."""
 
 import os
 import re
 import shlex
+import subprocess
 import sys
+import time
 from dataclasses import dataclass
 from pathlib import Path
 from statistics import fmean
 
-import rows
 import shared
-from roundabouts import write_town
-from rows import Row
-from shared import CORRIDOR, RANDOM_TRIPS, SAMPLES, SHIPPED, TOP, numbers, run, spread
-from sides import doubt_of
+from beside_sumo import rows
+from beside_sumo.rows import Row, doubt_of
+from networks.streets import write_town
+from shared import CORRIDOR, RANDOM_TRIPS, SAMPLES, SHIPPED, SUMO_HOME, TOP, numbers, run, spread
+from streetsim.base.client import Client
+from streetsim.base.files import Fault
+from streetsim.base.report import Report
 from streetsim.model.folder import read_folder
 from streetsim.report.beside_sumo import edge_counts_of, geh, read_edgedata, read_tripinfo, trip_times_of
+from streetsim.sumo.configuration import files_named, read_configuration
+from streetsim.sumo.import_files import convert
+from streetsim.sumo.network import Options
 
 PERIOD = 900
 MADE = {  # by netgenerate: its words
@@ -41,7 +40,7 @@ MADE = {  # by netgenerate: its words
     "equal-town": "--rand --rand.iterations 120 --rand.max-distance 260 --rand.min-distance 110 "
     "-j right_before_left --seed 1630",
 }
-# By roundabouts.py: seed and radius. By the first two of these it was settled how long a roundabout's junctions take;
+# By write_town: seed and radius. By the first two of these it was settled how long a roundabout's junctions take;
 # the others judge, and the last two were drawn after it.
 ROUNDABOUTS = {
     **{"roundabout-town": (8425, 18), "roundabout-town-7638": (7638, 26), "roundabout-town-722": (722, 18)},
@@ -147,14 +146,11 @@ def good_counts(here, there, counted):
     return good / max(1, len(keys)), len(keys)
 
 
-def row(case, folder, args):
+def closeness_row(case, folder, args):
     """The cells of a case: SUMO's and our mean trips over vehicles that arrived in both,
     and how good the counts are; and its row for bench/beside_sumo."""
     net, routes = prepare(case, folder)
     sumo = [run_sumo(case, net, routes, folder, seed) for seed in numbers(args.seeds)]
-    if args.sumo_only:
-        means = [(fmean(arrival - depart for depart, arrival in trips.values()), tele) for trips, _, tele in sumo]
-        return [case.name, *(f"{mean:.0f} ({tele})" for mean, tele in means)], None
     theirs, ours, shares, gone = [], [], [], []
     runs, doubt = run_here(case, net, routes, folder, args)
     for (trips, counts, _), one in zip(sumo, runs, strict=True):
@@ -180,31 +176,183 @@ def row(case, folder, args):
     ], kept
 
 
-def main():
-    parser = shared.parser_of(__doc__)
-    parser.add_argument("--work", required=True, help="a folder for what is made")
+def main_closeness(argv: list[str]) -> int | None:
+    """Mean trips, counts and rescues beside SUMO, on networks with names.
+
+    Takes a quarter hour; needs sumo, sumo-tools.
+
+    What SUMO wrote is kept in the folder of --work. Networks of netgenerate and their demands come from fixed seeds;
+    those of sumo-tools are read where Debian has put them.
+    """
+    parser = shared.parser_of(main_closeness, work=True)
     parser.add_argument("--seeds", default="1-3")
-    parser.add_argument("--jobs", type=int, default=1, help="runs side by side")
     parser.add_argument("--only", default="", help="names of networks, with commas between")
     parser.add_argument("--import", dest="words", default="", help="more words for the import")
-    parser.add_argument("--sumo-only", action="store_true", help="only SUMO: mean trips and teleports")
-    parser.add_argument("--tools", default=TOP / "tools", type=Path, help="other tools than these")
-    parser.add_argument("--rows", help="keep the rows in bench/beside_sumo, by this name")
-    args = parser.parse_args()
-    args.program, args.tools, every = str(Path(args.program).resolve()), args.tools.resolve(), []
-
+    rows.add_words(parser)
+    args, every = parser.parse_args(argv), []
     heads = "Network (vehicles) | SUMO, s | teleports | here, s | GEH below 5 | arrived here, in SUMO | rescues"
-    print(f"| {heads} | the last line |\n|{'---|' * 8}")
+    shared.print_heads(f"{heads} | the last line")
     for case in cases():
         if not args.only or case.name in args.only.split(","):
-            folder = Path(args.work).resolve() / re.sub("[^a-z0-9.]+", "-", case.name)
+            folder = args.work / re.sub("[^a-z0-9.]+", "-", case.name)
             folder.mkdir(parents=True, exist_ok=True)
-            cells, kept = row(case, folder, args)
+            cells, kept = closeness_row(case, folder, args)
             print(f"| {' | '.join(cells)} |", flush=True)
             every.append(kept)
     if args.rows:
         rows.keep(args.rows, every)
 
 
-if __name__ == "__main__":
-    main()
+def timed(times, call):
+    """What a call gives, and its least time."""
+    best = float("inf")
+    for _ in range(times):
+        begun = time.perf_counter()
+        given = call()
+        best = min(best, time.perf_counter() - begun)
+    return given, best
+
+
+def load(program, commands):
+    """The replies to load and signal lines, and the time from the first byte to the last reply."""
+    with Client(program, calls=0) as sim:
+        sim.batch([{"cmd": "count"}])  # so that the program has begun
+        begun = time.perf_counter()
+        replies = sim.batch(commands)
+        spent = time.perf_counter() - begun
+    return replies, spent
+
+
+def loaded_row(program, path, times):
+    """The cells of a network's row after its name."""
+    try:
+        (network, lights, commands, _), imported = timed(times, lambda: convert(path, [], [], Options(), Report()))
+    except Fault as fault:
+        return ["", "", "", "", "", f"refused: {str(fault).partition(': ')[2]}"]
+    over = list(network.over_limits())
+    if over:
+        return ["", "", "", "", "", f"refused: {'; '.join(over)}"]
+    runs = [load(program, commands) for _ in range(times)]
+    refused = [reply for replies, _ in runs for reply in replies if isinstance(reply, Exception)]
+    if refused:
+        raise SystemExit(f"{path}: {refused[0]}")
+    sizes = [len(network.nodes), len(network.links), len(network.turns), len(lights)]
+    return [*(f"{size:,}" for size in sizes), f"{imported:.2f}", f"{min(spent for _, spent in runs):.3f}"]
+
+
+def main_shipped(argv: list[str]) -> int | None:
+    """Whether each network that sumo-tools ships loads, and how long that takes.
+
+    Takes minutes; needs sumo, sumo-tools.
+
+    Times are those of the clock on the wall, the best of three runs: of the import, and of the load and signal lines
+    with their replies. It stops where one of these lines is refused.
+    """
+    parser = shared.parser_of(main_shipped)
+    parser.add_argument("--folder", default="/usr/share/sumo")
+    parser.add_argument("--times", type=int, default=3)
+    args = parser.parse_args(argv)
+    shared.print_heads("Network | nodes | links | turns | signals | import, s | load and signals, s")
+    for path in sorted(Path(args.folder).rglob("*.net.xml")):
+        cells = loaded_row(args.program, str(path), args.times)
+        print(f"| {path.relative_to(args.folder)} | {' | '.join(cells)} |", flush=True)
+
+
+GAMES = Path(SUMO_HOME) / "tools/game"
+SCENARIOS = Path(SUMO_HOME) / "tools/sumolib/scenario/scenarios"
+CASES = {  # the configuration, or the network and the routes; the last second, 0 for the configuration's
+    **{
+        f"game/{name}": (GAMES / f"{name}.sumocfg", 0)
+        for name in "A10KW DRT bs3d corridor cross grid6 highway ramp square".split()
+    },
+    "game/hiking": (GAMES / "hiking/hiking.sumocfg", 1800),
+    "game/kuehne": (GAMES / "kuehne.sumocfg.disabled", 1800),
+    "game/racing": (GAMES / "racing/racing.sumocfg", 1800),
+    **{
+        f"RiLSA_example{number}": (SCENARIOS / f"RealWorld/RiLSA_example{number}/run.sumo.cfg", 9000)
+        for number in (1, 2, 3, 4)
+    },
+    **{name: (SCENARIOS / f"RealWorld/{name}/run.sumo.cfg", 9000) for name in ("acosta", "joined", "pasubio")},
+    "BasicRiLSACorridor3": (SCENARIOS / "BasicRiLSACorridor3", 5400),
+}
+# Of a demand without a configuration, which SUMO refuses as it is shipped.
+LACKING = '<vType id="passenger"/><vType id="hdv"/>'
+RANDOM_WORDS = ("weights.random-factor",)  # of configurations, of how vehicles choose their ways
+
+
+def done(words, most=0):
+    """What a command prints; a Fault with the last line of what it says where it fails,
+    with a status above the most."""
+    words = [str(word) for word in words]
+    made = subprocess.run(words, env=shared.with_sumo(), capture_output=True, text=True, check=False)
+    if made.returncode > most:
+        raise Fault(f"refused: {(made.stderr.strip().splitlines() or ['no word'])[-1].partition(': ')[2]}")
+    return made.stdout
+
+
+def asked(path, end):
+    """The words of the import, SUMO's files, the last second, and what else SUMO is told by a configuration."""
+    if path.is_dir():
+        [net], [routes] = path.glob("*.net.xml"), path.glob("*.rou.alt.xml")
+        lights = path / "tls.add.xml"
+        return [net, lights, "--routes", routes], (str(net), [str(lights)], [str(routes)]), end, []
+    options = read_configuration(str(path))
+    end = end or int(options["end"])
+    more = [f"--{name}={options[name]}" for name in RANDOM_WORDS if name in options]
+    return ["-c", path, "--end", end], files_named(str(path), options), end, more
+
+
+def demand_row(program, folder, path, end):
+    words, (net, additional, routes), end, more = asked(path, end)
+    outputs = ["-o", folder / "run.jsonl", "--map", folder / "map.json"]
+    done([TOP / "tools/streetsim-import", *words, *outputs])
+    period = min(900, end)
+    run = [
+        folder / "run.jsonl", "--map", folder / "map.json", "--until", end, "--period", period, "--out", folder / "out",
+    ]
+    told = done([TOP / "tools/streetsim-run", *run, "--program", program])
+    edges, trips, wanted = folder / "edges.xml", folder / "trips.xml", folder / "edges.add.xml"
+    kind = LACKING if path.is_dir() else ""
+    text = f'<additional>{kind}<edgeData id="counts" freq="{period}" file="{edges}"/></additional>'
+    wanted.write_text(text, encoding="utf-8")
+    additional = [path for path in additional if not path.endswith("input_additional.add.xml")]  # outputs, beside it
+    files = ["-n", net, "-a", ",".join([*additional, str(wanted)]), *(["-r", ",".join(routes)] if routes else [])]
+    done(
+        [
+            "sumo", *files, *more, "--end", end, "--tripinfo-output", trips, "--no-step-log", "-W",
+            "--ignore-route-errors",
+        ]
+    )
+    text = done([TOP / "tools/streetsim-compare", folder / "out", "--sumo", trips, edges], most=1)
+    arrived = re.search(r"arrived: ([\d,]+) here, ([\d,]+) in SUMO", text)
+    mean = re.search(r"mean trip of these: ([\d.]+) s here, ([\d.]+) s in SUMO", text)
+    counts = re.search(r"GEH below 5 for ([\d.]+) % of ([\d,]+)", text)
+    doubt = "not to be trusted" if "not to be trusted" in told else ""
+    means = [f"{float(mean[2]):,.0f}", f"{float(mean[1]):,.0f}"] if mean else ["", ""]
+    geh = f"{float(counts[1]):.0f} % of {counts[2]}" if counts else ""
+    return [f"{end:,}", *([f"{arrived[2]}, {arrived[1]}"] if arrived else [""]), *means, geh, doubt]
+
+
+def main_shipped_demands(argv: list[str]) -> int | None:
+    """Trips of each demand that sumo-tools ships, beside SUMO.
+
+    Takes minutes; needs sumo, sumo-tools.
+
+    Each is taken by its configuration, else by its files, and runs to the configuration's end, or to the second that is
+    given here, in both: SUMO with steps of one second. GEH is of counts of each edge over quarter hours, or over the
+    whole where that is shorter.
+    """
+    parser = shared.parser_of(main_shipped_demands, work=True)
+    parser.add_argument("--only", default="", help="names, with commas between")
+    args = parser.parse_args(argv)
+    shared.print_heads("Demand | until, s | arrived in SUMO, here | mean trip in SUMO, s | here, s | GEH below 5 |")
+    for name, (path, end) in CASES.items():
+        if args.only and name not in args.only.split(","):
+            continue
+        folder = args.work / name.replace("/", "-")
+        folder.mkdir(parents=True, exist_ok=True)
+        try:
+            cells = demand_row(args.program, folder, path, end)
+        except Fault as fault:
+            cells = ["", "", "", "", "", str(fault).replace("/usr/share/sumo/tools/", "")]
+        print(f"| `{name}` | {' | '.join(cells)} |", flush=True)

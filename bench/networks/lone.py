@@ -5,16 +5,15 @@ or across.
 """
 
 import math
-import os
 import random
 from collections import Counter, defaultdict
 from collections.abc import Sequence
 from dataclasses import dataclass
 from pathlib import Path
 
-from shared import TOP, run
-from streetsim.model.folder import read_folder
-from streetsim.report.beside_sumo import read_tripinfo, trip_times_of
+from beside_sumo.rows import run_files, sumo_trips, trips_here
+from shared import TOOLS, run
+from streetsim.report.beside_sumo import read_tripinfo
 
 FIRST, LAST = 600, 3900  # seconds of the count
 ARM, OUT, SPEED = 500, 200, 13.89  # metres of an arm that leads to the junction, and of one from it; metres a second
@@ -148,25 +147,14 @@ def prepare(junctions: Sequence[Junction], folder: Path, seed: int, more: str = 
 
 
 def in_sumo(net: Path, routes: Path, folder: Path, seed: int) -> Trips:
-    trips = folder / f"trips-{seed}.xml"
-    if not trips.exists():
-        words = [
-            "sumo", "-n", net, "-r", routes, "--end", LAST, "--seed", seed, "--time-to-teleport", -1, "--no-step-log",
-            "--no-warnings",
-        ]
-        run([*words, "--tripinfo-output", folder / "half.xml"], folder)
-        os.replace(folder / "half.xml", trips)
-    return read_tripinfo(str(trips))
+    words = ["-n", net, "-r", routes, "--end", LAST, "--seed", seed, "--time-to-teleport", -1]
+    return read_tripinfo(str(sumo_trips(folder / f"trips-{seed}.xml", words)))
 
 
-def here(net: Path, routes: Path, folder: Path, program: str, tools: Path = TOP / "tools") -> Trips:
-    run([tools / "streetsim-import", net, "--routes", routes, "-o", "run.jsonl", "--map", "run.map.json"], folder)
-    words = [
-        "run.jsonl", "--map", "run.map.json", "--until", LAST, "--every", 0, "--rescue", 0,
-        "--out", "out",
-    ]
-    run([tools / "streetsim-run", *words, "--program", program], folder)
-    return trip_times_of(read_folder(str(folder / "out")))
+def here(net: Path, routes: Path, folder: Path, program: str, tools: Path = TOOLS) -> Trips:
+    words = ["--until", LAST, "--every", 0, "--rescue", 0]
+    run_files(folder, [net, "--routes", routes], words, program, tools)
+    return trips_here(folder)
 
 
 def capacities(trips: Trips) -> dict[str, float]:

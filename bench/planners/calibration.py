@@ -1,34 +1,32 @@
-#!/usr/bin/python3
-"""How good a calibrated base is: streets of SUMO's drivers, their treatments forecast without and with calibration.
+"""What a calibration gains, how often an interval of a day holds, and what a full lane passes."""
 
-Usage: bench/calibrated.py PROGRAM --work FOLDER [--ten] [--drawn SEED,..] [--only NAME/DRIVER,..]
-Each street is calibrated on one day and validated on another by streetsim-calibrate, with one process. Forecasts are
-means of seeds 11 to 14 of the demand of the fitted day; a lane that is removed has the share of its lefts that a survey
-of that approach tells (full, in SUMO). It prints a line a street, and the tables of CALIBRATION.md. What was made is
-kept in FOLDER and used again. Draw the seeds when the work is done: then the table judges.
-"""
 import csv
 import json
 import subprocess
 import sys
-from pathlib import Path
-from statistics import fmean
+from statistics import fmean, stdev
 from xml.etree import ElementTree
 
 import shared
-from field_streets import (
-    END, LAST, WARM, drawn_street, full_approach, make_field, mean_of_trips, the_ten, truth_of,
+from networks.field_streets import (
+    END, LAST, WARM, drawn_street, full_approach, make_field, make_net, mean_of_trips, programs, the_ten, truth_of,
+    write_demand,
 )
-
 from streetsim.base.arrays import numpy as np
 from streetsim.base.report import Report
+from streetsim.base.seeds import mean_and_day, mean_and_half_width, seeds_of
 from streetsim.control.settings import Settings
 from streetsim.control.steering import Steering
+from streetsim.demand.calibration_survey import discharge
 from streetsim.kernel.loop import Kernel
 from streetsim.kernel.program import Program
+from streetsim.model.mapping import map_from
+from streetsim.model.replications import drawn
 from streetsim.model.runs import run_of_texts, with_load
+from streetsim.model.saturation import DAWDLES
 from streetsim.observe.segments import Segments
 from streetsim.observe.trips import TripsTable
+from streetsim.search.run_prepared import outcome, session_of
 from streetsim.sumo.converting import run_and_map
 from streetsim.sumo.driver_words import read_drivers
 from streetsim.sumo.import_files import convert
@@ -223,14 +221,22 @@ def street_rows(streets):
         yield f"| {one['name']} | {' | '.join(cells)} |"
 
 
-def main():
-    parser = shared.parser_of(__doc__)
-    parser.add_argument("--work", type=Path, required=True)
+def main_calibrated(argv: list[str]) -> int | None:
+    """What a calibrated base gains, on streets of SUMO's drivers.
+
+    Takes ten minutes a street; needs sumo, sumo-tools.
+
+    Each street is calibrated on one day and validated on another by streetsim-calibrate, with one process. Forecasts
+    are means of seeds 11 to 14 of the demand of the fitted day; a lane that is removed has the share of its lefts that
+    a survey of that approach tells (full, in SUMO). It prints a line a street, and the tables of CALIBRATION.md. What
+    was made is kept in the folder of --work. Draw the seeds when the work is done: then the table judges.
+    """
+    parser = shared.parser_of(main_calibrated, work=True)
     parser.add_argument("--ten", action="store_true")
     parser.add_argument("--drawn", default="")
     parser.add_argument("--only", default="")
-    args = parser.parse_args()
-    base = args.work.resolve()
+    args = parser.parse_args(argv)
+    base = args.work
     seeds, only = [*filter(None, args.drawn.split(","))], [*filter(None, args.only.split(","))]
     groups = {"the ten": list(the_ten()) if args.ten else []}
     groups["drawn"] = [drawn_street(int(seed), base / "drawn") for seed in seeds]
@@ -245,5 +251,147 @@ def main():
     print("", *street_rows(all_), sep="\n")
 
 
-if __name__ == "__main__":
-    main()
+HOW = ("departures listed", "drawn, interval of the mean", "drawn, interval of a day")
+
+
+def imported(net, more, routes, end):
+    """(run, map) of some files."""
+    report, options = Report(), Options(end=end)
+    lines, mapping = run_and_map(convert(str(net), list(map(str, more)), [str(routes)], options, report), report)
+    return run_of_texts(str(net), lines), mapping
+
+
+def corridor(_folder):
+    """(runs without and with the wave, their last second) of the example, for half an hour."""
+    net, routes = shared.CORRIDOR / "corridor.net.xml.gz", shared.CORRIDOR / "corridor.rou.xml"
+    return [imported(net, more, routes, 1800) for more in ([], [shared.CORRIDOR / "wave.add.xml"])], 3600
+
+
+def mixed(folder):
+    """The same of a street of six junctions with permissive lefts."""
+    street = next(one for one in the_ten() if (one.name, one.driver) == ("mixed", "default"))
+    folder.mkdir(parents=True, exist_ok=True)
+    net, routes, wave = make_net(street, folder), folder / "rates.rou.xml", folder / "wave.add.xml"
+    write_demand(street, routes, 0.8 * street.level, 1.0, 5)
+    wave.write_text(programs(net, "wave"), encoding="utf-8")
+    return [imported(net, more, routes, 2700) for more in ([], [wave])], 5400
+
+
+def pair(program, both, until, seed, is_drawn):
+    """(mean trip without the wave, its change) by one seed."""
+    found = []
+    for run, mapping in both:
+        own = drawn(with_load(run, seed=seed), mapping)[0] if is_drawn else run
+        session = session_of(program, own, until)
+        found.append(outcome(session, b"", seed).seconds / len(session.departs))
+    return found[0], found[1] - found[0]
+
+
+def held(program, both, until, args):
+    """How often each interval has the truth of (mean trip, change), and their mean half widths; and the truth."""
+    many = [pair(program, both, until, 1000 + day, True) for day in range(args.truth)]
+    truth = [fmean(side) for side in zip(*many)]
+    hits, widths = {how: [0, 0] for how in HOW}, {how: [0.0, 0.0] for how in HOW}
+    for day in range(args.days):
+        seen = [drawn(with_load(run, seed=5000 + day), mapping) for run, mapping in both]
+        listed = [pair(program, seen, until, seed, False) for seed in range(1, args.seeds + 1)]
+        anew = [pair(program, seen, until, 9000 + 100 * day + seed, True) for seed in range(args.seeds)]
+        intervals = mean_and_half_width, mean_and_half_width, mean_and_day
+        for how, runs, interval in zip(HOW, (listed, anew, anew), intervals):
+            for side, values in enumerate(zip(*runs)):
+                mean, half = interval(values)
+                hits[how][side] += abs(mean - truth[side]) <= half
+                widths[how][side] += half / args.days
+    errors = [stdev(side) / args.truth**0.5 for side in zip(*many)]
+    return hits, widths, truth, errors
+
+
+def main_day_intervals(argv: list[str]) -> int | None:
+    """How often an interval of a day holds the truth.
+
+    Takes minutes; needs sumo, sumo-tools.
+
+    On each network the truth is the mean trip, and its change by a green wave, over many days that are drawn around a
+    file. A planner has one such day, a list of vehicles, and runs it without and with the wave by some seeds: with
+    departures as listed, and drawn around his list. Printed is how often the 95 % interval has the truth: of listed
+    runs, of the mean of drawn ones, and of a day (t s sqrt(1 + 1/n)). The networks are the example's corridor and a
+    street of six junctions.
+    """
+    parser = shared.parser_of(main_day_intervals, work=True)
+    parser.add_argument("--only", default="corridor,mixed")
+    for name, usual in (("days", 40), ("seeds", 8), ("truth", 60)):
+        parser.add_argument(f"--{name}", type=int, default=usual)
+    args = parser.parse_args(argv)
+    shared.print_heads("network | interval | mean trip: held, half width | change by the wave: held, half width")
+    for name in args.only.split(","):
+        both, until = {"corridor": corridor, "mixed": mixed}[name](args.work)
+        hits, widths, truth, errors = held(args.program, both, until, args)
+        for how in HOW:
+            cells = [f"{hits[how][side]} of {args.days}, {widths[how][side]:.2f} s" for side in (0, 1)]
+            print(f"| {name} | {how} | {cells[0]} | {cells[1]} |", flush=True)
+        told = [f"{value:+.2f} ± {error:.2f} s" for value, error in zip(truth, errors)]
+        print(f"| {name} | truth, standard error | {told[0]} | {told[1]} |", flush=True)
+
+
+CYCLE, GREENS, CELLS, FIRST = 80, 30, 60, 3  # the first cycles fill the lane
+UNTIL = (GREENS + FIRST + 1) * CYCLE
+
+
+def passed(program, dawdle, limit, green, seed):
+    """The clocks at which vehicles pass the stop line of a full lane."""
+    links = [[0, 0, 1, 1, CELLS, limit], [1, 1, 2, 1, CELLS, limit]]
+    load = {
+        "cmd": "load", "nodes": [[0, 1, 4], [1, 2, 4], [2, 1, 4]], "links": links, "turns": [[0, 0, 1, 0]],
+        "zone": 1000, "dawdle": round(1000 * dawdle), "change": 1000, "seed": seed,
+    }
+    signal = {"cmd": "signal", "node": 1, "offset": 0, "phases": [[CYCLE - green, []], [green, [[0, 0, 1]]]]}
+    enters = [{"cmd": "enter", "plan": [0, 1], "lane": 0, "depart": 0} for _ in range(UNTIL // 2)]
+    run = run_of_texts("lane", map(json.dumps, [load, signal, *enters]))
+    nodes = [["A", 0, 0, 1], ["B", 450, 0, 2], ["C", 900, 0, 1]]
+    shapes = [["a", [0], 0, 1, CELLS, limit, 450.0, [[0, 0], [450, 0]]]]
+    shapes += [["b", [0], 1, 2, CELLS, limit, 450.0, [[450, 0], [900, 0]]]]
+    value = {"nodes": nodes, "links": shapes, "turns": [[0, 0, 1, 0, "L", 0, False]], "signals": [["L", 1]]}
+    mapping = map_from("lane", {**value, "cars": [], "options": {}, "warnings": []})
+    segments = Segments()
+    with Program(program) as started:
+        Kernel(started, run, mapping, [], [segments]).go(UNTIL)
+    ends = segments.ends()
+    return ends.clock[ends.edge == 0]
+
+
+def measured(program, dawdle, limit, green, seeds):
+    """(headway s, vehicles a green), the mean over seeds."""
+    begins = [CYCLE - green + CYCLE * cycle for cycle in range(FIRST, FIRST + GREENS)]
+    return np.mean([discharge(passed(program, dawdle, limit, green, seed), begins, CYCLE) for seed in seeds], 0)
+
+
+def main_saturation(argv: list[str]) -> int | None:
+    """What a lane that is always full passes in a green, by dawdle and limit.
+
+    Takes minutes.
+
+    It prints the table of CALIBRATION.md, and with --code that of streetsim.model.saturation. A lane of 60 cells leads
+    to another one through a light with a cycle of 80 s; a vehicle is told each two seconds, so that it is full.
+    """
+    parser = shared.parser_of(main_saturation)
+    parser.add_argument("--seeds", default="1-3")
+    parser.add_argument("--limits", default="1-5")
+    parser.add_argument("--greens", default="36,42")
+    parser.add_argument("--code", action="store_true")
+    args = parser.parse_args(argv)
+    seeds, limits = seeds_of(args.seeds, "--seeds"), seeds_of(args.limits, "--limits")
+    if args.code:
+        for limit in limits:
+            rows = [measured(args.program, dawdle, limit, 36, seeds) for dawdle in DAWDLES]
+            told = ", ".join(f"({head:.4f}, {count:.2f})" for head, count in rows)
+            print(f"    {limit}: ({told}),", flush=True)
+        return
+    greens = [int(green) for green in args.greens.split(",")]
+    print("| dawdle | limit | by headways | " + " | ".join(f"by {green} s of green" for green in greens) + " |")
+    print("|---" * (3 + len(greens)) + "|")
+    for limit in limits:
+        for dawdle in DAWDLES:
+            rows = [measured(args.program, dawdle, limit, green, seeds) for green in greens]
+            flows = [f"{3600 * count / green:,.0f}" for (_, count), green in zip(rows, greens)]
+            cells = [f"{1000 * dawdle:.0f}", str(limit), f"{3600 / rows[0][0]:,.0f}", *flows]
+            print(f"| {' | '.join(cells)} |", flush=True)

@@ -1,28 +1,14 @@
-#!/usr/bin/python3
-"""A known demand, forgotten but for some turning counts, found again by streetsim-demand and by SUMO's routeSampler.
-
-Usage: bench/demand.py PROGRAM --work FOLDER [--unseen KIND-SEED,..] [--only NAME,..] [--period 3600] [--most 40000]
-    [--level 0.7] [--counted 1] [--sides here,there]
-
-The demand of a network is run in streetsim with a seed of its own, and all turns are counted by period, exactly. Of
-40 % of the junctions the counts are kept, each with an error of 5 % (normal, standard deviation); which junctions, and
-the errors, are drawn by --counted. streetsim-demand gets these counts, at most three runs and nothing of the demand;
-routeSampler (--optimize full, seed 1) gets the same counts and the candidate routes that streetsim-demand found. Both
-demands are then run in streetsim with a seed that neither saw, and GEH is of hourly volumes: of the counts that were
-used, and of all turns of the junctions that were kept back, there without an error. --unseen takes networks of
-unseen_nets, by kind and seed, beside the sample grid. What was found is kept in FOLDER and used again. It needs
-Debian's sumo, sumo-tools and python3-scipy. Prints the table of tools/COUNTS.md.
-"""
+"""Demands that counts give back, beside SUMO's routeSampler."""
 
 import random
-import resource
 import subprocess
 from collections import defaultdict
 from dataclasses import dataclass, replace
 from pathlib import Path
 
-from shared import SAMPLES, SUMO_HOME, TOP, parser_of, with_sumo, work_of
-
+import shared
+from networks.unseen import make
+from shared import SAMPLES, SUMO_HOME, TOP, with_sumo
 from streetsim.base.report import Report
 from streetsim.demand.judging import judged
 from streetsim.demand.passing import CountsByEdges
@@ -36,9 +22,9 @@ from streetsim.sumo.trips import connected_trips, read_trips
 
 HOUR, SHARE, ERROR = 3600, 0.4, 0.05
 TRUE_SEED, JUDGE_SEED = 11, 101
-HEAD = (
-    "| Demand | found by | vehicles | used: GEH below 5 | mean GEH | total | kept back: GEH below 5 | mean GEH | total "
-    "| processor, s |"
+HEADS = (
+    "Demand | found by | vehicles | used: GEH below 5 | mean GEH | total | kept back: GEH below 5 | mean GEH | total | "
+    "processor, s"
 )
 
 
@@ -124,14 +110,13 @@ def write_xml(path, counts):
 
 def timed(words, folder, log):
     """Runs a command; gives its processor seconds, with all children."""
-    before = resource.getrusage(resource.RUSAGE_CHILDREN)
+    before = shared.children_seconds()
     words = [str(word) for word in words]
     done = subprocess.run(words, cwd=folder, env=with_sumo(), capture_output=True, text=True, check=False)
-    after = resource.getrusage(resource.RUSAGE_CHILDREN)
     (folder / log).write_text(done.stdout + done.stderr)
     if done.returncode not in (0, 1):
         raise SystemExit(f"{' '.join(words)}\n{done.stdout}{done.stderr}")
-    return after.ru_utime + after.ru_stime - before.ru_utime - before.ru_stime
+    return shared.children_seconds() - before
 
 
 def kept(path, make):
@@ -170,10 +155,10 @@ SIDES = ("`streetsim-demand`", fitted_here, "here"), ("routeSampler", fitted_the
 def rows(case):
     wrong, back, used, all_ = case.counted()
     name = f"{case.network.name}, {case.vehicles:,} vehicles, {used} of {all_} junctions counted"
-    for label, make, routes in SIDES:
+    for label, find, routes in SIDES:
         if routes not in case.args.sides.split(","):
             continue
-        seconds = make(case, wrong)
+        seconds = find(case, wrong)
         path = case.folder / f"{routes}.values"
         if not path.exists():
             values, vehicles, rescues = case.passed([case.folder / f"{routes}.rou.xml"], [*wrong, *back], JUDGE_SEED)
@@ -186,31 +171,37 @@ def rows(case):
 def networks(args, work):
     found = [Network("sample grid", SAMPLES / "grid.net.xml.gz", [SAMPLES / "grid.rou.xml.gz"], [])]
     for text in filter(None, args.unseen.split(",")):
-        from unseen_nets import make
-
         kind, _, seed = text.rpartition("-")
         made = make(kind, int(seed), work, level=args.level)
         found.append(Network(made.name, made.net, made.routes, made.additional))
     return [one for one in found if not args.only or one.name in args.only.split(",")]
 
 
-def main():
-    made = parser_of(__doc__)
-    made.add_argument("--work", required=True)
-    made.add_argument("--unseen", default="")
-    made.add_argument("--only", default="")
-    made.add_argument("--level", type=float, default=0.7)
-    made.add_argument("--period", type=int, default=3600)
-    made.add_argument("--most", type=int, default=40_000)
-    made.add_argument("--counted", type=int, default=1)
-    made.add_argument("--sides", default="here,there")
-    args = made.parse_args()
-    work = work_of(args)
-    print(HEAD, f"|{'---|' * 10}", sep="\n")
+def main_demand(argv: list[str]) -> int | None:
+    """How well forgotten demands come back from counts, beside SUMO's routeSampler.
+
+    Takes minutes a network; needs sumo, sumo-tools, scipy.
+
+    The demand of a network is run in streetsim with a seed of its own, and all turns are counted by period, exactly. Of
+    40 % of the junctions the counts are kept, each with an error of 5 % (normal, standard deviation); which junctions,
+    and the errors, are drawn by --counted. streetsim-demand gets these counts, at most three runs and nothing of the
+    demand; routeSampler (--optimize full, seed 1) gets the same counts and the candidate routes that streetsim-demand
+    found. Both demands are then run in streetsim with a seed that neither saw, and GEH is of hourly volumes: of the
+    counts that were used, and of all turns of the junctions that were kept back, there without an error. --unseen takes
+    networks of unseen-nets, by kind and seed, beside the sample grid. What was found is kept in the folder of --work.
+    Prints the table of tools/COUNTS.md.
+    """
+    parser = shared.parser_of(main_demand, work=True)
+    parser.add_argument("--unseen", default="", metavar="KIND-SEED,..")
+    parser.add_argument("--only", default="")
+    parser.add_argument("--level", type=float, default=0.7)
+    parser.add_argument("--period", type=int, default=3600)
+    parser.add_argument("--most", type=int, default=40_000)
+    parser.add_argument("--counted", type=int, default=1)
+    parser.add_argument("--sides", default="here,there")
+    args = parser.parse_args(argv)
+    work = shared.work_of(args)
+    shared.print_heads(HEADS)
     for network in networks(args, work):
         for line in rows(Case(network, args.program, work / f"case-{network.name.replace(' ', '-')}", args)):
             print(line, flush=True)
-
-
-if __name__ == "__main__":
-    main()

@@ -1,18 +1,12 @@
-#!/usr/bin/python3
-"""Frames and steps a second of the live page in headless Chromium, playing at 10 steps a second.
+"""The live page in a browser: how fast it is, and its pictures."""
 
-Usage: bench/live.py PROGRAM CORRIDOR_RUN CORRIDOR_MAP [--seconds N] [--picture FILE]
-
-The corridor is a run file and a map as streetsim-import wrote them; \
-the grid is that of steps.py, with 10,000 vehicles, in four
-views: the whole, a scale at which some hundred lanes are seen, one junction, \
-and the view with as many lanes as vehicles are drawn on,
-which costs the most. It needs Debian's python3-selenium and chromium-driver. The load of the machine is printed beside.
-"""
 import argparse
 import contextlib
+import gzip
 import json
 import os
+import re
+import subprocess
 import tempfile
 import threading
 import time
@@ -20,9 +14,10 @@ from collections.abc import Iterator
 from contextlib import contextmanager
 from pathlib import Path
 
-import shared  # noqa: F401  # which finds the tools
-import steps
+import shared
+from program import steps
 from selenium import webdriver
+from shared import TOOLS
 from streetsim.base import limits
 from streetsim.control.settings import Settings
 from streetsim.live.bridge import Bridge
@@ -56,7 +51,7 @@ requestAnimationFrame(count);
 
 
 def grid(folder: Path) -> tuple[Run, Map]:
-    """The grid of steps.py as a run and its map."""
+    """The grid of `steps` as a run and its map."""
     lines, _ = steps.grid(VEHICLES)
     path = folder / "grid.jsonl"
     path.write_text("".join(line + "\n" for line in lines))
@@ -137,21 +132,141 @@ def measure_all(page: webdriver.Chrome, words: argparse.Namespace, folder: Path)
             page.get("about:blank")
 
 
-def main() -> None:
-    parser = argparse.ArgumentParser(description=__doc__, formatter_class=argparse.RawDescriptionHelpFormatter)
-    parser.add_argument("program")
+def main_live(argv: list[str]) -> int | None:
+    """Frames and steps a second of the live page.
+
+    Takes minutes; needs python3-selenium, chromium-driver.
+
+    The corridor is a run file and a map as streetsim-import wrote them; the grid is that of `steps`, with 10,000
+    vehicles, in four views: the whole, a scale at which some hundred lanes are seen, one junction, and the view with as
+    many lanes as vehicles are drawn on, which costs the most. The load of the machine is printed beside.
+    """
+    parser = shared.parser_of(main_live)
     parser.add_argument("corridor")
     parser.add_argument("map")
     parser.add_argument("--seconds", type=int, default=6)
     parser.add_argument("--picture")
-    words = parser.parse_args()
-    print(
-        "| Page | lanes in view | vehicles driving | frames a second | steps a second | load |\n"
-        "|---|---|---|---|---|---|"
-    )
+    args = parser.parse_args(argv)
+    shared.print_heads("Page | lanes in view | vehicles driving | frames a second | steps a second | load")
     with tempfile.TemporaryDirectory() as folder, browser() as page:
-        measure_all(page, words, Path(folder))
+        measure_all(page, args, Path(folder))
 
 
-if __name__ == "__main__":
-    main()
+EXAMPLES = TOOLS / "examples"
+CROSS_STREETS = ("Mill Lane", "Church Street", "Station Road", "Park Road", "School Lane")
+STEP = "await guarded(async () => { await advance(%d); draw(1); showTables(); });"
+# The light in the middle of the corridor gets another offset, and time passes.
+LIGHT = f"""
+setTheme("light");
+{STEP % 700}
+choose({{ node: session.data.nodes.find(({{ light }}) => light?.name === "J2").number }});
+await turn;
+editor.bars.offset = 25; editor.show();
+await guarded(() => editor.send());
+{STEP % 300}
+const {{ x, y }} = junctions.get(chosen.node);
+scene.look({{ x, y, scale: 1 }});
+draw(1); showTables();
+"""
+WAVE = f"""
+setTheme("dark");
+{STEP % 900}
+setMode("path");
+const named = name => session.data.links.find(link => link.name === name);
+wave.pick(named("WJ1").begin);
+for (const name of ["WJ1", "J1J2", "J2J3", "J3J4", "J4J5", "J5E"]) wave.pick(named(name).end);
+setMode(null);
+for (let step = 0; step < 160; step++) await guarded(() => advance(1));
+draw(1); showTables();
+"""
+# The light at which the most streets meet.
+TOWN = f"""
+setTheme("dark");
+{STEP % 600}
+const lights = session.data.nodes.filter(node => session.plans.has(node.number));
+const count = node => approaches(node.number).length;
+const most = lights.reduce((one, other) => count(other) > count(one) ? other : one);
+choose({{ node: most.number }});
+await turn;
+scene.look({{ x: most.x, y: most.y, scale: 1 }});
+draw(1); showTables();
+"""
+PICTURES = {  # where each lies below the examples, of which run, how wide and high, and what is done
+    "corridor/live.png": ("corridor", 1366, 768, LIGHT),
+    "corridor/live-wave.png": ("corridor", 1366, 768, WAVE),
+    "live-town.png": ("town", 800, 1180, TOWN),
+}
+
+
+def named(net: str) -> str:
+    """The corridor's network with names of its streets."""
+    name = {"3": lambda _: "High Street", "1": lambda edge: CROSS_STREETS[int(re.sub(r"\D", "", edge)[0]) - 1]}
+
+    def with_name(found: re.Match) -> str:
+        return f'{found[0]} name="{name[found[3]](found[1])}"'
+
+    return re.sub(r'<edge id="([^:"]*)" from="([^"]*)" to="[^"]*" priority="([13])"', with_name, net)
+
+
+def make_runs(work: Path) -> None:
+    """Imports the corridor and the town into a folder."""
+    shared.run([TOOLS / "streetsim-example", "corridor", "--out", work], work)
+    shared.run([TOOLS / "streetsim-example", "town", "--out", work], work)
+    net = gzip.decompress((work / "corridor.net.xml.gz").read_bytes()).decode()
+    (work / "named.net.xml").write_text(named(net), encoding="utf-8")
+    for name, words in (
+        ("corridor", ["named.net.xml", "--routes", "corridor.rou.xml"]),
+        ("town", ["town.net.xml.gz", "--routes", "town.rou.xml.gz"]),
+    ):
+        shared.run([TOOLS / "streetsim-import", *words, "-o", f"{name}.jsonl", "--map", f"{name}.map.json"], work)
+
+
+@contextmanager
+def served_by_tool(work: Path, name: str, program: str) -> Iterator[str]:
+    """The address that streetsim-live prints for a run."""
+    words = [TOOLS / "streetsim-live", f"{name}.jsonl", "--map", f"{name}.map.json", "--no-open", "--program", program]
+    with subprocess.Popen(map(str, words), cwd=work, stdout=subprocess.PIPE, text=True) as process:
+        try:
+            yield process.stdout.readline().strip()
+        finally:
+            process.terminate()
+
+
+def take(page: webdriver.Chrome, address: str, wide: int, high: int, script: str) -> bytes:
+    """The picture of a page once a script is done in it; SystemExit with what the page tells where that fails."""
+    size = {"width": wide, "height": high, "deviceScaleFactor": 1, "mobile": False}
+    page.execute_cdp_cmd("Emulation.setDeviceMetricsOverride", size)
+    page.get(address)
+    while not page.execute_script("return document.body?.dataset.ready || ''"):
+        time.sleep(0.2)
+    doing = f"(async () => {{ {script} }})().then(() => arguments[0](''), fault => arguments[0](fault.message))"
+    fault = page.execute_async_script(doing) or page.execute_script("return at('fault').textContent")
+    if fault:
+        raise SystemExit(fault)
+    time.sleep(1)
+    picture = page.get_screenshot_as_png()
+    page.get("about:blank")
+    return picture
+
+
+def main_live_pictures(argv: list[str]) -> int | None:
+    """The pictures of tools/LIVE.md.
+
+    Takes a minute; needs python3-selenium, chromium-driver.
+
+    The corridor gets names of streets first.
+    """
+    parser = shared.parser_of(main_live_pictures)
+    parser.add_argument("--work", help="a folder for the runs (default: one that goes again)")
+    parser.add_argument("--out", default=str(EXAMPLES), help="where the pictures go (default: tools/examples)")
+    words = parser.parse_args(argv)
+    with tempfile.TemporaryDirectory() as spare, browser() as page:
+        work = Path(words.work or spare)
+        work.mkdir(parents=True, exist_ok=True)
+        make_runs(work)
+        for path, (run, wide, high, script) in PICTURES.items():
+            with served_by_tool(work, run, words.program) as address:
+                picture = Path(words.out) / path
+                picture.parent.mkdir(parents=True, exist_ok=True)
+                picture.write_bytes(take(page, address, wide, high, script))
+            print(path, flush=True)

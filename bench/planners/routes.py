@@ -1,37 +1,9 @@
-#!/usr/bin/python3
-"""Prints how good routes are that streetsim-route finds, beside those of SUMO's own tools: \
-mean trips and gaps, here and in SUMO.
-With --works, what road works on a street add to the mean trip, by the share of drivers who know of them, \
-here and in SUMO.
+"""Routes that searches find, beside those of SUMO's tools."""
 
-Usage: bench/routes PROGRAM --work FOLDER [--only NAME;..] [--methods NAME,..] [--check 101-103] [--steps 15] [--jobs N]
-    [--patience S] [--sumo-alone] [--anew]
-       bench/routes PROGRAM --work FOLDER --works [--only NAME;..] [--knowing 0,0.3,0.6,1] [--check 101-103] \
-[--steps 15] [--jobs N]
-
-All routes are judged by seeds that no search saw. It needs Debian's sumo and sumo-tools. \
-What was found, what SUMO said and each
-row is kept in FOLDER/CASE and used again, so that a table may be ended and gone on with. \
-Of the networks town, Acosta and the grid
-were at hand when streetsim-route was written; \
-the spider and the random network are made by this script, from seeds of their own,
-and chose nothing. Below the table stands for each case what holds of what is aimed at.
-
-A duaIterate that has had --patience seconds of processor time is ended, \
-as it may not come to its end on a network that locks; the
-routes of its last whole step are judged then, and the table says how many steps it had. \
---sumo-alone makes what rests on SUMO alone:
-the routes of its tools and its runs, which a later call uses.
-
-With --works the street that most free-flow routes pass is closed both ways for half an hour, \
-in SUMO by vehicles as long as the works
-that stand on each of its lanes; trips that begin or end there are left out. Outcomes are paired by seeds.
-"""
 import csv
 import gzip
 import json
 import os
-import resource
 import shlex
 import shutil
 import subprocess
@@ -148,7 +120,7 @@ class Row:
 def run(words, folder, patience=None, statuses=(0,)):
     """Runs a command in a folder; gives what it took, and whether it came to its end in so many
     seconds of processor time."""
-    before, begin = resource.getrusage(resource.RUSAGE_CHILDREN), time.monotonic()
+    before, begin = shared.children_seconds(), time.monotonic()
     words = list(map(str, words))
     home = shared.with_sumo()
     with open(folder / "log.txt", "a", encoding="utf-8") as log, subprocess.Popen(
@@ -161,8 +133,7 @@ def run(words, folder, patience=None, statuses=(0,)):
             time.sleep(0.2)
     if status not in statuses:
         raise SystemExit(f"{shlex.join(words)}: status {status}, see {folder / 'log.txt'}")
-    after = resource.getrusage(resource.RUSAGE_CHILDREN)
-    return Took(after.ru_utime + after.ru_stime - before.ru_utime - before.ru_stime, time.monotonic() - begin), True
+    return Took(shared.children_seconds() - before, time.monotonic() - begin), True
 
 
 def processor_of(group):
@@ -380,17 +351,6 @@ def row(name, case, method, args):
     return found
 
 
-def sumos_side(name, case, method, args):
-    """What rests on SUMO alone of a row."""
-    routes, took = routes_of(case, method, args)
-    if routes is None:
-        return f"{name}, {method}: no routes"
-    runs = [in_sumo(case, routes, seed) for seed in args.check]
-    means, teleports = (fmean(getattr(one, value) for one in runs) for value in ("mean", "teleports"))
-    ended = f", ended after {took.steps} steps" * (took.steps is not None)
-    return f"{name}, {method}: {took.processor:.0f} s{ended}; mean trip {means:.1f} s, {teleports:.0f} teleports"
-
-
 def verdict(name, rows):
     """What holds of what is aimed at in a case, of its rows by method."""
     ours, free, theirs = (rows.get(method) for method in (OURS, FREE, ITERATED))
@@ -503,57 +463,68 @@ def works(name, case, args):
         yield f"- {name}: trips {'fall' if falls else 'DO NOT FALL'} with the share that knows {where}"
 
 
-def main():
-    parser = shared.parser_of(__doc__)
-    parser.add_argument("--work", required=True, help="a folder for what is made")
+def folder_of(name, args):
+    """The folder of a case, made anew where that is asked for."""
+    folder = args.work / name.replace(", ", "-").replace(",", "").replace(" ", "-")
+    if args.anew:
+        shutil.rmtree(folder, ignore_errors=True)
+    folder.mkdir(parents=True, exist_ok=True)
+    return folder
+
+
+def compared(name, case, methods, args):
+    """Lines of the table of methods, and what holds of what is aimed at."""
+    rows = {}
+    for method in methods:
+        rows[method] = row(name, case, method, args)
+        yield rows[method].line()
+    if OURS in rows:
+        yield f"- {name}: {'; '.join(verdict(name, rows))}"
+
+
+def main_routes(argv: list[str]) -> int | None:
+    """How good found routes are, beside SUMO's tools; what works add by who knows of them.
+
+    Takes minutes a network, hours all; needs sumo, sumo-tools.
+
+    All routes are judged by seeds that no search saw. What was found, what SUMO said and each row is kept in the folder
+    of --work, so that a table may be ended and gone on with. Of the networks town, Acosta and the grid were at hand
+    when streetsim-route was written; the spider and the random network are made by this script, from seeds of their
+    own, and chose nothing. Below the table stands for each case what holds of what is aimed at.
+
+    A duaIterate that has had --patience seconds of processor time is ended, as it may not come to its end on a network
+    that locks; the routes of its last whole step are judged then, and the table says how many steps it had.
+
+    With --works the street that most free-flow routes pass is closed both ways for half an hour, in SUMO by vehicles as
+    long as the works that stand on each of its lanes; trips that begin or end there are left out. Outcomes are paired
+    by seeds.
+    """
+    parser = shared.parser_of(main_routes, work=True)
     parser.add_argument("--only", help="cases, with semicolons between")
     parser.add_argument("--methods", help="methods, with commas between")
     parser.add_argument("--check", default="101-103", help="seeds of the judgement, here and in SUMO")
     parser.add_argument("--steps", type=int, default=15, help="iterations of duaIterate and streetsim-route")
     parser.add_argument("--jobs", type=int, default=1)
     parser.add_argument("--patience", type=int, default=1800, help="processor seconds after which duaIterate is ended")
-    parser.add_argument("--sumo-alone", action="store_true", help="make what rests on SUMO alone, and no table")
     parser.add_argument("--works", action="store_true", help="the table of works instead")
     parser.add_argument("--knowing", default="0,0.3,0.6,1", help="shares of drivers who know of the works")
     parser.add_argument("--anew", action="store_true", help="forget what is kept of these cases")
-    args = parser.parse_args()
-    args.program = str(Path(args.program).resolve())
+    args = parser.parse_args(argv)
     args.check_text, args.check = args.check, seeds_of(args.check, "--check")
     names = args.only.split(";") if args.only else WITH_WORKS if args.works else CASES
     methods = args.methods.split(",") if args.methods else METHODS
     if unknown := [name for name in (*names, *methods) if name not in (*CASES, *METHODS)]:
         parser.error(f"{unknown[0]!r} is none of {'; '.join((*CASES, *METHODS))}")
-    if args.sumo_alone:
-        methods = [method for method in methods if method != OURS]
-    elif args.works:
-        print("| Street | | here, s | more | SUMO, s | more | teleports |\n|---|---|---|---|---|---|---|", flush=True)
+    if args.works:
+        shared.print_heads("Street | | here, s | more | SUMO, s | more | teleports")
     else:
-        print(
-            "| Case | Routes | processor, s | SUMO, s | here, s | gap here, % | gap in SUMO, % |\n"
-            "|---|---|---|---|---|---|---|",
-            flush=True,
-        )
+        shared.print_heads("Case | Routes | processor, s | SUMO, s | here, s | gap here, % | gap in SUMO, %")
     told = []
     for name in names:
-        folder = Path(args.work).resolve() / name.replace(", ", "-").replace(",", "").replace(" ", "-")
-        if args.anew:
-            shutil.rmtree(folder, ignore_errors=True)
-        folder.mkdir(parents=True, exist_ok=True)
-        case, rows = case_of(name, folder), {}
-        if args.works:
-            lines = list(works(name, case, args))
-            print(*(line for line in lines if line.startswith("|")), sep="\n", flush=True)
-            told += [line for line in lines if not line.startswith("|")]
-            continue
-        for method in methods:
-            if args.sumo_alone:
-                print(sumos_side(name, case, method, args), flush=True)
-                continue
-            rows[method] = row(name, case, method, args)
-            print(rows[method].line(), flush=True)
-        told += [f"- {name}: {'; '.join(verdict(name, rows))}"] if OURS in rows else []
+        case = case_of(name, folder_of(name, args))
+        for line in works(name, case, args) if args.works else compared(name, case, methods, args):
+            if line.startswith("|"):
+                print(line, flush=True)
+            else:
+                told.append(line)
     print("", *told, sep="\n")
-
-
-if __name__ == "__main__":
-    main()

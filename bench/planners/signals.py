@@ -1,26 +1,9 @@
-#!/usr/bin/python3
-"""Prints how good signal plans are that streetsim-signals finds, beside those of SUMO's own tools: \
-mean trips here and in SUMO.
+"""Signal plans that searches find, beside those of SUMO's tools."""
 
-Usage: bench/signals PROGRAM --work FOLDER [--only corridor,grid,town,mesh,acosta] [--anew] [--sumo 1-5] \
-[--in-sumo BEGINS] [--jobs N]
-       bench/signals PROGRAM --work FOLDER --verified [--only rilsa1,rilsa2,rilsa3,rilsa4,acosta,joined] [--anew] \
-[--jobs N]
-
-The second makes the table of --verify-sumo: plans that a search of so many simulations finds, \
-here and in SUMO over the same seeds.
-
-Seeds of SUMO and those here (101 to 110) are none that a search saw. It needs Debian's sumo and sumo-tools. \
-What was found
-and what SUMO said is kept in FOLDER/NETWORK and used again; --anew forgets it. \
-A last part prints, for each network, the gain
-against the best of SUMO's tools, what each search took, and where the time of one evaluation goes.
-"""
 import csv
 import gzip
 import os
 import re
-import resource
 import shutil
 import subprocess
 import sys
@@ -60,13 +43,12 @@ PROPOSALS, TOOLS_BEST, SEARCH = (
 
 def run(words, folder, statuses=(0,)):
     """Runs a command in a folder; gives its processor seconds and those of the clock."""
-    before, begin = resource.getrusage(resource.RUSAGE_CHILDREN), time.perf_counter()
+    before, begin = shared.children_seconds(), time.perf_counter()
     words = [str(word) for word in words]
     done = subprocess.run(words, cwd=folder, env=shared.with_sumo(), capture_output=True, text=True, check=False)
     if done.returncode not in statuses:
         raise SystemExit(f"{' '.join(words)}\n{done.stdout}{done.stderr}")
-    after = resource.getrusage(resource.RUSAGE_CHILDREN)
-    return after.ru_utime + after.ru_stime - before.ru_utime - before.ru_stime, time.perf_counter() - begin
+    return shared.children_seconds() - before, time.perf_counter() - begin
 
 
 @dataclass
@@ -302,12 +284,11 @@ def evaluation(name, case, args):
     light, timings = changed_greens(town)
     times = []
     for timing in timings:
-        begin, before = time.process_time(), resource.getrusage(resource.RUSAGE_CHILDREN)
+        begin, before = time.process_time(), shared.children_seconds()
         signals = town.plan_lines({**town.plan, light: timing})
         middle = time.process_time()
         vehicle_seconds(town.session, signals, 1)
-        after = resource.getrusage(resource.RUSAGE_CHILDREN)
-        program = after.ru_utime + after.ru_stime - before.ru_utime - before.ru_stime
+        program = shared.children_seconds() - before
         times.append((program, time.process_time() - middle, middle - begin))
     program, rest, greens = (1000 * min(column) for column in zip(*times))
     share = rest / (rest + program), (rest + greens) / (rest + greens + program)
@@ -362,8 +343,7 @@ def verified_row(name, case, args):
 
 
 def print_verified(args, names):
-    print("| Network | plans tried | here: given, found | | SUMO: given, found | | status |")
-    print("|---|---|---|---|---|---|---|", flush=True)
+    shared.print_heads("Network | plans tried | here: given, found | | SUMO: given, found | | status")
     for name in names:
         for line in verified_row(name, verified_case(name, folder_of(args, f"{name}-verified")), args):
             print(line, flush=True)
@@ -371,16 +351,26 @@ def print_verified(args, names):
 
 def folder_of(args, name):
     """The folder of a network, made anew where that is asked for."""
-    folder = Path(args.work).resolve() / name
+    folder = args.work / name
     if args.anew:
         shutil.rmtree(folder, ignore_errors=True)
     folder.mkdir(parents=True, exist_ok=True)
     return folder
 
 
-def main():
-    parser = shared.parser_of(__doc__)
-    parser.add_argument("--work", required=True, help="a folder for what is made")
+def main_signals(argv: list[str]) -> int | None:
+    """How good found signal plans are, beside SUMO's tools.
+
+    Takes minutes a network, hours all; needs sumo, sumo-tools.
+
+    The second makes the table of --verify-sumo: plans that a search of so many simulations finds, here and in SUMO over
+    the same seeds.
+
+    Seeds of SUMO and those here (101 to 110) are none that a search saw. What was found and what SUMO said is kept in
+    FOLDER/NETWORK and used again; --anew forgets it. A last part prints, for each network, the gain against the best of
+    SUMO's tools, what each search took, and where the time of one evaluation goes.
+    """
+    parser = shared.parser_of(main_signals, work=True)
     parser.add_argument("--only", help="names of networks, with commas between (default: all)")
     parser.add_argument("--verified", action="store_true", help="found plans in SUMO too, by --verify-sumo")
     parser.add_argument("--anew", action="store_true", help="forget what is kept of these networks")
@@ -392,15 +382,15 @@ def main():
         help="begins of the names of the plans that SUMO runs, with commas between (default: all)"
     )
     parser.add_argument("--jobs", type=int, default=1, help="runs side by side")
-    args = parser.parse_args()
-    args.program, known = str(Path(args.program).resolve()), tuple(VERIFIED) if args.verified else NETWORKS
+    args = parser.parse_args(argv)
+    args.program, known = str(args.program), tuple(VERIFIED) if args.verified else NETWORKS
     names = args.only.split(",") if args.only else known
     if unknown := [name for name in names if name not in known]:
         parser.error(f"--only: {unknown[0]!r} is none of {', '.join(known)}")
     if args.verified:
         print_verified(args, names)
         return
-    print("| Network | Plan | here, s | SUMO, s |\n|---|---|---|---|")
+    shared.print_heads("Network | Plan | here, s | SUMO, s")
     told = []
     for name in names:
         case = case_of(name, folder_of(args, name))
@@ -411,7 +401,3 @@ def main():
                 told.append(row)
         told.append(evaluation(name, case, args))
     print(*told, sep="\n")
-
-
-if __name__ == "__main__":
-    main()

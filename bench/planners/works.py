@@ -1,6 +1,9 @@
-"""Works on one lane of streets: trips, flows and stands here and in SUMO."""
+"""Road works in SUMO and here: on one street, on networks of a seed, on edges of networks with names."""
 
 import csv
+import gzip
+import json
+import os
 import random
 import xml.etree.ElementTree as ElementTree
 from collections import Counter
@@ -9,9 +12,10 @@ from functools import cache
 from pathlib import Path
 from statistics import fmean
 
-from shared import TOP, run
-from unseen_nets import Made, make
-from unseen_nets.making import read_net
+import shared
+from beside_sumo.rows import sumo_trips
+from networks.unseen import Made, make, read_net, ways_of
+from shared import SAMPLES, SHIPPED, TOP, numbers, run, teleports_of
 
 PASSES = 1600  # vehicles an hour of an open lane
 FREE = 20  # metres of a lane before and behind drawn works
@@ -63,20 +67,15 @@ class Seen:
 
 def in_sumo(case: Case, works: Stretch | None, seed: int, label: str) -> Seen:
     """A run of SUMO, kept by its label; nobody is teleported."""
-    trips = case.folder / f"sumo-{label}-{seed}.xml"
-    if not trips.exists():
-        routes = list(case.routes)
-        if works:
-            obstacle = case.folder / f"works-{label}.rou.xml"
-            obstacle.write_text(works.obstacle(), encoding="utf-8")
-            routes.append(obstacle)
-        words = ["nice", "-n", 10, "sumo", "-n", case.net, "-r", ",".join(map(str, routes)), "--end", case.until]
-        words += ["-a", ",".join(map(str, case.additional))] if case.additional else []
-        words += ["--seed", seed, "--no-step-log", "--no-warnings", "--time-to-teleport", -1]
-        words += ["--collision.action", "none"]  # else works that begin where somebody drives may be taken out
-        run([*words, "--tripinfo-output", "half.xml"], case.folder)
-        (case.folder / "half.xml").replace(trips)
-    found = {}
+    routes = list(case.routes)
+    if works:
+        routes.append(case.folder / f"works-{label}.rou.xml")
+        routes[-1].write_text(works.obstacle(), encoding="utf-8")
+    words = ["-n", case.net, "-r", ",".join(map(str, routes)), "--end", case.until, "--seed", seed]
+    words += ["-a", ",".join(map(str, case.additional))] if case.additional else []
+    words += ["--time-to-teleport", -1]
+    words += ["--collision.action", "none"]  # else works that begin where somebody drives may be taken out
+    trips, found = sumo_trips(case.folder / f"sumo-{label}-{seed}.xml", words), {}
     for one in ElementTree.parse(trips).iter("tripinfo"):
         found[one.get("id")] = float(one.get("depart")) - float(one.get("departDelay")), float(one.get("arrival"))
     found.pop("works", None)
@@ -239,8 +238,6 @@ def edges_for(net, through: Counter, least: int, few: int) -> list:
 
 
 def ways(made: Made) -> list[list[str]]:
-    from unseen_nets.demand import ways_of
-
     return ways_of(made.folder / "demand.rou.xml")
 
 
@@ -277,3 +274,174 @@ def street_in_words(given: dict) -> str:
     light = ", a light" if given["light"] is not None else ""
     trucks = f", {given['trucks']:.0%} trucks" if given["trucks"] else ""
     return f": {given['lanes']} lanes, {given['kmh']} km/h{light}{trucks}"
+
+
+ACOSTA = SHIPPED / "acosta"
+LAST_SECOND, WORKS_BEGIN, LEAST_METRES = 7200, 600, 120.0
+LENGTHS, SECONDS = (100, 50, 200), (1800, 3600)
+NETWORKS = {  # network, routes, additional files, and how many edges of each number of lanes
+    "grid": (SAMPLES / "grid.net.xml.gz", SAMPLES / "grid.rou.xml.gz", (), {2: 4}),
+    "town": (SAMPLES / "town.net.xml.gz", SAMPLES / "town.rou.xml.gz", (), {1: 3}),
+    "acosta": (
+        ACOSTA / "acosta_buslanes.net.xml",
+        ACOSTA / "acosta.rou.xml",
+        (ACOSTA / "acosta_vtypes.add.xml", ACOSTA / "acosta_tls.add.xml"),
+        {1: 2, 2: 2, 3: 3},
+    ),
+}
+
+
+@dataclass
+class Works:
+    edge: str
+    lanes: int
+    lane: int
+    begin: int  # metres
+    end: int
+    seconds: int
+
+    def closing(self):
+        return f"{self.edge}_{self.lane}:{self.begin}-{self.end}:{WORKS_BEGIN}-{WORKS_BEGIN + self.seconds}"
+
+    def obstacle(self):
+        """A vehicle of SUMO that stands there."""
+        length = self.end - self.begin
+        stop = f'<stop lane="{self.edge}_{self.lane}" endPos="{self.end}" duration="{self.seconds}"/>'
+        return (
+            f'<routes><vType id="works" length="{length}" minGap="0.5"/>'
+            f'<vehicle id="works" type="works" depart="{WORKS_BEGIN}" departLane="{self.lane}" departPos="{self.end}" '
+            f'departSpeed="0" insertionChecks="none"><route edges="{self.edge}"/>{stop}</vehicle></routes>'
+        )
+
+
+def chosen(mapping, lines, counts):
+    """The works on a network, by its map and its run."""
+    links = mapping["links"]
+    passing = Counter(links["edge"][at] for line in lines if line["cmd"] == "enter" for at in line["plan"])
+    lanes, metres = Counter(), dict(zip(links["edge"], links["metres"], strict=True))
+    for edge, own in zip(links["edge"], links["lanes"], strict=True):
+        lanes[edge] += len(own)
+    for wanted, count in counts.items():
+        names = [name for name, _ in passing.most_common() if lanes[name] == wanted and metres[name] >= LEAST_METRES]
+        names = names if wanted == 1 else names[: (len(names) + 1) // 2]
+        for place in range(count):
+            name = names[(2 * place + 1) * len(names) // (2 * count)]
+            length = min(LENGTHS[place % 3], int(metres[name]) - 60)
+            begin = (int(metres[name]) - length) // 2
+            yield Works(name, wanted, place % wanted, begin, begin + length, SECONDS[place % 2])
+
+
+def wished(routes):
+    """When each vehicle wishes to depart."""
+    with gzip.open(routes) if routes.suffix == ".gz" else open(routes, "rb") as file:
+        return {one.get("id"): float(one.get("depart")) for one in ElementTree.parse(file).iter("vehicle")}
+
+
+def mean_of(departs, arrivals):
+    return fmean(arrivals.get(name, LAST_SECOND) - depart for name, depart in departs.items())
+
+
+def sumo_trip(name, works, seed, folder):
+    """The mean trip in SUMO, and the teleports."""
+    network, routes, additional, _ = NETWORKS[name]
+    stem = f"{name}-{works.edge.replace('/', '_') if works else 'none'}-{seed}"
+    trips, told = folder / f"{stem}.trips.xml", folder / f"{stem}.statistic.xml"
+    if not told.exists():
+        routes_words = str(routes)
+        if works:
+            obstacle = folder / f"{stem}.rou.xml"
+            obstacle.write_text(works.obstacle(), encoding="utf-8")
+            routes_words += f",{obstacle}"
+        words = ["sumo", "-n", network, "-r", routes_words, "--seed", seed, "--end", LAST_SECOND, "--no-step-log"]
+        words += ["--no-warnings"]
+        words += ["-a", ",".join(map(str, additional))] if additional else []
+        half = folder / "half.xml"
+        run([*words, "--tripinfo-output", trips, "--statistic-output", half], folder)
+        os.replace(half, told)
+    arrivals = {one.get("id"): float(one.get("arrival")) for one in ElementTree.parse(trips).iter("tripinfo")}
+    return mean_of(wished(routes), arrivals), teleports_of(told)
+
+
+def here_trip(name, works, closing, args, folder):
+    """The mean trips here, and the rescues, of each seed; the lane of the works is joint also without them."""
+    words = [f"{name}.jsonl", "--map", f"{name}.map.json", "--until", LAST_SECOND, "--every", 0, "--jobs", 1]
+    words += ["--seeds", args.seeds, "--departures", "listed", "--out", "here", "--program", args.program]
+    if closing:
+        words += [f"--close={works.closing()}", "--merge", args.merge]
+    elif works.lanes > 1:
+        words += [f"--joint={works.edge}_{works.lane}"]
+    run([TOP / "tools/streetsim-run", *words], folder)
+    departs = wished(NETWORKS[name][1])
+    found = []
+    for seed in numbers(args.seeds):
+        with open(folder / f"here/seed-{seed}/trips.csv", encoding="utf-8") as file:
+            rows = list(csv.DictReader(file))
+        arrivals = {row["id"]: float(row["arrival"]) for row in rows if row["arrival"]}
+        found.append((mean_of(departs, arrivals), sum(int(row["rescues"]) for row in rows)))
+    return found
+
+
+def cells_of(before, after):
+    """A mean trip without works, what they add in seconds and percent, and the rescues with them."""
+    first, second = (fmean(trip for trip, _ in runs) for runs in (before, after))
+    rescues = fmean(count for _, count in after)
+    return f"{first:.1f} | {second - first:+.1f} ({100 * (second / first - 1):+.1f} %) | {rescues:.0f}"
+
+
+def named_rows(args, folder):
+    """A row for each of the edges with works, of the networks with names."""
+    yield "| Edge (lanes) | works | SUMO, s | more | teleports | here, s | more | rescues |"
+    yield f"|{'---|' * 8}"
+    for name in args.only.split(","):
+        network, routes, additional, counts = NETWORKS[name]
+        made = ["-o", f"{name}.jsonl", "--map", f"{name}.map.json"]
+        run([TOP / "tools/streetsim-import", network, *additional, "--routes", routes, *made], folder)
+        mapping = json.loads((folder / f"{name}.map.json").read_text(encoding="utf-8"))
+        lines = map(json.loads, (folder / f"{name}.jsonl").read_text(encoding="utf-8").splitlines())
+        for works in chosen(mapping, lines, counts):
+            if not args.edges or works.edge in args.edges.split(","):
+                yield named_row(name, works, args, folder)
+
+
+def named_row(name, works, args, folder):
+    there = ([sumo_trip(name, one, seed, folder) for seed in numbers(args.seeds)] for one in (None, works))
+    own = (here_trip(name, works, is_closed, args, folder) for is_closed in (False, True))
+    stretch = f"lane {works.lane}, {works.end - works.begin} m, {works.seconds // 60} min"
+    return f"| {name} {works.edge} ({works.lanes}) | {stretch} | {cells_of(*there)} | {cells_of(*own)} |"
+
+
+def main_works(argv: list[str]) -> int | None:
+    """What road works add to trips, beside SUMO.
+
+    Takes minutes; needs sumo, sumo-tools.
+
+    --street: one lane of a street of two is closed for an hour, at 800 to 1,600 vehicles an hour and four places; and
+    what passes at 2,400. --drawn: works on streets and towns that unseen-nets makes from a seed, and what they add to
+    the trips of those who pass their edge meanwhile; nobody is teleported in SUMO. --share: of what the open lanes pass
+    that comes to them, as far as no approach has more than 0.9 of what it can pass (else 0.5 to 0.95 are drawn, up to
+    0.7).
+
+    Of each network and number of lanes the edges of 120 m and more are put in order by the vehicles that pass them, and
+    of so many equal parts of these (of the busier half, where there are several lanes) the middle one is taken; lane,
+    length and time of the works go round with the rows. In SUMO the works are a vehicle as long as they, which stands
+    there. A trip lasts from the wished departure to the arrival or the end. What SUMO wrote is kept in the folder of
+    --work. Prints the table of tools/WORKS.md.
+    """
+    parser = shared.parser_of(main_works, work=True)
+    parser.add_argument("--seeds", default="1-2")
+    parser.add_argument("--only", default=",".join(NETWORKS))
+    parser.add_argument("--edges", help="of the networks' edges with works, these alone")
+    parser.add_argument("--street", action="store_true", help="the table of one street of two lanes")
+    parser.add_argument("--drawn", type=int, metavar="SEED", help="the table of streets and towns from a seed")
+    parser.add_argument("--share", type=float, help="of what the open lanes pass, of the drawn works")
+    parser.add_argument("--merge", choices=["turns", "none"], default="turns", help="before works, of these networks")
+    args = parser.parse_args(argv)
+    folder, seeds = shared.work_of(args), numbers(args.seeds)
+    if args.street:
+        table = street_rows(folder, args.program, seeds)
+    elif args.drawn is not None:
+        table = drawn_rows(args.drawn, folder, args.program, seeds, args.share)
+    else:
+        table = named_rows(args, folder)
+    for row in table:
+        print(row, flush=True)

@@ -1,24 +1,13 @@
-#!/usr/bin/env python3
-"""Times steps: million vehicle updates a second, where an update is one vehicle in a cell moved for one step.
-
-Usage: bench/steps.py PROGRAM [--workers N,N..] [--beside OTHER] [--only WORD] [--times N]
-
-Sessions: a ring of 100 one-lane links of 1,000 cells, filled to a density; \
-a grid of 32 by 32 nodes with signals and two-lane
-links of 100 cells, on which vehicles drive through 20 links; \
-4,096 two-lane links of 1,000,000 cells with 10,000 vehicles; \
-a star of 200 two-lane links of 100 cells into one node and 200 out of it, with 10,000 vehicles.
-OTHER is another program for the same lines and the option --calls. \
-All take turns, advance by advance, and their replies must
-be the same, byte for byte. Times are those of the clock on the wall, so that workers on threads count; \
-the best of the runs of
-each advance is taken.
-"""
+"""Sessions of many vehicles: how fast steps are, in which instructions, and whether threads change a reply."""
 
 import json
 import random
+import re
 import subprocess
+import tempfile
 import time
+from concurrent.futures import ThreadPoolExecutor
+from pathlib import Path
 
 import shared
 
@@ -187,13 +176,24 @@ def run(words_of, lines, chunks):
     return updates, spent
 
 
-def main():
-    parser = shared.parser_of(__doc__)
+def main_steps(argv: list[str]) -> int | None:
+    """How many vehicles move in a second, with some numbers of workers, and beside another program.
+
+    Takes minutes.
+
+    Sessions: a ring of 100 one-lane links of 1,000 cells, filled to a density; a grid of 32 by 32 nodes with signals
+    and two-lane links of 100 cells, on which vehicles drive through 20 links; 4,096 two-lane links of 1,000,000 cells
+    with 10,000 vehicles; a star of 200 two-lane links of 100 cells into one node and 200 out of it, with 10,000
+    vehicles. OTHER is another program for the same lines and the option --calls. All take turns, advance by advance,
+    and their replies must be the same, byte for byte. Times are those of the clock on the wall, so that workers on
+    threads count; the best of the runs of each advance is taken.
+    """
+    parser = shared.parser_of(main_steps)
     parser.add_argument("--workers", default="1")
     parser.add_argument("--beside")
     parser.add_argument("--only", default="")
     parser.add_argument("--times", type=int, default=3)
-    args = parser.parse_args()
+    args = parser.parse_args(argv)
 
     words = {f"{workers} workers": [args.program, "--workers", workers, *CALLS] for workers in args.workers.split(",")}
     if args.beside:
@@ -214,5 +214,138 @@ def main():
         )
 
 
-if __name__ == "__main__":
-    main()
+WARM = 32  # steps with caches before those that are counted
+CACHES = ["--cache-sim=yes", "--D1=32768,8,64", "--LL=1048576,16,64"]
+# What is shown of each function: instructions, reads that miss the near cache, reads that miss the far one.
+EVENTS = ("Ir", "D1mr", "DLmr")
+NUMBER = re.compile(r"([\d,]+|\.)(?: \( ?[\d.]+%\))?(?=\s)")
+
+
+def control(program, *words):
+    """Tells callgrind what to do."""
+    told = subprocess.run(
+        ["callgrind_control", *words, str(program.process.pid)], capture_output=True, text=True, check=False
+    )
+    if told.returncode:
+        raise SystemExit(told.stdout + told.stderr)
+
+
+def cells(program):
+    return json.loads(program.ask([line(cmd="count")])[0])["cells"]
+
+
+def counted(path, lines, before, steps, folder):
+    """Runs a session up to the steps that are counted, and these;
+    gives callgrind's file and how many updates they are."""
+    found = Path(folder) / "callgrind.out"
+    words = [
+        "valgrind", "--tool=callgrind", "--instr-atstart=no", *CACHES, f"--callgrind-out-file={found}",
+        f"--log-file={folder}/log",
+    ]
+    program = Program("counted", [*words, path, "--workers", "1", *CALLS])
+    program.ask(lines)
+    if before > WARM:
+        program.ask([line(cmd="advance", steps=before - WARM)])
+    control(program, "-i", "on")
+    program.ask([line(cmd="advance", steps=min(before, WARM))])
+    first = cells(program)
+    control(program, "-z")
+    program.ask([line(cmd="advance", steps=steps)])
+    control(program, "-d")
+    updates = steps * (first + cells(program)) / 2
+    program.end()
+    return found.with_name("callgrind.out.1"), updates
+
+
+def by_function(path):
+    """The events of all, and of each function: [(name, [number of each event])], the most instructions first."""
+    words = ["callgrind_annotate", "--threshold=100", f"--show={','.join(EVENTS)}", path]
+    told = subprocess.run(words, capture_output=True, text=True, check=True).stdout
+    rows = []
+    for text in told.splitlines():
+        numbers = NUMBER.findall(text)
+        name = re.sub(r"^(\?\?\?|\S*\.[cS]):", "", text.rsplit("  ", 1)[-1].partition(" [")[0])
+        if len(numbers) >= len(EVENTS) and re.match(r"\s*[\d,]+ \(", text):
+            rows.append((name, [0 if one == "." else int(one.replace(",", "")) for one in numbers[: len(EVENTS)]]))
+    return rows
+
+
+def main_instructions(argv: list[str]) -> int | None:
+    """Instructions for a vehicle and step, by function, and reads that miss caches.
+
+    Takes minutes; needs valgrind.
+
+    Valgrind's callgrind runs the program, some fifty times slower. The sessions are those of `steps`. Steps before
+    those that are counted: --before (200) after what a session begins with, the last 32 of them with the caches. In 32
+    steps (--steps) each vehicle makes its draws once. Functions with fewer instructions than --least (1) are left out.
+    What was counted is the same for each run, however busy the machine is.
+    """
+    parser = shared.parser_of(main_instructions)
+    parser.add_argument(
+        "--only", default="ring 0.3,grid 20000,grid 100000", help="names of sessions, with commas between"
+    )
+    parser.add_argument("--before", type=int, default=200)
+    parser.add_argument("--steps", type=int, default=32)
+    parser.add_argument("--least", type=float, default=1.0)
+    args = parser.parse_args(argv)
+    print("instructions a vehicle and step (reads that miss 32 KB, and 1 MB)")
+    for name in args.only.split(","):
+        with tempfile.TemporaryDirectory() as folder:
+            found, updates = counted(args.program, SESSIONS[name]()[0], args.before, args.steps, folder)
+            rows = by_function(found)
+        for function, numbers in rows:
+            instructions, near, far = (number / updates for number in numbers)
+            if instructions >= args.least:
+                print(f"  {name:<12} {instructions:7.1f} ({near:.2f}, {far:.2f})  {function}", flush=True)
+
+
+LINKS, LENGTH, VEHICLES = 70, 200, 2_400
+WORKERS = (2, 3, 4, 5, 8, 16, 33, 64)
+SEEDS = 8
+SECONDS = 120
+
+
+def commands(seed):
+    """A load, vehicles that enter evenly, some advances of many steps and of one, and a count."""
+    nodes = [[link + 1, 1, 2] for link in range(LINKS)]
+    links = [[1_000 + link, link + 1, (link + 1) % LINKS + 1, 2, LENGTH, 5] for link in range(LINKS)]
+    turns = [[1_000 + link, lane, 1_000 + (link + 1) % LINKS, lane] for link in range(LINKS) for lane in (0, 1)]
+    yield shared.load(nodes, links, turns, dawdle=200, seed=seed)
+    for vehicle in range(VEHICLES):
+        plan = [1_000 + (vehicle + seed + onward) % LINKS for onward in range(6)]
+        yield {"cmd": "enter", "plan": plan, "lane": vehicle // LINKS % 2, "depart": 0}
+    for steps in (30, *[1] * 8, 25):
+        yield {"cmd": "advance", "steps": steps}
+    yield {"cmd": "count"}
+
+
+def replies(program, text, workers):
+    words = [program, "--workers", str(workers)]
+    return subprocess.run(words, input=text, capture_output=True, timeout=SECONDS, check=True).stdout
+
+
+def main_short_sessions(argv: list[str]) -> int | None:
+    """Whether short sessions on many threads hang, or differ from those of one worker.
+
+    Takes minutes.
+
+    A ring of 70 links has 2,260 vehicles in its cells, enough for steps to be shared; sessions differ by the seed, by
+    where vehicles enter, and by the number of workers. A session that has not ended after two minutes hangs.
+    """
+    parser = shared.parser_of(main_short_sessions)
+    parser.add_argument("--runs", type=int, default=10_000)
+    parser.add_argument("--jobs", type=int, default=3)
+    args = parser.parse_args(argv)
+
+    texts = ["".join(shared.text_of(command) + "\n" for command in commands(seed)).encode() for seed in range(SEEDS)]
+    wanted = [replies(args.program, text, 1) for text in texts]
+    print(wanted[0].decode().splitlines()[-1])
+
+    def is_equal(number):
+        at, workers = number % SEEDS, WORKERS[number // SEEDS % len(WORKERS)]
+        return replies(args.program, texts[at], workers) == wanted[at]
+
+    with ThreadPoolExecutor(args.jobs) as pool:
+        equal = sum(pool.map(is_equal, range(args.runs)))
+    told = f"{args.runs - equal:,} with other replies than one worker's"
+    print(f"{args.runs:,} sessions with {WORKERS[0]} to {WORKERS[-1]} workers: {told}, none hung")

@@ -1,21 +1,5 @@
-#!/usr/bin/env python3
-"""What the gate costs, crate by crate: writes docs/COSTS.md from a run of the gate that passed.
+"""What the gate costs, crate by crate."""
 
-    bench/costs.py ./test                     runs the gate and watches it
-    bench/costs.py rt ci NAME..               runs and watches a part of it
-    bench/costs.py --beside PID --log FILE    watches a gate, or a part, that runs and whose output goes to FILE
-    bench/costs.py --log FILE                 writes the table once more: FILE has the output of a gate that passed
-    bench/costs.py --rows NAME,..             puts the rows of some crates into the table, \
-of the runs that were watched; the others stay
-
-`rt ci` proves and tries nothing again that an earlier run on this machine passed and that has not changed since. \
-What each watched run
-proved and tried is noted in out/costs.json; where the gate takes something from an earlier run, \
-its figure is that run's, which the
-table then says. Where no watched run has it (it was ./build's, say), the table is not written, \
-and what is lacking is named:
-bench/costs.py rt ci --anew NAME.. proves it and the crates below again, and --gaps writes the table all the same.
-"""
 import argparse
 import contextlib
 import hashlib
@@ -31,7 +15,9 @@ import time
 from collections import Counter, defaultdict
 from pathlib import Path
 
-TOP = Path(__file__).resolve().parents[1]
+import shared
+
+TOP = Path(__file__).resolve().parents[2]
 TICKS = os.sysconf("SC_CLK_TCK")
 # Seconds between two looks at the processes.
 PAUSE = 0.25
@@ -278,7 +264,7 @@ def write(runs, gaps):
         print(f"costs: no watched run has what the gate took from earlier ones: {', '.join(lacking)}", file=sys.stderr)
     if lacking and not gaps:
         print(
-            "costs: docs/COSTS.md stays; bench/costs.py rt ci --anew NAME.. proves them again, "
+            "costs: docs/COSTS.md stays; bench/run costs rt ci --anew NAME.. proves them again, "
             "--gaps writes it all the same",
             file=sys.stderr,
         )
@@ -294,7 +280,7 @@ def write(runs, gaps):
     )
     text = f"""# What the gate costs
 
-Written by [bench/costs.py](../bench/costs.py), on {processor()}, with {kit or "an unknown kit"},
+Written by [bench/run costs](../bench/repository/costs.py), on {processor()}, with {kit or "an unknown kit"},
 {told_of(runs, names)}
 
 Lines are those of `.rt` and of `.antt` files. Functions were proved, tests passed, edits were refused. \
@@ -397,14 +383,31 @@ def named(pid):
     return [Path(words[at]).name, *words[at + 1 :]]
 
 
-def main():
-    parser = argparse.ArgumentParser(description=__doc__, formatter_class=argparse.RawDescriptionHelpFormatter)
+def main_costs(argv: list[str]) -> int | None:
+    """What the gate costs, crate by crate; writes docs/COSTS.md from a run of the gate that passed.
+
+    Takes as long as the gate; needs the kit.
+
+        bench/run costs ./test                     runs the gate and watches it
+        bench/run costs rt ci NAME..               runs and watches a part of it
+        bench/run costs --beside PID --log FILE    watches a gate, or a part, that runs and whose output goes to FILE
+        bench/run costs --log FILE                 writes the table once more: FILE has the output of a gate that passed
+        bench/run costs --rows NAME,..             puts the rows of some crates into the table, of the runs that were
+                                                   watched; the others stay
+
+    `rt ci` proves and tries nothing again that an earlier run on this machine passed and that has not changed since.
+    What each watched run proved and tried is noted in out/costs.json; where the gate takes something from an earlier
+    run, its figure is that run's, which the table then says. Where no watched run has it (it was ./build's, say), the
+    table is not written, and what is lacking is named: bench/run costs rt ci --anew NAME.. proves it and the crates
+    below again, and --gaps writes the table all the same.
+    """
+    parser = shared.parser_of(main_costs, program=False)
     parser.add_argument("--beside", type=int, metavar="PID")
     parser.add_argument("--log", metavar="FILE")
     parser.add_argument("--gaps", action="store_true")
     parser.add_argument("--rows", metavar="NAME,..")
     parser.add_argument("command", nargs=argparse.REMAINDER)
-    words = parser.parse_args()
+    words = parser.parse_args(argv)
     if bool(words.command) + bool(words.log) + bool(words.rows) != 1 or words.beside and not words.log:
         parser.error("give a command, or --log, with or without --beside, or --rows")
     signal.signal(signal.SIGTERM, signal.default_int_handler)
@@ -424,7 +427,3 @@ def main():
         print("costs: this was not the gate, or it has not passed; docs/COSTS.md stays", file=sys.stderr)
         return 1
     return 0 if write(runs, words.gaps) else 1
-
-
-if __name__ == "__main__":
-    sys.exit(main())

@@ -1,26 +1,164 @@
-#!/usr/bin/python3
-"""Changes functions of the tools, one place each, and says which changes no test notices.
+"""What tests notice: changes of single places in the tools, and hostile files."""
 
-Usage: bench/mutants PROGRAM N --work FOLDER [--seed 1] [--tests MODULE,..] [--below PACKAGE,..]
-                     [--jobs 2] [--longest 240] [--most 300] [--keep FILE]
-
-A copy of the tools is in FOLDER. First each module of tests runs there once, to know which test passes which line, in
-processes that it starts too (python3-coverage); that is kept, and modules that take more than --longest seconds are
-known as far as they came. Then N functions are drawn by the seed, of those with such a line, and one place of each: a
-number, a comparison, a sign or a returned value. The tests that pass its line run, those of a class together, the
-quickest first, until one fails or they come to --most seconds. The last lines say how many changes lived and which.
---keep adds those that were noticed within a second to the list that tools/tests/test_mutants.py tries each time.
-"""
 import ast
 import json
 import os
 import random
+import re
+import shutil
+import signal
+import subprocess
+import sys
+import tempfile
+import time
 from concurrent.futures import ThreadPoolExecutor
 from dataclasses import dataclass
+from itertools import groupby
 from pathlib import Path
 
 import shared
-import tested_lines
+
+COPIED = ("tools", "docs", "examples", "debian", "bench", "README.md", "SECURITY.md", "CHANGELOG.md", "CONTRIBUTING.md")
+RULES = """[run]
+parallel = True
+data_file = {folder}/data
+context = ${{TESTED-}}
+source = {top}/tools/streetsim
+"""
+# What each process of a map's making begins with. Of the process of the tests it names each test, and the preparation
+# of each class, as the context from then on, and writes: the name, the seconds, whether it passed.
+STARTED = '''import os, sys, time
+import coverage
+coverage.process_startup()
+if "unittest" in sys.orig_argv and "TESTED_TIMES" in os.environ:
+    import unittest
+    def told(name, work, well):
+        os.environ["TESTED"] = name
+        coverage.Coverage.current().switch_context(name)
+        begin = time.monotonic()
+        try:
+            return work()
+        finally:
+            with open(os.environ["TESTED_TIMES"], "a") as file:
+                print(name, round(time.monotonic() - begin, 3), int(well()), file=file)
+            os.environ["TESTED"] = ""
+            coverage.Coverage.current().switch_context("")
+    def ill(result):
+        return len(result.errors) + len(result.failures) + len(result.skipped)
+    run, prepare = unittest.TestCase.run, unittest.TestSuite._handleClassSetUp
+    def noted(self, result=None):
+        before = ill(result)
+        return told(self.id(), lambda: run(self, result), lambda: ill(result) == before)
+    def prepared(self, test, result):
+        kind = type(test)
+        if kind is getattr(result, "_previousTestClass", None):
+            return prepare(self, test, result)
+        return told(kind.__module__ + "." + kind.__qualname__, lambda: prepare(self, test, result), lambda: True)
+    unittest.TestCase.run, unittest.TestSuite._handleClassSetUp = noted, prepared
+'''
+
+
+def copy_of(top):
+    """Puts the tools, and what their tests read, into a folder, where they are not there yet."""
+    top.mkdir(parents=True, exist_ok=True)
+    for name in COPIED:
+        source, target = shared.TOP / name, top / name
+        if not target.exists():
+            copy = shutil.copytree if source.is_dir() else shutil.copy
+            copy(source, target, **({"ignore": shutil.ignore_patterns("__pycache__")} if source.is_dir() else {}))
+    return top
+
+
+def tested(top, names, most, more=None):
+    """What fails of some tests in a copy at `top`: the first one's name, or those that were run where none is told, as
+    they took more than `most` seconds; nothing where all pass."""
+    words = [sys.executable, "-W", "ignore", "-m", "unittest", *(() if more else ("-f",)), *names]
+    env = {**os.environ, "PYTHONDONTWRITEBYTECODE": "1", **(more or {})}
+    with tempfile.TemporaryFile("w+") as told:
+        streams = {"stdin": subprocess.DEVNULL, "stdout": subprocess.DEVNULL, "stderr": told}
+        with subprocess.Popen(words, cwd=top / "tools/tests", env=env, start_new_session=True, **streams) as process:
+            try:
+                status = process.wait(most)
+            except subprocess.TimeoutExpired:
+                status = None
+            finally:
+                try:  # also what the tests left behind
+                    os.killpg(process.pid, signal.SIGKILL)
+                except ProcessLookupError:
+                    pass
+        told.seek(0)
+        found = re.search(r"^(?:FAIL|ERROR): \S+ \((\S+)\)", told.read(), re.MULTILINE)
+    return () if status == 0 else (found[1],) if found and found[1].count(".") == 2 else tuple(names)
+
+
+def noted(top, module, most):
+    """Runs a module of tests in a copy, and keeps which lines its tests pass, and {test: (seconds, passed)}."""
+    from coverage import CoverageData, CoverageException
+
+    folder = top / "map" / module
+    shutil.rmtree(folder, ignore_errors=True)
+    (folder / "start").mkdir(parents=True)
+    (folder / "start/sitecustomize.py").write_text(STARTED)
+    (folder / "rules").write_text(RULES.format(folder=folder, top=top))
+    more = {
+        "COVERAGE_PROCESS_START": str(folder / "rules"),
+        "PYTHONPATH": str(folder / "start"),
+        "TESTED_TIMES": str(folder / "times"),
+    }
+    begin = time.monotonic()
+    tested(top, [module], most, more)
+    whole = CoverageData(str(folder / "whole"))
+    for part in folder.glob("data.*"):
+        one = CoverageData(str(part))
+        try:
+            one.read()
+            whole.update(one)
+        except CoverageException:  # of a process that was ended while it wrote
+            pass
+        part.unlink()
+    whole.write()
+    times = {}
+    for line in (folder / "times").read_text().splitlines() if (folder / "times").exists() else ():
+        name, seconds, well = line.split()
+        times[name] = (float(seconds), well == "1")
+    (folder / "times.json").write_text(json.dumps(times))
+    good = sum(well for _, well in times.values())
+    print(f"{module}: {time.monotonic() - begin:.0f} s, {good} of {len(times)} pass", flush=True)
+
+
+def map_of(top, modules, jobs, most):
+    """({test or class: seconds}, {file: {line: names of tests and classes}}) of those modules; made where lacking."""
+    from coverage import CoverageData
+
+    lacking = [module for module in modules if not (top / "map" / module / "times.json").exists()]
+    with ThreadPoolExecutor(jobs) as pool:
+        list(pool.map(lambda module: noted(top, module, most), lacking))
+    seconds, lines = {}, {}
+    for module in modules:
+        times = json.loads((top / "map" / module / "times.json").read_text())
+        seconds |= {name: took for name, (took, well) in times.items() if well}
+        data = CoverageData(str(top / "map" / module / "whole"))
+        data.read()
+        for path in data.measured_files():
+            found = lines.setdefault(os.path.relpath(path, top / "tools/streetsim"), {})
+            for line, names in data.contexts_by_lineno(path).items():
+                found.setdefault(line, set()).update(name for name in names if name in seconds)
+    return seconds, lines
+
+
+def runs_of(names, seconds):
+    """[(seconds, tests of one module)] that names of tests and classes come to, the quickest first."""
+    whole = {name for name in names if any(other.startswith(f"{name}.") for other in seconds)}
+    tests = {one for name in whole for one in seconds if one.startswith(f"{name}.")} | (set(names) - whole)
+    classes = {}
+    for test in sorted(tests):
+        classes.setdefault(test.rpartition(".")[0], []).append(test)
+    found = [
+        (seconds.get(kind, 0) + sum(seconds[test] for test in chosen), sorted(chosen, key=seconds.__getitem__))
+        for kind, chosen in classes.items()
+    ]
+    return sorted(found)
+
 
 OTHER = {ast.Lt: "<=", ast.LtE: "<", ast.Gt: ">=", ast.GtE: ">", ast.Eq: "!=", ast.NotEq: "==", ast.In: "not in",
          ast.NotIn: "in", ast.Is: "is not", ast.IsNot: "is", ast.Add: "-", ast.Sub: "+"}
@@ -102,7 +240,7 @@ class Change:
                 if spent and spent + seconds > most:
                     return
                 spent, self.ran = spent + seconds, self.ran + len(tests)
-                if failed := tested_lines.tested(top, tests, SLOWER * seconds + SPARE):
+                if failed := tested(top, tests, SLOWER * seconds + SPARE):
                     self.noticed = seconds, failed
                     return
         finally:
@@ -117,21 +255,6 @@ class Change:
         return None
 
 
-def asked():
-    """The words of the call."""
-    made = shared.parser_of(__doc__)
-    made.add_argument("count", type=int)
-    made.add_argument("--work", type=Path, required=True)
-    made.add_argument("--seed", type=int, default=1)
-    made.add_argument("--tests", default="")
-    made.add_argument("--below", default="")
-    made.add_argument("--jobs", type=int, default=2)
-    made.add_argument("--longest", type=float, default=240)
-    made.add_argument("--most", type=float, default=300)
-    made.add_argument("--keep", type=Path)
-    return made.parse_args()
-
-
 def functions(top, lines, below):
     """{(file, line of a function): its places that a test passes, with their tests}."""
     found = {}
@@ -144,19 +267,48 @@ def functions(top, lines, below):
     return found
 
 
-def main():
-    args = asked()
-    shared.PROGRAM = Path(args.program).resolve()
-    tops = [tested_lines.copy_of(args.work.resolve() / str(at)) for at in range(args.jobs)]
+def keep(path, entries):
+    """Adds changes to a list of them, but those that it has."""
+    known = json.loads(path.read_text()) if path.exists() else []
+    had = [one[:3] for one in known]
+    new = [entry for entry in entries if entry[:3] not in had]
+    path.write_text("[\n" + ",\n".join(map(json.dumps, sorted(known + new))) + "\n]\n")
+
+
+def main_mutants(argv: list[str]) -> int | None:
+    """Which changes of single places in the tools no test notices.
+
+    Takes an hour, and seconds a change; needs python3-coverage.
+
+    A copy of the tools is in the folder of --work. First each module of tests runs there once, to know which test
+    passes which line, in processes that it starts too (python3-coverage); that is kept, and modules that take more than
+    --longest seconds are known as far as they came. Then N functions are drawn by the seed, of those with such a line,
+    and one place of each: a number, a comparison, a sign or a returned value. The tests that pass its line run, those
+    of a class together, the quickest first, until one fails or they come to --most seconds. The last lines say how many
+    changes lived and which. --keep adds those that were noticed within a second to the list that
+    tools/tests/test_mutants.py tries each time.
+    """
+    parser = shared.parser_of(main_mutants, work=True)
+    parser.add_argument("count", metavar="N", type=int)
+    parser.add_argument("--seed", type=int, default=1)
+    parser.add_argument("--tests", default="", help="modules, with commas between")
+    parser.add_argument("--below", default="", help="packages, with commas between")
+    parser.add_argument("--jobs", type=int, default=2)
+    parser.add_argument("--longest", type=float, default=240)
+    parser.add_argument("--most", type=float, default=300)
+    parser.add_argument("--keep", type=Path, metavar="FILE")
+    args = parser.parse_args(argv)
+    os.environ["STREETSIM_PROGRAM"] = args.program
+    tops = [copy_of(args.work / str(at)) for at in range(args.jobs)]
     all_tests = sorted((path.stem for path in (tops[0] / "tools/tests").glob("test_*.py")))
     modules = args.tests.split(",") if args.tests else all_tests
-    seconds, lines = tested_lines.map_of(tops[0], modules, args.jobs, args.longest)
+    seconds, lines = map_of(tops[0], modules, args.jobs, args.longest)
     drawn = functions(tops[0], lines, args.below)
     chance = random.Random(args.seed)
     work = []
     for name, function in chance.sample(sorted(drawn), min(args.count, len(drawn))):
         place, text, names = chance.choice(drawn[name, function])
-        work.append(Change(name, place, text, tested_lines.runs_of(names, seconds)))
+        work.append(Change(name, place, text, runs_of(names, seconds)))
 
     def try_some(at):
         """Tries the changes of a copy, by its number."""
@@ -169,11 +321,31 @@ def main():
     lived = sorted(change.told(tops[0]) for change in work if not change.noticed)
     print(f"{len(work)} changes of {len(drawn)} functions, {len(lived)} lived:", *lived, sep="\n")
     if args.keep:
-        known = json.loads(args.keep.read_text()) if args.keep.exists() else []
-        had = [one[:3] for one in known]
-        new = [entry for change in work if (entry := change.entry(tops[0])) and entry[:3] not in had]
-        args.keep.write_text("[\n" + ",\n".join(map(json.dumps, sorted(known + new))) + "\n]\n")
+        keep(args.keep, [entry for change in work if (entry := change.entry(tops[0]))])
 
 
-if __name__ == "__main__":
-    main()
+def main_hostile(argv: list[str]) -> int | None:
+    """Which hostile files are not refused, and what the others take.
+
+    Takes two minutes.
+
+    Each is read in a process of its own, and is to end within 10 s with status 2 and one line, with at most 512 MB more
+    than a small valid file takes at its peak. It prints the greatest of each kind.
+    """
+    made = shared.parser_of(main_hostile)
+    made.add_argument("kinds", nargs="*")
+    args = made.parse_args(argv)
+    words = [sys.executable, str(shared.TOP / "tools/tests/hostile.py"), *args.kinds]
+    environment = {**shared.with_sumo(), "STREETSIM_PROGRAM": str(args.program)}
+    done = subprocess.run(words, env=environment, stdout=subprocess.PIPE, text=True, check=True)
+    ill = 0
+    for kind, forms in groupby(map(json.loads, done.stdout.splitlines()), lambda one: one[0]):
+        (*_, valid), *forms = forms
+        slowest, largest = (max(forms, key=lambda one: one[at]) for at in (5, 6))
+        most = (largest[6] - valid) >> 20
+        print(f"{kind}: {len(forms)} files, slowest {slowest[5]:.1f} s ({slowest[1]}), {most} MB more ({largest[1]})")
+        for _, form, _, status, told, seconds, peak in forms:
+            if (status, told.count("\n")) != (2, 1) or seconds > 10 or peak - valid > 512 << 20:
+                ill += 1
+                print(f"  NOT REFUSED: {form}: status {status}, {seconds:.1f} s, {told[:200]!r}")
+    return 1 if ill else 0
