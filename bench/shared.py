@@ -227,8 +227,17 @@ def part_of(tree: ast.Module, name: str) -> ast.Module:
         node = bound.get(left.pop())
         if node and id(node) not in needed:
             needed.add(id(node))
-            left += (one.id for one in ast.walk(node) if isinstance(one, ast.Name))
+            left += names_used(node)
     return ast.Module([node for node in tree.body if id(node) in needed or not [*names_bound(node)]], [])
+
+
+def names_used(node: ast.stmt) -> set[str]:
+    """The names of the module that a statement may use: in a function not those that it gives to values of its own,
+    but for those of comprehensions, behind which a name means what it meant before."""
+    every = [one for one in ast.walk(node) if isinstance(one, ast.Name)]
+    inner = [one for part in ast.walk(node) if isinstance(part, ast.comprehension) for one in ast.walk(part.target)]
+    own = {one.id for one in {*every} - {*inner} if isinstance(one.ctx, ast.Store)}
+    return {one.id for one in every} - (own if isinstance(node, ast.FunctionDef) else set())
 
 
 def names_bound(node: ast.stmt) -> Iterator[str]:

@@ -11,6 +11,7 @@ from networks import lone
 from networks.lone import Junction, Stream, Trips
 from streetsim.report.picture_files import load_pyplot, save_picture
 
+
 @dataclass(frozen=True)
 class Case:
     title: str

@@ -271,7 +271,7 @@ def main_vehicles(argv: list[str]) -> int | None:
     args = parser.parse_args(argv)
 
     programs = [words_of(path) for path in (args.program, args.beside) if path]
-    print(f"{args.vehicles} vehicles, lines a second (best of {args.times})")
+    shared.print_heads("What | Measured")
     for name, base, timed, expected in sessions(args.vehicles, args.lines, args.waiting):
         below, whole = [[] for _ in programs], [[] for _ in programs]
         for _ in range(args.times):
@@ -286,7 +286,7 @@ def main_vehicles(argv: list[str]) -> int | None:
                     raise SystemExit(f"{name}: the replies of the two differ")
         rates = [len(expected) / (min(more) - min(less)) for more, less in zip(whole, below, strict=True)]
         beside = f", beside {rates[1]:.0f}: {rates[0] / rates[1]:.2f}" if args.beside else ""
-        print(f"  {name:<28}{rates[0]:.0f}{beside}")
+        print(f"| lines a second beside {args.vehicles:,} vehicles: {name} | {rates[0]:,.0f}{beside} |", flush=True)
 
 
 ROW = 7  # nodes of the ring

@@ -89,12 +89,14 @@ def main_kept(argv: list[str]) -> int | None:
     args = parser.parse_args(argv)
     with tempfile.TemporaryDirectory(dir=args.folder) as folder:
         taken = seconds_by_way(args, Path(folder))
+        shared.print_heads("What | Measured")
         for way, times in taken.items():
             ratio = statistics.median(one / base for one, base in zip(times, taken[WAYS[0]], strict=True))
             lines = args.lines / statistics.median(times)
-            print(f"{' '.join(way)}: {lines:,.0f} lines a second, {ratio:.2f} times as long")
+            print(f"| lines a second with `{' '.join(way)}` | {lines:,.0f}; {ratio:.2f} times as long |")
         for calls in (50_000, args.calls):
-            print(f"--endless, {calls:,} calls: {most_memory(args.program, calls, Path(folder)):,} KiB at most")
+            memory = most_memory(args.program, calls, Path(folder))
+            print(f"| memory of `--endless` after {calls:,} calls | {memory:,} KiB |", flush=True)
 
 
 MOST_LINES, AT_ONCE = 900, 300  # of a session; of a run

@@ -55,7 +55,8 @@ KNOWN = TOOL
 
 def main_seen(argv: list[str]) -> int:
     """What is seen."""
-    print(KNOWN, "streetsim-play is not run")
+    play = KNOWN  # its own value, not the module
+    print(play, "streetsim-play is not run")
 
 
 def main_unseen(argv: list[str]) -> int:
