@@ -210,7 +210,7 @@ class Costs(Case):
 
     def test_beside(self):
         log = self.write("log", PROVED + PROGRAM + TRIED + PASSED)
-        with subprocess.Popen([sys.executable, "-c", "import time; time.sleep(1)"]) as gate:
+        with subprocess.Popen([sys.executable, "-c", "import time; time.sleep(5)"]) as gate:
             words = [sys.executable, "bench/run", "costs", "--beside", str(gate.pid), "--log", log]
             # The gate is this process's child, and is gone only once it was waited for.
             with subprocess.Popen(words, cwd=self.top, stderr=subprocess.DEVNULL) as costs:
