@@ -21,6 +21,7 @@ from collections.abc import Callable, Iterable, Iterator, Sequence
 from dataclasses import dataclass
 from functools import cache
 from pathlib import Path
+from typing import NoReturn
 
 TOP = Path(__file__).resolve().parents[1]
 TOOLS = TOP / "tools"
@@ -71,11 +72,18 @@ def all_commands(top: Path = TOP) -> dict[str, Command]:
     return {command.name: command for folder in FOLDERS for command in commands_of(folder, top)}
 
 
+class Parser(argparse.ArgumentParser):
+    """A parser that says in one line what it refuses."""
+
+    def error(self, message: str) -> NoReturn:
+        self.exit(2, f"{self.prog}: {message}; --help has all words\n")
+
+
 def parser_of(command: Callable, program: bool = True, work: bool = False) -> argparse.ArgumentParser:
     """A parser whose help is the text of a measurement's function. program: the first word; work: whether it needs a
     folder."""
     name, path = command.__name__.removeprefix("main_").replace("_", "-"), Path(inspect.getfile(command)).resolve()
-    made = argparse.ArgumentParser(
+    made = Parser(
         prog=f"bench/run {name}",
         description=inspect.getdoc(command),
         epilog=f"It is in {path.relative_to(TOP)}.",
@@ -86,6 +94,19 @@ def parser_of(command: Callable, program: bool = True, work: bool = False) -> ar
     if work:
         made.add_argument("--work", required=True, type=whole, help="a folder for what is made")
     return made
+
+
+def add_some(parser: argparse.ArgumentParser, word: str, known: Iterable[str], usual: Iterable[str] = ()) -> None:
+    """A word for some names of those that are known. usual: where it is not given; all where nothing is told."""
+    names = [*known]
+
+    def read(text: str) -> list[str]:
+        if unknown := [name for name in text.split(",") if name not in names]:
+            raise argparse.ArgumentTypeError(f"{unknown[0]!r} is none of {', '.join(names)}")
+        return text.split(",")
+
+    told = f"some, with commas between, of {', '.join(names)}"
+    parser.add_argument(word, type=read, default=[*(usual or names)], metavar="NAME,..", help=told)
 
 
 def found_program(text: str) -> str:

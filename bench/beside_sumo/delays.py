@@ -398,7 +398,7 @@ def main_delays(argv: list[str]) -> int | None:
     """
     parser = shared.parser_of(main_delays, work=True)
     parser.add_argument("--seeds", default="1-5")
-    parser.add_argument("--only", default="", help="names of networks, with commas between")
+    shared.add_some(parser, "--only", (case.name for case in CASES))
     parser.add_argument("--calibrate", action="store_true")
     parser.add_argument("--all", action="store_true", help="print each approach")
     args = parser.parse_args(argv)
@@ -408,6 +408,6 @@ def main_delays(argv: list[str]) -> int | None:
     delays = "delay as SUMO counts it, s | beyond a vehicle alone, s | here, s | r | same letter, within one"
     shared.print_heads(f"Network, approaches at | approaches | {delays} | 95 % queue: SUMO, m | here, m")
     for case in CASES:
-        if not args.only or case.name in args.only.split(","):
+        if case.name in args.only:
             compare(case, args, seeds)
     return None

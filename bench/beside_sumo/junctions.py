@@ -218,13 +218,13 @@ def main_lone_trips(argv: list[str]) -> int | None:
     parser.add_argument("--draw", type=int, default=81, help="the seed of arms, flows and turns")
     parser.add_argument("--count", type=int, default=8, help="junctions of a kind, each at three levels")
     parser.add_argument("--seed", type=int, default=1, help="of departures, and of SUMO")
-    parser.add_argument("--kinds", default=",".join(KINDS))
+    shared.add_some(parser, "--kinds", KINDS)
     parser.add_argument("--ways", action="store_true", help="a row for each way")
     parser.add_argument("--tools", default=shared.TOOLS, type=shared.whole, help="other tools than these")
     args = parser.parse_args(argv)
     folder = shared.work_of(args)
     shared.print_heads(f"SUMO, s, and here more | {' | '.join(f'{level:.0%} of the flows' for level in LEVELS)}")
-    for kind in args.kinds.split(","):
+    for kind in args.kinds:
         own = folder / f"{kind}-{args.draw}"
         own.mkdir(exist_ok=True)
         junctions = drawn(kind, args.draw, args.count)

@@ -186,14 +186,14 @@ def main_closeness(argv: list[str]) -> int | None:
     """
     parser = shared.parser_of(main_closeness, work=True)
     parser.add_argument("--seeds", default="1-3")
-    parser.add_argument("--only", default="", help="names of networks, with commas between")
+    shared.add_some(parser, "--only", (case.name for case in cases()))
     parser.add_argument("--import", dest="words", default="", help="more words for the import")
     rows.add_words(parser)
     args, every = parser.parse_args(argv), []
     heads = "Network (vehicles) | SUMO, s | teleports | here, s | GEH below 5 | arrived here, in SUMO | rescues"
     shared.print_heads(f"{heads} | the last line")
     for case in cases():
-        if not args.only or case.name in args.only.split(","):
+        if case.name in args.only:
             folder = args.work / re.sub("[^a-z0-9.]+", "-", case.name)
             folder.mkdir(parents=True, exist_ok=True)
             cells, kept = closeness_row(case, folder, args)
@@ -343,12 +343,11 @@ def main_shipped_demands(argv: list[str]) -> int | None:
     whole where that is shorter.
     """
     parser = shared.parser_of(main_shipped_demands, work=True)
-    parser.add_argument("--only", default="", help="names, with commas between")
+    shared.add_some(parser, "--only", CASES)
     args = parser.parse_args(argv)
     shared.print_heads("Demand | until, s | arrived in SUMO, here | mean trip in SUMO, s | here, s | GEH below 5 |")
-    for name, (path, end) in CASES.items():
-        if args.only and name not in args.only.split(","):
-            continue
+    for name in args.only:
+        path, end = CASES[name]
         folder = args.work / name.replace("/", "-")
         folder.mkdir(parents=True, exist_ok=True)
         try:

@@ -24,7 +24,7 @@ TOLD = {  # the kinds in the words of the page
     **{"priority": "town without lights, main streets", "equal": "town without lights, right before left"},
     **{"stops": "town with stop signs", "all-way": "town with all-way stops", "slow": "streets of 30 km/h"},
 }
-TEN = "town,radial,shared-legs,right-on-red,roundabouts,priority,equal,stops,all-way,slow"
+TEN = [*TOLD]
 LEVEL = 0.5  # the busiest lane's share of what it can pass, by plain reckoning
 
 
@@ -89,11 +89,11 @@ def main_unseen(argv: list[str]) -> int | None:
     kind. Draw the seeds when the work is done: then the table judges. What SUMO wrote is kept in the folder of --work.
     """
     parser = rows.parser_of(main_unseen, "1", seed=rows.ints)
-    parser.add_argument("--kinds", default=TEN, help=", ".join(KINDS))
+    shared.add_some(parser, "--kinds", KINDS, TEN)
     parser.add_argument("--level", type=float, default=LEVEL, help="the busiest lane's share of what it can pass")
     args = parser.parse_args(argv)
     args.folder, found = shared.work_of(args), defaultdict(list)
-    ways = [(kind, seed) for kind in args.kinds.split(",") for seed in args.seed]
+    ways = [(kind, seed) for kind in args.kinds for seed in args.seed]
     lost = "giving way: lost, SUMO / here | approaches: lost, r"
     shared.print_heads(f"Kind, seed (vehicles) | SUMO, s | teleports | here, s | {lost} | the last line")
     for (kind, _), one in zip(ways, side_by_side(args.jobs, lambda way: compared(*way, args), ways), strict=True):
@@ -190,11 +190,11 @@ def main_sweep(argv: list[str]) -> int | None:
     of --work, ours by the tools.
     """
     parser = rows.parser_of(main_sweep, "1-3")
-    parser.add_argument("--kinds", default=",".join(USUAL), help=", ".join(KINDS))
+    shared.add_some(parser, "--kinds", KINDS, USUAL)
     parser.add_argument("--levels", default=LEVELS, type=rows.floats)
     parser.add_argument("--picture", help="draw the first table too")
     args = parser.parse_args(argv)
-    args.folder, kinds = shared.work_of(args), args.kinds.split(",")
+    args.folder, kinds = shared.work_of(args), args.kinds
     found = list(side_by_side(args.jobs, lambda kind: climbed(kind, args), kinds))
     every = [row for own in found for row in own]
     print(*kinds_by_load(kinds, args.levels, found), "", *rows_by_load(args.levels, every), sep="\n")
@@ -300,10 +300,10 @@ def main_versions(argv: list[str]) -> int | None:
     """
     parser = rows.parser_of(main_versions, "1-5")
     parser.add_argument("--before", default=BEFORE, help="a commit")
-    parser.add_argument("--kinds", default=",".join(USUAL), help=", ".join(KINDS))
+    shared.add_some(parser, "--kinds", KINDS, USUAL)
     parser.add_argument("--levels", default=[0.5, 0.8], type=rows.floats)
     args = parser.parse_args(argv)
-    args.folder, kinds = shared.work_of(args), args.kinds.split(",")
+    args.folder, kinds = shared.work_of(args), args.kinds
     old = tools_of(args.before, args.folder)
     found = list(side_by_side(args.jobs, lambda kind: pairs_of(kind, old, args), kinds))
     print(*pairs_by_kind(kinds, args.levels, found), "", sep="\n")

@@ -475,7 +475,7 @@ def main_unseen_nets(argv: list[str]) -> int | None:
     parser = shared.parser_of(main_unseen_nets, program=False)
     parser.add_argument("seed", type=int, nargs="?")
     parser.add_argument("--work", type=Path)
-    parser.add_argument("--kinds", default=",".join(KINDS))
+    shared.add_some(parser, "--kinds", KINDS)
     parser.add_argument("--level", type=float, default=0.8, help="the busiest approach's share of what it can pass")
     parser.add_argument("--vehicles", type=int, help="so many, instead of a level")
     parser.add_argument("--list", action="store_true", help="the kinds")
@@ -485,6 +485,6 @@ def main_unseen_nets(argv: list[str]) -> int | None:
         return
     if args.seed is None or args.work is None:
         parser.error("a seed and --work FOLDER are needed")
-    for kind in args.kinds.split(","):
+    for kind in args.kinds:
         made = make(kind, args.seed, args.work, args.level, args.vehicles)
         print(f"{made.folder}: {made.vehicles:,} vehicles, {made.drawn}", flush=True)

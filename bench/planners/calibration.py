@@ -277,6 +277,9 @@ def mixed(folder):
     return [imported(net, more, routes, 2700) for more in ([], [wave])], 5400
 
 
+STREETS = {"corridor": corridor, "mixed": mixed}
+
+
 def pair(program, both, until, seed, is_drawn):
     """(mean trip without the wave, its change) by one seed."""
     found = []
@@ -318,13 +321,13 @@ def main_day_intervals(argv: list[str]) -> int | None:
     street of six junctions.
     """
     parser = shared.parser_of(main_day_intervals, work=True)
-    parser.add_argument("--only", default="corridor,mixed")
+    shared.add_some(parser, "--only", STREETS)
     for name, usual in (("days", 40), ("seeds", 8), ("truth", 60)):
         parser.add_argument(f"--{name}", type=int, default=usual)
     args = parser.parse_args(argv)
     shared.print_heads("network | interval | mean trip: held, half width | change by the wave: held, half width")
-    for name in args.only.split(","):
-        both, until = {"corridor": corridor, "mixed": mixed}[name](args.work)
+    for name in args.only:
+        both, until = STREETS[name](args.work)
         hits, widths, truth, errors = held(args.program, both, until, args)
         for how in HOW:
             cells = [f"{hits[how][side]} of {args.days}, {widths[how][side]:.2f} s" for side in (0, 1)]

@@ -9,6 +9,7 @@ from statistics import fmean
 
 import shared
 from beside_sumo.rows import run_files
+from networks.unseen import KINDS as MADE
 from networks.unseen import make
 from streetsim.control.actuated_logic import GO
 from streetsim.control.bus_coordinated import Coordinated
@@ -276,7 +277,7 @@ def main_buses(argv: list[str]) -> int | None:
         priority_rows(args, work)
 
 
-DRIVEN = "actuated-grid,actuated-arterial,actuated-town,actuated-turn-lanes,nema-cross,nema-arterial"
+DRIVEN = ("actuated-grid", "actuated-arterial", "actuated-town", "actuated-turn-lanes", "nema-cross", "nema-arterial")
 HOUR = 3600
 LAST = 4 * HOUR  # second by which a run of SUMO ends that is locked
 NEAR = 1.0  # seconds of green
@@ -382,14 +383,14 @@ def main_actuated(argv: list[str]) -> int | None:
     """
     parser = shared.parser_of(main_actuated, work=True)
     parser.add_argument("--seed", type=int, required=True)
-    parser.add_argument("--kinds", default=DRIVEN)
+    shared.add_some(parser, "--kinds", MADE, DRIVEN)
     parser.add_argument("--levels", default="0.5,0.7", help="of the busiest approach's capacity (default %(default)s)")
     args = parser.parse_args(argv)
     work = shared.work_of(args)
     trips = "SUMO, fixed -> actuated, s | here, s | apart, % | gain in SUMO, here, %"
     greens = "greens within 1 s, mean difference | "
     shared.print_heads(f"Network | level | vehicles | arrived in SUMO, here | {trips} | {greens}")
-    for kind in args.kinds.split(","):
+    for kind in args.kinds:
         for level in map(float, args.levels.split(",")):
             folder = work / f"{level:g}"
             folder.mkdir(exist_ok=True)

@@ -327,7 +327,7 @@ def main_kernel_runs(argv: list[str]) -> int | None:
     SUMO without outputs.
     """
     parser = shared.parser_of(main_kernel_runs, work=True)
-    parser.add_argument("--only", default=",".join(RUNS))
+    shared.add_some(parser, "--only", RUNS)
     parser.add_argument("--times", type=int, default=3)
     parser.add_argument("--other", type=shared.whole, help="the folder of other tools")
     parser.add_argument("--other-program", help="the program that these run")
@@ -335,7 +335,7 @@ def main_kernel_runs(argv: list[str]) -> int | None:
     args = parser.parse_args(argv)
     top = shared.work_of(args)
     shared.print_heads("Run | here, s | SUMO, s | other tools, s | here : SUMO | here : other")
-    for name in args.only.split(","):
+    for name in args.only:
         folder = top / name
         folder.mkdir(exist_ok=True)
         one = RUNS[name](folder)

@@ -392,7 +392,7 @@ def named_rows(args, folder):
     """A row for each of the edges with works, of the networks with names."""
     yield "| Edge (lanes) | works | SUMO, s | more | teleports | here, s | more | rescues |"
     yield f"|{'---|' * 8}"
-    for name in args.only.split(","):
+    for name in args.only:
         network, routes, additional, counts = NETWORKS[name]
         made = ["-o", f"{name}.jsonl", "--map", f"{name}.map.json"]
         run([TOP / "tools/streetsim-import", network, *additional, "--routes", routes, *made], folder)
@@ -429,7 +429,7 @@ def main_works(argv: list[str]) -> int | None:
     """
     parser = shared.parser_of(main_works, work=True)
     parser.add_argument("--seeds", default="1-2")
-    parser.add_argument("--only", default=",".join(NETWORKS))
+    shared.add_some(parser, "--only", NETWORKS)
     parser.add_argument("--edges", help="of the networks' edges with works, these alone")
     parser.add_argument("--street", action="store_true", help="the table of one street of two lanes")
     parser.add_argument("--drawn", type=int, metavar="SEED", help="the table of streets and towns from a seed")

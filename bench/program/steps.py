@@ -281,15 +281,13 @@ def main_instructions(argv: list[str]) -> int | None:
     What was counted is the same for each run, however busy the machine is.
     """
     parser = shared.parser_of(main_instructions)
-    parser.add_argument(
-        "--only", default="ring 0.3,grid 20000,grid 100000", help="names of sessions, with commas between"
-    )
+    shared.add_some(parser, "--only", SESSIONS, ("ring 0.3", "grid 20000", "grid 100000"))
     parser.add_argument("--before", type=int, default=200)
     parser.add_argument("--steps", type=int, default=32)
     parser.add_argument("--least", type=float, default=1.0)
     args = parser.parse_args(argv)
     print("instructions a vehicle and step (reads that miss 32 KB, and 1 MB)")
-    for name in args.only.split(","):
+    for name in args.only:
         with tempfile.TemporaryDirectory() as folder:
             found, updates = counted(args.program, SESSIONS[name]()[0], args.before, args.steps, folder)
             rows = by_function(found)

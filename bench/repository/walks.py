@@ -128,7 +128,7 @@ def main_walks(argv: list[str]) -> int | None:
     parser = shared.parser_of(main_walks, work=True, program=False)
     parser.add_argument("program", metavar="PROGRAM", nargs="?", type=shared.found_program)
     parser.add_argument("--installed", action="store_true", help="run the installed commands, in place of these")
-    parser.add_argument("--only", default=",".join(SECTIONS), help="names of pages, with commas between")
+    shared.add_some(parser, "--only", SECTIONS)
     args = parser.parse_args(argv)
     if bool(args.program) == args.installed:
         parser.error("PROGRAM, or --installed")
@@ -140,7 +140,7 @@ def main_walks(argv: list[str]) -> int | None:
         subprocess.run(["streetsim-example", name, "--out", "."], cwd=folder, env=surroundings, check=True)
     runs = runner(folder, surroundings)
     wrong = 0
-    for page in args.only.split(","):
+    for page in args.only:
         begin = time.time()
         wrong += sum(walk(page, heading, runs) for heading in SECTIONS[page]) + checked(page, folder, runs, begin)
     good = "each walk prints what its page says, and what it makes is checked to be equal"
