@@ -192,6 +192,12 @@ class Pages(Case):
             done = subprocess.run(command, capture_output=True, text=True, check=False)
             self.assertEqual((bool(done.returncode), done.stdout), (True, ""), words)
 
+    def test_what_no_measurement_knows_is_refused_in_a_line(self):
+        for words in ([], ["no-such"], ["closeness"], ["doubts", "more"], ["unseen-nets", "7", "--kinds", "no-such"]):
+            command = [sys.executable, str(TOP / "bench/run"), *words]
+            done = subprocess.run(command, capture_output=True, text=True, check=False)
+            self.assertEqual((done.returncode, done.stdout, done.stderr.count("\n")), (2, "", 1), words)
+
 
 if __name__ == "__main__":
     unittest.main()
