@@ -221,12 +221,16 @@ class Change:
         before = whole.split(b"\n")[line - 1]
         return before, before[:begin] + self.text.encode() + before[end:]
 
+    @property
+    def tests(self):
+        """How many tests pass its line."""
+        return sum(len(tests) for _, tests in self.runs)
+
     def told(self, top):
         """The change in words; the file at `top` is as it was."""
         before, _ = self.lines((top / "tools/streetsim" / self.path).read_bytes())
         what = before[self.place[1] : self.place[2]].decode()
-        all_ = sum(len(tests) for _, tests in self.runs)
-        return f"{self.path}:{self.place[0]}: {what} -> {self.text} ({self.ran} of {all_} tests)"
+        return f"{self.path}:{self.place[0]}: {what} -> {self.text} ({self.ran} of {self.tests} tests)"
 
     def tried(self, top, most):
         """Makes the change in a copy at `top`, runs the tests, and takes it back."""
@@ -318,8 +322,11 @@ def main_mutants(argv: list[str]) -> int | None:
 
     with ThreadPoolExecutor(args.jobs) as pool:
         list(pool.map(try_some, range(args.jobs)))
-    lived = sorted(change.told(tops[0]) for change in work if not change.noticed)
-    print(f"{len(work)} changes of {len(drawn)} functions, {len(lived)} lived:", *lived, sep="\n")
+    lived = [change for change in work if not change.noticed]
+    open_ = sum(change.ran < change.tests for change in lived)
+    told = f"{len(lived)} lived, {open_} of these with tests for which --most left no time:"
+    print(f"{len(work)} changes of {len(drawn)} functions, {told}")
+    print(*sorted(change.told(tops[0]) for change in lived), sep="\n")
     if args.keep:
         keep(args.keep, [entry for change in work if (entry := change.entry(tops[0]))])
 
