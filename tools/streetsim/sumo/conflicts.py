@@ -1,12 +1,12 @@
 """Who gives way to whom where there is no light, and for how long: for the map, by which runs find gaps.
 
-The seconds were measured in SUMO 1.15 at lone junctions, under a queue that does not end (bench/junctions): how many
+The seconds were measured in SUMO 1.15 at lone junctions under an endless queue (bench/run junctions): how many
 leave in each gap between two that they give way to, then chosen so that as many leave here against 200 to 1,000
 vehicles an hour. They fall with the flow, as the traffic of SUMO, whose vehicles differ in speed, is more bunched
 and leaves more long gaps. Lanes side by side are bunched each for itself, and who goes across them needs longer. Who
 comes while nobody stands at the line needs a shorter gap: in SUMO it loses time where one who goes first passes up to
 3.5 s later, whatever the street's speed and lanes, and 4.3 s right before left (one alone, meeting one). Where several
-come in a row, who joins them loses more: these seconds are chosen of two each by bench/light_waits.py.
+come in a row, who joins them loses more: these seconds are chosen of two each by bench/run light-waits.
 """
 from collections import defaultdict
 from collections.abc import Iterable, Mapping
