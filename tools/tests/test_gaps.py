@@ -192,7 +192,8 @@ class Conflicts(unittest.TestCase):
 
     def test_turns_that_sumo_has_not_go_first_too(self):
         """Two lanes of a main street are one link, so those who turn left leave both: who waits sees them all."""
-        links = [SimpleNamespace(lanes=(0, 1), speed=13.89, edge="w"), SimpleNamespace(lanes=(0,), speed=13.89, edge="n")]
+        lanes = (("w", (0, 1)), ("n", (0,)))
+        links = [SimpleNamespace(edge=edge, lanes=own, speed=13.89) for edge, own in lanes]
         turns = {(0, 1, 1): SimpleNamespace(added=False), (0, 0, 1): SimpleNamespace(added=True)}
         network = SimpleNamespace(
             place_of={("w", 1): (0, 1)}, links_of={"w": [0], "n": [1]}, links=links, rings=[], turns=turns

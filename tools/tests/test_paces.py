@@ -171,14 +171,14 @@ class Bunches(unittest.TestCase):
         self.assertEqual(alone.bunching(Drivers({Driving(deviation=0.0): 400}), 2000.0, 50 / KMH), 0.0)
 
     def test_two_speeds(self):
-        """By hand: half need 20 s more, and come each 40 s. A fast one is held up for more than z seconds unless no slow
-        one came in the 20 - z seconds before it, exp(-(20 - z) / 40); the mean over z is 20 - 40 (1 - exp(-1 / 2)) s."""
+        """By hand: half need 20 s more, and come each 40 s. A fast one is held up for more than z seconds unless no
+        slow one came in the 20 - z seconds before it, exp(-(20 - z) / 40); the mean is 20 - 40 (1 - exp(-1 / 2)) s."""
         self.assertAlmostEqual(lost_behind(0.05, [(120.0, 0.5), (100.0, 0.5)]), 0.5 * (20 - 40 * (1 - math.exp(-0.5))))
         self.assertEqual(lost_behind(0.05, [(100.0, 0.5), (100.0, 0.5)]), 0.0)
 
     def test_a_queue_that_is_drawn(self):
-        """In the mean as long as vehicles lose that are drawn one by one, and arrive no less than they keep apart behind
-        the one before."""
+        """As long as vehicles lose that are drawn one by one, and arrive no less than they keep apart behind the one
+        before, in the mean."""
         paces = Paces()
         paces.seconds = 3600.0
         for kmh, hourly in ((20, 200), (30, 400), (50, 200), (100, 100)):
