@@ -80,12 +80,12 @@ class Made(Case):
 
 class Zippers(Made):
     def test_two_streets_go_by_turns(self):
-        """For a sixth of the time together, where both have room."""
+        """For half of the time together, where both have room."""
         network, [command] = self.made(zipper(), ac=600, bc=600)
         self.assertEqual((network.nodes[command["node"]], command["offset"]), ("C", 0))
         edges = [sorted({network.links[turn[0]].edge for turn in turns}) for _, turns in command["phases"]]
         self.assertEqual((edges, sum(seconds for seconds, _ in command["phases"])), ([["a"], ["a", "b"], ["b"]], 12))
-        self.assertEqual(command["phases"][1][0], 2)
+        self.assertEqual(command["phases"][1][0], 6)
         network, [command] = self.made(zipper(), ac=900, bc=800)
         edges = [sorted({network.links[turn[0]].edge for turn in turns}) for _, turns in command["phases"]]
         self.assertEqual((edges, sum(seconds for seconds, _ in command["phases"])), ([["a"], ["b"]], 12))

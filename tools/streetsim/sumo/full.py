@@ -10,7 +10,7 @@ from streetsim.model.fullness import LEFT, MERGING, RIGHT, STRAIGHT, TURNAROUND,
 from streetsim.sumo.crossing import CrossingMovement, EdgePair, Flows, hourly_flows
 from streetsim.sumo.demand import DemandVehicle
 from streetsim.sumo.gaps import until_first
-from streetsim.sumo.merges import FAR_FROM_FULL, Merge
+from streetsim.sumo.merges import Merge
 from streetsim.sumo.net import SumoNet
 from streetsim.sumo.network import Network
 from streetsim.sumo.signals import movements
@@ -18,9 +18,8 @@ from streetsim.sumo.yielding import capacity
 
 PART, LEAST_PART = 900, 1 / 8  # seconds that are looked at alone; share of the vehicles, below which these are not
 LEAST = 30.0  # vehicles an hour of a lane
-# Shares of what can pass, from which on a lane is nearly full: where some wait for gaps at a light, and where none do;
-# where a lane ends just behind a light, and where lanes become one elsewhere.
-FULL, FULL_IN_TURN, FULL_BEHIND_LIGHT, FULL_MERGE = 0.8, 1.0, FAR_FROM_FULL, 0.95
+# Shares of what can pass, from which on a lane at a light is nearly full: where some wait for gaps, and where none do.
+FULL, FULL_IN_TURN = 0.8, 1.0
 WAYS = {"l": LEFT, "r": RIGHT, "t": TURNAROUND}  # by SUMO's directions; others are STRAIGHT
 Movements = Mapping[str, Mapping[int, CrossingMovement]]  # by junction and request, as `movements` gives them
 Found = tuple[FullLane, Collection[EdgePair]]  # and the edge pairs of those who pass it
@@ -117,7 +116,7 @@ def full_merges(merges: Iterable[Merge], flows: Flows) -> Iterator[Found]:
     for one in merges:
         pairs = {pair: flow for pair, flow in flows.items() if pair[0] in one.edges}
         demand = sum(pairs.values()) / one.capacity
-        if demand >= (FULL_BEHIND_LIGHT if one.after_light else FULL_MERGE):
+        if demand >= one.nearly_full:
             source, target = max(pairs, key=lambda pair: pairs[pair])
             yield FullLane(one.junction, source, MERGING, source, target, round(demand, 2)), pairs
 

@@ -13,7 +13,8 @@ from streetsim.sumo.net import ZIPPER, NetConnection, SumoNet, connections_of
 from streetsim.sumo.network import Network
 
 CYCLE, LEAST = 12, 3  # seconds of a zipper's turns, and of the shorter one of two
-TOGETHER = 2  # of them, in which both go, where there is room for both streets
+TOGETHER = 6  # of them, in which both go at most, where there is room for both streets, as lone zippers chose
+ALONE = 2  # of them, at least, in which the street goes alone that goes last when both go
 ZIPPED, ZIPPED_HERE = 1730.0, 1590.0  # vehicles an hour that pass a zipper in SUMO, and here
 MORE = 1.1  # in whose place one counts of the street that needs less than half
 TURN, PASSING = 3, 3.36  # seconds of each of two lanes; how many vehicles pass in both
@@ -21,6 +22,8 @@ LEAST_PAUSE = 2  # seconds in which nobody passes, in all
 # Vehicles an hour that pass where one of two lanes ends, by the metres of the edge, measured at lone streets in SUMO.
 PASSED = ((60.0, 790.0), (120.0, 1020.0), (240.0, 1200.0))
 FAR_FROM_FULL = 0.7  # of these, below which nobody waits longer than where the edge is long
+# Shares of what can pass, from which on a zipper, and an end, is nearly full; just behind a light FAR_FROM_FULL.
+FULL_ZIPPER, FULL_END = 0.92, 0.95
 
 
 @dataclass(frozen=True, slots=True)
@@ -30,7 +33,7 @@ class Merge:
     junction: str
     edges: tuple[str, ...]  # whose vehicles merge
     capacity: float  # vehicles an hour
-    after_light: bool  # whether its edge is short and begins at a light
+    nearly_full: float  # the share of it, from which on queues may be other than in SUMO
     command: Command  # the signal by which they go
 
 
@@ -59,10 +62,10 @@ def zippers(net: SumoNet, network: Network, flows: Flows) -> list[Merge]:
         first = min(CYCLE - LEAST, max(LEAST, green_here(share_of_first(*hourly) * CYCLE / 3600, limit)))
         turns = turns_at(network, number[name])
         one, other = ([turn for turn in turns if network.links[turn[0]].edge == edge] for edge in edges)
-        both = TOGETHER if sum(hourly) < ZIPPED_HERE else 0
+        both = min(TOGETHER, 2 * (CYCLE - first - ALONE)) if sum(hourly) < ZIPPED_HERE else 0
         parts = (first - both // 2, one), (both, one + other), (CYCLE - first - both // 2, other)
         phases = [[seconds, listed(sorted(own))] for seconds, own in parts if seconds]
-        made.append(Merge(name, tuple(edges), ZIPPED_HERE, False, signal(number[name], phases)))
+        made.append(Merge(name, tuple(edges), ZIPPED_HERE, FULL_ZIPPER, signal(number[name], phases)))
     return made
 
 
@@ -90,11 +93,12 @@ def lane_ends(net: SumoNet, network: Network, flows: Flows) -> list[Merge]:
         ((link, lane),) = found
         own = network.links[link]
         capacity = passed(own.metres)
-        after_light = own.metres < PASSED[-1][0] and network.nodes[own.begin] in lit
+        behind_light = own.metres < PASSED[-1][0] and network.nodes[own.begin] in lit
         wish = sum(flow for (source, _), flow in flows.items() if source == own.edge)
         shown = capacity if wish >= FAR_FROM_FULL * capacity else PASSED[-1][1]
         command = signal(node, phases_of_end(turns_at(network, node), link, lane, shown))
-        made.append(Merge(network.nodes[node], (own.edge,), capacity, after_light, command))
+        nearly = FAR_FROM_FULL if behind_light else FULL_END
+        made.append(Merge(network.nodes[node], (own.edge,), capacity, nearly, command))
     return made
 
 
