@@ -196,7 +196,7 @@ TABLES = (
     Table("closeness", CLOSENESS, CLOSE, "closeness", "--seeds 1-5 --rows closeness", 20),
     Table("sweep", CLOSENESS, LOADS, "sweep", "74220 --rows sweep", 15),
     Table("versions", CLOSENESS, LOADS, "versions", "74220 --levels 0.5", 15, shares="sweep"),
-    Table("drawn-rows", CLOSENESS, DRAWN, "drawn-rows", "64023 --rows drawn-rows", 4),
+    Table("drawn-rows", CLOSENESS, DRAWN, "drawn-rows", "31877 --rows drawn-rows", 4),
     Table("doubts", CLOSENESS, RIGHT, "doubts", "", 1),
     Table("shared-lanes", CLOSENESS, GREENS, "shared-lanes", "--seeds 1-1", 4),
     Table("cross", CLOSENESS, GREENS, "cross", "", 5),

@@ -172,6 +172,13 @@ class Fulls(Made):
         mapping.full = Fullness(network.full.lanes, 200, 1300)
         self.assertEqual(list(full_doubts(mapping)), [])
 
+    def test_few_lanes_whose_queue_grows_all_the_time(self):
+        """In a town, of which a seventh pass a left at 1.22, mean trips are a quarter longer in SUMO than here."""
+        mapping = map_of(self.made(drop(1500), ab=60)[0], [], [], Report())
+        for demand, vehicles, doubts in ((1.22, 150, 1), (1.22, 90, 0), (1.05, 150, 0)):
+            mapping.full = Fullness((FullLane("J", "a_0", "left", "a", "b", demand, vehicles),), vehicles, 1000)
+            self.assertEqual(len(list(full_doubts(mapping))), doubts)
+
     def test_a_map_keeps_them(self):
         lanes = FullLane("J", "a_0", "left", "a", "b", 1.1, 5), FullLane("J", "c", "right", "c", "d", 0.9)
         full = Fullness(lanes, 5, 9)

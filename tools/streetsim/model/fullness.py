@@ -7,6 +7,7 @@ from streetsim.model.named import one_of
 
 LEFT, RIGHT, STRAIGHT, TURNAROUND = "left", "right", "straight on", "back"
 MERGING = "where lanes become one"
+OVERFULL = 1.1  # share of what can pass, from which on a queue grows all the time
 
 
 @dataclass(slots=True, frozen=True)
@@ -43,6 +44,11 @@ class Fullness:
     def share(self) -> float:
         """The share of the vehicles, 0 to 1, that pass such lanes."""
         return self.vehicles / self.of if self.of else 0.0
+
+    @property
+    def overfull_share(self) -> float:
+        """How often a vehicle passes lanes whose demand is OVERFULL, in the mean of all vehicles."""
+        return sum(one.vehicles for one in self.lanes if one.demand >= OVERFULL) / self.of if self.of else 0.0
 
     def junctions(self) -> dict[str, float]:
         """By junction the greatest demand of its lanes, as a share of what can pass."""

@@ -23,6 +23,7 @@ STILL = 600  # seconds without an arrival
 OTHER_LENGTH = 0.1  # of the metres that are driven
 MOST_ACTUATED = 0.1  # of the vehicles, that pass lights which SUMO times by detectors
 MOST_FULL = 0.2  # of the vehicles, that pass lanes which are nearly full by the demand
+MOST_OVERFULL = 0.1  # of the vehicles, that pass lanes whose queue grows all the time, as drawn towns chose
 MOST_SLOW = 0.15  # of the vehicles, that start slowly at lights
 MOST_RESERVED = 0.05  # of the vehicles, that drive on lanes of their own class
 MOST_CROWDED = 0.1  # of the vehicles, that pass nearly full streets which give way
@@ -195,9 +196,10 @@ def crowding_doubts(vehicles: int, crowded: Mapping[str, int]) -> Iterator[str]:
 
 
 def full_doubts(mapping: Map) -> Iterator[str]:
-    """A doubt where more than a fifth of the vehicles pass lanes that are nearly full by the demand."""
+    """A doubt where more than a fifth of the vehicles pass lanes that are nearly full by the demand, or a tenth those
+    whose queue grows all the time."""
     full = mapping.full
-    if full.share > MOST_FULL:
+    if full.share > MOST_FULL or full.overfull_share > MOST_OVERFULL:
         first = "; ".join(one.told() for one in full.lanes[:NAMED])
         most = f", most of all {first}" if len(full.lanes) > NAMED else f": {first}"
         yield (
