@@ -78,6 +78,7 @@ class Imported(Case):
         self.assertEqual(self.imported("--drivers", drivers, "--dawdle", 200)[0][0]["dawdle"], 200)
 
 
+    @needs_simulator
     def test_a_plan_of_a_study_loads_lefts_as_its_import_would(self):
         """18 s of green for the street with the lefts in place of 42."""
         states = (18, "rrrGGgrrrGGg"), (3, "rrryyyrrryyy"), (66, "GGgrrrGGgrrr"), (3, "yyyrrryyyrrr")
