@@ -40,9 +40,9 @@ class Refused(Exception):
     __hash__ = Exception.__hash__
 
 
-def refusal(number: int, name: str, words: str) -> type[Refused]:
+def refusal(number: int, name: str, doc: str) -> type[Refused]:
     """Makes the class of a refusal: its number in a reply, its name there, and the doc that says what it means."""
-    return type(name, (Refused,), {"number": number, "__doc__": words, "__module__": __name__})
+    return type(name, (Refused,), {"number": number, "__doc__": doc, "__module__": __name__})
 
 
 NotLoaded = refusal(1, "NotLoaded", "No network is loaded.")

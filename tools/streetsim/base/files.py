@@ -298,15 +298,15 @@ def checked_output_path(path: FilePath) -> str:
 
 def refuse_equal(outputs: Mapping[str, FilePath], inputs: Iterable[FilePath] = ()) -> None:
     """Fault where two of the outputs, {what the user calls it: path}, are one file, or one of them is an input."""
-    places: dict[str, str] = {}
+    name_of_path: dict[str, str] = {}
     for name, path in outputs.items():
-        place = os.path.realpath(path)
-        if place in places:
-            raise Fault(f"{path}: {places[place]} and {name} name the same file")
-        places[place] = name
+        real_path = os.path.realpath(path)
+        if real_path in name_of_path:
+            raise Fault(f"{path}: {name_of_path[real_path]} and {name} name the same file")
+        name_of_path[real_path] = name
     for path in inputs:
-        if os.path.realpath(path) in places:
-            raise Fault(f"{path}: {places[os.path.realpath(path)]} names a file that is read")
+        if os.path.realpath(path) in name_of_path:
+            raise Fault(f"{path}: {name_of_path[os.path.realpath(path)]} names a file that is read")
 
 
 def refuse_unwritable(folder: str, outputs: Mapping[str, FilePath | None], inputs: Iterable[FilePath]) -> None:
@@ -359,46 +359,46 @@ def refuse_foreign(folder: FilePath, is_forced: bool = False, outputs: Iterable[
 
 
 @contextlib.contextmanager
-def whole_folder(path: FilePath, last: str, names: Collection[str] = NAMES) -> Iterator[str]:
+def whole_folder(path: FilePath, last_file: str, names: Collection[str] = NAMES) -> Iterator[str]:
     """A folder to write to, whose files come to the output folder `path` together, in the place of all that the tools
     wrote there before; after an exception of the block that folder is as it was. Whether it is one of the tools says
     refuse_foreign. Fault where it cannot be written, and for any OSError of the block.
 
-    A file of the name `last` is away while the others take their places, so that a folder without it is not whole.
+    A file of the name `last_file` is away while the others take their places, so that a folder without it is not whole.
     names: of the files that the tool writes there, where another one's may stay beside; as a rule all of the tools.
     """
-    made = not os.path.isdir(path)
+    is_new = not os.path.isdir(path)
     try:
         os.makedirs(path, exist_ok=True)
         with half_folder(path) as half:
             yield half
             with uninterrupted():
-                move_files(half, path, last, names)
-        made = False
+                move_files(half, path, last_file, names)
+        is_new = False
     except OSError as fault:
         named = fault.filename if fault.filename and not is_half(fault.filename) else path
         raise Fault(f"{named}: {fault.strerror or fault}") from None
     finally:
-        if made:
+        if is_new:
             with contextlib.suppress(OSError):
                 os.rmdir(path)
 
 
-def move_files(source: str, target: FilePath, last: str, names: Collection[str] = NAMES) -> None:
-    """Moves all files below the folder `source` to the same places below `target`; those of the name `last` go last of
-    all. What the tools wrote to `target` before, as of remove_own, is removed first. Fault, before any is moved, where
-    anything but a regular file is at a place, or a folder on the way is a link."""
+def move_files(source: str, target: FilePath, last_file: str, names: Collection[str] = NAMES) -> None:
+    """Moves all files below the folder `source` to the same places below `target`; those of the name `last_file`
+    go last of all. What the tools wrote to `target` before, as of remove_own, is removed first. Fault, before any is
+    moved, where anything but a regular file is at a place, or a folder on the way is a link."""
     moved = [
         os.path.relpath(os.path.join(folder, name), source) for folder, _, files in os.walk(source) for name in files
     ]
     for name in moved:
         inside = os.path.dirname(name)
-        own = os.path.normpath(os.path.join(os.path.realpath(target), inside))
-        if os.path.realpath(own) != own:
-            raise Fault(f"{own}: is a link to elsewhere")
-        checked_output_path(os.path.join(own, os.path.basename(name)))
-    remove_own(target, last, names)
-    for name in sorted(moved, key=lambda name: os.path.basename(name) == last):
+        directory = os.path.normpath(os.path.join(os.path.realpath(target), inside))
+        if os.path.realpath(directory) != directory:
+            raise Fault(f"{directory}: is a link to elsewhere")
+        checked_output_path(os.path.join(directory, os.path.basename(name)))
+    remove_own(target, last_file, names)
+    for name in sorted(moved, key=lambda name: os.path.basename(name) == last_file):
         os.makedirs(os.path.dirname(os.path.join(target, name)), exist_ok=True)
         os.replace(os.path.join(source, name), os.path.join(target, name))
 

@@ -59,13 +59,13 @@ def foreign_path(folder: FilePath, also: Collection[str] = ()) -> str | None:
     return "" if whole or not found else None
 
 
-def remove_own(folder: FilePath, first: str, names: Collection[str] = NAMES) -> None:
+def remove_own(folder: FilePath, first_file: str, names: Collection[str] = NAMES) -> None:
     """Removes from a folder the files of some names that the tools write there, and of SUMO's outputs, those of the
-    name `first` before others, and folders inside that are empty then."""
-    found = [path for path, is_own in own_paths(folder, names) if is_own]
-    own = [path for path in found if path in names or os.sep in path and names is NAMES]
-    for path in sorted(own, key=lambda path: os.path.basename(path) != first):
+    name `first_file` before others, and folders inside that are empty then."""
+    tool_paths = [path for path, is_own in own_paths(folder, names) if is_own]
+    removed = [path for path in tool_paths if path in names or os.sep in path and names is NAMES]
+    for path in sorted(removed, key=lambda path: os.path.basename(path) != first_file):
         os.remove(os.path.join(folder, path))
-    for where, _, _ in os.walk(folder, topdown=False):
-        if where != os.fspath(folder) and is_inside(os.path.basename(where)) and not os.listdir(where):
-            os.rmdir(where)
+    for directory, _, _ in os.walk(folder, topdown=False):
+        if directory != os.fspath(folder) and is_inside(os.path.basename(directory)) and not os.listdir(directory):
+            os.rmdir(directory)

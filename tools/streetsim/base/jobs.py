@@ -24,14 +24,14 @@ def side_by_side(
     work: Callable[[Item, Tell], Result],
     items: Iterable[Item],
     jobs: int = CORES,
-    told: Told = lambda index, value: None,
+    on_progress: Told = lambda index, value: None,
 ) -> list[Result]:
     """What a function gives for each item, in the items' order. Each runs in a process of its own, at most `jobs` at
     once (one where that is less); results go through a pipe, so they must be what pickle takes.
 
-    The function gets an item and a function to tell how far it is; what it tells goes to `told(index, value)`, index:
-    of the item, from 0. A Fault of one ends all the others and is raised; where one fails otherwise, its traceback goes
-    to standard error, and a Fault that says so is raised in the same way.
+    The function gets an item and a function to tell how far it is; what it tells goes to `on_progress(index,
+    value)`, index: of the item, from 0. A Fault of one ends all the others and is raised; where one fails otherwise,
+    its traceback goes to standard error, and a Fault that says so is raised in the same way.
     """
     running: Running = {}
     results: dict[int, Result] = {}
@@ -39,9 +39,9 @@ def side_by_side(
         for index, item in enumerate(items):
             start_process(work, index, item, running)
             while running and len(running) >= jobs:
-                hear(running, results, told)
+                hear(running, results, on_progress)
         while running:
-            hear(running, results, told)
+            hear(running, results, on_progress)
     finally:
         for _, process in running.values():
             process.kill()
@@ -74,7 +74,7 @@ def work_and_send(work: Callable[[Item, Tell], object], item: Item, pipe: Connec
         pipe.send(("fault", str(fault)))
 
 
-def hear(running: Running, results: dict[int, Result], told: Told) -> None:
+def hear(running: Running, results: dict[int, Result], on_progress: Told) -> None:
     """Waits for messages of the processes, and takes one of each that sent some: notes its result and takes it from
     `running`, or passes on what it tells; raises its Fault, or one where it ended without a result."""
     from multiprocessing.connection import Connection, wait
@@ -90,7 +90,7 @@ def hear(running: Running, results: dict[int, Result], told: Told) -> None:
         if kind == "fault":
             raise Fault(value)
         if kind == "told":
-            told(index, value)
+            on_progress(index, value)
         else:
             results[index] = value
             process.join()

@@ -20,13 +20,13 @@ class Process:
     """A program that runs. Its standard error goes into a file that has no name, so that it never waits for a reader.
     As a block it is closed at the end, as `close` does; after an exception it is killed."""
 
-    def __init__(self, words: Sequence[str], buffer: int, files: Sequence[int] = ()) -> None:
-        """Starts the program. words: its path and its arguments; buffer: bytes of the buffer of each pipe, 0 for none;
-        files: descriptors that it inherits beside its streams."""
+    def __init__(self, arguments: Sequence[str], buffer: int, files: Sequence[int] = ()) -> None:
+        """Starts the program. arguments: its path and what follows it; buffer: bytes of the buffer of each pipe, 0 for
+        none; files: descriptors that it inherits beside its streams."""
         self.ended: tuple[int, str] | None = None
         self.errors = tempfile.TemporaryFile()
         self.process = subprocess.Popen(
-            words, stdin=subprocess.PIPE, stdout=subprocess.PIPE, stderr=self.errors, bufsize=buffer, pass_fds=files
+            arguments, stdin=subprocess.PIPE, stdout=subprocess.PIPE, stderr=self.errors, bufsize=buffer, pass_fds=files
         )
         assert self.process.stdin and self.process.stdout
         self.input, self.output = self.process.stdin, self.process.stdout

@@ -22,18 +22,18 @@ HELP = (
 BUILDS = f"`./build` in streetsim's repository makes {BUILT}, in half an hour, and `./build --unproved` one without"
 
 
-def find_program(given: str | None = None) -> str:
+def find_program(program: str | None = None) -> str:
     """The path of the program that is given (a path or a command's name), else of the one that STREETSIM_PROGRAM names,
     else of the one that is installed with the tools, else of the one that was built in their repository; Fault where
     there is none. The repository's script `streetsim` stands for the program that was built there: no tool starts a
     build. Tells once, on standard error, of a program without proofs that it is."""
-    named = given or os.environ.get(VARIABLE) or installed(PROGRAM) or (None if PREFIX else built_in(TOP))
+    named = program or os.environ.get(VARIABLE) or installed(PROGRAM) or (None if PREFIX else built_in(TOP))
     if not named:
         raise Fault(f"no simulator: give --program PATH or set {VARIABLE}; {BUILDS} proofs, in minutes")
-    found = shutil.which(named)
-    if found is None:
+    executable = shutil.which(named)
+    if executable is None:
         raise Fault(f"{named}: no program that can be run; {BUILDS} proofs, in minutes")
-    path = of_script(Path(found).resolve())
+    path = of_script(Path(executable).resolve())
     if is_unproved(str(path)):
         tell_unproved(path)
     return str(path)

@@ -43,8 +43,8 @@ class Report:
 
     def by_weight(self) -> list[Warned]:
         """The warnings, several of a kind as one, first those that change results; equals in the order they came."""
-        told = (one_warning(kind, those) for kind, those in self.alike.items())
-        return sorted(told, key=lambda one: one.weight != HEAVY)
+        merged = (one_warning(kind, warnings) for kind, warnings in self.alike.items())
+        return sorted(merged, key=lambda warning: warning.weight != HEAVY)
 
     def lines(self) -> Iterator[str]:
         """All that is said, a line each, as terminals, maps and pages show it; of a warning's names only the first few,
@@ -64,13 +64,13 @@ class Report:
         return found + [[NONE, f"{count} x {what}", "", ""] for what, count in ignored if count]
 
 
-def one_warning(kind: str, those: Sequence[Warned]) -> Warned:
+def one_warning(kind: str, warnings: Sequence[Warned]) -> Warned:
     """Warnings of one kind as one: how many they are, their kind and the first ids, with all ids; weight and what to do
     are of the first. A warning alone stays as it is."""
-    if len(those) == 1:
-        return those[0]
-    names = tuple(dict.fromkeys(name for one in those for name in one.names))
-    return replace(those[0], text=f"{len(those):,} {kind}: {first_few(names)}", names=names)
+    if len(warnings) == 1:
+        return warnings[0]
+    names = tuple(dict.fromkeys(name for warning in warnings for name in warning.names))
+    return replace(warnings[0], text=f"{len(warnings):,} {kind}: {first_few(names)}", names=names)
 
 
 def first_few(names: Iterable[str], most: int = 5) -> str:

@@ -47,7 +47,7 @@ WRITTEN = {LAST, "segments.csv", "runs.csv", "report.html", f"{FITTED}.rou.xml",
 def parser() -> Parser:
     """The parser of the words that streetsim-calibrate takes."""
     made = Parser(
-        prog="streetsim-calibrate", old={"--check": "--check-seeds"},
+        prog="streetsim-calibrate", renamed={"--check": "--check-seeds"},
         examples=(
             "streetsim-calibrate net.net.xml --counts day1.csv --times times1.csv -o drivers.json --out fit",
             "streetsim-calibrate net.net.xml --counts day1.csv --times times1.csv --saturation survey.csv "

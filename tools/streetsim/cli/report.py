@@ -40,7 +40,7 @@ PICTURE = {"first": 0, "last": 600}  # seconds of the corridor's picture
 def parser() -> Parser:
     """The parser of the words that streetsim-report takes."""
     made = Parser(
-        prog="streetsim-report", old={"--plans": "--plan-names", "--begin": "--interval"},
+        prog="streetsim-report", renamed={"--plans": "--plan-names", "--begin": "--interval"},
         examples=(
             "streetsim-report zero-seeds -o report.html",
             'streetsim-report zero-seeds wave-seeds --plan-names "all at once" "green wave" --sealed -o report.html',

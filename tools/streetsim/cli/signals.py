@@ -40,7 +40,7 @@ RESERVE = 80  # a chance of slowing down, of 1,000, by which a tenth fewer pass 
 def parser() -> Parser:
     """The parser of the words that streetsim-signals takes."""
     made = Parser(
-        prog="streetsim-signals", old={"--change": "--vary", "--keep": "--fixed", "--check": "--check-seeds"},
+        prog="streetsim-signals", renamed={"--change": "--vary", "--keep": "--fixed", "--check": "--check-seeds"},
         examples=(
             "streetsim-signals zero.jsonl --plans corridor.net.xml.gz --until 4500",
             "streetsim-signals zero.jsonl --plans corridor.net.xml.gz --until 4500 --vary splits,cycle --budget 200",

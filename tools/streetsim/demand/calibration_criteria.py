@@ -62,22 +62,25 @@ def mean_queue(runs: Iterable[MeasuredRun], edge: str) -> float:
 def count_criteria(day: FieldDay, runs: Sequence[MeasuredRun]) -> Iterator[Criterion]:
     """GEH below 5, and the flow of an approach within 15 % (100 an hour below 700, 400 above 2,700), of the counts that
     lie within the window of the times."""
-    there: defaultdict[tuple[str, ...], float] = defaultdict(float)
+    observed_counts: defaultdict[tuple[str, ...], float] = defaultdict(float)
     begin, end = day.window()
-    for one in read_counts(day.counts):
-        if begin <= one.begin and one.end <= end:
-            there[one.edges[:2]] += one.vehicles
-    if not there:
+    for count in read_counts(day.counts):
+        if begin <= count.begin and count.end <= end:
+            observed_counts[count.edges[:2]] += count.vehicles
+    if not observed_counts:
         return
     hours = (end - begin) / 3600
-    hourly = {key: (fmean(run.counts.get(key, 0) for run in runs) / hours, own / hours) for key, own in there.items()}
+    hourly = {
+        key: (fmean(run.counts.get(key, 0) for run in runs) / hours, observed / hours)
+        for key, observed in observed_counts.items()
+    }
     good = [geh(*pair) < 5 for pair in hourly.values()]
     yield Criterion("GEH below 5", fmean(good), SHARE, len(good))
     flows: defaultdict[str, list[float]] = defaultdict(lambda: [0.0, 0.0])
     for key, pair in hourly.items():
         for side in (0, 1):
             flows[key[0]][side] += pair[side]
-    fits = [abs(here - own) <= flow_mark(own) for here, own in flows.values()]
+    fits = [abs(modelled - observed) <= flow_mark(observed) for modelled, observed in flows.values()]
     yield Criterion("flows within 15 %", fmean(fits), SHARE, len(fits))
 
 

@@ -42,16 +42,16 @@ class FittedValue:
 def values_of(day: FieldDay, classes: Sequence[str], free: Sequence[str]) -> list[FittedValue]:
     """The values that are fitted to a day: dawdle and cut where saturation was surveyed, and a speed factor for each of
     the classes. free: of dawdle, speed, lost, those that may move."""
-    found = []
+    values = []
     if day.lanes:
         dawdle, cut = surveyed_drivers(day.lanes)
         if "dawdle" in free:
-            found.append(FittedValue(DAWDLE, round(dawdle, 3), 0.03, 0.08, 0.03, 0.0, 0.45))
+            values.append(FittedValue(DAWDLE, round(dawdle, 3), 0.03, 0.08, 0.03, 0.0, 0.45))
         if "lost" in free:
-            found.append(FittedValue(CUT, round(cut, 2), 0.5, 1.5, 1.0, -3.0, 5.0))
+            values.append(FittedValue(CUT, round(cut, 2), 0.5, 1.5, 1.0, -3.0, 5.0))
     if "speed" in free:
-        found += [FittedValue(SPEED, 1.0, 0.1, 0.1, 0.04, 0.6, 1.4, street) for street in classes]
-    return found
+        values += [FittedValue(SPEED, 1.0, 0.1, 0.1, 0.04, 0.6, 1.4, street) for street in classes]
+    return values
 
 
 def classes_of(day: FieldDay, class_of: Mapping[str, str]) -> list[str]:
@@ -106,12 +106,12 @@ class Fit:
         """How many runs were made."""
         return self.seeds * len(self.known)
 
-    def take(self, all_: Sequence[FittedDrivers]) -> bool:
+    def take(self, all_drivers: Sequence[FittedDrivers]) -> bool:
         """Makes the runs of drivers that are not known; gives whether their number allowed it."""
-        new = [one for one in dict.fromkeys(all_) if one not in self.known]
-        if self.runs + self.seeds * len(new) > self.most:
+        missing = [drivers for drivers in dict.fromkeys(all_drivers) if drivers not in self.known]
+        if self.runs + self.seeds * len(missing) > self.most:
             return False
-        self.known |= zip(new, self.measure(new), strict=True) if new else ()
+        self.known |= zip(missing, self.measure(missing), strict=True) if missing else ()
         return True
 
     def residuals(self, drivers: FittedDrivers) -> Array:
@@ -125,43 +125,43 @@ class Fit:
 
     def solve(self, values: Sequence[FittedValue]) -> FitResult:
         """Fits values, and then again without those that the data do not tell, which stay where they began."""
-        found = self.climb(values)
-        untold = [one for one, error in zip(values, found.told) if error > TOLD * one.usual_spread]
+        result = self.climb(values)
+        untold = [value for value, error in zip(values, result.told) if error > TOLD * value.usual_spread]
         if untold and len(untold) < len(values):
-            again = self.climb([one for one in values if one not in untold])
+            again = self.climb([value for value in values if value not in untold])
             return replace(again, untold=untold)
         if untold:
             return FitResult(self.start, [], [], [], [], untold, self.runs, self.trials)
-        return found
+        return result
 
     def climb(self, values: Sequence[FittedValue]) -> FitResult:
         """Gauss-Newton from where the values begin, with the covariance where it ends."""
-        x = np.array([one.center for one in values])
-        prior = np.diag([1 / one.spread**2 for one in values])
-        center, covariance, spread = x.copy(), np.diag([one.spread**2 for one in values]), 1.0
+        x = np.array([value.center for value in values])
+        prior = np.diag([1 / value.spread**2 for value in values])
+        center, covariance, spread = x.copy(), np.diag([value.spread**2 for value in values]), 1.0
         for _ in range(ROUNDS if values else 0):
-            moves = [moved(x, values, at) for at in range(len(values))]
-            if not self.take([self.drivers(values, one) for one in (x, *(there for there, _ in moves))]):
+            moves = [moved(x, values, index) for index in range(len(values))]
+            if not self.take([self.drivers(values, point) for point in (x, *(moved_x for moved_x, _ in moves))]):
                 break
-            here = self.residuals(self.drivers(values, x))
-            slopes = [(self.residuals(self.drivers(values, there)) - here) / step for there, step in moves]
-            jacobian = np.array(slopes).T.reshape(len(here), len(values))
+            residuals = self.residuals(self.drivers(values, x))
+            slopes = [(self.residuals(self.drivers(values, moved_x)) - residuals) / step for moved_x, step in moves]
+            jacobian = np.array(slopes).T.reshape(len(residuals), len(values))
             normal = jacobian.T @ jacobian + prior
-            spread = max(1.0, float(here @ here) / max(1, len(here) - len(values)))
+            spread = max(1.0, float(residuals @ residuals) / max(1, len(residuals) - len(values)))
             covariance = np.linalg.inv(normal)
-            step = -np.linalg.solve(normal, jacobian.T @ here + prior @ (x - center))
+            step = -np.linalg.solve(normal, jacobian.T @ residuals + prior @ (x - center))
             best = self.best_part(values, x, step, center)
             if best is None:
                 break
-            shift = np.abs(best - x) / [one.step for one in values]
+            shift = np.abs(best - x) / [value.step for value in values]
             x = best
             if shift.max() < ENOUGH:
                 break
         self.take([self.drivers(values, x)])
-        told = np.sqrt(np.diag(covariance)) if values else np.array([])
-        correlations = (covariance / np.outer(told, told)).tolist() if values else []
-        drivers, errors = self.drivers(values, x), (told * sqrt(spread)).tolist()
-        return FitResult(drivers, list(values), errors, told.tolist(), correlations, [], self.runs, self.trials)
+        deviations = np.sqrt(np.diag(covariance)) if values else np.array([])
+        correlations = (covariance / np.outer(deviations, deviations)).tolist() if values else []
+        drivers, errors = self.drivers(values, x), (deviations * sqrt(spread)).tolist()
+        return FitResult(drivers, list(values), errors, deviations.tolist(), correlations, [], self.runs, self.trials)
 
     def best_part(
         self, values: Sequence[FittedValue], x: Array, step: Array, center: Array
@@ -188,23 +188,23 @@ class Fit:
 
     def drivers(self, values: Sequence[FittedValue], x: Array) -> FittedDrivers:
         """The drivers with some values; all others are those before any run."""
-        found, speeds = self.start, dict(self.start.speeds)
-        for one, value in zip(values, np.round(x, 3).tolist(), strict=True):
-            if one.name == DAWDLE:
-                found = replace(found, dawdle=value)
-            elif one.name == CUT:
-                found = replace(found, cut=value)
+        result, speeds = self.start, dict(self.start.speeds)
+        for fitted, value in zip(values, np.round(x, 3).tolist(), strict=True):
+            if fitted.name == DAWDLE:
+                result = replace(result, dawdle=value)
+            elif fitted.name == CUT:
+                result = replace(result, cut=value)
             else:
-                speeds[one.street] = value
-        return replace(found, speeds=tuple(sorted(speeds.items())))
+                speeds[fitted.street] = value
+        return replace(result, speeds=tuple(sorted(speeds.items())))
 
 
-def moved(x: Array, values: Sequence[FittedValue], at: int) -> tuple[Array, float]:
+def moved(x: Array, values: Sequence[FittedValue], index: int) -> tuple[Array, float]:
     """(values with one of them a step away, the step): upward, where its range allows it."""
-    step = values[at].step if x[at] + values[at].step <= values[at].most else -values[at].step
-    there = x.copy()
-    there[at] += step
-    return there, step
+    step = values[index].step if x[index] + values[index].step <= values[index].most else -values[index].step
+    moved_x = x.copy()
+    moved_x[index] += step
+    return moved_x, step
 
 
 def clipped(values: Sequence[FittedValue], x: Array) -> Array:
@@ -212,18 +212,18 @@ def clipped(values: Sequence[FittedValue], x: Array) -> Array:
     return np.round(np.clip(x, [one.least for one in values], [one.most for one in values]), 3)
 
 
-def told_by(one: FittedValue, day: FieldDay) -> str:
+def told_by(value: FittedValue, day: FieldDay) -> str:
     """By which data a value is told."""
-    if one.name == SPEED:
-        return f"times of streets of {one.street} km/h" if one.street else "times"
+    if value.name == SPEED:
+        return f"times of streets of {value.street} km/h" if value.street else "times"
     return "survey of saturation, and times" if day.lanes else "nothing"
 
 
-def value_in(drivers: FittedDrivers, one: FittedValue) -> float:
+def value_in(drivers: FittedDrivers, value: FittedValue) -> float:
     """A value of some drivers."""
-    if one.name == DAWDLE:
+    if value.name == DAWDLE:
         return drivers.dawdle
-    return drivers.cut if one.name == CUT else dict(drivers.speeds).get(one.street, 1.0)
+    return drivers.cut if value.name == CUT else dict(drivers.speeds).get(value.street, 1.0)
 
 
 def lines_of(result: FitResult, day: FieldDay) -> Iterator[str]:

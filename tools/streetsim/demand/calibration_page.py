@@ -80,19 +80,19 @@ def sum_of_input(path: str) -> str:
     return hashlib.sha256(Path(path).read_bytes()).hexdigest()
 
 
-def write_calibration(folder: str, made: Calibration) -> None:
+def write_calibration(folder: str, calibration: Calibration) -> None:
     """Writes all files but the drivers into a folder."""
-    write_table(f"{folder}/segments.csv", SEGMENTS, segment_rows(made.days))
-    write_table(f"{folder}/runs.csv", RUNS, map(trial_row, made.result.trials))
+    write_table(f"{folder}/segments.csv", SEGMENTS, segment_rows(calibration.days))
+    write_table(f"{folder}/runs.csv", RUNS, map(trial_row, calibration.result.trials))
     with whole_file(f"{folder}/report.html") as file:
-        file.write(page_of(made))
-    write_table(f"{folder}/{LAST}", CRITERIA, criteria_rows(made.days))
+        file.write(page_of(calibration))
+    write_table(f"{folder}/{LAST}", CRITERIA, criteria_rows(calibration.days))
 
 
-def write_drivers(path: str, made: Calibration) -> None:
+def write_drivers(path: str, calibration: Calibration) -> None:
     """Writes the file of --drivers."""
     with whole_file(path) as file:
-        json.dump(made.drivers(), file, indent=1)
+        json.dump(calibration.drivers(), file, indent=1)
         file.write("\n")
 
 
@@ -145,48 +145,49 @@ def interval(values: Sequence[float]) -> tuple[str, str]:
     return mean_or_none(values), "" if half is None else f"{half:.1f}"
 
 
-def page_of(made: Calibration) -> str:
+def page_of(calibration: Calibration) -> str:
     """The page, as HTML: criteria, segments, values, what is not vouched for, seeds and sums."""
-    told = "The base is validated on another day." if made.is_valid() else why_not_valid(made)
+    verdict = "The base is validated on another day." if calibration.is_valid() else why_not_valid(calibration)
     sections = [
-        Section("criteria", "Criteria", criteria_table(made.days)),
-        Section("segments", "Travel times, field and model", segments_table(made.days)),
-        Section("values", "What was fitted", values_table(made)),
+        Section("criteria", "Criteria", criteria_table(calibration.days)),
+        Section("segments", "Travel times, field and model", segments_table(calibration.days)),
+        Section("values", "What was fitted", values_table(calibration)),
         Section("vouched", "What the calibration does not vouch for", bullets(NOT_TOLD)),
-        Section("run", "Seeds and sums", facts(run_facts(made))),
+        Section("run", "Seeds and sums", facts(run_facts(calibration))),
     ]
-    return page("A calibrated base", f"<p>{escape(told)}</p>", sections, [])
+    return page("A calibrated base", f"<p>{escape(verdict)}</p>", sections, [])
 
 
-def why_not_valid(made: Calibration) -> str:
+def why_not_valid(calibration: Calibration) -> str:
     """Why a base is not validated, as a sentence."""
-    last = made.last_day()
-    if last.name != OTHER:
+    last_day = calibration.last_day()
+    if last_day.name != OTHER:
         return "The base is fitted, and not validated: no other day was given."
-    missed = [f"{one.name} ({one.told()})" for one in last.criteria[AFTER] if not one.is_met]
+    criteria = (criterion for criterion in last_day.criteria[AFTER] if not criterion.is_met)
+    missed = [f"{criterion.name} ({criterion.told()})" for criterion in criteria]
     return f"The base is not validated: on the other day it does not meet {', '.join(missed)}."
 
 
 def criteria_table(days: Sequence[JudgedDay]) -> str:
     """The criteria of both days, without and with calibration, as HTML."""
     columns = [(day, drivers) for day in days for drivers in (BEFORE, AFTER)]
-    found: dict[str, dict[tuple[str, str], Criterion]] = {}
+    by_name: dict[str, dict[tuple[str, str], Criterion]] = {}
     for day, drivers in columns:
-        for one in day.criteria[drivers]:
-            found.setdefault(one.name, {})[day.name, drivers] = one
+        for criterion in day.criteria[drivers]:
+            by_name.setdefault(criterion.name, {})[day.name, drivers] = criterion
     rows = []
-    for name, own in found.items():
-        wanted = next(iter(own.values())).wanted
-        cells = [mark_told(own.get((day.name, drivers))) for day, drivers in columns]
-        rows.append([escape(name), f"{100 * wanted:.0f} %", *cells])
+    for name, by_column in by_name.items():
+        share_needed = next(iter(by_column.values())).wanted
+        cells = [mark_told(by_column.get((day.name, drivers))) for day, drivers in columns]
+        rows.append([escape(name), f"{100 * share_needed:.0f} %", *cells])
     head = ["criterion", "wanted", *(f"{day.name} day, {drivers}" for day, drivers in columns)]
     note = "Counts fit by construction where the demand was made of them; segments without the minute tell more."
     return table(head, rows) + f'<p class="small">{escape(note)}</p>'
 
 
-def mark_told(one: Criterion | None) -> str:
+def mark_told(criterion: Criterion | None) -> str:
     """How a criterion is met, as HTML; empty where the day has no data for it."""
-    return "" if one is None else escape(f"{one.told()}: {'held' if one.is_met else 'not held'}")
+    return "" if criterion is None else escape(f"{criterion.told()}: {'held' if criterion.is_met else 'not held'}")
 
 
 def segments_table(days: Sequence[JudgedDay]) -> str:
@@ -196,18 +197,19 @@ def segments_table(days: Sequence[JudgedDay]) -> str:
     return table(head, rows, 2)
 
 
-def values_table(made: Calibration) -> str:
+def values_table(calibration: Calibration) -> str:
     """The values that were fitted, with their errors, by which data each is told, and how they go together, as HTML."""
-    result, day = made.result, made.days[0].day
+    result, day = calibration.result, calibration.days[0].day
     rows = []
-    for at, (one, error) in enumerate(zip(result.values, result.errors, strict=True)):
-        pairs = zip(result.values, result.correlations[at], strict=True)
-        together = ", ".join(f"{other.name} {value:+.2f}" for other, value in pairs if other is not one)
-        cells = [value_name(one.name, one.street), f"{value_in(result.drivers, one):.3f}", f"{error:.3f}"]
-        cells += [f"{one.center:g} ± {one.spread:g}", told_by(one, day), together]
+    for index, (fitted, error) in enumerate(zip(result.values, result.errors, strict=True)):
+        pairs = zip(result.values, result.correlations[index], strict=True)
+        together = ", ".join(f"{other.name} {value:+.2f}" for other, value in pairs if other is not fitted)
+        cells = [value_name(fitted.name, fitted.street), f"{value_in(result.drivers, fitted):.3f}", f"{error:.3f}"]
+        cells += [f"{fitted.center:g} ± {fitted.spread:g}", told_by(fitted, day), together]
         rows.append([escape(text) for text in cells])
-    for one in result.untold:
-        cells = [value_name(one.name, one.street), f"{value_in(result.drivers, one):.3f}", "", f"{one.center:g}"]
+    for fitted in result.untold:
+        name, known = value_name(fitted.name, fitted.street), f"{fitted.center:g}"
+        cells = [name, f"{value_in(result.drivers, fitted):.3f}", "", known]
         rows.append([escape(text) for text in (*cells, "not told by these data", "")])
     if not day.lanes:
         rows.append(["dawdle, seconds cut", "as they are", "", "", "not surveyed: capacity is not calibrated", ""])
@@ -220,23 +222,23 @@ def value_name(name: str, street: str) -> str:
     return f"{name}, streets of {street} km/h" if street else name
 
 
-def run_facts(made: Calibration) -> Iterator[tuple[str, str]]:
+def run_facts(calibration: Calibration) -> Iterator[tuple[str, str]]:
     """What was run, of which files, as HTML."""
-    yield "runs of the fit", f"{made.result.runs:,}, seeds {escape(made.seeds)}"
-    if made.last_day().name == OTHER:
-        yield "runs of the other day", f"seeds {escape(made.check)}"
+    yield "runs of the fit", f"{calibration.result.runs:,}, seeds {escape(calibration.seeds)}"
+    if calibration.last_day().name == OTHER:
+        yield "runs of the other day", f"seeds {escape(calibration.check)}"
     yield "departures", "as counted on each day"
-    yield "program", escape(made.program)
-    for path, known in made.sums.items():
+    yield "program", escape(calibration.program)
+    for path, known in calibration.sums.items():
         yield escape(path), f"SHA-256 {known}"
-    for note in made.notes:
+    for note in calibration.notes:
         yield "read", escape(note)
 
 
-def lines_told(made: Calibration) -> Iterator[str]:
+def lines_told(calibration: Calibration) -> Iterator[str]:
     """How the criteria are met, a line each, for the terminal; the last says whether the base is validated."""
-    for day in made.days:
+    for day in calibration.days:
         for before, after in zip(day.criteria[BEFORE], day.criteria[AFTER], strict=True):
             held = "held" if after.is_met else "not held"
             yield f"{day.name} day: {after.name}: {after.told()}, {held} (uncalibrated {100 * before.share:.0f} %)"
-    yield "validated on another day" if made.is_valid() else why_not_valid(made).rstrip(".")
+    yield "validated on another day" if calibration.is_valid() else why_not_valid(calibration).rstrip(".")

@@ -78,17 +78,18 @@ def values_in(path: FilePath, file: IO[str]) -> Iterator[tuple[int, list[str]]]:
             yield line, values
 
 
-def check_columns(where: str, names: Sequence[str], needed: Sequence[str], more: Collection[str]) -> None:
+def check_columns(location: str, names: Sequence[str], needed: Sequence[str], more: Collection[str]) -> None:
     """Fault for a table without a needed column, with one that is neither needed nor one of `more`, or with one twice.
-    where: the file and the line of its columns; names: these."""
+    location: the file and the line of its columns; names: these."""
     if missing := [name for name in needed if name not in names]:
-        raise Fault(f"{where}: no column {missing[0]!r}; it has {','.join(names)}")
-    all_ = [*needed, *more]
-    if unknown := [name for name in names if name not in all_]:
-        near = get_close_matches(unknown[0], all_, 1)
-        raise Fault(f"{where}: column {unknown[0]!r} is none of {','.join(all_)}{f': {near[0]!r}?' if near else ''}")
+        raise Fault(f"{location}: no column {missing[0]!r}; it has {','.join(names)}")
+    known = [*needed, *more]
+    if unknown := [name for name in names if name not in known]:
+        near = get_close_matches(unknown[0], known, 1)
+        hint = f": {near[0]!r}?" if near else ""
+        raise Fault(f"{location}: column {unknown[0]!r} is none of {','.join(known)}{hint}")
     if len(set(names)) < len(names):
-        raise Fault(f"{where}: a column twice")
+        raise Fault(f"{location}: a column twice")
 
 
 def clock_of(text: str) -> int:
@@ -121,10 +122,10 @@ def name_of(text: str) -> str:
     return text
 
 
-def period_of(begin: int, end: int, where: str) -> tuple[int, int]:
-    """(begin, end) in seconds; Fault, with where it stands, if the end is not after the begin."""
+def period_of(begin: int, end: int, location: str) -> tuple[int, int]:
+    """(begin, end) in seconds; Fault, with its location, if the end is not after the begin."""
     if end <= begin:
-        raise Fault(f"{where}: the period ends at {end:,} s, and begins at {begin:,} s")
+        raise Fault(f"{location}: the period ends at {end:,} s, and begins at {begin:,} s")
     return begin, end
 
 

@@ -91,9 +91,9 @@ class Expecting:
         """error: share of a count by which it is taken to be wrong."""
         numpy, _ = numpy_and_scipy()
         self.slices, self.error, self.ways = slices, error, ways
-        own = [pairs[way.pair] for way in ways]
-        self.begins = TripEnds([pair.source for pair in own], [pair.begins for pair in own])
-        self.ends = TripEnds([pair.target for pair in own], [pair.ends for pair in own])
+        way_pairs = [pairs[way.pair] for way in ways]
+        self.begins = TripEnds([pair.source for pair in way_pairs], [pair.begins for pair in way_pairs])
+        self.ends = TripEnds([pair.target for pair in way_pairs], [pair.ends for pair in way_pairs])
         outside = (ends.outside[ends.of_way] for ends in (self.begins, self.ends))
         self.outside = 2.0 ** sum(outside)  # doubles for each end of a way that lies outside
 
@@ -106,13 +106,13 @@ class Expecting:
         deviation, share = deviations(counted, self.error), numpy.array([way.share for way in self.ways])
         if all(way.ends_share is not None for way in self.ways):
             habits = [shares_by_habit(self.ways, habit) for habit in HABITS]
-            share = min(habits, key=lambda one: self.misfit(passing, counted, self.vehicles_by_ends(one, one)))
+            share = min(habits, key=lambda shares: self.misfit(passing, counted, self.vehicles_by_ends(shares, shares)))
         starts = [self.vehicles_by_ends(share * self.outside**exponent, share) for exponent in OUTSIDE]
-        start = min(starts, key=lambda one: self.misfit(passing, counted, one))
+        start = min(starts, key=lambda vehicles: self.misfit(passing, counted, vehicles))
         base, rates = self.ways_and_slices(passing, counted, start)
         for _ in range(ENDS_ROUNDS):
-            found = least_squares(Problem(pooled_columns(passing, rates), base, counted, deviation))[0]
-            mixed = HALF * self.vehicles_by_ends(found, share) + (1 - HALF) * found
+            fitted = least_squares(Problem(pooled_columns(passing, rates), base, counted, deviation))[0]
+            mixed = HALF * self.vehicles_by_ends(fitted, share) + (1 - HALF) * fitted
             base, rates = self.ways_and_slices(passing, counted, mixed)
         base = least_squares(Problem(pooled_columns(passing, rates), base, counted, deviation))[0]
         return numpy.outer(numpy.maximum(base, LEAST), rates).ravel()

@@ -18,12 +18,12 @@ TRIES = 100  # draws of an edge to begin on, before it is said that nothing lead
 
 def reached_from(graph: Graph, edge: int) -> list[int]:
     """The numbers of the edges to which an edge leads, itself left out, rising."""
-    found, left = {edge}, [edge]
-    while left:
-        new = [following for following, _ in graph.out[left.pop()] if following not in found]
-        found.update(new)
-        left += new
-    return sorted(found - {edge})
+    reached, queue = {edge}, [edge]
+    while queue:
+        added = [following for following, _ in graph.out[queue.pop()] if following not in reached]
+        reached.update(added)
+        queue += added
+    return sorted(reached - {edge})
 
 
 def invented_trips(net: SumoNet, hourly: int) -> list[tuple[str, str]]:
@@ -36,18 +36,18 @@ def invented_trips(net: SumoNet, hourly: int) -> list[tuple[str, str]]:
     lanes = [len(net.edges[name].lanes) for name in graph.edges]
     ends: set[int] = {*exits}
     goals: dict[int, list[int]] = {}
-    found: list[tuple[str, str]] = []
+    trips: list[tuple[str, str]] = []
     for _ in range(hourly * TRIES):
-        if len(found) == hourly:
-            return found
+        if len(trips) == hourly:
+            return trips
         begin = drawn(entries, lanes, draws)
         if begin not in goals:
             goals[begin] = [edge for edge in reached_from(graph, begin) if edge in ends]
         if goals[begin]:
-            found.append((graph.edges[begin], graph.edges[drawn(goals[begin], lanes, draws)]))
-    if len(found) < hourly:
+            trips.append((graph.edges[begin], graph.edges[drawn(goals[begin], lanes, draws)]))
+    if len(trips) < hourly:
         raise Fault("no demand can be invented: no edge at the border leads to another one")
-    return found
+    return trips
 
 
 def drawn(edges: Sequence[int], lanes: Sequence[int], draws: Random) -> int:

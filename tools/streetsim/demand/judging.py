@@ -129,17 +129,17 @@ class JudgedCounts:
 
     def lines(self) -> Iterator[str]:
         """Lines for the terminal: the criteria hour by hour, then screen lines, r and slope."""
-        for one in self.hours:
+        for sums in self.hours:
             yield (
-                f"{one.begin:,} to {one.end:,} s: "
-                f"GEH below 5 for {100 * one.good_share:.1f} % of {one.counts:,} counts, "
-                f"{one.passed:,.0f} passed of {one.counted:,.0f} counted ({100 * one.relative_difference:+.1f} %): "
-                f"{'fits' if one.meets_criteria else f'does not fit ({one.criteria_missed()})'}"
+                f"{sums.begin:,} to {sums.end:,} s: "
+                f"GEH below 5 for {100 * sums.good_share:.1f} % of {sums.counts:,} counts, "
+                f"{sums.passed:,.0f} passed of {sums.counted:,.0f} counted ({100 * sums.relative_difference:+.1f} %): "
+                f"{'fits' if sums.meets_criteria else f'does not fit ({sums.criteria_missed()})'}"
             )
-        for one in self.groups:
+        for sums in self.groups:
             yield (
-                f"screen line {one.group}, {one.begin:,} to {one.end:,} s: {one.passed:,.0f} passed of "
-                f"{one.counted:,.0f} counted ({100 * one.relative_difference:+.1f} %)"
+                f"screen line {sums.group}, {sums.begin:,} to {sums.end:,} s: {sums.passed:,.0f} passed of "
+                f"{sums.counted:,.0f} counted ({100 * sums.relative_difference:+.1f} %)"
             )
         if (line := correlation_and_slope(self.each)) is not None:
             yield f"all {len(self.each):,} counts: r = {line[0]:.3f}, slope {line[1]:.3f}"
@@ -148,51 +148,54 @@ class JudgedCounts:
 def judged(counts: Sequence[Count], passed: Sequence[float]) -> JudgedCounts:
     """How well numbers of vehicles that passed, one for each count, meet the counts, of which there must be one at
     least."""
-    each = [
-        ComparedCount(one.begin, one.end, one.edges, one.kind, one.group, one.vehicles, value, one.end - one.begin)
-        for one, value in zip(counts, passed, strict=True)
-    ]
-    hourly = merged_by_hour(each)
-    hours = sums_by_hour(replace(one, group="") for one in hourly)
-    return JudgedCounts(each, hourly, hours, sums_by_hour(one for one in hourly if one.group))
+    compared = [
+        ComparedCount(
+            count.begin, count.end, count.edges, count.kind, count.group, count.vehicles, value, count.end - count.begin
+        )
+        for count, value in zip(counts, passed, strict=True)
+    ]  # fmt: skip
+    hourly = merged_by_hour(compared)
+    hours = sums_by_hour(replace(count, group="") for count in hourly)
+    return JudgedCounts(compared, hourly, hours, sums_by_hour(count for count in hourly if count.group))
 
 
-def merged_by_hour(each: Iterable[ComparedCount]) -> list[ComparedCount]:
+def merged_by_hour(compared: Iterable[ComparedCount]) -> list[ComparedCount]:
     """The counts of the same edges and class whose begins lie in one hour of the clock, as one with their sums, from
     the first begin to the last end, with the screen line of the first; sorted by begin, end, edges and class."""
-    found: defaultdict[tuple[object, ...], list[ComparedCount]] = defaultdict(list)
-    for one in each:
-        found[one.begin // HOUR, one.edges, one.kind].append(one)
-    made = (
+    groups: defaultdict[tuple[object, ...], list[ComparedCount]] = defaultdict(list)
+    for count in compared:
+        groups[count.begin // HOUR, count.edges, count.kind].append(count)
+    merged = (
         replace(
-            some[0], begin=min(one.begin for one in some), end=max(one.end for one in some),
-            counted=sum(one.counted for one in some), passed=sum(one.passed for one in some),
-            seconds=sum(one.seconds for one in some),
+            group[0], begin=min(count.begin for count in group), end=max(count.end for count in group),
+            counted=sum(count.counted for count in group), passed=sum(count.passed for count in group),
+            seconds=sum(count.seconds for count in group),
         )
-        for some in found.values()
+        for group in groups.values()
     )  # fmt: skip
-    return sorted(made, key=lambda one: (one.begin, one.end, one.edges, one.kind))
+    return sorted(merged, key=lambda count: (count.begin, count.end, count.edges, count.kind))
 
 
 def sums_by_hour(hourly: Iterable[ComparedCount]) -> list[CountSums]:
     """Sums of counts by hour of the clock (of their begin) and screen line."""
-    found: defaultdict[tuple[int, str], list[ComparedCount]] = defaultdict(list)
-    for one in hourly:
-        found[one.begin // HOUR, one.group].append(one)
+    groups: defaultdict[tuple[int, str], list[ComparedCount]] = defaultdict(list)
+    for count in hourly:
+        groups[count.begin // HOUR, count.group].append(count)
     return [
         CountSums(
-            min(one.begin for one in some), max(one.end for one in some), group, len(some),
-            sum(one.geh < GOOD for one in some), sum(one.counted for one in some), sum(one.passed for one in some),
-            geh(*(sum(volumes) for volumes in zip(*(one.volumes for one in some)))),
+            min(count.begin for count in members), max(count.end for count in members), group, len(members),
+            sum(count.geh < GOOD for count in members), sum(count.counted for count in members),
+            sum(count.passed for count in members),
+            geh(*(sum(volumes) for volumes in zip(*(count.volumes for count in members)))),
         )
-        for (_, group), some in sorted(found.items())
+        for (_, group), members in sorted(groups.items())
     ]  # fmt: skip
 
 
-def correlation_and_slope(each: Sequence[ComparedCount]) -> tuple[float, float] | None:
+def correlation_and_slope(compared: Sequence[ComparedCount]) -> tuple[float, float] | None:
     """(Pearson's r of what passed with what was counted, slope of the regression of the former on the latter); none
-    where one of both does not vary. each: one at least."""
-    counted, passed = [one.counted for one in each], [one.passed for one in each]
+    where one of both does not vary. compared: one at least."""
+    counted, passed = [count.counted for count in compared], [count.passed for count in compared]
     r = correlation(counted, passed)
     return None if r is None else (r, r * pstdev(passed) / pstdev(counted))
 
@@ -209,21 +212,25 @@ def without_parts(hourly: Iterable[ComparedCount]) -> list[ComparedCount]:
     """Counts of hours without those that others replace (is_part_of), so that sums by first edge have none twice: of a
     time in which all vehicles are counted those of a class are left out, and those of turns where their edge is."""
     hourly = list(hourly)
-    keys = [[(one.edges[0], hour) for hour in range(one.begin // HOUR, -(-one.end // HOUR))] for one in hourly]
+    keys = [[(count.edges[0], hour) for hour in range(count.begin // HOUR, -(-count.end // HOUR))] for count in hourly]
     beside: defaultdict[tuple[str, int], list[ComparedCount]] = defaultdict(list)
-    for key, one in ((key, one) for one, own in zip(hourly, keys, strict=True) for key in own):
-        beside[key].append(one)
-    others = ((other for key in own for other in beside[key]) for own in keys)
-    return [one for one, some in zip(hourly, others, strict=True) if not any(is_part_of(one, other) for other in some)]
+    for key, count in ((key, count) for count, hours in zip(hourly, keys, strict=True) for key in hours):
+        beside[key].append(count)
+    competing = ((other for key in hours for other in beside[key]) for hours in keys)
+    return [
+        count
+        for count, others in zip(hourly, competing, strict=True)
+        if not any(is_part_of(count, other) for other in others)
+    ]
 
 
-def is_part_of(one: ComparedCount, other: ComparedCount) -> bool:
-    """Whether `one` is left out beside `other`, with a time and, as far as both go, the edges in common: if it is of a
-    class and `other` of all vehicles, even along more edges, or both are of the same and `other` has fewer edges."""
-    size = min(len(one.edges), len(other.edges))
-    if one.edges[:size] != other.edges[:size] or one.end <= other.begin or other.end <= one.begin:
+def is_part_of(count: ComparedCount, other: ComparedCount) -> bool:
+    """Whether `count` is left out beside `other`, with a time and, as far as both go, the edges in common: if it is of
+    a class and `other` of all vehicles, even along more edges, or both are of the same and `other` has fewer edges."""
+    size = min(len(count.edges), len(other.edges))
+    if count.edges[:size] != other.edges[:size] or count.end <= other.begin or other.end <= count.begin:
         return False
-    return len(other.edges) < len(one.edges) if other.kind == one.kind else not other.kind
+    return len(other.edges) < len(count.edges) if other.kind == count.kind else not other.kind
 
 
 def counted_seconds(hourly: Iterable[ComparedCount]) -> int:
@@ -248,4 +255,4 @@ def differences_of(hourly: Sequence[ComparedCount]) -> dict[str, float]:
 
 def worst_fits(fit: JudgedCounts) -> list[ComparedCount]:
     """Of the edges and hours with a GEH of 5 or more the worst, five at most."""
-    return nlargest(WORST, (one for one in fit.hourly if one.geh >= GOOD), key=lambda one: one.geh)
+    return nlargest(WORST, (count for count in fit.hourly if count.geh >= GOOD), key=lambda count: count.geh)

@@ -17,26 +17,26 @@ def read_matrices(paths: Iterable[FilePath], period: tuple[int, int] | None) -> 
     """The cells of files, by the format that each begins with. Fault where a file cannot be read, is of none of the
     formats or has no cell, or two cells of one pair and class have periods that overlap. period: (begin, end),
     seconds, of rows of tables that tell none; None: such rows are a Fault."""
-    found: list[MatrixCell] = []
+    cells: list[MatrixCell] = []
     for path in paths:
         if begins_with(path, "<"):
-            own = list(cells_in_sumo(path))
+            file_cells = list(cells_in_sumo(path))
         elif begins_with(path, "$"):
-            own = list(cells_in_o_or_v(path))
+            file_cells = list(cells_in_o_or_v(path))
         else:
-            own = list(cells_in_table(path, period))
-        if not own:
+            file_cells = list(cells_in_table(path, period))
+        if not file_cells:
             raise Fault(f"{path}: no pair of zones is in it")
-        found += own
-    refuse_twice(found)
-    return found
+        cells += file_cells
+    refuse_twice(cells)
+    return cells
 
 
 def refuse_twice(cells: Iterable[MatrixCell]) -> None:
     """Fault for two cells of one pair and class whose periods overlap."""
-    for first, second in overlapping_pairs(cells, lambda one: (one.source, one.target, one.kind)):
-        same = (first.begin, first.end) == (second.begin, second.end)
-        how = "a second time, as" if same else f"is told already until {first.end:,} s, by"
+    for first, second in overlapping_pairs(cells, lambda cell: (cell.source, cell.target, cell.kind)):
+        same_period = (first.begin, first.end) == (second.begin, second.end)
+        how = "a second time, as" if same_period else f"is told already until {first.end:,} s, by"
         raise Fault(f"{second.where}: {second.source} to {second.target} {how} {first.where}")
 
 
@@ -96,11 +96,11 @@ class MatrixLines:
         except ValueError as fault:
             raise Fault(f"{self.where}: {text!r} {fault}") from None
 
-    def next_first_word(self, what: str) -> str:
-        """The first word of the next line, others passed over; Fault at the end of the file. what: is expected."""
+    def next_first_word(self, expected: str) -> str:
+        """The first word of the next line, others passed over; Fault at the end of the file. expected: what it is."""
         words = self.next_line()
         if not words:
-            raise Fault(f"{self.path}: ends before {what}")
+            raise Fault(f"{self.path}: ends before {expected}")
         return words[0]
 
 
@@ -153,18 +153,18 @@ def cells_by_row(lines: MatrixLines) -> Iterator[MatrixCell]:
             yield MatrixCell(0, 0, source, target, lines.vehicles(value), lines.where)
 
 
-def next_words(lines: MatrixLines, count: int, what: str) -> list[str]:
-    """The next `count` words, over as many lines as they need; Fault where there are fewer or more. what: their name in
+def next_words(lines: MatrixLines, count: int, noun: str) -> list[str]:
+    """The next `count` words, over as many lines as they need; Fault where there are fewer or more. noun: their name in
     faults."""
-    found: list[str] = []
-    while len(found) < count:
+    words: list[str] = []
+    while len(words) < count:
         row = lines.next_line()
         if not row:
-            raise Fault(f"{lines.path}: ends after {len(found)} of {count} {what}")
-        found += row
-    if len(found) > count:
-        raise Fault(f"{lines.where}: {len(found)} {what}, and there are {count} districts")
-    return found
+            raise Fault(f"{lines.path}: ends after {len(words)} of {count} {noun}")
+        words += row
+    if len(words) > count:
+        raise Fault(f"{lines.where}: {len(words)} {noun}, and there are {count} districts")
+    return words
 
 
 def check_zones(cells: Iterable[MatrixCell], zones: Mapping[str, Zone]) -> None:

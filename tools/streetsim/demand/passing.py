@@ -51,12 +51,12 @@ class CountsByEdges:
         """counts: all of them, in the order by which others name them; those of the same edges and class must not
         overlap (check_periods)."""
         self.counts = counts
-        found: defaultdict[tuple[Path, str], list[int]] = defaultdict(list)
-        for at in sorted(range(len(counts)), key=lambda at: counts[at].begin):
-            found[tuple(graph.number[name] for name in counts[at].edges), counts[at].kind].append(at)
+        groups: defaultdict[tuple[Path, str], list[int]] = defaultdict(list)
+        for index in sorted(range(len(counts)), key=lambda index: counts[index].begin):
+            groups[tuple(graph.number[name] for name in counts[index].edges), counts[index].kind].append(index)
         self.by_edges: defaultdict[Path, list[list[int]]] = defaultdict(list)  # by edges: of each class, by begin
-        for (edges, _), some in found.items():
-            self.by_edges[edges].append(some)
+        for (edges, _), indices in groups.items():
+            self.by_edges[edges].append(indices)
         self.sizes = sorted({len(edges) for edges in self.by_edges})
 
     def counts_along(self, path: Path) -> Iterator[tuple[list[int], int]]:
@@ -67,16 +67,16 @@ class CountsByEdges:
                 for some in self.by_edges.get(path[at : at + size], ()):
                     yield some, at + max(0, size - 2)
 
-    def shares_in_periods(self, some: Sequence[int], begin: float, end: float) -> Iterator[tuple[int, float]]:
+    def shares_in_periods(self, indices: Sequence[int], begin: float, end: float) -> Iterator[tuple[int, float]]:
         """Of some counts of the same edges and class (as `counts_along` gives them) those in whose period vehicles pass
         that go by evenly from one clock to another, for a second at least: (index of the count, share, 0 to 1, of these
         vehicles)."""
         end = max(end, begin + 1)
-        for at in some[bisect_right(some, begin, key=lambda one: self.counts[one].end) :]:
-            count = self.counts[at]
+        for index in indices[bisect_right(indices, begin, key=lambda number: self.counts[number].end) :]:
+            count = self.counts[index]
             if count.begin >= end:
                 break
-            yield at, (min(end, count.end) - max(begin, count.begin)) / (end - begin)
+            yield index, (min(end, count.end) - max(begin, count.begin)) / (end - begin)
 
 
 def end_clocks(graph: Graph, table: Table, path: Path, depart: float) -> list[float]:
@@ -103,16 +103,16 @@ def passing_matrix(graph: Graph, ways: Sequence[Way], slices: Slices, by_edges: 
     rows: list[int] = []
     columns: list[int] = []
     shares: list[float] = []
-    for at, way in enumerate(ways):
+    for way_index, way in enumerate(ways):
         along = list(by_edges.counts_along(way.path))
         if not along:
             continue
         clocks = [end_clocks(graph, table, way.path, bound) for bound in slices.bounds]
         for slice_, (sooner, later) in enumerate(pairwise(clocks)):
-            for some, edge in along:
-                for row, share in by_edges.shares_in_periods(some, sooner[edge], later[edge]):
+            for indices, edge in along:
+                for row, share in by_edges.shares_in_periods(indices, sooner[edge], later[edge]):
                     rows.append(row)
-                    columns.append(at * count + slice_)
+                    columns.append(way_index * count + slice_)
                     shares.append(share)
     shape = len(by_edges.counts), len(ways) * count
     return scipy.sparse.csr_matrix((shares, (rows, columns)), shape=shape)

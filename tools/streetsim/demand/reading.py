@@ -17,13 +17,13 @@ BY_TURN = (("count",), ("vehicles",))
 def read_counts(paths: Iterable[FilePath], attribute: str | None = None) -> list[Count]:
     """The counts of files, in their order; Fault where a file cannot be read, is no file of counts, or has none.
     attribute: of SUMO's files, the one that is the count; none: the usual ones."""
-    found: list[Count] = []
+    counts: list[Count] = []
     for path in paths:
-        own = list(counts_in_sumo(path, attribute) if begins_with(path, "<") else counts_in_table(path))
-        if not own:
+        file_counts = list(counts_in_sumo(path, attribute) if begins_with(path, "<") else counts_in_table(path))
+        if not file_counts:
             raise Fault(f"{path}: no count is in it")
-        found += own
-    return found
+        counts += file_counts
+    return counts
 
 
 def counts_in_table(path: FilePath) -> Iterator[Count]:

@@ -68,21 +68,21 @@ def worst_table(fit: JudgedCounts, names: Names) -> str:
 def scatter(fit: JudgedCounts) -> str:
     """A picture (SVG) of passed over counted, vehicles an hour, by edges and hour, with the curves on which GEH is
     5."""
-    points = [(*one.volumes, one.geh < GOOD) for one in fit.hourly]
+    points = [(*count.volumes, count.geh < GOOD) for count in fit.hourly]
     most = 1.08 * max([1.0, *(max(counted, passed) for counted, passed, _ in points)])
     scale = (SIDE - EDGE - 10) / most
 
-    def at(counted: float, passed: float) -> str:
+    def pixel(counted: float, passed: float) -> str:
         """The pixels across and down of a point, as the text X,Y."""
         return f"{EDGE + counted * scale:.1f},{SIDE - EDGE - passed * scale:.1f}"
 
-    parts = [f'<polyline points="{at(0, 0)} {at(most, most)}" stroke="#000" fill="none"/>']
+    parts = [f'<polyline points="{pixel(0, 0)} {pixel(most, most)}" stroke="#000" fill="none"/>']
     for sign in (1, -1):
         curve = (most * step / POINTS for step in range(POINTS + 1))
-        way = " ".join(at(counted, min(volume_at_geh_5(counted, sign), most)) for counted in curve)
-        parts.append(f'<polyline points="{way}" stroke="#777" stroke-dasharray="4 3" fill="none"/>')
+        line_points = " ".join(pixel(counted, min(volume_at_geh_5(counted, sign), most)) for counted in curve)
+        parts.append(f'<polyline points="{line_points}" stroke="#777" stroke-dasharray="4 3" fill="none"/>')
     for counted, passed, good in points:
-        x, y = at(counted, passed).split(",")
+        x, y = pixel(counted, passed).split(",")
         square = f'<rect x="{float(x) - 3:.1f}" y="{float(y) - 3:.1f}" width="6" height="6" fill="{OTHER_LINE}"/>'
         parts.append(f'<circle cx="{x}" cy="{y}" r="3" fill="{LINE}"/>' if good else square)
     low = SIDE - EDGE

@@ -36,27 +36,27 @@ def run_demand(ground: RunGround, loaded: LoadedRun, seed: int) -> Ran:
 
 
 def passed_by_count(
-    by_edges: CountsByEdges, paths: Sequence[Path], kinds: Sequence[str], left: Sequence[Sequence[float]]
+    by_edges: CountsByEdges, paths: Sequence[Path], kinds: Sequence[str], exit_clocks: Sequence[Sequence[float]]
 ) -> list[int]:
     """How many vehicles passed in each count's period (its end belongs to it, its begin does not), of its class, in the
-    counts' order. paths, kinds, left: the way, class and clocks (of leaving each edge) of each vehicle."""
-    found = [0] * len(by_edges.counts)
-    for path, kind, clocks in zip(paths, kinds, left, strict=True):
-        for some, edge in by_edges.counts_along(path):
+    counts' order. paths, kinds, exit_clocks: the way, class and clocks (of leaving each edge) of each vehicle."""
+    passed = [0] * len(by_edges.counts)
+    for path, kind, clocks in zip(paths, kinds, exit_clocks, strict=True):
+        for indices, edge in by_edges.counts_along(path):
             if edge < len(clocks):
-                for at in some:
-                    count = by_edges.counts[at]
-                    found[at] += count.begin < clocks[edge] <= count.end and count.kind in ("", kind)
-    return found
+                for index in indices:
+                    count = by_edges.counts[index]
+                    passed[index] += count.begin < clocks[edge] <= count.end and count.kind in ("", kind)
+    return passed
 
 
 def movement_delays(graph: Graph, observed: Observed, free: Sequence[float]) -> list[float]:
     """For each movement how many seconds it took on the mean in the slowest of the slices of time of `observed`, beyond
     the free ones (less than 0 where it was quicker); 0 where nobody was seen. free: seconds of each movement."""
-    found = []
+    delays = []
     for movement in range(len(graph.movements)):
         base = movement * observed.slices
-        some = (at for at in range(base, base + observed.slices) if observed.counts[at])
-        means = [observed.seconds[at] / observed.counts[at] for at in some]
-        found.append(max(means, default=free[movement]) - free[movement])
-    return found
+        shown = (index for index in range(base, base + observed.slices) if observed.counts[index])
+        means = [observed.seconds[index] / observed.counts[index] for index in shown]
+        delays.append(max(means, default=free[movement]) - free[movement])
+    return delays

@@ -56,20 +56,20 @@ class MatrixCell:
 Dated = TypeVar("Dated", Count, MatrixCell)
 
 
-def overlapping_pairs(some: Iterable[Dated], key: Callable[[Dated], object]) -> Iterator[tuple[Dated, Dated]]:
+def overlapping_pairs(values: Iterable[Dated], key: Callable[[Dated], object]) -> Iterator[tuple[Dated, Dated]]:
     """Pairs of counts, or of cells, of one key whose periods overlap, the one that begins sooner first. Only those that
     follow each other by their begins are compared, so that there is a pair where any two overlap."""
-    found: defaultdict[object, list[Dated]] = defaultdict(list)
-    for one in some:
-        found[key(one)].append(one)
-    for alike in found.values():
-        alike.sort(key=lambda one: (one.begin, one.end))
+    groups: defaultdict[object, list[Dated]] = defaultdict(list)
+    for value in values:
+        groups[key(value)].append(value)
+    for alike in groups.values():
+        alike.sort(key=lambda value: (value.begin, value.end))
         yield from ((first, second) for first, second in pairwise(alike) if second.begin < first.end)
 
 
-def share_between(one: Dated, begin: float, end: float) -> float:
+def share_between(dated: Dated, begin: float, end: float) -> float:
     """The share, 0 to 1, of the period of a count or a cell that lies between two clocks."""
-    return max(0.0, min(end, one.end) - max(begin, one.begin)) / (one.end - one.begin)
+    return max(0.0, min(end, dated.end) - max(begin, dated.begin)) / (dated.end - dated.begin)
 
 
 @dataclass(frozen=True, slots=True)

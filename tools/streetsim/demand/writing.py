@@ -41,12 +41,13 @@ def write_demand(folder: str, basis: Basis, fitted: Fitted, tried: Sequence[Atte
 def pair_rows(basis: Basis, fitted: Fitted) -> Iterator[tuple[object, ...]]:
     """(begin, end, from, to, class, vehicles) of each pair, class and slice with vehicles: a matrix that --matrix
     takes."""
-    found: Counter[tuple[int, int, int]] = Counter()
+    totals: Counter[tuple[int, int, int]] = Counter()
     count, size = len(basis.slices), len(basis.ways) * len(basis.slices)
-    for at in fitted.whole.nonzero()[0].tolist():
-        found[at // size, at % count, basis.ways[at // count % len(basis.ways)].pair] += int(fitted.whole[at])
+    for index in fitted.whole.nonzero()[0].tolist():
+        pair = basis.ways[index // count % len(basis.ways)].pair
+        totals[index // size, index % count, pair] += int(fitted.whole[index])
     bounds = list(pairwise(basis.slices.bounds))
-    for (kind, slice_, pair), vehicles in sorted(found.items()):
+    for (kind, slice_, pair), vehicles in sorted(totals.items()):
         ends = basis.pairs[pair].source, basis.pairs[pair].target
         yield (*bounds[slice_], *ends, basis.kinds[kind], vehicles)
 
@@ -56,16 +57,17 @@ def write_candidates(path: str, ways: Sequence[Way], graph: Graph) -> None:
     written."""
     with whole_file(path) as file:
         file.write("<routes>\n")
-        for at, way in enumerate(ways):
-            file.write(f'    <route id="{at}" edges={quoteattr(" ".join(graph.names(way.path)))}/>\n')
+        for number, way in enumerate(ways):
+            file.write(f'    <route id="{number}" edges={quoteattr(" ".join(graph.names(way.path)))}/>\n')
         file.write("</routes>\n")
 
 
-def contradiction_rows(found: Sequence[Contradiction]) -> Iterator[tuple[object, ...]]:
+def contradiction_rows(contradictions: Sequence[Contradiction]) -> Iterator[tuple[object, ...]]:
     """The rows of contradictions.csv, as APART has the columns."""
-    for one in found:
-        values = f"{one.first:g}", f"{one.second:g}"
-        yield one.street, one.begin, one.end, one.words.replace("{} ", ""), *values, one.where
+    for contradiction in contradictions:
+        values = f"{contradiction.first:g}", f"{contradiction.second:g}"
+        period, text = (contradiction.begin, contradiction.end), contradiction.words.replace("{} ", "")
+        yield contradiction.street, *period, text, *values, contradiction.where
 
 
 def run_rows(tried: Sequence[Attempt]) -> Iterator[tuple[object, ...]]:
