@@ -70,7 +70,7 @@ class Case:
         ground = RunGround(self.program, program_digest(self.program), town.graph, 300, 2 * HOUR + 7200, 2)
         done = run_demand(ground, town.loaded(all_), seed)
         by_edges, kinds = CountsByEdges(counts, town.graph), [""] * len(all_)
-        values = passed_by_count(by_edges, [trip.path for trip in all_], kinds, done.left)
+        values = passed_by_count(by_edges, [trip.path for trip in all_], kinds, done.exit_clocks)
         return values, len(all_), done.rescues
 
     def turns(self):

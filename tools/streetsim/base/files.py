@@ -28,7 +28,7 @@ ESCAPED = (("&", "&amp;"), (">", "&gt;"), ("<", "&lt;"), ("\n", "&#10;"), ("\r",
 Json = dict[str, Any]  # an object of JSON
 FilePath = str | os.PathLike[str]
 Value = TypeVar("Value")
-Other = TypeVar("Other")
+Default = TypeVar("Default")
 Number = TypeVar("Number", int, float)
 Main = Callable[[list[str]], int]  # a tool's main function: its words, and the status
 
@@ -190,8 +190,8 @@ def attribute(path: FilePath, element: Element, name: str, convert: Callable[[st
 
 
 def optional(
-    path: FilePath, element: Element, name: str, convert: Callable[[str], Value], default: Other
-) -> Value | Other:
+    path: FilePath, element: Element, name: str, convert: Callable[[str], Value], default: Default
+) -> Value | Default:
     """As `attribute`, but the default where the element does not have the attribute."""
     return default if element.get(name) is None else attribute(path, element, name, convert)
 
@@ -403,28 +403,29 @@ def move_files(source: str, target: FilePath, last_file: str, names: Collection[
         os.replace(os.path.join(source, name), os.path.join(target, name))
 
 
-ENDINGS = (signal.SIGTERM, signal.SIGINT, signal.SIGHUP)
-STATUSES = {128 + one: one.name for one in ENDINGS}  # of a tool that such a signal ended
+END_SIGNALS = (signal.SIGTERM, signal.SIGINT, signal.SIGHUP)
+STATUSES = {128 + one: one.name for one in END_SIGNALS}  # of a tool that such a signal ended
 AGAIN = 0.2  # seconds until a signal's exception that got lost is raised again
 
 
 @contextlib.contextmanager
 def uninterrupted() -> Iterator[None]:
-    """Holds back, while the block runs, the signals that end a tool (ENDINGS); they come after it. They are held back
-    from this thread alone, and from processes begun in the block for good."""
-    before = signal.pthread_sigmask(signal.SIG_BLOCK, (*ENDINGS, signal.SIGALRM))
+    """Holds back, while the block runs, the signals that end a tool (END_SIGNALS); they come after it. They are held
+    back from this thread alone, and from processes begun in the block for good."""
+    before = signal.pthread_sigmask(signal.SIG_BLOCK, (*END_SIGNALS, signal.SIGALRM))
     try:
         yield
     finally:
         signal.pthread_sigmask(signal.SIG_SETMASK, before)
 
 
-ASKED: list[int] = []  # the signals that asked for an end, where a library takes their exceptions for faults of its own
+# the signals that asked for an end, where a library takes their exceptions for faults of its own
+RECEIVED_SIGNALS: list[int] = []
 
 
 def end_by_signal(number: int, _frame: FrameType | None) -> NoReturn:
     """Handles a signal: ends the tool by SystemExit, with status 128 + number, so that nothing half-written is left."""
-    ASKED.append(number)
+    RECEIVED_SIGNALS.append(number)
     signal.setitimer(signal.ITIMER_REAL, AGAIN, AGAIN)
     sys.exit(128 + number)
 
@@ -436,27 +437,27 @@ def end_again(_number: int, _frame: FrameType | None) -> None:
     while fault and not isinstance(fault, SystemExit):
         fault = fault.__context__
     if not fault:
-        sys.exit(128 + ASKED[0])
+        sys.exit(128 + RECEIVED_SIGNALS[0])
 
 
 def interrupt(number: int, _frame: FrameType | None) -> NoReturn:
     """Handles Ctrl-C: ends the tool by KeyboardInterrupt, so that nothing half-written is left."""
-    ASKED.append(number)
+    RECEIVED_SIGNALS.append(number)
     raise KeyboardInterrupt
 
 
-KEPT: list[str] = []  # what is kept, in words, of a tool that a signal ends, beside what was there before
+KEPT_NOTES: list[str] = []  # what is kept, in words, of a tool that a signal ends, beside what was there before
 
 
 def note_kept(text: str) -> None:
     """Notes what is kept where a signal ends the tool from now on: files that are whole, a session that can go on."""
-    KEPT.append(text)
+    KEPT_NOTES.append(text)
 
 
 def tell_ended(name: str) -> None:
     """Says on standard error which signal ended the tool, and what is kept of its work."""
     with contextlib.suppress(OSError):
-        tell_fault(f"ended by {name}: {'kept: ' + ', '.join(KEPT) if KEPT else 'nothing was written'}")
+        tell_fault(f"ended by {name}: {'kept: ' + ', '.join(KEPT_NOTES) if KEPT_NOTES else 'nothing was written'}")
 
 
 def run_tool(main: Main) -> NoReturn:
@@ -467,7 +468,7 @@ def run_tool(main: Main) -> NoReturn:
             signal.signal(number, end_by_signal)
     signal.signal(signal.SIGALRM, end_again)
     status = status_of(main)
-    for number in ENDINGS:
+    for number in END_SIGNALS:
         signal.signal(number, signal.SIG_IGN)
     sys.exit(status)
 
@@ -490,9 +491,9 @@ def status_of(main: Main) -> int:
             tell_ended(STATUSES[ended.code])
         raise
     except Exception as fault:
-        if ASKED:
-            tell_ended("Ctrl-C" if ASKED[0] == signal.SIGINT else STATUSES[128 + ASKED[0]])
-            return 128 + ASKED[0]
+        if RECEIVED_SIGNALS:
+            tell_ended("Ctrl-C" if RECEIVED_SIGNALS[0] == signal.SIGINT else STATUSES[128 + RECEIVED_SIGNALS[0]])
+            return 128 + RECEIVED_SIGNALS[0]
         return status_of_fault(fault)
 
 

@@ -14,7 +14,7 @@ UNBUILT = "STREETSIM_UNBUILT"  # where it is set, nothing counts as built in the
 BUILT = "crates/street_sim/out/street_sim"  # where `./build` of the repository puts it
 UNPROVED = "unproved/street_sim"  # where `./build --unproved` does
 MARK = b"\nstreetsim: NOT PROVED\n"  # the last bytes of a program without proofs, wherever it was copied to
-TOLD = "NOT PROVED: made by a program without proofs (./build --unproved)"  # of what such a program made
+UNPROVED_NOTE = "NOT PROVED: made by a program without proofs (./build --unproved)"  # of what such a program made
 HELP = (
     f"the simulator (default: ${VARIABLE}, else the one that is installed with the tools, or the one that was built in "
     "the repository)"
@@ -70,8 +70,8 @@ def is_unproved(path: str) -> bool:
 
 
 def proof_note(path: str) -> dict[str, str]:
-    """What a setting says of a program's proofs: nothing, or of one without proofs `unproved`: TOLD."""
-    return {"unproved": TOLD} if is_unproved(path) else {}
+    """What a setting says of a program's proofs: nothing, or of one without proofs `unproved`: UNPROVED_NOTE."""
+    return {"unproved": UNPROVED_NOTE} if is_unproved(path) else {}
 
 
 @functools.cache

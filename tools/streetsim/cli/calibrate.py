@@ -26,7 +26,7 @@ from streetsim.demand.calibration_field import (
 from streetsim.demand.calibration_fit import Fit, FitResult, classes_of, lines_of, start_of, values_of
 from streetsim.demand.calibration_model import FittedDrivers, MeasuredRun, StreetRuns, ways_of
 from streetsim.demand.calibration_page import (
-    AFTER, BEFORE, FITTED, LAST, OTHER, Calibration, JudgedDay, lines_told, sum_of_input, write_calibration,
+    AFTER, BEFORE, FITTED, LAST_FILE, OTHER, Calibration, JudgedDay, lines_told, sum_of_input, write_calibration,
     write_drivers,
 )
 from streetsim.model.sources import Sources, program_digest
@@ -41,7 +41,7 @@ OWN = {
     "check_seeds", "output", "out", "force", "jobs", "rounds", "program",
 }
 # All files of its folder.
-WRITTEN = {LAST, "segments.csv", "runs.csv", "report.html", f"{FITTED}.rou.xml", f"{OTHER}.rou.xml"}
+WRITTEN = {LAST_FILE, "segments.csv", "runs.csv", "report.html", f"{FITTED}.rou.xml", f"{OTHER}.rou.xml"}
 
 
 def parser() -> Parser:
@@ -100,7 +100,7 @@ def main(arguments: list[str]) -> int:
     words.program = program.find_program(words.program)
     with tempfile.TemporaryDirectory() as folder:
         calibration = calibrated(words, given_words(made, words, OWN), folder)
-        with whole_folder(words.out, LAST, WRITTEN) as out:
+        with whole_folder(words.out, LAST_FILE, WRITTEN) as out:
             for name in {FITTED, OTHER} & {day.name for day in calibration.days}:
                 if os.path.exists(path := f"{folder}/{name}.rou.xml"):
                     shutil.copy(path, out)

@@ -12,7 +12,7 @@ from streetsim.demand.judging import judged
 from streetsim.demand.pictures import draw_fit
 from streetsim.demand.reading import read_counts
 from streetsim.demand.seen import passed_in
-from streetsim.demand.writing import LAST, write_judged
+from streetsim.demand.writing import LAST_FILE, write_judged
 from streetsim.model import trust
 from streetsim.model.folder import read_folder
 from streetsim.model.replications import is_drawn
@@ -108,7 +108,7 @@ def with_counts(path: str, files: list[str], attribute: str | None, out: str | N
         shown.text = f"comparing with {len(counts):,} counts"
         fit = judged(counts, passed_in(folder, counts))
         if out:
-            with whole_folder(out, LAST, COMPARED) as made:
+            with whole_folder(out, LAST_FILE, COMPARED) as made:
                 write_judged(made, fit)
                 draw_fit(made, fit, folder.mapping.links, "passed in the run")
     print(*fit.lines(), *folder.notes, sep="\n")

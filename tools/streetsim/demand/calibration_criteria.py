@@ -26,15 +26,15 @@ class Criterion:
 
     name: str
     share: float
-    wanted: float
+    share_needed: float
     of: int
 
     @property
     def is_met(self) -> bool:
         """Whether enough meets it."""
-        return self.share >= self.wanted - 1e-9
+        return self.share >= self.share_needed - 1e-9
 
-    def told(self) -> str:
+    def share_text(self) -> str:
         """Its share, in percent, and of how many."""
         return f"{100 * self.share:.0f} % of {self.of:,}"
 

@@ -141,7 +141,7 @@ def times_of_table(path: str, notes: list[str]) -> list[TravelTime]:
         begin = row.get(time, clock_of)
         end = row.get(ends, clock_of) if ends else begin + period
         if end <= begin:
-            raise Fault(f"{row.where}: the period ends at {end:,} s, and begins at {begin:,} s")
+            raise Fault(f"{row.location}: the period ends at {end:,} s, and begins at {begin:,} s")
         spread = scale * row.get(deviation, at_least_nothing) if deviation else 0.0
         vehicles = row.get(count, whole)
         if vehicles:
@@ -242,9 +242,9 @@ def read_lanes(path: str, limits_of: Mapping[str, int]) -> list[SurveyedLane]:
             limits_of.get(name, 2),
         )
         if not 300 <= lane.flow <= 3600:
-            raise Fault(f"{row.where}: a lane has no saturation flow of {lane.flow:g} vehicles an hour")
+            raise Fault(f"{row.location}: a lane has no saturation flow of {lane.flow:g} vehicles an hour")
         if lane.per_green > lane.green:
-            raise Fault(f"{row.where}: {lane.per_green:g} vehicles in a green of {lane.green:g} s")
+            raise Fault(f"{row.location}: {lane.per_green:g} vehicles in a green of {lane.green:g} s")
         lanes.append(lane)
     if not lanes:
         raise Fault(f"{path}: no lane is in it")
@@ -295,7 +295,7 @@ def rewritten_counts(table: Columns, notes: list[str]) -> str:
         begin = row.get(time, clock_of)
         end = row.get(ends, clock_of) if ends else begin + period
         if end <= begin:
-            raise Fault(f"{row.where}: the period ends at {end:,} s, and begins at {begin:,} s")
+            raise Fault(f"{row.location}: the period ends at {end:,} s, and begins at {begin:,} s")
         vehicles = row.get(count, vehicle_number) * ((end - begin) / 3600 if hourly else 1)
         write([begin, end, row.get(edge, name_of), row.text(to) if to else "", f"{vehicles:g}"])
     return text.getvalue()

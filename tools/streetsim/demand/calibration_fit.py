@@ -20,7 +20,7 @@ LEAST_WAYS = 5  # of a class of street, for a factor of its own
 ROUNDS = 4
 ENOUGH = 0.15  # of a step, below which the fit ends
 PARTS = (1.0, 0.5, 0.25)  # of a step that is tried
-TOLD = 0.5  # of what is known before anything is measured: the greatest error of a value that data tell
+MAX_SHARE_OF_PRIOR = 0.5  # of what is known before anything is measured: the greatest error of a value that data tell
 DAWDLE, CUT, SPEED = "dawdle", "seconds cut", "speed factor"
 
 
@@ -78,13 +78,13 @@ Measure = Callable[[Sequence[FittedDrivers]], list[list[MeasuredRun]]]  # runs o
 @dataclass(slots=True)
 class FitResult:
     """What a fit found. errors: standard errors by value, greater where the fit is worse than the errors of its data;
-    told: the same without that, by which data tell a value or not; correlations: between values; runs: that were
-    made."""
+    unscaled_errors: the same without that, by which data tell a value or not; correlations: between values; runs: how
+    many were made."""
 
     drivers: FittedDrivers
     values: list[FittedValue]
     errors: list[float]
-    told: list[float]
+    unscaled_errors: list[float]
     correlations: list[list[float]]
     untold: list[FittedValue]  # that stay at their prior
     runs: int
@@ -96,7 +96,7 @@ class Fit:
 
     def __init__(self, day: FieldDay, start: FittedDrivers, measure: Measure, most: int, seeds: int) -> None:
         """measure: makes runs; most: of them; seeds: runs of each trial."""
-        self.wanted = {key: one for key, one in pooled(day.times).items() if one[2] >= LEAST_SEEN}
+        self.field_times = {key: one for key, one in pooled(day.times).items() if one[2] >= LEAST_SEEN}
         self.start, self.measure, self.most, self.seeds = start, measure, most, seeds
         self.known: dict[FittedDrivers, list[MeasuredRun]] = {}
         self.trials: list[tuple[int, FittedDrivers, float]] = []
@@ -106,7 +106,7 @@ class Fit:
         """How many runs were made."""
         return self.seeds * len(self.known)
 
-    def take(self, all_drivers: Sequence[FittedDrivers]) -> bool:
+    def run_missing(self, all_drivers: Sequence[FittedDrivers]) -> bool:
         """Makes the runs of drivers that are not known; gives whether their number allowed it."""
         missing = [drivers for drivers in dict.fromkeys(all_drivers) if drivers not in self.known]
         if self.runs + self.seeds * len(missing) > self.most:
@@ -118,7 +118,7 @@ class Fit:
         """Model less field of each way, over its error; a way that nobody drove in the runs counts nothing."""
         here = pooled_runs(self.known[drivers])
         found = []
-        for key, (mean, deviation, count) in sorted(self.wanted.items()):
+        for key, (mean, deviation, count) in sorted(self.field_times.items()):
             error = hypot(deviation / sqrt(count), MODEL_ERROR * mean)
             found.append((here[key][0] - mean) / error if key in here else 0.0)
         return np.array(found)
@@ -126,7 +126,8 @@ class Fit:
     def solve(self, values: Sequence[FittedValue]) -> FitResult:
         """Fits values, and then again without those that the data do not tell, which stay where they began."""
         result = self.climb(values)
-        untold = [value for value, error in zip(values, result.told) if error > TOLD * value.usual_spread]
+        limits = [MAX_SHARE_OF_PRIOR * value.usual_spread for value in values]
+        untold = [value for value, error, most in zip(values, result.unscaled_errors, limits) if error > most]
         if untold and len(untold) < len(values):
             again = self.climb([value for value in values if value not in untold])
             return replace(again, untold=untold)
@@ -141,7 +142,7 @@ class Fit:
         center, covariance, spread = x.copy(), np.diag([value.spread**2 for value in values]), 1.0
         for _ in range(ROUNDS if values else 0):
             moves = [moved(x, values, index) for index in range(len(values))]
-            if not self.take([self.drivers(values, point) for point in (x, *(moved_x for moved_x, _ in moves))]):
+            if not self.run_missing([self.drivers(values, point) for point in (x, *(moved_x for moved_x, _ in moves))]):
                 break
             residuals = self.residuals(self.drivers(values, x))
             slopes = [(self.residuals(self.drivers(values, moved_x)) - residuals) / step for moved_x, step in moves]
@@ -157,7 +158,7 @@ class Fit:
             x = best
             if shift.max() < ENOUGH:
                 break
-        self.take([self.drivers(values, x)])
+        self.run_missing([self.drivers(values, x)])
         deviations = np.sqrt(np.diag(covariance)) if values else np.array([])
         correlations = (covariance / np.outer(deviations, deviations)).tolist() if values else []
         drivers, errors = self.drivers(values, x), (deviations * sqrt(spread)).tolist()
@@ -170,7 +171,7 @@ class Fit:
         before = self.cost(values, x, center)
         for part in PARTS:
             there = clipped(values, x + part * step)
-            if not self.take([self.drivers(values, there)]):
+            if not self.run_missing([self.drivers(values, there)]):
                 return None
             if self.cost(values, there, center) < before:
                 return there

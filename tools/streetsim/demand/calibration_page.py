@@ -27,7 +27,7 @@ SEGMENTS = (
 RUNS = ("runs", "dawdle", "cut_s", "speed_factors", "cost")
 FITTED, OTHER = "fitted", "other"
 BEFORE, AFTER = "uncalibrated", "calibrated"
-LAST = "criteria.csv"
+LAST_FILE = "criteria.csv"
 NOT_TOLD = (
     "Lefts that give way on an approach that a plan or a treatment makes the bottleneck: nothing in a base tells how "
     "many of them pass. Above 0.85 of its capacity such an approach wants a survey: --permissive EDGE=SHARE.",
@@ -86,7 +86,7 @@ def write_calibration(folder: str, calibration: Calibration) -> None:
     write_table(f"{folder}/runs.csv", RUNS, map(trial_row, calibration.result.trials))
     with whole_file(f"{folder}/report.html") as file:
         file.write(page_of(calibration))
-    write_table(f"{folder}/{LAST}", CRITERIA, criteria_rows(calibration.days))
+    write_table(f"{folder}/{LAST_FILE}", CRITERIA, criteria_rows(calibration.days))
 
 
 def write_drivers(path: str, calibration: Calibration) -> None:
@@ -108,7 +108,7 @@ def criteria_rows(days: Iterable[JudgedDay]) -> Iterator[Entry]:
     for day in days:
         for drivers, all_ in day.criteria.items():
             for one in all_:
-                share, wanted = f"{100 * one.share:.1f}", f"{100 * one.wanted:.0f}"
+                share, wanted = f"{100 * one.share:.1f}", f"{100 * one.share_needed:.0f}"
                 yield one.name, day.name, drivers, share, one.of, wanted, "yes" if one.is_met else "no"
 
 
@@ -164,7 +164,7 @@ def why_not_valid(calibration: Calibration) -> str:
     if last_day.name != OTHER:
         return "The base is fitted, and not validated: no other day was given."
     criteria = (criterion for criterion in last_day.criteria[AFTER] if not criterion.is_met)
-    missed = [f"{criterion.name} ({criterion.told()})" for criterion in criteria]
+    missed = [f"{criterion.name} ({criterion.share_text()})" for criterion in criteria]
     return f"The base is not validated: on the other day it does not meet {', '.join(missed)}."
 
 
@@ -177,7 +177,7 @@ def criteria_table(days: Sequence[JudgedDay]) -> str:
             by_name.setdefault(criterion.name, {})[day.name, drivers] = criterion
     rows = []
     for name, by_column in by_name.items():
-        share_needed = next(iter(by_column.values())).wanted
+        share_needed = next(iter(by_column.values())).share_needed
         cells = [mark_told(by_column.get((day.name, drivers))) for day, drivers in columns]
         rows.append([escape(name), f"{100 * share_needed:.0f} %", *cells])
     head = ["criterion", "wanted", *(f"{day.name} day, {drivers}" for day, drivers in columns)]
@@ -187,7 +187,9 @@ def criteria_table(days: Sequence[JudgedDay]) -> str:
 
 def mark_told(criterion: Criterion | None) -> str:
     """How a criterion is met, as HTML; empty where the day has no data for it."""
-    return "" if criterion is None else escape(f"{criterion.told()}: {'held' if criterion.is_met else 'not held'}")
+    if criterion is None:
+        return ""
+    return escape(f"{criterion.share_text()}: {'held' if criterion.is_met else 'not held'}")
 
 
 def segments_table(days: Sequence[JudgedDay]) -> str:
@@ -240,5 +242,6 @@ def lines_told(calibration: Calibration) -> Iterator[str]:
     for day in calibration.days:
         for before, after in zip(day.criteria[BEFORE], day.criteria[AFTER], strict=True):
             held = "held" if after.is_met else "not held"
-            yield f"{day.name} day: {after.name}: {after.told()}, {held} (uncalibrated {100 * before.share:.0f} %)"
+            uncalibrated = f"uncalibrated {100 * before.share:.0f} %"
+            yield f"{day.name} day: {after.name}: {after.share_text()}, {held} ({uncalibrated})"
     yield "validated on another day" if calibration.is_valid() else why_not_valid(calibration).rstrip(".")

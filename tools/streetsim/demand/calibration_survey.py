@@ -9,7 +9,7 @@ from streetsim.base.arrays import numpy as np
 from streetsim.model.saturation import DAWDLES, GREEN, table_of
 
 SKIPPED = 3  # vehicles of a green, from behind which on headways count
-LEAST = 6  # vehicles of a green whose headways count
+LEAST_VEHICLES = 6  # vehicles of a green whose headways count
 SPREAD = (0.4, 0.3)  # of a green's headway from the fourth vehicle on (s), and of its vehicles less those, usual ones
 
 
@@ -32,7 +32,7 @@ def discharge(times: Iterable[float], begins: Iterable[float], cycle: float) -> 
     passed, heads, full = np.sort(np.array(list(times), float)), [], []
     for begin in begins:
         own = passed[(passed >= begin - 1) & (passed < begin + cycle - 1)]
-        if len(own) >= LEAST:
+        if len(own) >= LEAST_VEHICLES:
             full.append(len(own))
             heads.append((own[-1] - own[SKIPPED]) / (len(own) - SKIPPED - 1))
     return (float(np.mean(heads)), float(np.mean(full))) if full else (float("nan"), float("nan"))

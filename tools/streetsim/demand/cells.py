@@ -25,7 +25,7 @@ class TableRow:
     cells: Mapping[str, str]
 
     @property
-    def where(self) -> str:
+    def location(self) -> str:
         """The file and its line, as faults name it."""
         return f"{self.path}: line {self.line}"
 
@@ -36,7 +36,7 @@ class TableRow:
         try:
             return convert(text)
         except ValueError as fault:
-            raise Fault(f"{self.where}: {name} {text!r} {fault}") from None
+            raise Fault(f"{self.location}: {name} {text!r} {fault}") from None
 
     def text(self, name: str) -> str:
         """What a column has, without blanks around it; empty where the table does not have the column."""

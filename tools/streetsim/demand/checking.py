@@ -26,15 +26,15 @@ class Contradiction(NamedTuple):
     street: str
     begin: int
     end: int
-    words: str  # what each number is, with {} for both
+    template: str  # what each number is, with {} for both
     first: float
     second: float
-    where: str  # files and lines, as `lines_told` has them
+    location: str  # files and lines, as `lines_told` has them
 
     def line(self) -> str:
         """The contradiction in one line, with the lines of files that tell the numbers."""
-        what = self.words.format(f"{self.first:g}", f"{self.second:g}")
-        return f"{self.street}, {self.begin:,} to {self.end:,} s: {what} ({self.where})"
+        what = self.template.format(f"{self.first:g}", f"{self.second:g}")
+        return f"{self.street}, {self.begin:,} to {self.end:,} s: {what} ({self.location})"
 
 
 def check_edges(names: Iterable[str], location: str, net: SumoNet) -> None:
@@ -54,17 +54,17 @@ def check_counts(counts: Sequence[Count], net: SumoNet, graph: Graph) -> None:
     overlap, of more than a vehicle a second and lane of the edge with the fewest (and one vehicle beyond); and where
     all are 0. counts: one at least."""
     for count in counts:
-        check_edges(count.edges, count.where, net)
+        check_edges(count.edges, count.location, net)
         for source, target in pairwise(count.edges):
             if (graph.number[source], graph.number[target]) not in graph.movement_of:
-                raise Fault(f"{count.where}: no connection leads from edge {source!r} to edge {target!r}")
+                raise Fault(f"{count.location}: no connection leads from edge {source!r} to edge {target!r}")
         lanes = min(len(net.edges[edge].lanes) for edge in count.edges)
         if count.vehicles > MOST_A_LANE * lanes * count.hours + 1:
             told = f"{count.vehicles:,.0f} vehicles in {count.end - count.begin:,} s"
-            raise Fault(f"{count.where}: {told} are more than one a second and lane")
+            raise Fault(f"{count.location}: {told} are more than one a second and lane")
     check_periods(counts)
     if not any(count.vehicles for count in counts):
-        raise Fault(f"{counts[0].where} and {len(counts) - 1:,} more: all counts are 0")
+        raise Fault(f"{counts[0].location} and {len(counts) - 1:,} more: all counts are 0")
 
 
 def check_periods(counts: Sequence[Count]) -> None:
@@ -72,7 +72,7 @@ def check_periods(counts: Sequence[Count]) -> None:
     for first, second in overlapping_pairs(counts, lambda count: (count.edges, count.kind)):
         same_period = (first.begin, first.end) == (second.begin, second.end)
         how = "counted a second time in this period" if same_period else f"counted already until {first.end:,} s"
-        raise Fault(f"{second.where}: {second.edges_told()} is {how} (as {first.where})")
+        raise Fault(f"{second.location}: {second.edges_told()} is {how} (as {first.location})")
 
 
 def contradictions(counts: Sequence[Count], graph: Graph, begins: Set[int], ends: Set[int]) -> list[Contradiction]:
@@ -95,10 +95,10 @@ def contradictions(counts: Sequence[Count], graph: Graph, begins: Set[int], ends
 
 
 Sides = tuple[str, str, list[Count], list[Count]]  # street, words with two {}, and counts whose sums should be equal
-There = Mapping[tuple[str, ...], Count]  # the counts of one period and class, by edges
+CountByEdges = Mapping[tuple[str, ...], Count]  # the counts of one period and class, by edges
 
 
-def sides_of_edges(by_edges: There, graph: Graph, begins: Set[int], ends: Set[int]) -> Iterator[Sides]:
+def sides_of_edges(by_edges: CountByEdges, graph: Graph, begins: Set[int], ends: Set[int]) -> Iterator[Sides]:
     """Of each edge what should be equal: its count and all its turns, its count and all turns into it, or these two
     where it has no count; as far as all of a side are counted. begins, ends: as `contradictions` has them."""
     for edge, name in enumerate(graph.edges):
@@ -113,7 +113,7 @@ def sides_of_edges(by_edges: There, graph: Graph, begins: Set[int], ends: Set[in
             yield f"edge {name}", "{} turn into it, {} turn at its end", into, out
 
 
-def sides_of_junctions(by_edges: There, graph: Graph, begins: Set[int], ends: Set[int]) -> Iterator[Sides]:
+def sides_of_junctions(by_edges: CountByEdges, graph: Graph, begins: Set[int], ends: Set[int]) -> Iterator[Sides]:
     """Of junctions all of whose edges are counted (by themselves, not by turns) what comes in and what goes out; those
     where trips end on an edge that comes in, or begin on one that goes out (ends, begins), are left out. A junction is
     known by the edges that lead to the same ones."""
@@ -132,7 +132,7 @@ def sides_of_junctions(by_edges: There, graph: Graph, begins: Set[int], ends: Se
             yield f"junction of {graph.edges[min(sources)]}", "{} come in, {} go out", first, second
 
 
-def counts_if_all(by_edges: There, keys: Iterable[tuple[str, ...]]) -> list[Count]:
+def counts_if_all(by_edges: CountByEdges, keys: Iterable[tuple[str, ...]]) -> list[Count]:
     """The counts of some keys, edges each; empty where one of them has no count, or there are none."""
     key_list = list(keys)
     return [by_edges[key] for key in key_list] if all(key in by_edges for key in key_list) else []
@@ -142,7 +142,7 @@ def lines_told(counts: Sequence[Count]) -> str:
     """Where some counts stand: each file once, with at most four of its lines and how many further ones there are."""
     lines_of: defaultdict[str, list[str]] = defaultdict(list)
     for count in counts:
-        path, _, line = count.where.rpartition(": line ")
+        path, _, line = count.location.rpartition(": line ")
         lines_of[path].append(line)
     return "; ".join(
         f"{path}: line{'s' * (len(lines) > 1)} {first_few(lines, MOST_LINES)}" for path, lines in lines_of.items()

@@ -22,11 +22,11 @@ MOST_TOLD = 5  # ways that are named
 
 @dataclass(frozen=True, slots=True)
 class ComparedTime:
-    """Mean seconds of a way, here and there, and how many vehicles were measured there."""
+    """Mean seconds of a way, in the run and in the field, and how many vehicles were measured in the field."""
 
     key: tuple[str, ...]
-    here: float
-    there: float
+    model_seconds: float
+    field_seconds: float
     vehicles: int
 
     @property
@@ -39,7 +39,7 @@ class ComparedTime:
     @property
     def off(self) -> float:
         """By which share the run is off."""
-        return self.here / self.there - 1
+        return self.model_seconds / self.field_seconds - 1
 
 
 def read_compared(paths: Iterable[str], notes: list[str]) -> list[TravelTime]:
@@ -125,7 +125,8 @@ def lines_of_times(times: list[ComparedTime]) -> Iterator[str]:
     """How close the times are, by kind of way, and those that are off most."""
     for name, minute in ((SEGMENT, 0.0), (ROUTE, MINUTE), (OF_TRIP, MINUTE), (EDGE, 0.0)):
         if of_kind := [time for time in times if time.kind == name]:
-            good = fmean(abs(time.here - time.there) <= max(MARK * time.there, minute) for time in of_kind)
+            pairs = [(time.model_seconds, time.field_seconds) for time in of_kind]
+            good = fmean(abs(model - field) <= max(MARK * field, minute) for model, field in pairs)
             mark = "within 15 %" + (" or a minute" if minute else "")
             held = "held" if good >= SHARE else "not held"
             rms = fmean(time.off**2 for time in of_kind) ** 0.5
@@ -133,7 +134,8 @@ def lines_of_times(times: list[ComparedTime]) -> Iterator[str]:
             yield f"{name}: {within}, off by {100 * rms:.1f} % (rms)"
     worst = sorted(times, key=lambda time: -abs(time.off))[:MOST_TOLD]
     for time in worst:
-        yield f"{way_told(time.key)}: {time.here:.1f} s here, {time.there:.1f} s there ({100 * time.off:+.1f} %)"
+        both = f"{time.model_seconds:.1f} s here, {time.field_seconds:.1f} s there"
+        yield f"{way_told(time.key)}: {both} ({100 * time.off:+.1f} %)"
 
 
 def are_close(times: list[ComparedTime]) -> bool:

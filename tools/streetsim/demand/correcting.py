@@ -3,7 +3,9 @@ from collections.abc import Iterator, Sequence
 from dataclasses import dataclass
 
 from streetsim.base.report import first_few
-from streetsim.demand.demanding import Basis, DemandInputs, Fitted, Told, fit_to_counts, passing_by_class, trips_of_fit
+from streetsim.demand.demanding import (
+    Basis, DemandInputs, Fitted, ReportStage, fit_to_counts, passing_by_class, trips_of_fit,
+)  # fmt: skip
 from streetsim.demand.fitting import counted_vehicles
 from streetsim.demand.judging import ComparedCount, JudgedCounts, judged, worst_fits
 from streetsim.demand.running import Ran, movement_delays, passed_by_count, run_demand
@@ -17,7 +19,7 @@ from streetsim.sumo.way_costs import Costs, costs_of
 from streetsim.sumo.way_graph import Graph
 
 HALF = 0.5  # of what a run and the fit differ by, that the next fit makes up for
-FULL = 120.0  # seconds of delay on an edge, from which on it is taken to be full: more than a cycle
+FULL_DELAY_S = 120.0  # seconds of delay on an edge, from which on it is taken to be full: more than a cycle
 AFTER = 7200  # seconds that a run may last after the last departure
 LATE = 0.1  # of a count, that does not pass though the vehicles for it are there
 
@@ -56,7 +58,7 @@ class Attempt:
 
 
 def try_demands(
-    basis: Basis, inputs: DemandInputs, ground: RunGround, runs: int, fitted: Fitted, report_stage: Told
+    basis: Basis, inputs: DemandInputs, ground: RunGround, runs: int, fitted: Fitted, report_stage: ReportStage
 ) -> Iterator[Attempt]:
     """Runs a demand, of one count at least, at most `runs` times, and gives each attempt as it ends: the first of the
     fit on paper (fitted), the others of what the run before corrects. Ends after one that fits. Fault where a fit has
@@ -82,7 +84,7 @@ def try_demand(basis: Basis, inputs: DemandInputs, ground: RunGround, number: in
     loaded = town.loaded(trips)
     ran = run_demand(ground, loaded, inputs.seed)
     kinds = [trip.type if trip.type in basis.kinds else "" for trip in trips]
-    passed = passed_by_count(basis.by_edges, [trip.path for trip in trips], kinds, ran.left)
+    passed = passed_by_count(basis.by_edges, [trip.path for trip in trips], kinds, ran.exit_clocks)
     full = full_edges(town.graph, movement_delays(town.graph, ran.observed, loaded.free))
     return Attempt(number, trips, fitted, judged(basis.counts, passed), loaded, ran, passed, full)
 
@@ -103,7 +105,7 @@ def full_edges(graph: Graph, lost: Sequence[float]) -> dict[int, float]:
     than 120. lost: seconds by movement, as `movement_delays` gives them."""
     found: dict[int, float] = {}
     for (edge, _), seconds in zip(graph.movements, lost, strict=True):
-        if seconds > FULL:
+        if seconds > FULL_DELAY_S:
             found[edge] = max(seconds, found.get(edge, 0.0))
     return found
 

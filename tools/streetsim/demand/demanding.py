@@ -26,7 +26,7 @@ from streetsim.sumo.way_costs import Costs, flat_costs
 from streetsim.sumo.way_seconds import free_seconds
 from streetsim.sumo.way_unloaded import map_without_routes, times_and_capacities_without_routes
 
-Told = Callable[[str], object]  # takes what is done just now, in words
+ReportStage = Callable[[str], object]  # takes what is done just now, in words
 
 
 @dataclass(frozen=True, slots=True)
@@ -49,8 +49,8 @@ class DemandInputs:
 
 @dataclass(frozen=True, slots=True)
 class Basis:
-    """What a fit stands on. kinds: vehicle classes that are told apart, empty for all others; given: by class the
-    vehicles of a matrix or of turn ratios, an array in one row, at index way * slices + slice; free: seconds of
+    """What a fit stands on. kinds: vehicle classes that are told apart, empty for all others; given_vehicles: by class
+    the vehicles of a matrix or of turn ratios, an array in one row, at index way * slices + slice; free: seconds of
     each movement without other traffic, with the mean waits at signals."""
 
     town: RouteTown
@@ -61,7 +61,7 @@ class Basis:
     ways: list[Way]
     slices: Slices
     by_edges: CountsByEdges
-    given: Mapping[str, Array]
+    given_vehicles: Mapping[str, Array]
     free: Sequence[float]
     kept_pairs: tuple[int, int]  # pairs that were kept, of how many
 
@@ -87,7 +87,7 @@ class Fitted:
         return (self.passing @ self.whole).tolist()
 
 
-def basis_of(town: RouteTown, inputs: DemandInputs, report_stage: Told) -> Basis:
+def basis_of(town: RouteTown, inputs: DemandInputs, report_stage: ReportStage) -> Basis:
     """Reads and checks what was asked for, and finds the candidate ways. Classes of counts and matrices, and types of
     files of candidates, are added to the vehicle types of the town. Fault for what cannot be used and without SciPy."""
     numpy_and_scipy()
@@ -145,17 +145,18 @@ def read_matrix(
     be read, zones or edges that are not known, and a matrix without a vehicle."""
     zones = read_zones(inputs.zones)
     for zone in zones.values():
-        checking.check_edges([*zone.sources, *zone.sinks], zone.where, town.net)
+        checking.check_edges([*zone.sources, *zone.sinks], zone.location, town.net)
     period = (min(count.begin for count in counts), max(count.end for count in counts)) if counts else None
     cells = matrices.read_matrices(inputs.matrices, period)
     if cells and not zones:
         names = {name for cell in cells for name in (cell.source, cell.target)}
         if unknown := sorted(names - town.net.edges.keys()):
-            raise Fault(f"{cells[0].where}: there is no zone {unknown[0]!r}: give zones as lists of edges by --zones")
+            lacks = f"there is no zone {unknown[0]!r}: give zones as lists of edges by --zones"
+            raise Fault(f"{cells[0].location}: {lacks}")
         zones = {name: Zone(name, {name: 1.0}, {name: 1.0}, "") for name in names}
     matrices.check_zones(cells, zones)
     if cells and not any(cell.vehicles for cell in cells):
-        raise Fault(f"{cells[0].where} and {len(cells) - 1:,} more: the matrix is empty")
+        raise Fault(f"{cells[0].location} and {len(cells) - 1:,} more: the matrix is empty")
     return zones, cells
 
 
@@ -165,7 +166,7 @@ def kinds_of(counts: Iterable[Count], cells: Iterable[MatrixCell]) -> tuple[str,
     dated: list[Count | MatrixCell] = [*counts, *cells]
     for one in dated:
         if one.kind and one.kind not in CLASSES:
-            raise Fault(f"{one.where}: SUMO has no vehicle class {one.kind!r}; it has {', '.join(CLASSES)}")
+            raise Fault(f"{one.location}: SUMO has no vehicle class {one.kind!r}; it has {', '.join(CLASSES)}")
     return tuple(sorted({one.kind for one in dated})) or ("",)
 
 
@@ -320,8 +321,8 @@ def expected_vehicles(basis: Basis, inputs: DemandInputs, kind: str, base: Spars
     else by the counts of the class; for the empty class by those of all vehicles, less those of classes that are
     counted there in that time; else 0. base: the class's columns of passing_by_class; counted: vehicles by count."""
     numpy, _ = numpy_and_scipy()
-    if kind in basis.given:
-        return basis.given[kind]
+    if kind in basis.given_vehicles:
+        return basis.given_vehicles[kind]
     rows = [row for row, count in enumerate(basis.counts) if count.kind == kind]
     if not rows:
         return numpy.zeros(base.shape[1])

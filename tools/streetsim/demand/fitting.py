@@ -13,7 +13,7 @@ FIRM = 10.0  # how many times as much as their deviations say counts weigh in th
 ENDS_ROUNDS = 6  # in which the trips that begin and end on each edge, or in each zone, are estimated
 OUTSIDE = (0, 2, 4)  # times doubled, that an end outside has more than one within: what fits best
 HALF = 0.5  # of what is expected of a way, by how many begin and how many end where it does
-LEAST = 1e-6  # vehicles that are expected of a way and slice at least, so that it is not ruled out
+LEAST_EXPECTED = 1e-6  # vehicles that are expected of a way and slice at least, so that it is not ruled out
 STEPS = 500  # of the search for the least squares, at most
 
 
@@ -39,10 +39,10 @@ def deviations(counted: Array, error: float) -> Array:
 def least_squares(problem: Problem) -> tuple[Array, float]:
     """(the vehicles of each column, 0 at least, as an array; the sum of squares, which is least for them): of what the
     counts differ by over their deviations (above 0), and of what the vehicles differ by from those expected over the
-    root of these. Fewer than LEAST that are expected count as LEAST, so that no column is ruled out. After STEPS steps
-    what is found until then is given, and nothing is said."""
+    root of these. Fewer than LEAST_EXPECTED that are expected count as so many, so that no column is
+    ruled out. After STEPS steps what is found until then is given, and nothing is said."""
     numpy, scipy = numpy_and_scipy()
-    root = numpy.sqrt(numpy.maximum(problem.expected, LEAST))
+    root = numpy.sqrt(numpy.maximum(problem.expected, LEAST_EXPECTED))
     scaled = (scipy.sparse.diags(1 / problem.deviation) @ problem.passing @ scipy.sparse.diags(root)).tocsr()
     across = scaled.T.tocsr()
     target = problem.counted / problem.deviation
@@ -78,7 +78,7 @@ class TripEnds:
         numpy, _ = numpy_and_scipy()
         own = numpy.bincount(self.of_way, vehicles, len(self.weight))
         rates = numpy.bincount(self.outside, own, 2) / numpy.maximum(
-            numpy.bincount(self.outside, self.weight, 2), LEAST
+            numpy.bincount(self.outside, self.weight, 2), LEAST_EXPECTED
         )
         return (HALF * own + (1 - HALF) * rates[self.outside] * self.weight)[self.of_way]
 
@@ -115,7 +115,7 @@ class Expecting:
             mixed = HALF * self.vehicles_by_ends(fitted, share) + (1 - HALF) * fitted
             base, rates = self.ways_and_slices(passing, counted, mixed)
         base = least_squares(Problem(pooled_columns(passing, rates), base, counted, deviation))[0]
-        return numpy.outer(numpy.maximum(base, LEAST), rates).ravel()
+        return numpy.outer(numpy.maximum(base, LEAST_EXPECTED), rates).ravel()
 
     def misfit(self, passing: Sparse, counted: Array, base: Array) -> float:
         """How far counts and what is expected stay apart in a fit, by the sum of squares, so that the best of several
@@ -134,7 +134,7 @@ class Expecting:
         """The vehicles of each way, as an array, in proportion to how many begin and how many end where it does and to
         its share; their sum is that of `vehicles`, of each way."""
         made = self.begins.vehicles_at(vehicles) * self.ends.vehicles_at(vehicles) * share
-        return made * (vehicles.sum() / max(made.sum(), LEAST))
+        return made * (vehicles.sum() / max(made.sum(), LEAST_EXPECTED))
 
     def slice_rates(self, passing: Sparse, counted: Array, base: Array) -> Array:
         """By slice, as an array, how many vehicles it has for one vehicle of `base`, which has a number for each way.
@@ -151,7 +151,7 @@ class Expecting:
             table = table[:, 1:]
         deviation = deviations(counted, self.error)[:, None]
         rates, _ = scipy.optimize.nnls(table / deviation, counted / deviation[:, 0])
-        rates = numpy.maximum(rates, 1e-3 * max(rates.max(), LEAST))
+        rates = numpy.maximum(rates, 1e-3 * max(rates.max(), LEAST_EXPECTED))
         return numpy.concatenate(([rates[0] * widths[0] / widths[1]], rates)) if self.slices.leads_in else rates
 
 

@@ -104,10 +104,11 @@ class CountSums:
 
 @dataclass(frozen=True, slots=True)
 class JudgedCounts:
-    """How well a run, or a fit, meets counts, of which there is one at least. each: by count; hourly: by edges, class
-    and hour of the clock, as one count each; hours: sums of these, by hour; groups: sums by screen line and hour."""
+    """How well a run, or a fit, meets counts, of which there is one at least. compared: by count; hourly: by edges,
+    class and hour of the clock, as one count each; hours: sums of these, by hour; groups: sums by screen line and
+    hour."""
 
-    each: list[ComparedCount]
+    compared: list[ComparedCount]
     hourly: list[ComparedCount]
     hours: list[CountSums]
     groups: list[CountSums]
@@ -141,8 +142,8 @@ class JudgedCounts:
                 f"screen line {sums.group}, {sums.begin:,} to {sums.end:,} s: {sums.passed:,.0f} passed of "
                 f"{sums.counted:,.0f} counted ({100 * sums.relative_difference:+.1f} %)"
             )
-        if (line := correlation_and_slope(self.each)) is not None:
-            yield f"all {len(self.each):,} counts: r = {line[0]:.3f}, slope {line[1]:.3f}"
+        if (line := correlation_and_slope(self.compared)) is not None:
+            yield f"all {len(self.compared):,} counts: r = {line[0]:.3f}, slope {line[1]:.3f}"
 
 
 def judged(counts: Sequence[Count], passed: Sequence[float]) -> JudgedCounts:

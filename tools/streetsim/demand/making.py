@@ -44,7 +44,7 @@ class DemandRuns:
 
 
 @dataclass(frozen=True, slots=True)
-class Made:
+class MadeDemand:
     """A demand, with all runs that were tried. judged: how it meets the counts, none where there are none; trips: its
     vehicles; best: the run that it is of, none where nothing was run."""
 
@@ -58,7 +58,7 @@ class Made:
 
 def run_and_tell(
     basis: Basis, inputs: DemandInputs, settings: DemandRuns, fitted: Fitted, ends: Callable[[], bool],
-    report_stage: demanding.Told,
+    report_stage: demanding.ReportStage,
 ) -> list[Attempt]:
     """Runs until the demand fits, all runs are used up, or the user asks for an end (which `ends` tells); prints a line
     on standard error after each, and gives them all. Each run ends correcting.AFTER seconds after the last slice at the
@@ -75,14 +75,14 @@ def run_and_tell(
     return attempts
 
 
-def best_demand(basis: Basis, inputs: DemandInputs, fitted: Fitted, tried: list[Attempt]) -> Made:
+def best_demand(basis: Basis, inputs: DemandInputs, fitted: Fitted, tried: list[Attempt]) -> MadeDemand:
     """The demand of the run that fits best, or of the fit on paper where nothing was run. Fault where that has no
     vehicle."""
     if tried:
         best = max(tried, key=Attempt.rank)  # the first of equal ones
-        return Made(basis, best.fitted, tried, best.judged, best.trips, best)
+        return MadeDemand(basis, best.fitted, tried, best.judged, best.trips, best)
     on_paper = judged(basis.counts, fitted.passed_by_count()) if basis.counts else None
-    return Made(basis, fitted, [], on_paper, demanding.trips_of_fit(basis, inputs, fitted), None)
+    return MadeDemand(basis, fitted, [], on_paper, demanding.trips_of_fit(basis, inputs, fitted), None)
 
 
 def tell_inputs(basis: Basis, fitted: Fitted) -> None:
@@ -94,12 +94,12 @@ def tell_inputs(basis: Basis, fitted: Fitted) -> None:
     apart = [f"counts contradict each other: {contradiction.line()}" for contradiction in basis.contradictions]
     warn(apart, "{:,} more contradictions: contradictions.csv")
     none = [
-        f"no way passes {count.edges_told()} from {count.begin:,} to {count.end:,} s: {count.where}"
+        f"no way passes {count.edges_told()} from {count.begin:,} to {count.end:,} s: {count.location}"
         for count in unreachable_counts(fitted.passing, basis.counts)
     ]
     warn(none, "no way passes {:,} more counts")
     joined = {way.pair for way in basis.ways}
-    lost = [pair for index, pair in enumerate(basis.pairs) if basis.given and index not in joined]
+    lost = [pair for index, pair in enumerate(basis.pairs) if basis.given_vehicles and index not in joined]
     warn(
         [f"no way leads from {pair.source} to {pair.target}: vehicles of the matrix are left out" for pair in lost],
         "no way leads from one to the other zone of {:,} more pairs",
@@ -116,7 +116,7 @@ def warn(texts: Sequence[str], more: str) -> None:
         print(f"warning: {text}", file=sys.stderr)
 
 
-def write_made(paths: DemandOutputs, demand: Made, setting: Json) -> None:
+def write_made(paths: DemandOutputs, demand: MadeDemand, setting: Json) -> None:
     """Writes the vehicles, the tables and pictures, and the run with its map where they are asked for; setting: what
     goes into setting.json. Fault where a file cannot be written, and without runs as of RouteTown.loaded."""
     basis = demand.basis
@@ -134,7 +134,7 @@ def write_made(paths: DemandOutputs, demand: Made, setting: Json) -> None:
         write_setting(folder, setting)
 
 
-def setting_of(inputs: DemandInputs, demand: Made, runs: int) -> Json:
+def setting_of(inputs: DemandInputs, demand: MadeDemand, runs: int) -> Json:
     """What a demand was made of and came to, for setting.json; runs: how many were allowed."""
     return {
         **asdict(inputs),
@@ -146,7 +146,7 @@ def setting_of(inputs: DemandInputs, demand: Made, runs: int) -> Json:
     }
 
 
-def tell_result(demand: Made) -> int:
+def tell_result(demand: MadeDemand) -> int:
     """Prints what was made, how well it fits and why it is not to be trusted; gives the status: 1 where counts do not
     fit, else 0."""
     slices, ways = demand.basis.slices, demand.basis.ways

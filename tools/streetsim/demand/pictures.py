@@ -9,7 +9,7 @@ from streetsim.report.picture_files import Figure, Pyplot
 from streetsim.search.route_drawing import draw_flows, middle_point, scale_of_differences
 
 POINTS = 60  # of the curve of GEH
-LEAST = 50  # vehicles an hour, up to which colours of differences go at least
+LEAST_COLOUR_RANGE = 50  # vehicles an hour, up to which colours of differences go at least
 
 
 def draw_fit(folder: str, fit: JudgedCounts, links: Sequence[MapLink], how_passed: str) -> None:
@@ -52,7 +52,7 @@ def differences_figure(
     spans = [max(axis) - min(axis) for axis in zip(*(point[:2] for link in links for point in link.shape))]
     wide = spans[0] > 2 * spans[1]
     figure, axes = pyplot.subplots(figsize=(9, 3.6) if wide else (8, 6.5), layout="constrained")
-    most = max(LEAST, *(abs(value) for value in values))
+    most = max(LEAST_COLOUR_RANGE, *(abs(value) for value in values))
     lines = draw_flows(axes, links, values, scale_of_differences(most), f"{how_passed} less counted")
     if counted := [middle_point(link.shape) for link in links if link.edge in differences]:
         axes.plot(*zip(*counted), ".", color="black", markersize=3)

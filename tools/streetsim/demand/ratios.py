@@ -55,18 +55,19 @@ def read_ratios(paths: Iterable[FilePath]) -> tuple[list[Ratio], set[str]]:
             if "interval" not in tag.inside:
                 begin, end = 0, MOST_SECONDS
             if tag.name == "interval":
-                begin, end = period_of(tag.get("begin", clock_of), tag.get("end", clock_of), tag.where)
+                begin, end = period_of(tag.get("begin", clock_of), tag.get("end", clock_of), tag.location)
             elif tag.name == "fromEdge":
                 source = tag.get("id", name_of)
             elif tag.name == "toEdge" and "fromEdge" in tag.inside:
-                ratios.append(Ratio(begin, end, source, tag.get("id", name_of), weight_of(tag), tag.where))
+                ratios.append(Ratio(begin, end, source, tag.get("id", name_of), weight_of(tag), tag.location))
             elif tag.name == "edgeRelation":
                 ends = tag.get("from", name_of), tag.get("to", name_of)
-                ratios.append(Ratio(begin, end, *ends, weight_of(tag), tag.where))
+                ratios.append(Ratio(begin, end, *ends, weight_of(tag), tag.location))
             elif tag.name == "sink":
                 sinks.update(tag.get("edges", name_of).split())
             else:
-                raise Fault(f"{tag.where}: <{tag.name}> is no turn ratio: <edgeRelation>, or <toEdge> in a <fromEdge>")
+                expected = "<edgeRelation>, or <toEdge> in a <fromEdge>"
+                raise Fault(f"{tag.location}: <{tag.name}> is no turn ratio: {expected}")
         if len(ratios) == before:
             raise Fault(f"{path}: no turn ratio is in it")
     return ratios, sinks

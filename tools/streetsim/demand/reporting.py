@@ -19,8 +19,8 @@ POINTS = 40  # of the curves of GEH
 def counts_section(name: str, fit: JudgedCounts, mapping: Map) -> str:
     """How well what passed in a plan's first seed meets the counts, as HTML; name: of the plan."""
     names = Names(mapping)
-    line = correlation_and_slope(fit.each)
-    more = f"; all {len(fit.each):,} counts: r = {line[0]:.3f}, slope {line[1]:.3f}" if line else ""
+    line = correlation_and_slope(fit.compared)
+    more = f"; all {len(fit.compared):,} counts: r = {line[0]:.3f}, slope {line[1]:.3f}" if line else ""
     shares = f"GEH is below 5 for {100 * fit.good_share:.1f} % of the counts by hour"
     criteria = "which passes the usual criteria" if fit.meets_criteria else "which does not pass the usual criteria"
     told = f"{name}, its first seed: {shares}, {criteria}{more}."

@@ -12,12 +12,12 @@ from streetsim.sumo.way_graph import Graph
 
 @dataclass(frozen=True, slots=True)
 class Ran:
-    """What one run gave. left: for each vehicle the clocks at which it left each edge of its way, as far as it came;
-    arrivals: the clocks, none where it did not arrive; observed: seconds of movements by time; rescues: how many in
-    all, also of one vehicle again; most_waiting: the most vehicles that waited to enter at once, and the clock;
+    """What one run gave. exit_clocks: for each vehicle the clocks at which it left each edge of its way, as far as it
+    came; arrivals: the clocks, none where it did not arrive; observed: seconds of movements by time; rescues: how many
+    in all, also of one vehicle again; most_waiting: the most vehicles that waited to enter at once, and the clock;
     at_works: what speaks against the run, by what was seen before its works."""
 
-    left: list[list[int]]
+    exit_clocks: list[list[int]]
     arrivals: list[int | None]
     observed: Observed
     rescues: int
@@ -31,8 +31,8 @@ def run_demand(ground: RunGround, loaded: LoadedRun, seed: int) -> Ran:
     run = run_with_gaps(ground, loaded.run, loaded.mapping, seed)
     seen = seen_run(ground, run, loaded.mapping, seed, False)
     pairs = zip(seen.clocks, seen.arrivals, strict=True)
-    left = [[*clocks[1:], *([end] if end is not None else [])] for clocks, end in pairs]
-    return Ran(left, seen.arrivals, seen.observed, seen.rescues, seen.most_waiting, seen.at_works)
+    exit_clocks = [[*clocks[1:], *([end] if end is not None else [])] for clocks, end in pairs]
+    return Ran(exit_clocks, seen.arrivals, seen.observed, seen.rescues, seen.most_waiting, seen.at_works)
 
 
 def passed_by_count(

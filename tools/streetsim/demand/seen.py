@@ -43,12 +43,12 @@ def check_counts_in_run(folder: Folder, counts: Sequence[Count]) -> None:
     for count in counts:
         for edge in count.edges:
             if edge not in folder.mapping.links_of:
-                raise Fault(f"{count.where}: the run's map has no edge {edge!r}")
+                raise Fault(f"{count.location}: the run's map has no edge {edge!r}")
         for pair in pairwise(count.edges):
             if pair not in edge_pairs:
-                raise Fault(f"{count.where}: no turn leads from edge {pair[0]!r} to edge {pair[1]!r} in the run")
+                raise Fault(f"{count.location}: no turn leads from edge {pair[0]!r} to edge {pair[1]!r} in the run")
         if count.begin >= end:
-            raise Fault(f"{count.where}: counted from {count.begin:,} s on, and {folder.path} ends at {end:,.0f} s")
+            raise Fault(f"{count.location}: counted from {count.begin:,} s on, and {folder.path} ends at {end:,.0f} s")
     check_periods(counts)
 
 
@@ -112,7 +112,7 @@ def passed_by_rows(folder: Folder, counts: Sequence[Count]) -> Iterator[int]:
     those of some edges alone, or they cannot be read. counts: one at least."""
     if not os.path.exists(f"{folder.path}/{ROWS}") or any(word.startswith("--edges") for word in words_of(folder)):
         raise Fault(
-            f"{counts[0].where}: {folder.path} has neither this place and period in its tables nor {ROWS} of all "
+            f"{counts[0].location}: {folder.path} has neither this place and period in its tables nor {ROWS} of all "
             f"edges: run it with --junctions {counts[0].end - counts[0].begin}, or without --edges and --every 0"
         )
     number = {edge: at for at, edge in enumerate(folder.mapping.links_of)}

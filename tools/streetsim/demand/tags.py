@@ -22,7 +22,7 @@ class Tag:
     inside: tuple[str, ...]
 
     @property
-    def where(self) -> str:
+    def location(self) -> str:
         """The file and its line, as faults name it."""
         return f"{self.path}: line {self.line}"
 
@@ -31,11 +31,11 @@ class Tag:
         tells."""
         text = self.attributes.get(name)
         if text is None:
-            raise Fault(f"{self.where}: <{self.name}> has no attribute {name!r}")
+            raise Fault(f"{self.location}: <{self.name}> has no attribute {name!r}")
         try:
             return convert(text)
         except ValueError as fault:
-            raise Fault(f"{self.where}: {name}={text!r} {fault}") from None
+            raise Fault(f"{self.location}: {name}={text!r} {fault}") from None
 
 
 def read_tags(path: FilePath, roots: Collection[str]) -> Iterator[Tag]:

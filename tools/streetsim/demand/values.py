@@ -15,7 +15,7 @@ class Count:
     end: int  # seconds
     edges: tuple[str, ...]
     vehicles: float
-    where: str  # the file and its line
+    location: str  # the file and its line
     kind: str = ""  # the vehicle class; empty: all vehicles
     group: str = ""  # a screen line
 
@@ -37,7 +37,7 @@ class Zone:
     name: str
     sources: Mapping[str, float]
     sinks: Mapping[str, float]
-    where: str  # the file and its line
+    location: str  # the file and its line
 
 
 @dataclass(frozen=True, slots=True)
@@ -49,7 +49,7 @@ class MatrixCell:
     source: str
     target: str
     vehicles: float
-    where: str  # the file and its line
+    location: str  # the file and its line
     kind: str = ""  # the vehicle class; empty: a car
 
 
@@ -78,7 +78,7 @@ class Inflow:
 
     edge: str
     departs: Sequence[float]  # rising
-    where: str  # the file and the element
+    location: str  # the file and the element
 
 
 @dataclass(frozen=True, slots=True)
@@ -91,4 +91,4 @@ class Ratio:
     source: str
     target: str
     weight: float
-    where: str
+    location: str

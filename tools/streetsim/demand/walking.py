@@ -24,9 +24,10 @@ class Turns:
         where the network lacks an edge or a connection that is named."""
         by_source: defaultdict[int, list[Ratio]] = defaultdict(list)
         for ratio in ratios:
-            check_edges([ratio.source, ratio.target], ratio.where, net)
+            check_edges([ratio.source, ratio.target], ratio.location, net)
             if (graph.number[ratio.source], graph.number[ratio.target]) not in graph.movement_of:
-                raise Fault(f"{ratio.where}: no connection leads from edge {ratio.source!r} to edge {ratio.target!r}")
+                ends = f"from edge {ratio.source!r} to edge {ratio.target!r}"
+                raise Fault(f"{ratio.location}: no connection leads {ends}")
             by_source[graph.number[ratio.source]].append(ratio)
         check_edges(sinks, "<sink>", net)
         self.graph, self.sinks = graph, {graph.number[name] for name in sinks}
@@ -69,12 +70,12 @@ def walks_of(
     of each movement, by which it is known which ratio holds; seed: of the draws."""
     graph, draws = turns.graph, random.Random(f"ratios {seed}")
     for flow in inflows:
-        check_edges([flow.edge], flow.where, net)
+        check_edges([flow.edge], flow.location, net)
         for depart in flow.departs:
             path, clock = [graph.number[flow.edge]], depart
             while (following := turns.next_edge(path[-1], clock, draws)) is not None:
                 clock += seconds[graph.movement_of[path[-1], following]]
                 path.append(following)
                 if len(path) > limits.PLAN:
-                    raise Fault(f"{flow.where}: after {limits.PLAN:,} turns by the ratios no sink is reached")
+                    raise Fault(f"{flow.location}: after {limits.PLAN:,} turns by the ratios no sink is reached")
             yield depart, tuple(path)

@@ -15,14 +15,14 @@ from streetsim.sumo.way_graph import Graph
 PAIRS = ("begin", "end", "from", "to", "class", "vehicles")
 RUNS = ("run", "vehicles", "arrived", "rescues", "geh_below_5_percent", "total_difference_percent", "criteria")
 APART = ("place", "begin", "end", "what", "first", "second", "where")
-LAST = "hours.csv"  # of a comparison: away while other files take their places (whole_folder)
+LAST_FILE = "hours.csv"  # of a comparison: away while other files take their places (whole_folder)
 
 
 def write_judged(folder: str, fit: JudgedCounts) -> None:
     """Writes the tables of a comparison with counts to a folder: fit.csv, hours.csv, and groups.csv where there are
     screen lines. Fault where one cannot be written."""
-    write_table(f"{folder}/fit.csv", FIT, (one.fit_row() for one in fit.each))
-    write_table(f"{folder}/{LAST}", HOURS, (one.hour_row() for one in fit.hours))
+    write_table(f"{folder}/fit.csv", FIT, (one.fit_row() for one in fit.compared))
+    write_table(f"{folder}/{LAST_FILE}", HOURS, (one.hour_row() for one in fit.hours))
     if fit.groups:
         write_table(f"{folder}/groups.csv", GROUPS, (one.group_row() for one in fit.groups))
 
@@ -66,8 +66,8 @@ def contradiction_rows(contradictions: Sequence[Contradiction]) -> Iterator[tupl
     """The rows of contradictions.csv, as APART has the columns."""
     for contradiction in contradictions:
         values = f"{contradiction.first:g}", f"{contradiction.second:g}"
-        period, text = (contradiction.begin, contradiction.end), contradiction.words.replace("{} ", "")
-        yield contradiction.street, *period, text, *values, contradiction.where
+        period, text = (contradiction.begin, contradiction.end), contradiction.template.replace("{} ", "")
+        yield contradiction.street, *period, text, *values, contradiction.location
 
 
 def run_rows(tried: Sequence[Attempt]) -> Iterator[tuple[object, ...]]:

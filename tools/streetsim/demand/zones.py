@@ -20,7 +20,7 @@ def read_zones(paths: Iterable[FilePath]) -> dict[str, Zone]:
             raise Fault(f"{path}: no zone is in it")
         for zone in file_zones:
             if zone.name in zones:
-                raise Fault(f"{zone.where}: a second zone {zone.name!r}")
+                raise Fault(f"{zone.location}: a second zone {zone.name!r}")
             zones[zone.name] = zone
     return zones
 
@@ -30,7 +30,7 @@ def zones_in_table(path: FilePath) -> Iterator[Zone]:
     weight. Fault for an empty zone or empty edges, and where table_rows raises one."""
     for row in table_rows(path, ("zone", "edges")):
         weights = dict.fromkeys(row.get("edges", name_of).split(), 1.0)
-        yield Zone(row.get("zone", name_of), weights, weights, row.where)
+        yield Zone(row.get("zone", name_of), weights, weights, row.location)
 
 
 def zones_in_sumo(path: FilePath) -> list[Zone]:
@@ -48,13 +48,13 @@ def zones_in_sumo(path: FilePath) -> list[Zone]:
             edge = tag.get("id", name_of)
             weights[edge] = weights.get(edge, 0.0) + tag.get("weight", vehicle_number)
         elif tag.name not in ("tazs", "param"):
-            raise Fault(f"{tag.where}: <{tag.name}> is no zone: <taz> with <tazSource> and <tazSink>, or edges")
+            raise Fault(f"{tag.location}: <{tag.name}> is no zone: <taz> with <tazSource> and <tazSink>, or edges")
     return [zone_of(*part) for part in parts]
 
 
 def zone_of(tag: Tag, sources: dict[str, float], sinks: dict[str, float]) -> Zone:
     """The zone of a <taz> with its edges and their weights; Fault where it has none of both."""
-    zone = Zone(tag.get("id", name_of), sources, sinks, tag.where)
+    zone = Zone(tag.get("id", name_of), sources, sinks, tag.location)
     if not zone.sources and not zone.sinks:
-        raise Fault(f"{tag.where}: zone {zone.name!r} has no edges")
+        raise Fault(f"{tag.location}: zone {zone.name!r} has no edges")
     return zone
