@@ -24,7 +24,7 @@ from pathlib import Path
 from shared import SAMPLES, SUMO_HOME, TOP, parser_of, with_sumo, work_of
 
 from streetsim.base.report import Report
-from streetsim.demand.judging import judged
+from streetsim.demand.judging import judge_counts
 from streetsim.demand.passing import CountsByEdges
 from streetsim.demand.running import passed_by_count, run_demand
 from streetsim.demand.values import Count
@@ -158,7 +158,7 @@ def fitted_there(case, wrong):
 
 def shares(counts, values):
     """GEH of hourly volumes below 5, of how many, and their mean; the total's difference."""
-    hourly = judged(counts, values).hourly
+    hourly = judge_counts(counts, values).hourly
     good, mean = (sum(some) / len(hourly) for some in ((one.geh < 5 for one in hourly), (one.geh for one in hourly)))
     total = sum(values) / sum(one.vehicles for one in counts) - 1
     return f"{good:.0%} of {len(hourly)} | {mean:.1f} | {total:+.1%}"

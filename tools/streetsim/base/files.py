@@ -454,10 +454,10 @@ def note_kept(text: str) -> None:
     KEPT_NOTES.append(text)
 
 
-def tell_ended(name: str) -> None:
+def print_signal_end(name: str) -> None:
     """Says on standard error which signal ended the tool, and what is kept of its work."""
     with contextlib.suppress(OSError):
-        tell_fault(f"ended by {name}: {'kept: ' + ', '.join(KEPT_NOTES) if KEPT_NOTES else 'nothing was written'}")
+        print_fault(f"ended by {name}: {'kept: ' + ', '.join(KEPT_NOTES) if KEPT_NOTES else 'nothing was written'}")
 
 
 def run_tool(main: Main) -> NoReturn:
@@ -484,15 +484,15 @@ def status_of(main: Main) -> int:
             signal.setitimer(signal.ITIMER_REAL, 0)
             sys.stdout.flush()
     except KeyboardInterrupt:
-        tell_ended("Ctrl-C")
+        print_signal_end("Ctrl-C")
         return 128 + signal.SIGINT
     except SystemExit as ended:
         if isinstance(ended.code, int) and ended.code in STATUSES:
-            tell_ended(STATUSES[ended.code])
+            print_signal_end(STATUSES[ended.code])
         raise
     except Exception as fault:
         if RECEIVED_SIGNALS:
-            tell_ended("Ctrl-C" if RECEIVED_SIGNALS[0] == signal.SIGINT else STATUSES[128 + RECEIVED_SIGNALS[0]])
+            print_signal_end("Ctrl-C" if RECEIVED_SIGNALS[0] == signal.SIGINT else STATUSES[128 + RECEIVED_SIGNALS[0]])
             return 128 + RECEIVED_SIGNALS[0]
         return status_of_fault(fault)
 
@@ -501,19 +501,19 @@ def status_of_fault(fault: Exception) -> int:
     """Tells on standard error what went wrong with a tool, and gives its status, as status_of has it; raises what is
     none of the faults that are told."""
     if isinstance(fault, Fault):
-        tell_fault(fault)
+        print_fault(fault)
         return 2
     if isinstance(fault, BrokenPipeError):
         drop_output()
         return 1
     if isinstance(fault, OSError):
         drop_output()
-        tell_fault(f"{fault.filename or 'standard output'}: {fault.strerror or fault}")
+        print_fault(f"{fault.filename or 'standard output'}: {fault.strerror or fault}")
         return 2
     raise fault
 
 
-def tell_fault(text: object) -> None:
+def print_fault(text: object) -> None:
     """Prints what is wrong on standard error, after the tool's name."""
     print(f"{os.path.basename(sys.argv[0])}: {text}", file=sys.stderr)
 

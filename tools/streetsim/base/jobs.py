@@ -39,9 +39,9 @@ def side_by_side(
         for index, item in enumerate(items):
             start_process(work, index, item, running)
             while running and len(running) >= jobs:
-                hear(running, results, on_progress)
+                receive_messages(running, results, on_progress)
         while running:
-            hear(running, results, on_progress)
+            receive_messages(running, results, on_progress)
     finally:
         for _, process in running.values():
             process.kill()
@@ -74,7 +74,7 @@ def work_and_send(work: Callable[[Item, SendProgress], object], item: Item, pipe
         pipe.send(("fault", str(fault)))
 
 
-def hear(running: Running, results: dict[int, Result], on_progress: OnProgress) -> None:
+def receive_messages(running: Running, results: dict[int, Result], on_progress: OnProgress) -> None:
     """Waits for messages of the processes, and takes one of each that sent some: notes its result and takes it from
     `running`, or passes on what it tells; raises its Fault, or one where it ended without a result."""
     from multiprocessing.connection import Connection, wait

@@ -35,7 +35,7 @@ def find_program(program: str | None = None) -> str:
         raise Fault(f"{named}: no program that can be run; {BUILDS} proofs, in minutes")
     path = of_script(Path(executable).resolve())
     if is_unproved(str(path)):
-        tell_unproved(path)
+        warn_unproved(path)
     return str(path)
 
 
@@ -75,7 +75,7 @@ def proof_note(path: str) -> dict[str, str]:
 
 
 @functools.cache
-def tell_unproved(path: Path) -> None:
+def warn_unproved(path: Path) -> None:
     """Says on standard error that a program is one without proofs; once in a process."""
     told = "results are those of the rules only if it is right; `./build` makes the proved program"
     print(f"streetsim: NOT PROVED: {path} was built without proofs: {told}", file=sys.stderr, flush=True)

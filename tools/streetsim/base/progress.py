@@ -49,7 +49,7 @@ class TerminalLine:
             self.width = 0
 
 
-class Meanwhile(TerminalLine):
+class WorkProgress(TerminalLine):
     """A line that says how much of some work is done, and how long it still takes."""
 
     def __init__(self, unit: str, total: int, stream: IO[str] | None = None, abreast: int = 1) -> None:
@@ -70,10 +70,10 @@ class Meanwhile(TerminalLine):
             going = min(self.abreast, max(0, self.total - done)) / 2 if self.abreast > 1 else 0.0  # half done
             seconds_left = seconds * max(0, self.total - done - going) / max(1, done + going)
         text = f"[{bar(done, self.total)}] {done:,} of {self.total:,} {self.unit}"
-        return f"{text}{more and f', {more}'}, {time_told(seconds_left)} left"
+        return f"{text}{more and f', {more}'}, {time_text(seconds_left)} left"
 
 
-class UnderWay(TerminalLine):
+class RunProgress(TerminalLine):
     """A line on the terminal with the clock of a run, or how many of several runs are done; vehicles on their way,
     arrived, how many times as fast as real time, and how long it still takes. It stays there, as the runs left it, when
     the block ends.
@@ -133,14 +133,14 @@ class UnderWay(TerminalLine):
         share = 1.0 if ended else sum(map(self.share, range(runs))) / runs
         place = f"{self.clocks[0]:,} s" if runs == 1 else f"{self.over} of {runs} runs done"
         around = f"round {self.passed[0] + 1} of {self.passes}, " if runs == 1 < self.passes else ""
-        seconds_left = "" if ended or share < LEAST_SHARE else f", {time_told(seconds * (1 - share) / share)} left"
+        seconds_left = "" if ended or share < LEAST_SHARE else f", {time_text(seconds * (1 - share) / share)} left"
         return (
             f"[{bar(round(1000 * share), 1000)}] {around}{place}, {sum(self.ways):,} on their way, "
             f"{sum(self.arrived):,} arrived, {steps / max(0.001, seconds):,.0f} x real time{seconds_left}"
         )
 
 
-def time_told(seconds: float) -> str:
+def time_text(seconds: float) -> str:
     """Seconds of waiting as people say them: 50 s, 3 min, 1.5 h."""
     if seconds < 100:
         return f"{seconds:.0f} s"

@@ -36,7 +36,7 @@ def range_of(text: str) -> range:
     return range(first, last + 1 if last < min(first + MOST_SEEDS, 2**64) else first)
 
 
-def seeds_told(seeds: Iterable[int]) -> str:
+def seeds_text(seeds: Iterable[int]) -> str:
     """Seeds that rise as the text that seeds_of reads, as 1,4,7-9."""
     runs: list[list[int]] = []
     for seed in seeds:

@@ -63,7 +63,7 @@ def refuse_bomb(file: IO[bytes], size: int, ratio: int = RATIO) -> None:
             member, data = (None, stream.unused_data) if stream.eof else (stream, stream.unconsumed_tail)
 
 
-def inflated(data: bytes, most: int) -> bytes:
+def inflate(data: bytes, most: int) -> bytes:
     """What a whole stream of zlib unpacks to; TooMuch for more than `most` bytes, zlib.error where it is none, is cut
     off, or has something behind it."""
     stream = zlib.decompressobj()

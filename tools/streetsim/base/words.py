@@ -41,9 +41,9 @@ class Parser(argparse.ArgumentParser):
         self._negative_number_matcher = re.compile("-[^-]")  # what argparse takes for a value all the same
 
     def parse_known_args(self, args: Any = None, namespace: Any = None) -> Any:
-        """As argparse's; Fault for a word without a name in it, as `naming_nothing` tells."""
+        """As argparse's; Fault for a word without a name in it, as `unnamed_argument` tells."""
         words = [self.new_word(word) for word in (sys.argv[1:] if args is None else args)]
-        if (told := naming_nothing(words) or self.unknown_in(words)) is not None:
+        if (told := unnamed_argument(words) or self.unknown_in(words)) is not None:
             self.error(told)
         return super().parse_known_args(words, namespace)
 
@@ -101,7 +101,7 @@ class Lifting(argparse.Action):
         lift()
 
 
-def naming_nothing(arguments: Sequence[str]) -> str | None:
+def unnamed_argument(arguments: Sequence[str]) -> str | None:
     """What is wrong with the first word that has no name in it, as a variable of the shell that is not set leaves one
     (a tool would go on as if the word were not there), or None; the text of --title may be empty."""
     for before, argument in zip(("", *arguments), arguments):

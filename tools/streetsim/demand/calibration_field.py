@@ -142,7 +142,7 @@ def times_of_table(path: str, notes: list[str]) -> list[TravelTime]:
         end = row.get(ends, clock_of) if ends else begin + period
         if end <= begin:
             raise Fault(f"{row.location}: the period ends at {end:,} s, and begins at {begin:,} s")
-        spread = scale * row.get(deviation, at_least_nothing) if deviation else 0.0
+        spread = scale * row.get(deviation, not_negative) if deviation else 0.0
         vehicles = row.get(count, whole)
         if vehicles:
             seconds = scale * row.get(mean, positive)
@@ -175,7 +175,7 @@ def positive(text: str) -> float:
     return value
 
 
-def at_least_nothing(text: str) -> float:
+def not_negative(text: str) -> float:
     """A number from 0 on; 0 where the text is empty; ValueError otherwise."""
     value = number(text) if text else 0.0
     if value < 0:
@@ -258,8 +258,8 @@ def read_queues(path: str) -> list[FieldQueue]:
     most = table.find(("max", "max_m", "longest"))
     found = []
     for row in table.rows:
-        longest = row.get(most, at_least_nothing) if most else 0.0
-        found.append(FieldQueue(row.get(edge, name_of), row.get(mean, at_least_nothing), longest))
+        longest = row.get(most, not_negative) if most else 0.0
+        found.append(FieldQueue(row.get(edge, name_of), row.get(mean, not_negative), longest))
     return found
 
 

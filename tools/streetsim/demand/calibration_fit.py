@@ -141,7 +141,7 @@ class Fit:
         prior = np.diag([1 / value.spread**2 for value in values])
         center, covariance, spread = x.copy(), np.diag([value.spread**2 for value in values]), 1.0
         for _ in range(ROUNDS if values else 0):
-            moves = [moved(x, values, index) for index in range(len(values))]
+            moves = [step_value(x, values, index) for index in range(len(values))]
             if not self.run_missing([self.drivers(values, point) for point in (x, *(moved_x for moved_x, _ in moves))]):
                 break
             residuals = self.residuals(self.drivers(values, x))
@@ -200,7 +200,7 @@ class Fit:
         return replace(result, speeds=tuple(sorted(speeds.items())))
 
 
-def moved(x: Array, values: Sequence[FittedValue], index: int) -> tuple[Array, float]:
+def step_value(x: Array, values: Sequence[FittedValue], index: int) -> tuple[Array, float]:
     """(values with one of them a step away, the step): upward, where its range allows it."""
     step = values[index].step if x[index] + values[index].step <= values[index].most else -values[index].step
     moved_x = x.copy()
@@ -213,7 +213,7 @@ def clipped(values: Sequence[FittedValue], x: Array) -> Array:
     return np.round(np.clip(x, [one.least for one in values], [one.most for one in values]), 3)
 
 
-def told_by(value: FittedValue, day: FieldDay) -> str:
+def data_behind(value: FittedValue, day: FieldDay) -> str:
     """By which data a value is told."""
     if value.name == SPEED:
         return f"times of streets of {value.street} km/h" if value.street else "times"
@@ -231,7 +231,7 @@ def lines_of(result: FitResult, day: FieldDay) -> Iterator[str]:
     """What a fit found, a line for each value."""
     for one, error in zip(result.values, result.errors, strict=True):
         street = f" of {one.street} km/h" if one.street else ""
-        yield f"{one.name}{street}: {value_in(result.drivers, one):.3f} +- {error:.3f}, told by {told_by(one, day)}"
+        yield f"{one.name}{street}: {value_in(result.drivers, one):.3f} +- {error:.3f}, told by {data_behind(one, day)}"
     for one in result.untold:
         yield f"{one.name}: not told by these data; it stays at {value_in(result.drivers, one):.3f}"
     if not day.lanes:

@@ -14,7 +14,7 @@ from streetsim.base.files import Json, whole_file
 from streetsim.base.seeds import mean_and_half_width
 from streetsim.demand.calibration_criteria import Criterion
 from streetsim.demand.calibration_field import TRIP, FieldDay, pooled
-from streetsim.demand.calibration_fit import LEAST_SEEN, FitResult, told_by, value_in
+from streetsim.demand.calibration_fit import LEAST_SEEN, FitResult, data_behind, value_in
 from streetsim.demand.calibration_model import FittedDrivers, MeasuredRun
 from streetsim.model.tables import Entry, write_table
 from streetsim.report.page_markup import Section, bullets, facts, page, table
@@ -112,7 +112,7 @@ def criteria_rows(days: Iterable[JudgedDay]) -> Iterator[Entry]:
                 yield one.name, day.name, drivers, share, one.of, wanted, "yes" if one.is_met else "no"
 
 
-def way_told(key: Sequence[str]) -> str:
+def way_name(key: Sequence[str]) -> str:
     """A way by its edges; of a trip, from which edge to which."""
     return f"{key[1]} .. {key[2]}" if key[0] == TRIP else ">".join(key)
 
@@ -124,7 +124,7 @@ def segment_rows(days: Iterable[JudgedDay]) -> Iterator[Entry]:
             if count >= LEAST_SEEN:
                 before, after = (seed_means(day.runs[drivers], key) for drivers in (BEFORE, AFTER))
                 half = f"{1.96 * deviation / sqrt(count):.1f}" if deviation else ""
-                told = [way_told(key), day.name, count, f"{mean:.1f}", half, mean_or_none(before), *interval(after)]
+                told = [way_name(key), day.name, count, f"{mean:.1f}", half, mean_or_none(before), *interval(after)]
                 off = f"{100 * (fmean(after) / mean - 1):+.1f}" if after else ""
                 yield (*told, off)
 
@@ -178,14 +178,14 @@ def criteria_table(days: Sequence[JudgedDay]) -> str:
     rows = []
     for name, by_column in by_name.items():
         share_needed = next(iter(by_column.values())).share_needed
-        cells = [mark_told(by_column.get((day.name, drivers))) for day, drivers in columns]
+        cells = [criterion_cell(by_column.get((day.name, drivers))) for day, drivers in columns]
         rows.append([escape(name), f"{100 * share_needed:.0f} %", *cells])
     head = ["criterion", "wanted", *(f"{day.name} day, {drivers}" for day, drivers in columns)]
     note = "Counts fit by construction where the demand was made of them; segments without the minute tell more."
     return table(head, rows) + f'<p class="small">{escape(note)}</p>'
 
 
-def mark_told(criterion: Criterion | None) -> str:
+def criterion_cell(criterion: Criterion | None) -> str:
     """How a criterion is met, as HTML; empty where the day has no data for it."""
     if criterion is None:
         return ""
@@ -207,7 +207,7 @@ def values_table(calibration: Calibration) -> str:
         pairs = zip(result.values, result.correlations[index], strict=True)
         together = ", ".join(f"{other.name} {value:+.2f}" for other, value in pairs if other is not fitted)
         cells = [value_name(fitted.name, fitted.street), f"{value_in(result.drivers, fitted):.3f}", f"{error:.3f}"]
-        cells += [f"{fitted.center:g} ± {fitted.spread:g}", told_by(fitted, day), together]
+        cells += [f"{fitted.center:g} ± {fitted.spread:g}", data_behind(fitted, day), together]
         rows.append([escape(text) for text in cells])
     for fitted in result.untold:
         name, known = value_name(fitted.name, fitted.street), f"{fitted.center:g}"
@@ -237,7 +237,7 @@ def run_facts(calibration: Calibration) -> Iterator[tuple[str, str]]:
         yield "read", escape(note)
 
 
-def lines_told(calibration: Calibration) -> Iterator[str]:
+def criteria_lines(calibration: Calibration) -> Iterator[str]:
     """How the criteria are met, a line each, for the terminal; the last says whether the base is validated."""
     for day in calibration.days:
         for before, after in zip(day.criteria[BEFORE], day.criteria[AFTER], strict=True):

@@ -29,7 +29,7 @@ class Contradiction(NamedTuple):
     template: str  # what each number is, with {} for both
     first: float
     second: float
-    location: str  # files and lines, as `lines_told` has them
+    location: str  # files and lines, as `locations_of` has them
 
     def line(self) -> str:
         """The contradiction in one line, with the lines of files that tell the numbers."""
@@ -72,7 +72,7 @@ def check_periods(counts: Sequence[Count]) -> None:
     for first, second in overlapping_pairs(counts, lambda count: (count.edges, count.kind)):
         same_period = (first.begin, first.end) == (second.begin, second.end)
         how = "counted a second time in this period" if same_period else f"counted already until {first.end:,} s"
-        raise Fault(f"{second.location}: {second.edges_told()} is {how} (as {first.location})")
+        raise Fault(f"{second.location}: {second.edge_names()} is {how} (as {first.location})")
 
 
 def contradictions(counts: Sequence[Count], graph: Graph, begins: Set[int], ends: Set[int]) -> list[Contradiction]:
@@ -89,7 +89,7 @@ def contradictions(counts: Sequence[Count], graph: Graph, begins: Set[int], ends
         for street, text, first, second in sides:
             first_sum, second_sum = sum(count.vehicles for count in first), sum(count.vehicles for count in second)
             if abs(first_sum - second_sum) > max(LEAST_APART, APART * max(first_sum, second_sum)):
-                lines = lines_told([*first, *second])
+                lines = locations_of([*first, *second])
                 result.append(Contradiction(street, begin, end, text, first_sum, second_sum, lines))
     return result
 
@@ -102,8 +102,8 @@ def sides_of_edges(by_edges: CountByEdges, graph: Graph, begins: Set[int], ends:
     """Of each edge what should be equal: its count and all its turns, its count and all turns into it, or these two
     where it has no count; as far as all of a side are counted. begins, ends: as `contradictions` has them."""
     for edge, name in enumerate(graph.edges):
-        out = counts_if_all(by_edges, ((name, graph.edges[following]) for following, _ in graph.out[edge]))
-        into = counts_if_all(by_edges, ((graph.edges[before], name) for before, _ in graph.into[edge]))
+        out = counts_of_all(by_edges, ((name, graph.edges[following]) for following, _ in graph.out[edge]))
+        into = counts_of_all(by_edges, ((graph.edges[before], name) for before, _ in graph.into[edge]))
         whole = [by_edges[(name,)]] if (name,) in by_edges else []
         if whole and out and edge not in ends:
             yield f"edge {name}", "{} counted on it, {} turn at its end", whole, out
@@ -127,18 +127,18 @@ def sides_of_junctions(by_edges: CountByEdges, graph: Graph, begins: Set[int], e
             continue
         known.add(key)
         names = (((graph.edges[number],) for number in sorted(edges)) for edges in (sources, targets))
-        first, second = (counts_if_all(by_edges, edges) for edges in names)
+        first, second = (counts_of_all(by_edges, edges) for edges in names)
         if first and second:
             yield f"junction of {graph.edges[min(sources)]}", "{} come in, {} go out", first, second
 
 
-def counts_if_all(by_edges: CountByEdges, keys: Iterable[tuple[str, ...]]) -> list[Count]:
+def counts_of_all(by_edges: CountByEdges, keys: Iterable[tuple[str, ...]]) -> list[Count]:
     """The counts of some keys, edges each; empty where one of them has no count, or there are none."""
     key_list = list(keys)
     return [by_edges[key] for key in key_list] if all(key in by_edges for key in key_list) else []
 
 
-def lines_told(counts: Sequence[Count]) -> str:
+def locations_of(counts: Sequence[Count]) -> str:
     """Where some counts stand: each file once, with at most four of its lines and how many further ones there are."""
     lines_of: defaultdict[str, list[str]] = defaultdict(list)
     for count in counts:

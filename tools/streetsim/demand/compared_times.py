@@ -9,7 +9,7 @@ from statistics import fmean
 
 from streetsim.base.files import Fault, attribute, elements, number, optional, read_json, seconds
 from streetsim.demand.calibration_field import TRIP, TravelTime, pooled, read_times
-from streetsim.demand.calibration_page import way_told
+from streetsim.demand.calibration_page import way_name
 from streetsim.demand.cells import begins_with
 from streetsim.model.folder import KEPT, NAME, Folder
 from streetsim.model.runs import read_run
@@ -135,7 +135,7 @@ def lines_of_times(times: list[ComparedTime]) -> Iterator[str]:
     worst = sorted(times, key=lambda time: -abs(time.off))[:MOST_TOLD]
     for time in worst:
         both = f"{time.model_seconds:.1f} s here, {time.field_seconds:.1f} s there"
-        yield f"{way_told(time.key)}: {both} ({100 * time.off:+.1f} %)"
+        yield f"{way_name(time.key)}: {both} ({100 * time.off:+.1f} %)"
 
 
 def are_close(times: list[ComparedTime]) -> bool:

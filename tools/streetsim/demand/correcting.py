@@ -7,7 +7,7 @@ from streetsim.demand.demanding import (
     Basis, DemandInputs, Fitted, ReportStage, fit_to_counts, passing_by_class, trips_of_fit,
 )  # fmt: skip
 from streetsim.demand.fitting import counted_vehicles
-from streetsim.demand.judging import ComparedCount, JudgedCounts, judged, worst_fits
+from streetsim.demand.judging import ComparedCount, JudgedCounts, judge_counts, worst_fits
 from streetsim.demand.running import Ran, movement_delays, passed_by_count, run_demand
 from streetsim.demand.science import Array, numpy_and_scipy
 from streetsim.demand.values import Count
@@ -86,7 +86,7 @@ def try_demand(basis: Basis, inputs: DemandInputs, ground: RunGround, number: in
     kinds = [trip.type if trip.type in basis.kinds else "" for trip in trips]
     passed = passed_by_count(basis.by_edges, [trip.path for trip in trips], kinds, ran.exit_clocks)
     full = full_edges(town.graph, movement_delays(town.graph, ran.observed, loaded.free))
-    return Attempt(number, trips, fitted, judged(basis.counts, passed), loaded, ran, passed, full)
+    return Attempt(number, trips, fitted, judge_counts(basis.counts, passed), loaded, ran, passed, full)
 
 
 def corrected_counts(basis: Basis, attempt: Attempt, costs: Costs, counted: Array, before: Array) -> Array:
@@ -117,7 +117,7 @@ def is_at_or_after_full(count: Count, full: dict[int, float], graph: Graph) -> b
     return edge in full or any(before in full for before, _ in graph.into[edge])
 
 
-def misfits_told(basis: Basis, attempt: Attempt) -> Iterator[str]:
+def misfit_lines(basis: Basis, attempt: Attempt) -> Iterator[str]:
     """Sentences on the counts that fit worst (five at most), and why as far as the run shows it; and on counts at full
     edges, which do not tell how many want to pass."""
     graph = basis.town.graph

@@ -91,7 +91,7 @@ def basis_of(town: RouteTown, inputs: DemandInputs, report_stage: ReportStage) -
     """Reads and checks what was asked for, and finds the candidate ways. Classes of counts and matrices, and types of
     files of candidates, are added to the vehicle types of the town. Fault for what cannot be used and without SciPy."""
     numpy_and_scipy()
-    check_asked(inputs)
+    check_inputs(inputs)
     report_stage("reading counts")
     counts = read_counts(inputs.counts, inputs.attribute)
     if counts:
@@ -122,7 +122,7 @@ def basis_of(town: RouteTown, inputs: DemandInputs, report_stage: ReportStage) -
     return Basis(town, counts, apart, kinds, pairs, ways, slices, by_edges, given_vehicles, free, thinned)
 
 
-def check_asked(inputs: DemandInputs) -> None:
+def check_inputs(inputs: DemandInputs) -> None:
     """Fault where nothing is given that a demand could be made of, files that do not go together are given, or ways are
     neither searched nor given."""
     if not (inputs.counts or inputs.matrices or inputs.flows):

@@ -146,7 +146,7 @@ class JudgedCounts:
             yield f"all {len(self.compared):,} counts: r = {line[0]:.3f}, slope {line[1]:.3f}"
 
 
-def judged(counts: Sequence[Count], passed: Sequence[float]) -> JudgedCounts:
+def judge_counts(counts: Sequence[Count], passed: Sequence[float]) -> JudgedCounts:
     """How well numbers of vehicles that passed, one for each count, meet the counts, of which there must be one at
     least."""
     compared = [

@@ -9,7 +9,7 @@ from streetsim.demand import correcting, demanding
 from streetsim.demand.correcting import Attempt
 from streetsim.demand.demanding import Basis, DemandInputs, Fitted
 from streetsim.demand.fitting import unreachable_counts
-from streetsim.demand.judging import JudgedCounts, judged
+from streetsim.demand.judging import JudgedCounts, judge_counts
 from streetsim.demand.pictures import draw_fit
 from streetsim.demand.writing import write_demand, write_judged
 from streetsim.model import trust
@@ -56,7 +56,7 @@ class MadeDemand:
     best: Attempt | None
 
 
-def run_and_tell(
+def run_attempts(
     basis: Basis, inputs: DemandInputs, settings: DemandRuns, fitted: Fitted, ends: Callable[[], bool],
     report_stage: demanding.ReportStage,
 ) -> list[Attempt]:
@@ -81,11 +81,11 @@ def best_demand(basis: Basis, inputs: DemandInputs, fitted: Fitted, tried: list[
     if tried:
         best = max(tried, key=Attempt.rank)  # the first of equal ones
         return MadeDemand(basis, best.fitted, tried, best.judged, best.trips, best)
-    on_paper = judged(basis.counts, fitted.passed_by_count()) if basis.counts else None
+    on_paper = judge_counts(basis.counts, fitted.passed_by_count()) if basis.counts else None
     return MadeDemand(basis, fitted, [], on_paper, demanding.trips_of_fit(basis, inputs, fitted), None)
 
 
-def tell_inputs(basis: Basis, fitted: Fitted) -> None:
+def print_input_notes(basis: Basis, fitted: Fitted) -> None:
     """Prints on standard error what is noticed before anything runs: what is reported of the files, counts that
     contradict each other, counts that no way passes, pairs of a matrix without a way, and how many of the pairs were
     kept, where not all were."""
@@ -94,7 +94,7 @@ def tell_inputs(basis: Basis, fitted: Fitted) -> None:
     apart = [f"counts contradict each other: {contradiction.line()}" for contradiction in basis.contradictions]
     warn(apart, "{:,} more contradictions: contradictions.csv")
     none = [
-        f"no way passes {count.edges_told()} from {count.begin:,} to {count.end:,} s: {count.location}"
+        f"no way passes {count.edge_names()} from {count.begin:,} to {count.end:,} s: {count.location}"
         for count in unreachable_counts(fitted.passing, basis.counts)
     ]
     warn(none, "no way passes {:,} more counts")
@@ -116,7 +116,7 @@ def warn(texts: Sequence[str], more: str) -> None:
         print(f"warning: {text}", file=sys.stderr)
 
 
-def write_made(paths: DemandOutputs, demand: MadeDemand, setting: Json) -> None:
+def write_result(paths: DemandOutputs, demand: MadeDemand, setting: Json) -> None:
     """Writes the vehicles, the tables and pictures, and the run with its map where they are asked for; setting: what
     goes into setting.json. Fault where a file cannot be written, and without runs as of RouteTown.loaded."""
     basis = demand.basis
@@ -146,7 +146,7 @@ def setting_of(inputs: DemandInputs, demand: MadeDemand, runs: int) -> Json:
     }
 
 
-def tell_result(demand: MadeDemand) -> int:
+def print_result(demand: MadeDemand) -> int:
     """Prints what was made, how well it fits and why it is not to be trusted; gives the status: 1 where counts do not
     fit, else 0."""
     slices, ways = demand.basis.slices, demand.basis.ways
@@ -160,7 +160,7 @@ def tell_result(demand: MadeDemand) -> int:
         print("on paper, by seconds without other traffic (--runs N judges in the simulation):")
     print(*demand.judged.lines(), sep="\n")
     if demand.best:
-        for line in correcting.misfits_told(demand.basis, demand.best):
+        for line in correcting.misfit_lines(demand.basis, demand.best):
             print(line)
         if doubts := correcting.doubts_of(demand.best):
             print(trust.verdict(doubts))

@@ -24,7 +24,7 @@ class Count:
         """The length of its period in hours."""
         return (self.end - self.begin) / 3600
 
-    def edges_told(self) -> str:
+    def edge_names(self) -> str:
         """Its edges with blanks between, as the user is told."""
         return " ".join(self.edges)
 
