@@ -283,17 +283,17 @@ def read_json(path: FilePath, keys: Iterable[str]) -> Json:
 def read_json_list(path: FilePath) -> list[Json]:
     """The list of JSON objects of a file; Fault where it cannot be read, is no JSON or holds anything else."""
     value = json_in(path)
-    if not isinstance(value, list) or not all(isinstance(one, dict) for one in value):
+    if not isinstance(value, list) or not all(isinstance(entry, dict) for entry in value):
         raise Fault(f"{path}: no list of objects")
     return value
 
 
 def checked_output_path(path: FilePath) -> str:
     """Checks the path of an output: Fault where anything but a regular file is there; gives its real path."""
-    place = os.path.realpath(path)
-    if os.path.exists(place) and not os.path.isfile(place):
+    real_path = os.path.realpath(path)
+    if os.path.exists(real_path) and not os.path.isfile(real_path):
         raise Fault(f"{path}: exists and is no regular file")
-    return place
+    return real_path
 
 
 def refuse_equal(outputs: Mapping[str, FilePath], inputs: Iterable[FilePath] = ()) -> None:
@@ -313,11 +313,11 @@ def refuse_unwritable(folder: str, outputs: Mapping[str, FilePath | None], input
     """Fault where outputs cannot be written: as refuse_equal has it, where a file has no folder, where anything but a
     regular file is at its place, or where `folder`, which need not be there, is none. outputs: {what the user calls it:
     path}, None for one that is not wanted."""
-    wanted = {name: path for name, path in outputs.items() if path is not None}
-    refuse_equal(wanted, inputs)
-    for path in wanted.values():
-        if not os.path.isdir(own := os.path.dirname(checked_output_path(path))):
-            raise Fault(f"{path}: there is no folder {own}")
+    given = {name: path for name, path in outputs.items() if path is not None}
+    refuse_equal(given, inputs)
+    for path in given.values():
+        if not os.path.isdir(parent := os.path.dirname(checked_output_path(path))):
+            raise Fault(f"{path}: there is no folder {parent}")
     if os.path.exists(folder) and not os.path.isdir(folder):
         raise Fault(f"{folder}: exists and is no folder")
 
@@ -327,11 +327,11 @@ def whole_path(path: FilePath) -> Iterator[str]:
     """A path to write to. When the block ends, the file written there takes the place of the output `path`; after an
     exception nothing is left and the output is as it was. Fault where it cannot be written; an OSError of the block
     that names another file stays one."""
-    place = checked_output_path(path)
+    real_path = checked_output_path(path)
     try:
-        with half_file(place) as half:
+        with half_file(real_path) as half:
             yield half
-            os.replace(half, place)
+            os.replace(half, real_path)
     except OSError as fault:
         if fault.filename and not is_half(fault.filename):
             raise
@@ -351,9 +351,10 @@ def refuse_foreign(folder: FilePath, is_forced: bool = False, outputs: Iterable[
     something that they do not write. Not so where it is forced. outputs: paths of other outputs of the command, which
     may lie in the folder."""
     also = [os.path.basename(path) for path in outputs if path is not None]
-    found = "" if is_forced or not os.path.isdir(folder) else foreign_path(folder, also)
-    if found != "":
-        why = f"has {found}, which no run of the tools wrote" if found else f"has no {SETTING} of a run of the tools"
+    foreign = "" if is_forced or not os.path.isdir(folder) else foreign_path(folder, also)
+    if foreign != "":
+        lacks = f"has no {SETTING} of a run of the tools"
+        why = f"has {foreign}, which no run of the tools wrote" if foreign else lacks
         more = "or --force to write there, where files of the names of the tools' are replaced"
         raise Fault(f"{folder}: {why}: give --out another folder, {more}")
 

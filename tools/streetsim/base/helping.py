@@ -38,10 +38,10 @@ def group_of(action: argparse.Action) -> str:
 
 def in_groups(actions: Iterable[argparse.Action]) -> list[tuple[str, list[argparse.Action]]]:
     """The words of a command by groups, (title, words), in the order of GROUPS; without empty groups."""
-    found: dict[str, list[argparse.Action]] = {title: [] for title in (*GROUPS, OTHER, HELP)}
+    by_title: dict[str, list[argparse.Action]] = {title: [] for title in (*GROUPS, OTHER, HELP)}
     for action in actions:
-        found[group_of(action)].append(action)
-    return [(title, own) for title, own in found.items() if own]
+        by_title[group_of(action)].append(action)
+    return [(title, members) for title, members in by_title.items() if members]
 
 
 def help_of(parser: argparse.ArgumentParser, examples: Sequence[str]) -> str:

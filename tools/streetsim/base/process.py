@@ -12,8 +12,8 @@ class ProgramEnded(Exception):
     def __init__(self, status: int, stderr: str) -> None:
         """status: of the program, 0 too where it ended too early, -N by signal N; stderr: its standard error."""
         self.status, self.stderr = status, stderr
-        told = ": ".join(stderr.splitlines()) or "nothing on standard error"
-        super().__init__(f"the program ended with status {status}: {told}")
+        error_text = ": ".join(stderr.splitlines()) or "nothing on standard error"
+        super().__init__(f"the program ended with status {status}: {error_text}")
 
 
 class Process:
@@ -46,9 +46,9 @@ class Process:
 
     def close(self) -> None:
         """Ends the input and waits for the program; ProgramEnded if its status is not 0."""
-        status, told = self.end()
+        status, error_text = self.end()
         if status:
-            raise ProgramEnded(status, told)
+            raise ProgramEnded(status, error_text)
 
     def end(self) -> tuple[int, str]:
         """Ends the input and waits for the program; gives (its status, its standard error), later the same."""

@@ -54,8 +54,8 @@ def of_script(path: Path) -> Path:
         return path
     built = built_in(path.parent)
     if built is None:
-        made = "run `./build` there first, or `./build --unproved`, which takes minutes"
-        raise Fault(f"{path.parent}: the simulator is not built: {made}")
+        advice = "run `./build` there first, or `./build --unproved`, which takes minutes"
+        raise Fault(f"{path.parent}: the simulator is not built: {advice}")
     return built
 
 
@@ -77,5 +77,5 @@ def proof_note(path: str) -> dict[str, str]:
 @functools.cache
 def warn_unproved(path: Path) -> None:
     """Says on standard error that a program is one without proofs; once in a process."""
-    told = "results are those of the rules only if it is right; `./build` makes the proved program"
-    print(f"streetsim: NOT PROVED: {path} was built without proofs: {told}", file=sys.stderr, flush=True)
+    consequence = "results are those of the rules only if it is right; `./build` makes the proved program"
+    print(f"streetsim: NOT PROVED: {path} was built without proofs: {consequence}", file=sys.stderr, flush=True)

@@ -43,8 +43,8 @@ class Parser(argparse.ArgumentParser):
     def parse_known_args(self, args: Any = None, namespace: Any = None) -> Any:
         """As argparse's; Fault for a word without a name in it, as `unnamed_argument` tells."""
         words = [self.new_word(word) for word in (sys.argv[1:] if args is None else args)]
-        if (told := unnamed_argument(words) or self.unknown_in(words)) is not None:
-            self.error(told)
+        if (fault := unnamed_argument(words) or self.unknown_in(words)) is not None:
+            self.error(fault)
         return super().parse_known_args(words, namespace)
 
     def new_word(self, argument: str) -> str:
@@ -75,18 +75,18 @@ class Parser(argparse.ArgumentParser):
 
     def near(self, message: str) -> str:
         """The right word that is nearest to the wrong one of a message of argparse, as words to add; else nothing."""
-        if found := UNKNOWN.search(message):
-            return nearest(found[1].partition("=")[0], self._option_string_actions)
-        found = NO_CHOICE.search(message)
-        return nearest(found[1], re.findall(r"'([^']*)'", found[2])) if found else ""
+        if match := UNKNOWN.search(message):
+            return nearest(match[1].partition("=")[0], self._option_string_actions)
+        match = NO_CHOICE.search(message)
+        return nearest(match[1], re.findall(r"'([^']*)'", match[2])) if match else ""
 
     def error(self, message: str) -> NoReturn:
         """Raises the Fault of wrong words, in place of argparse's exit."""
-        told = message.removeprefix("argument ") + self.near(message)
-        option, _, lacks = told.partition(": ")
+        text = message.removeprefix("argument ") + self.near(message)
+        option, _, lacks = text.partition(": ")
         if lacks.startswith("expected"):
-            told += f", which goes as {option.rpartition('/')[2]}=-.. where it begins with -"
-        raise Fault(f"{told} (what may be given: {self.prog} --help)")
+            text += f", which goes as {option.rpartition('/')[2]}=-.. where it begins with -"
+        raise Fault(f"{text} (what may be given: {self.prog} --help)")
 
 
 class Lifting(argparse.Action):
@@ -152,8 +152,8 @@ def whole_seconds(text: str) -> int | None:
 
 def time_of_day(second: int) -> str:
     """Seconds since midnight as hours and minutes, 7:30, with seconds where these are not 0; hours may be above 23."""
-    told = f"{second // 3600:d}:{second // 60 % 60:02d}"
-    return f"{told}:{second % 60:02d}" if second % 60 else told
+    hours_minutes = f"{second // 3600:d}:{second // 60 % 60:02d}"
+    return f"{hours_minutes}:{second % 60:02d}" if second % 60 else hours_minutes
 
 
 def names_in(text: str) -> list[str]:

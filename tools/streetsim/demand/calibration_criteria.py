@@ -49,14 +49,14 @@ def criteria_of(
         good = [abs(flow_here(drivers.dawdle, one.limit) / one.flow - 1) <= SATURATION_MARK for one in day.lanes]
         yield Criterion("saturation within 5 %", fmean(good), SHARE, len(good))
     if pairs := [(mean_queue(runs, one.edge), one.mean) for one in day.queues if one.mean > LEAST_QUEUE]:
-        here, there = (sum(side) for side in zip(*pairs, strict=True))
-        off = abs(here / there - 1)
+        modelled, observed = (sum(side) for side in zip(*pairs, strict=True))
+        off = abs(modelled / observed - 1)
         yield Criterion("mean queue of the cycles within 25 %", float(off <= QUEUE_MARK), 1.0, len(pairs))
 
 
 def mean_queue(runs: Iterable[MeasuredRun], edge: str) -> float:
     """The mean over runs of the queue of an edge, m."""
-    return fmean(one.queues.get(edge, (0.0, 0.0))[0] for one in runs)
+    return fmean(run.queues.get(edge, (0.0, 0.0))[0] for run in runs)
 
 
 def count_criteria(day: FieldDay, runs: Sequence[MeasuredRun]) -> Iterator[Criterion]:
@@ -91,11 +91,11 @@ def flow_mark(hourly: float) -> float:
 
 def time_criteria(day: FieldDay, runs: Sequence[MeasuredRun]) -> Iterator[Criterion]:
     """Routes and trips within 15 % or a minute, where the field has some; segments within 15 %, without the minute."""
-    here = pooled_runs(runs)
+    model_times = pooled_runs(runs)
     routes, segments = [], []
     for key, (mean, _, count) in pooled(day.times).items():
         if count >= LEAST_SEEN:
-            off = abs(here[key][0] - mean) if key in here else float("inf")
+            off = abs(model_times[key][0] - mean) if key in model_times else float("inf")
             if len(key) > 2 or key[0] == TRIP:
                 routes.append(off <= max(TIME_MARK * mean, MINUTE))
             else:

@@ -73,7 +73,7 @@ class FieldDay:
 
     def window(self) -> tuple[int, int]:
         """The (begin, end) of the times, in seconds."""
-        return min(one.begin for one in self.times), max(one.end for one in self.times)
+        return min(time.begin for time in self.times), max(time.end for time in self.times)
 
 
 def read_times(paths: Iterable[str], notes: list[str]) -> list[TravelTime]:
@@ -106,8 +106,8 @@ class Columns:
             raise Fault(f"{path}: a column twice")
         for line, values in rows[1:]:
             if len(values) != len(self.names):
-                told = f"{len(values)} values, and the first line has {len(self.names)} columns"
-                raise Fault(f"{path}: line {line}: {told}")
+                fault = f"{len(values)} values, and the first line has {len(self.names)} columns"
+                raise Fault(f"{path}: line {line}: {fault}")
         self.rows = [TableRow(path, line, dict(zip(self.names, values, strict=True))) for line, values in rows[1:]]
 
     def find(self, *spellings: Sequence[str]) -> str | None:
@@ -193,8 +193,8 @@ def whole(text: str) -> int:
 
 def period_in(times: Iterable[int]) -> int:
     """The seconds of the periods of a table: the least between its times, QUARTER where it has one alone."""
-    some = sorted({*times})
-    return min((later - sooner for sooner, later in zip(some, some[1:])), default=QUARTER)
+    clocks = sorted({*times})
+    return min((later - sooner for sooner, later in zip(clocks, clocks[1:])), default=QUARTER)
 
 
 Single = tuple[tuple[str, ...], float, float, bool]  # edges, clock at the end, seconds, whether it is a trip
@@ -202,13 +202,14 @@ Single = tuple[tuple[str, ...], float, float, bool]  # edges, clock at the end, 
 
 def grouped(singles: Iterable[Single]) -> Iterator[TravelTime]:
     """The travel times of single vehicles, by quarters of an hour."""
-    found: defaultdict[tuple[tuple[str, ...], bool, int], list[float]] = defaultdict(list)
+    durations_of: defaultdict[tuple[tuple[str, ...], bool, int], list[float]] = defaultdict(list)
     for edges, clock, duration, is_trip in singles:
-        found[edges, is_trip, int(clock // QUARTER)].append(duration)
-    for (edges, is_trip, quarter), some in sorted(found.items()):
-        mean = fmean(some)
-        spread = sqrt(sum((one - mean) ** 2 for one in some) / (len(some) - 1)) if len(some) > 1 else 0.0
-        yield TravelTime(edges, QUARTER * quarter, QUARTER * (quarter + 1), mean, spread, len(some), is_trip)
+        durations_of[edges, is_trip, int(clock // QUARTER)].append(duration)
+    for (edges, is_trip, quarter), durations in sorted(durations_of.items()):
+        mean = fmean(durations)
+        squares = sum((value - mean) ** 2 for value in durations)
+        spread = sqrt(squares / (len(durations) - 1)) if len(durations) > 1 else 0.0
+        yield TravelTime(edges, QUARTER * quarter, QUARTER * (quarter + 1), mean, spread, len(durations), is_trip)
 
 
 def records_of_sumo(path: str) -> Iterator[Single]:
@@ -256,11 +257,11 @@ def read_queues(path: str) -> list[FieldQueue]:
     table = Columns(path)
     edge, mean = table.need("an edge", ("edge", "link")), table.need("a mean", ("mean_of_cycles", "mean", "mean_m"))
     most = table.find(("max", "max_m", "longest"))
-    found = []
+    queues = []
     for row in table.rows:
         longest = row.get(most, not_negative) if most else 0.0
-        found.append(FieldQueue(row.get(edge, name_of), row.get(mean, not_negative), longest))
-    return found
+        queues.append(FieldQueue(row.get(edge, name_of), row.get(mean, not_negative), longest))
+    return queues
 
 
 def counts_as_demand(paths: Iterable[str], folder: str, notes: list[str]) -> list[str]:

@@ -58,10 +58,11 @@ def classes_of(day: FieldDay, class_of: Mapping[str, str]) -> list[str]:
     """The classes of street that get a factor of their own: with five ways seen often enough; and all others as one.
     class_of: by edge. A way is of the class of its last edge."""
     often = [key for key, (_, _, count) in pooled(day.times).items() if count >= LEAST_SEEN]
-    seen = Counter(class_of.get(key[-1], ALL) for key in often)
-    own = sorted(name for name, ways in seen.items() if ways >= LEAST_WAYS)
-    others = sum(seen.values()) - sum(seen[name] for name in own)
-    return own if len(own) > 1 and not others else [ALL, *(own if len(own) > 1 else [])]
+    class_counts = Counter(class_of.get(key[-1], ALL) for key in often)
+    class_names = sorted(name for name, ways in class_counts.items() if ways >= LEAST_WAYS)
+    unclassed = sum(class_counts.values()) - sum(class_counts[name] for name in class_names)
+    several = class_names if len(class_names) > 1 else []
+    return several if several and not unclassed else [ALL, *several]
 
 
 def start_of(day: FieldDay) -> FittedDrivers:
@@ -96,7 +97,7 @@ class Fit:
 
     def __init__(self, day: FieldDay, start: FittedDrivers, measure: Measure, most: int, seeds: int) -> None:
         """measure: makes runs; most: of them; seeds: runs of each trial."""
-        self.field_times = {key: one for key, one in pooled(day.times).items() if one[2] >= LEAST_SEEN}
+        self.field_times = {key: values for key, values in pooled(day.times).items() if values[2] >= LEAST_SEEN}
         self.start, self.measure, self.most, self.seeds = start, measure, most, seeds
         self.known: dict[FittedDrivers, list[MeasuredRun]] = {}
         self.trials: list[tuple[int, FittedDrivers, float]] = []
@@ -116,12 +117,12 @@ class Fit:
 
     def residuals(self, drivers: FittedDrivers) -> Array:
         """Model less field of each way, over its error; a way that nobody drove in the runs counts nothing."""
-        here = pooled_runs(self.known[drivers])
-        found = []
+        model_times = pooled_runs(self.known[drivers])
+        residuals = []
         for key, (mean, deviation, count) in sorted(self.field_times.items()):
             error = hypot(deviation / sqrt(count), MODEL_ERROR * mean)
-            found.append((here[key][0] - mean) / error if key in here else 0.0)
-        return np.array(found)
+            residuals.append((model_times[key][0] - mean) / error if key in model_times else 0.0)
+        return np.array(residuals)
 
     def solve(self, values: Sequence[FittedValue]) -> FitResult:
         """Fits values, and then again without those that the data do not tell, which stay where they began."""
@@ -170,22 +171,22 @@ class Fit:
         """The first part of a step by which the cost falls; none where no part does, or the runs are used up."""
         before = self.cost(values, x, center)
         for part in PARTS:
-            there = clipped(values, x + part * step)
-            if not self.run_missing([self.drivers(values, there)]):
+            candidate = clipped(values, x + part * step)
+            if not self.run_missing([self.drivers(values, candidate)]):
                 return None
-            if self.cost(values, there, center) < before:
-                return there
+            if self.cost(values, candidate, center) < before:
+                return candidate
         return None
 
     def cost(self, values: Sequence[FittedValue], x: Array, center: Array) -> float:
         """The sum of squares of residuals, and of what is off what is known."""
         drivers = self.drivers(values, x)
-        own = self.residuals(drivers)
-        off = (x - center) / [one.spread for one in values]
-        found = float(own @ own + off @ off)
-        if all(one[1] != drivers for one in self.trials):
-            self.trials.append((self.runs, drivers, found))
-        return found
+        residuals = self.residuals(drivers)
+        off = (x - center) / [value.spread for value in values]
+        total = float(residuals @ residuals + off @ off)
+        if all(trial[1] != drivers for trial in self.trials):
+            self.trials.append((self.runs, drivers, total))
+        return total
 
     def drivers(self, values: Sequence[FittedValue], x: Array) -> FittedDrivers:
         """The drivers with some values; all others are those before any run."""
@@ -210,7 +211,7 @@ def step_value(x: Array, values: Sequence[FittedValue], index: int) -> tuple[Arr
 
 def clipped(values: Sequence[FittedValue], x: Array) -> Array:
     """Values within their ranges, with three decimals."""
-    return np.round(np.clip(x, [one.least for one in values], [one.most for one in values]), 3)
+    return np.round(np.clip(x, [value.least for value in values], [value.most for value in values]), 3)
 
 
 def data_behind(value: FittedValue, day: FieldDay) -> str:
@@ -229,10 +230,11 @@ def value_in(drivers: FittedDrivers, value: FittedValue) -> float:
 
 def lines_of(result: FitResult, day: FieldDay) -> Iterator[str]:
     """What a fit found, a line for each value."""
-    for one, error in zip(result.values, result.errors, strict=True):
-        street = f" of {one.street} km/h" if one.street else ""
-        yield f"{one.name}{street}: {value_in(result.drivers, one):.3f} +- {error:.3f}, told by {data_behind(one, day)}"
-    for one in result.untold:
-        yield f"{one.name}: not told by these data; it stays at {value_in(result.drivers, one):.3f}"
+    for value, error in zip(result.values, result.errors, strict=True):
+        street = f" of {value.street} km/h" if value.street else ""
+        fitted = f"{value_in(result.drivers, value):.3f} +- {error:.3f}"
+        yield f"{value.name}{street}: {fitted}, told by {data_behind(value, day)}"
+    for value in result.untold:
+        yield f"{value.name}: not told by these data; it stays at {value_in(result.drivers, value):.3f}"
     if not day.lanes:
         yield "saturation was not surveyed: dawdle and cut stay as they are, and capacity is not calibrated"

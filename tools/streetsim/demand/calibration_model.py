@@ -80,11 +80,11 @@ class StreetRuns:
     def imported(self, drivers: FittedDrivers) -> tuple[Run, Map]:
         """The run and map with some drivers."""
         report, options = Report(), drivers.options(self.options)
-        own = self.sources
+        sources = self.sources
         lines, mapping = run_and_map(
-            convert(own.net, own.additional, own.routes, options, report, own.trips), report
+            convert(sources.net, sources.additional, sources.routes, options, report, sources.trips), report
         )
-        return run_of_texts(own.net, lines), mapping
+        return run_of_texts(sources.net, lines), mapping
 
     def measured(self, task: tuple[FittedDrivers, int], progress: object = None) -> MeasuredRun:
         """What a run with (drivers, seed) gives."""
@@ -102,16 +102,16 @@ class StreetRuns:
 
     def measures(self, run: Run, mapping: Map, segments: Segments, trips: TripsTable, queues: Queues) -> MeasuredRun:
         """What observers of a run saw, as the field is measured."""
-        ends, number = segments.ends(), {edge: at for at, edge in enumerate(mapping.links_of)}
+        ends, number = segments.ends(), {edge: index for index, edge in enumerate(mapping.links_of)}
         departs = np.array([line.command["depart"] for line in run.enters], np.int64)
         begin, end = self.window
-        seen = trips.arrival > 0
-        judged = seen & (departs >= begin)
+        has_arrived = trips.arrival > 0
+        judged = has_arrived & (departs >= begin)
         mean = float((trips.arrival - departs)[judged].mean()) if judged.any() else 0.0
         times = dict(times_by_way(ends, number, self.ways, self.window))
         times |= dict(trip_times(run, mapping, trips.arrival, departs, self.ways, self.window))
-        found = dict(longest_queues(queues, run, mapping, self.window))
-        return MeasuredRun(times, turn_counts(ends, list(number), self.window), found, mean, int(judged.sum()))
+        queue_lengths = dict(longest_queues(queues, run, mapping, self.window))
+        return MeasuredRun(times, turn_counts(ends, list(number), self.window), queue_lengths, mean, int(judged.sum()))
 
 
 def sums_of(seconds: Array) -> tuple[float, float, int]:
@@ -185,8 +185,8 @@ def longest_queues(
 def pooled_runs(runs: Iterable[MeasuredRun]) -> dict[tuple[str, ...], tuple[float, float, int]]:
     """By way (mean, standard deviation of one vehicle, vehicles) over runs."""
     sums: dict[tuple[str, ...], Array] = {}
-    for one in runs:
-        for key, values in one.times.items():
+    for run in runs:
+        for key, values in run.times.items():
             sums[key] = sums.get(key, 0) + np.array(values)
     return {
         key: (total / count, float(np.sqrt(max(0.0, square / count - (total / count) ** 2))), int(count))
@@ -196,4 +196,4 @@ def pooled_runs(runs: Iterable[MeasuredRun]) -> dict[tuple[str, ...], tuple[floa
 
 def ways_of(day: FieldDay) -> tuple[tuple[str, ...], ...]:
     """The ways of a day's times."""
-    return tuple(sorted({one.key for one in day.times}))
+    return tuple(sorted({time.key for time in day.times}))

@@ -67,7 +67,7 @@ class Calibration:
     def is_valid(self) -> bool:
         """Whether there is another day, and all criteria hold there."""
         last = self.last_day()
-        return last.name == OTHER and all(one.is_met for one in last.criteria[AFTER])
+        return last.name == OTHER and all(criterion.is_met for criterion in last.criteria[AFTER])
 
     def drivers(self) -> Json:
         """What the file of --drivers gets."""
@@ -106,10 +106,11 @@ def trial_row(trial: tuple[int, FittedDrivers, float]) -> Entry:
 def criteria_rows(days: Iterable[JudgedDay]) -> Iterator[Entry]:
     """The rows of criteria.csv."""
     for day in days:
-        for drivers, all_ in day.criteria.items():
-            for one in all_:
-                share, wanted = f"{100 * one.share:.1f}", f"{100 * one.share_needed:.0f}"
-                yield one.name, day.name, drivers, share, one.of, wanted, "yes" if one.is_met else "no"
+        for drivers, criteria in day.criteria.items():
+            for criterion in criteria:
+                share, share_needed = f"{100 * criterion.share:.1f}", f"{100 * criterion.share_needed:.0f}"
+                is_met = "yes" if criterion.is_met else "no"
+                yield criterion.name, day.name, drivers, share, criterion.of, share_needed, is_met
 
 
 def way_name(key: Sequence[str]) -> str:
@@ -124,14 +125,14 @@ def segment_rows(days: Iterable[JudgedDay]) -> Iterator[Entry]:
             if count >= LEAST_SEEN:
                 before, after = (seed_means(day.runs[drivers], key) for drivers in (BEFORE, AFTER))
                 half = f"{1.96 * deviation / sqrt(count):.1f}" if deviation else ""
-                told = [way_name(key), day.name, count, f"{mean:.1f}", half, mean_or_none(before), *interval(after)]
+                cells = [way_name(key), day.name, count, f"{mean:.1f}", half, mean_or_none(before), *interval(after)]
                 off = f"{100 * (fmean(after) / mean - 1):+.1f}" if after else ""
-                yield (*told, off)
+                yield (*cells, off)
 
 
 def seed_means(runs: Iterable[MeasuredRun], key: tuple[str, ...]) -> list[float]:
     """The mean seconds of a way in each run in which somebody drove it."""
-    return [one.times[key][0] / one.times[key][2] for one in runs if key in one.times]
+    return [run.times[key][0] / run.times[key][2] for run in runs if key in run.times]
 
 
 def mean_or_none(values: Sequence[float]) -> str:

@@ -69,25 +69,25 @@ def pairs_of_edges(graph: Graph, net: SumoNet, everywhere: bool) -> list[Pair]:
     `everywhere` says that trips begin and end on any edge. Pairs of an edge with itself, and of two of which one turns
     back to the other, are left out."""
     entries, exits = entries_and_exits(graph)
-    begins, ends = (expected_ends(graph, net, some) for some in (entries, exits))
+    begins, ends = (expected_ends(graph, net, outside) for outside in (entries, exits))
     if everywhere or not entries or not exits:
         entries = exits = list(range(len(graph.edges)))
     back = graph.turns_back
-    reverse = {way for at, way in enumerate(graph.movements) if way[1] != END and back[at]}
+    reverse = {way for movement, way in enumerate(graph.movements) if way[1] != END and back[movement]}
     return [
-        Pair(graph.edges[one], graph.edges[other], {one: 1.0}, {other: 1.0}, begins[one], ends[other])
-        for one in entries for other in exits
-        if one != other and (one, other) not in reverse and (other, one) not in reverse
+        Pair(graph.edges[source], graph.edges[sink], {source: 1.0}, {sink: 1.0}, begins[source], ends[sink])
+        for source in entries for sink in exits
+        if source != sink and (source, sink) not in reverse and (sink, source) not in reverse
     ]  # fmt: skip
 
 
 def expected_ends(graph: Graph, net: SumoNet, outside: Iterable[int]) -> list[End]:
     """For each edge what is expected of it as an end: weight by how many lanes it has where it is one of `outside`
     (edges by number), else by the metres of its lanes, as for the houses along it."""
-    there, lanes = set(outside), [net.edges[name].lanes for name in graph.edges]
+    outside_edges, lanes = set(outside), [net.edges[name].lanes for name in graph.edges]
     return [
-        End(float(len(some)), True) if edge in there else End(sum(lane.metres for lane in some))
-        for edge, some in enumerate(lanes)
+        End(float(len(of_edge)), True) if edge in outside_edges else End(sum(lane.metres for lane in of_edge))
+        for edge, of_edge in enumerate(lanes)
     ]
 
 
@@ -180,11 +180,11 @@ def shares_by_habit(ways: Sequence[Way], habit: Habit) -> Array:
 
 def ends_wanted(pairs: Iterable[Pair]) -> dict[int, list[int]]:
     """{edge on which trips begin: edges on which they end, sorted}, by number; an edge is no end of itself."""
-    wanted: dict[int, set[int]] = {}
+    targets: dict[int, set[int]] = {}
     for pair in pairs:
         for source in pair.sources:
-            wanted.setdefault(source, set()).update(pair.sinks)
-    return {source: sorted(sinks - {source}) for source, sinks in sorted(wanted.items())}
+            targets.setdefault(source, set()).update(pair.sinks)
+    return {source: sorted(sinks - {source}) for source, sinks in sorted(targets.items())}
 
 
 def shortest_paths(graph: Graph, costs: Array, targets: Mapping[int, Sequence[int]]) -> Iterator[tuple[int, int, Path]]:

@@ -68,7 +68,7 @@ def values_in(path: FilePath, file: IO[str]) -> Iterator[tuple[int, list[str]]]:
     for line, text in lines:
         if not text.strip() or text.startswith("#"):
             continue
-        separator = separator or next((one for one in SEPARATORS if one in text), ",")
+        separator = separator or next((mark for mark in SEPARATORS if mark in text), ",")
         row = chain([text], (further for _, further in lines))  # as many lines as its quotes span
         try:
             values = next(csv.reader(row, delimiter=separator, strict=True))

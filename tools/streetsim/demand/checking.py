@@ -60,8 +60,8 @@ def check_counts(counts: Sequence[Count], net: SumoNet, graph: Graph) -> None:
                 raise Fault(f"{count.location}: no connection leads from edge {source!r} to edge {target!r}")
         lanes = min(len(net.edges[edge].lanes) for edge in count.edges)
         if count.vehicles > MOST_A_LANE * lanes * count.hours + 1:
-            told = f"{count.vehicles:,.0f} vehicles in {count.end - count.begin:,} s"
-            raise Fault(f"{count.location}: {told} are more than one a second and lane")
+            vehicles = f"{count.vehicles:,.0f} vehicles in {count.end - count.begin:,} s"
+            raise Fault(f"{count.location}: {vehicles} are more than one a second and lane")
     check_periods(counts)
     if not any(count.vehicles for count in counts):
         raise Fault(f"{counts[0].location} and {len(counts) - 1:,} more: all counts are 0")

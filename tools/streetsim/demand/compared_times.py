@@ -44,10 +44,10 @@ class ComparedTime:
 
 def read_compared(paths: Iterable[str], notes: list[str]) -> list[TravelTime]:
     """The travel times of files, as read_times reads them, and those of edges in SUMO's edgeData, a way of one edge."""
-    found: list[TravelTime] = []
+    travel_times: list[TravelTime] = []
     for path in paths:
-        found += (begins_with(path, "<") and list(edge_times(path))) or read_times([path], notes)
-    return found
+        travel_times += (begins_with(path, "<") and list(edge_times(path))) or read_times([path], notes)
+    return travel_times
 
 
 def edge_times(path: str) -> Iterator[TravelTime]:
@@ -66,18 +66,18 @@ def compared_times(folder: Folder, times: Iterable[TravelTime]) -> list[Compared
     """The ways that both have, over the periods of the field, by their vehicles; the run's from segments.csv,
     routes.csv, trips.csv and edges.csv. Fault where a table is missing, or nothing is in common."""
     times = list(times)
-    here, there = dict(times_of_folder(folder, times)), sorted(pooled(times).items())
-    found = [ComparedTime(key, here[key], mean, count) for key, (mean, _, count) in there if key in here]
-    if not found:
+    model, field = dict(times_of_folder(folder, times)), sorted(pooled(times).items())
+    compared = [ComparedTime(key, model[key], mean, count) for key, (mean, _, count) in field if key in model]
+    if not compared:
         raise Fault(f"{folder.path}: no way and period is common to the run and the times (routes need --along)")
-    return found
+    return compared
 
 
 def times_of_folder(folder: Folder, times: list[TravelTime]) -> Iterator[tuple[tuple[str, ...], float]]:
     """By way of some times (way, mean seconds in the run in the periods that were measured)."""
-    begin, end = min(one.begin for one in times), max(one.end for one in times)
+    begin, end = min(time.begin for time in times), max(time.end for time in times)
     sums: defaultdict[tuple[str, ...], list[float]] = defaultdict(lambda: [0.0, 0.0])
-    for key, clock, seconds, vehicles in rows_of_folder(folder, {one.key for one in times}):
+    for key, clock, seconds, vehicles in rows_of_folder(folder, {time.key for time in times}):
         if begin <= clock < end:
             sums[key][0] += seconds * vehicles
             sums[key][1] += vehicles

@@ -103,11 +103,11 @@ def corrected_counts(basis: Basis, attempt: Attempt, costs: Costs, counted: Arra
 def full_edges(graph: Graph, lost: Sequence[float]) -> dict[int, float]:
     """By number the edges that are full, with the most seconds that one of their movements loses, where these are more
     than 120. lost: seconds by movement, as `movement_delays` gives them."""
-    found: dict[int, float] = {}
+    delays: dict[int, float] = {}
     for (edge, _), seconds in zip(graph.movements, lost, strict=True):
         if seconds > FULL_DELAY_S:
-            found[edge] = max(seconds, found.get(edge, 0.0))
-    return found
+            delays[edge] = max(seconds, delays.get(edge, 0.0))
+    return delays
 
 
 def is_at_or_after_full(count: Count, full: dict[int, float], graph: Graph) -> bool:

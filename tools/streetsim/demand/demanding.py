@@ -164,10 +164,10 @@ def kinds_of(counts: Iterable[Count], cells: Iterable[MatrixCell]) -> tuple[str,
     """The classes that are told apart by counts and matrix, sorted; empty stands for all others, which are cars, and is
     alone where none is told apart. Fault for one that SUMO does not have."""
     dated: list[Count | MatrixCell] = [*counts, *cells]
-    for one in dated:
-        if one.kind and one.kind not in CLASSES:
-            raise Fault(f"{one.location}: SUMO has no vehicle class {one.kind!r}; it has {', '.join(CLASSES)}")
-    return tuple(sorted({one.kind for one in dated})) or ("",)
+    for value in dated:
+        if value.kind and value.kind not in CLASSES:
+            raise Fault(f"{value.location}: SUMO has no vehicle class {value.kind!r}; it has {', '.join(CLASSES)}")
+    return tuple(sorted({value.kind for value in dated})) or ("",)
 
 
 def add_types(kinds: Iterable[str], types: Types) -> None:
@@ -248,7 +248,7 @@ def slice_bounds(
 ) -> list[int]:
     """The begins and ends of slices in seconds, rising: of counts and of cells, and of departures (second, index of the
     way) the first one and the second after the last, where these are sooner and later. Fault where there are none."""
-    periods = [*((one.begin, one.end) for one in counts), *((one.begin, one.end) for one in cells)]
+    periods = [*((value.begin, value.end) for value in counts), *((value.begin, value.end) for value in cells)]
     bounds = {bound for period in periods for bound in period}
     if departs:
         seconds = [int(depart) for depart, _ in departs]
@@ -293,7 +293,7 @@ def passing_by_class(basis: Basis, costs: Costs) -> Sparse:
     in all. costs: seconds of movements."""
     numpy, scipy = numpy_and_scipy()
     base = passing_matrix(basis.town.graph, basis.ways, basis.slices, basis.by_edges, costs)
-    masks = [numpy.array([float(one.kind in ("", kind)) for one in basis.counts]) for kind in basis.kinds]
+    masks = [numpy.array([float(count.kind in ("", kind)) for count in basis.counts]) for kind in basis.kinds]
     return scipy.sparse.hstack([scipy.sparse.diags(mask) @ base for mask in masks]).tocsr()
 
 

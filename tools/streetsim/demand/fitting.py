@@ -52,11 +52,11 @@ def least_squares(problem: Problem) -> tuple[Array, float]:
         apart, from_expected = scaled @ of - target, of - root
         return 0.5 * float(apart @ apart + from_expected @ from_expected), across @ apart + from_expected
 
-    found = scipy.optimize.minimize(
+    solution = scipy.optimize.minimize(
         half_squares, root, jac=True, method="L-BFGS-B", bounds=scipy.optimize.Bounds(0, numpy.inf),
         options={"maxiter": STEPS, "maxfun": 2 * STEPS, "maxcor": 20, "ftol": 1e-10, "gtol": 1e-5},
     )  # fmt: skip
-    return found.x * root, 2 * float(found.fun)
+    return solution.x * root, 2 * float(solution.fun)
 
 
 class TripEnds:
@@ -66,7 +66,7 @@ class TripEnds:
     def __init__(self, names: Sequence[str], ends: Sequence[End]) -> None:
         """names: where each way begins, or ends; ends: what is expected of that; both in the ways' order."""
         numpy, _ = numpy_and_scipy()
-        numbers = {name: at for at, name in enumerate(dict.fromkeys(names))}
+        numbers = {name: number for number, name in enumerate(dict.fromkeys(names))}
         self.of_way = numpy.array([numbers[name] for name in names])
         known = dict(zip(names, ends, strict=True))
         self.weight = numpy.array([known[name].weight for name in numbers])
@@ -76,11 +76,11 @@ class TripEnds:
         """For each way, as an array, how many vehicles begin, or end, where it does: half of them as the ways have
         them, half as all outside, or all within, would by their weights. vehicles: of each way, as an array."""
         numpy, _ = numpy_and_scipy()
-        own = numpy.bincount(self.of_way, vehicles, len(self.weight))
-        rates = numpy.bincount(self.outside, own, 2) / numpy.maximum(
+        by_end = numpy.bincount(self.of_way, vehicles, len(self.weight))
+        rates = numpy.bincount(self.outside, by_end, 2) / numpy.maximum(
             numpy.bincount(self.outside, self.weight, 2), LEAST_EXPECTED
         )
-        return (HALF * own + (1 - HALF) * rates[self.outside] * self.weight)[self.of_way]
+        return (HALF * by_end + (1 - HALF) * rates[self.outside] * self.weight)[self.of_way]
 
 
 class Expecting:
@@ -133,8 +133,8 @@ class Expecting:
     def vehicles_by_ends(self, vehicles: Array, share: Array) -> Array:
         """The vehicles of each way, as an array, in proportion to how many begin and how many end where it does and to
         its share; their sum is that of `vehicles`, of each way."""
-        made = self.begins.vehicles_at(vehicles) * self.ends.vehicles_at(vehicles) * share
-        return made * (vehicles.sum() / max(made.sum(), LEAST_EXPECTED))
+        weighted = self.begins.vehicles_at(vehicles) * self.ends.vehicles_at(vehicles) * share
+        return weighted * (vehicles.sum() / max(weighted.sum(), LEAST_EXPECTED))
 
     def slice_rates(self, passing: Sparse, counted: Array, base: Array) -> Array:
         """By slice, as an array, how many vehicles it has for one vehicle of `base`, which has a number for each way.

@@ -62,8 +62,8 @@ def write_invented(path: str, net: SumoNet, hourly: int, begin: int) -> None:
     trips = invented_trips(net, hourly)
     with whole_file(path) as file:
         file.write("<routes>\n")
-        for at, (source, target) in enumerate(trips):
-            depart = f"{begin + at * HOUR / hourly:.2f}"
-            known = {"id": f"{INVENTED}{at}", "depart": depart, "departLane": "best", "from": source, "to": target}
+        for number, (source, target) in enumerate(trips):
+            depart = f"{begin + number * HOUR / hourly:.2f}"
+            known = {"id": f"{INVENTED}{number}", "depart": depart, "departLane": "best", "from": source, "to": target}
             file.write(f"    <trip{attributes_of(known)}/>\n")
         file.write("</routes>\n")

@@ -47,8 +47,8 @@ class ComparedCount:
 
     def fit_row(self) -> tuple[object, ...]:
         """The row of fit.csv that stands for it, as FIT has the columns."""
-        source, *others = self.edges
-        ends = source, " ".join(others)
+        source, *later_edges = self.edges
+        ends = source, " ".join(later_edges)
         values = f"{self.counted:g}", f"{self.passed:g}", f"{self.geh:.2f}"
         return (self.begin, self.end, *ends, self.kind, self.group, *values)
 
@@ -94,8 +94,8 @@ class CountSums:
 
     def hour_row(self) -> tuple[object, ...]:
         """The row of hours.csv that stands for it, as HOURS has the columns."""
-        told = "passed" if self.meets_criteria else "not passed"
-        return (self.begin, self.end, self.counts, self.good, f"{100 * self.good_share:.1f}", *self.totals(), told)
+        verdict = "passed" if self.meets_criteria else "not passed"
+        return (self.begin, self.end, self.counts, self.good, f"{100 * self.good_share:.1f}", *self.totals(), verdict)
 
     def group_row(self) -> tuple[object, ...]:
         """The row of groups.csv that stands for it, as GROUPS has the columns."""
@@ -116,17 +116,17 @@ class JudgedCounts:
     @property
     def meets_criteria(self) -> bool:
         """Whether each hour meets the criteria."""
-        return all(one.meets_criteria for one in self.hours)
+        return all(sums.meets_criteria for sums in self.hours)
 
     @property
     def good_share(self) -> float:
         """The share, 0 to 1, of the counts of all hours whose GEH is below 5."""
-        return sum(one.good for one in self.hours) / sum(one.counts for one in self.hours)
+        return sum(sums.good for sums in self.hours) / sum(sums.counts for sums in self.hours)
 
     @property
     def greatest_difference(self) -> float:
         """The greatest difference of an hour's total from what was counted, as a share."""
-        return max(abs(one.relative_difference) for one in self.hours)
+        return max(abs(sums.relative_difference) for sums in self.hours)
 
     def lines(self) -> Iterator[str]:
         """Lines for the terminal: the criteria hour by hour, then screen lines, r and slope."""
@@ -237,7 +237,7 @@ def is_part_of(count: ComparedCount, other: ComparedCount) -> bool:
 def counted_seconds(hourly: Iterable[ComparedCount]) -> int:
     """The seconds of all periods, those in common once."""
     total = last = 0
-    for begin, end in sorted((one.begin, one.end) for one in hourly):
+    for begin, end in sorted((count.begin, count.end) for count in hourly):
         total += max(0, end - max(begin, last))
         last = max(last, end)
     return total
@@ -247,11 +247,11 @@ def differences_of(hourly: Sequence[ComparedCount]) -> dict[str, float]:
     """How many vehicles an hour more (above 0) or fewer passed than were counted, by edge: of the edge itself, else of
     its turns together; of all vehicles, else of the classes together. It is a mean over all the time in which anything
     is counted: where the edge is not, it is 0. Edges of which nothing is counted are left out."""
-    found: defaultdict[str, float] = defaultdict(float)
+    differences: defaultdict[str, float] = defaultdict(float)
     hours = counted_seconds(hourly) / HOUR
-    for one in without_parts(hourly):
-        found[one.edges[0]] += (one.passed - one.counted) / hours
-    return dict(found)
+    for count in without_parts(hourly):
+        differences[count.edges[0]] += (count.passed - count.counted) / hours
+    return dict(differences)
 
 
 def worst_fits(fit: JudgedCounts) -> list[ComparedCount]:

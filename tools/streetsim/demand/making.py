@@ -104,9 +104,9 @@ def print_input_notes(basis: Basis, fitted: Fitted) -> None:
         [f"no way leads from {pair.source} to {pair.target}: vehicles of the matrix are left out" for pair in lost],
         "no way leads from one to the other zone of {:,} more pairs",
     )
-    kept, total = basis.kept_pairs
-    if kept < total:
-        print(f"{kept:,} of {total:,} pairs are drawn, for {len(basis.ways):,} ways (--most)", file=sys.stderr)
+    kept_count, total = basis.kept_pairs
+    if kept_count < total:
+        print(f"{kept_count:,} of {total:,} pairs are drawn, for {len(basis.ways):,} ways (--most)", file=sys.stderr)
 
 
 def warn(texts: Sequence[str], more: str) -> None:

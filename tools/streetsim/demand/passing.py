@@ -38,10 +38,10 @@ def slices_of(bounds: Iterable[int], lead: float, begin: int) -> Slices:
     """Slices between bounds in seconds, two at least, and before them one that leads in, for those who are on their way
     when counting begins: as long as `lead` seconds need, in whole widths of the narrowest slice, but not before the
     clock `begin`; none where this leaves it no second."""
-    found = sorted(set(bounds))
-    width = min(later - sooner for sooner, later in pairwise(found))
-    early = max(begin, found[0] - ceil(lead / width) * width)
-    return Slices((early, *found), True) if early < found[0] else Slices(tuple(found), False)
+    period_bounds = sorted(set(bounds))
+    width = min(later - sooner for sooner, later in pairwise(period_bounds))
+    early = max(begin, period_bounds[0] - ceil(lead / width) * width)
+    return Slices((early, *period_bounds), True) if early < period_bounds[0] else Slices(tuple(period_bounds), False)
 
 
 class CountsByEdges:
@@ -63,9 +63,9 @@ class CountsByEdges:
         """(counts of the same edges and class, by their begins; index in the way of the edge at whose end they are
         counted) for all counted edges that a way passes, and each time that it does."""
         for size in self.sizes:
-            for at in range(len(path) - size + 1):
-                for some in self.by_edges.get(path[at : at + size], ()):
-                    yield some, at + max(0, size - 2)
+            for index in range(len(path) - size + 1):
+                for indices in self.by_edges.get(path[index : index + size], ()):
+                    yield indices, index + max(0, size - 2)
 
     def shares_in_periods(self, indices: Sequence[int], begin: float, end: float) -> Iterator[tuple[int, float]]:
         """Of some counts of the same edges and class (as `counts_along` gives them) those in whose period vehicles pass
@@ -82,11 +82,11 @@ class CountsByEdges:
 def end_clocks(graph: Graph, table: Table, path: Path, depart: float) -> list[float]:
     """For each edge of a way the clock at which a vehicle that departs at a clock passes its end; table: seconds of
     movements by time."""
-    found, clock = [], depart
+    clocks, clock = [], depart
     for way in pairwise((*path, END)):
         clock += table.at(graph.movement_of[way], clock)
-        found.append(clock)
-    return found
+        clocks.append(clock)
+    return clocks
 
 
 def passing_matrix(graph: Graph, ways: Sequence[Way], slices: Slices, by_edges: CountsByEdges, costs: Costs) -> Sparse:

@@ -59,8 +59,8 @@ def vehicles_of_tag(tag: Tag, usual: Iterable[tuple[str, ...]], attribute: str |
     first attribute it has; Fault where it has none."""
     if attribute:
         return tag.get(attribute, vehicle_number)
-    names = next((some for some in usual if some[0] in tag.attributes), None)
+    names = next((choice for choice in usual if choice[0] in tag.attributes), None)
     if names is None:
-        wanted = ", ".join(some[0] for some in usual)
-        raise Fault(f"{tag.location}: <{tag.name}> has no count: none of {wanted} (--attribute names another one)")
+        expected = ", ".join(choice[0] for choice in usual)
+        raise Fault(f"{tag.location}: <{tag.name}> has no count: none of {expected} (--attribute names another one)")
     return sum(tag.get(name, vehicle_number) for name in names if name in tag.attributes)

@@ -29,10 +29,11 @@ def run_demand(ground: RunGround, loaded: LoadedRun, seed: int) -> Ran:
     """Makes one run of a demand, after rounds of giving way as streetsim-run makes them; Fault where the program
     refuses one of them or ends before."""
     run = run_with_gaps(ground, loaded.run, loaded.mapping, seed)
-    seen = seen_run(ground, run, loaded.mapping, seed, False)
-    pairs = zip(seen.clocks, seen.arrivals, strict=True)
+    observed_run = seen_run(ground, run, loaded.mapping, seed, False)
+    pairs = zip(observed_run.clocks, observed_run.arrivals, strict=True)
     exit_clocks = [[*clocks[1:], *([end] if end is not None else [])] for clocks, end in pairs]
-    return Ran(exit_clocks, seen.arrivals, seen.observed, seen.rescues, seen.most_waiting, seen.at_works)
+    waiting, at_works = observed_run.most_waiting, observed_run.at_works
+    return Ran(exit_clocks, observed_run.arrivals, observed_run.observed, observed_run.rescues, waiting, at_works)
 
 
 def passed_by_count(

@@ -28,10 +28,10 @@ def passed_in(folder: Folder, counts: Sequence[Count]) -> list[float]:
     the folder cannot tell."""
     check_counts_in_run(folder, counts)
     rows = {**edge_rows(folder), **movement_rows(folder)}
-    found = [vehicles_within(rows.get(count.edges, ()), count) if not count.kind else None for count in counts]
-    missing = [count for count, value in zip(counts, found, strict=True) if value is None]
+    passed = [vehicles_within(rows.get(count.edges, ()), count) if not count.kind else None for count in counts]
+    missing = [count for count, value in zip(counts, passed, strict=True) if value is None]
     more = passed_by_rows(folder, missing) if missing else iter(())
-    return [next(more) if value is None else value for value in found]
+    return [next(more) if value is None else value for value in passed]
 
 
 def check_counts_in_run(folder: Folder, counts: Sequence[Count]) -> None:
@@ -55,10 +55,10 @@ def check_counts_in_run(folder: Folder, counts: Sequence[Count]) -> None:
 def edge_rows(folder: Folder) -> dict[Key, list[Row]]:
     """By (edge,): (begin, end, vehicles that left it or arrived on it) of each period of edges.csv. Fault where this
     cannot be read."""
-    found: defaultdict[Key, list[Row]] = defaultdict(list)
+    by_edge: defaultdict[Key, list[Row]] = defaultdict(list)
     for row in folder.edges():
-        found[(row["edge"],)].append((int(row["begin"]), int(row["end"]), float(row["left"])))
-    return found
+        by_edge[(row["edge"],)].append((int(row["begin"]), int(row["end"]), float(row["left"])))
+    return by_edge
 
 
 def movement_rows(folder: Folder) -> dict[Key, list[Row]]:
@@ -115,20 +115,21 @@ def passed_by_rows(folder: Folder, counts: Sequence[Count]) -> Iterator[int]:
             f"{counts[0].location}: {folder.path} has neither this place and period in its tables nor {ROWS} of all "
             f"edges: run it with --junctions {counts[0].end - counts[0].begin}, or without --edges and --every 0"
         )
-    number = {edge: at for at, edge in enumerate(folder.mapping.links_of)}
+    number = {edge: index for index, edge in enumerate(folder.mapping.links_of)}
     kinds = np.array(vehicle_classes_of(folder.mapping.kinds, len(folder.trips())), object)
     visits = visits_in(folder, np.array([number[link.edge] for link in folder.mapping.links]))
-    found = {edges: visits.clocks_of([number[edge] for edge in edges]) for edges in {count.edges for count in counts}}
+    counted = {count.edges for count in counts}
+    clocks_by_edges = {edges: visits.clocks_of([number[edge] for edge in edges]) for edges in counted}
     for count in counts:
-        vehicles, clocks = found[count.edges]
+        vehicles, clocks = clocks_by_edges[count.edges]
         inside = (clocks > count.begin) & (clocks <= count.end)
         yield int((inside & (kinds[vehicles] == count.kind) if count.kind else inside).sum())
 
 
 def words_of(folder: Folder) -> Sequence[str]:
     """The words by which a run was made, as far as its setting has them."""
-    found = folder.made.get("words", ())
-    return [str(word) for word in found] if isinstance(found, list) else ()
+    arguments = folder.made.get("words", ())
+    return [str(word) for word in arguments] if isinstance(arguments, list) else ()
 
 
 def visits_in(folder: Folder, edge_of: Array) -> Visits:

@@ -21,10 +21,10 @@ LAST_FILE = "hours.csv"  # of a comparison: away while other files take their pl
 def write_judged(folder: str, fit: JudgedCounts) -> None:
     """Writes the tables of a comparison with counts to a folder: fit.csv, hours.csv, and groups.csv where there are
     screen lines. Fault where one cannot be written."""
-    write_table(f"{folder}/fit.csv", FIT, (one.fit_row() for one in fit.compared))
-    write_table(f"{folder}/{LAST_FILE}", HOURS, (one.hour_row() for one in fit.hours))
+    write_table(f"{folder}/fit.csv", FIT, (row.fit_row() for row in fit.compared))
+    write_table(f"{folder}/{LAST_FILE}", HOURS, (row.hour_row() for row in fit.hours))
     if fit.groups:
-        write_table(f"{folder}/groups.csv", GROUPS, (one.group_row() for one in fit.groups))
+        write_table(f"{folder}/groups.csv", GROUPS, (row.group_row() for row in fit.groups))
 
 
 def write_demand(folder: str, basis: Basis, fitted: Fitted, tried: Sequence[Attempt]) -> None:
@@ -72,7 +72,7 @@ def contradiction_rows(contradictions: Sequence[Contradiction]) -> Iterator[tupl
 
 def run_rows(tried: Sequence[Attempt]) -> Iterator[tuple[object, ...]]:
     """The rows of runs.csv, as RUNS has the columns."""
-    for one in tried:
-        told = "passed" if one.judged.meets_criteria else "not passed"
-        shares = f"{100 * one.judged.good_share:.1f}", f"{100 * one.judged.greatest_difference:.1f}"
-        yield (one.number, len(one.trips), one.arrived, one.ran.rescues, *shares, told)
+    for attempt in tried:
+        verdict = "passed" if attempt.judged.meets_criteria else "not passed"
+        shares = f"{100 * attempt.judged.good_share:.1f}", f"{100 * attempt.judged.greatest_difference:.1f}"
+        yield (attempt.number, len(attempt.trips), attempt.arrived, attempt.ran.rescues, *shares, verdict)
