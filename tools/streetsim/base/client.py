@@ -1,4 +1,5 @@
-"""A client of streetsim: starts the program, sends commands as lines and gives typed replies."""
+"""The Python client of the program streetsim: starts it, sends commands as lines and gives typed replies.
+streetsim.client is the same for users; the kernel sends its commands by it."""
 import fcntl
 import json
 import subprocess

@@ -1,4 +1,5 @@
-"""Files in and out: XML read element by element, outputs written whole or not at all."""
+"""Files in and out, and how a tool ends. XML is read element by element; outputs are written whole or not at all;
+Faults and signals become a line and a status (run_tool)."""
 from __future__ import annotations
 
 import contextlib

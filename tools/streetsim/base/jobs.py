@@ -1,4 +1,5 @@
-"""Work in processes side by side, with results in order, news of how far each is, and the first Fault for all."""
+"""Runs work in processes side by side: results in order, progress of each, and the first Fault for all. Calibration,
+runs of several seeds and runs of SUMO use it."""
 from __future__ import annotations
 
 import os

@@ -1,4 +1,5 @@
-"""A program that runs beside its caller, with pipes to it and from it."""
+"""A program that runs beside its caller, with pipes to and from it; the client and the kernel start the simulator by
+it."""
 import contextlib
 import subprocess
 import tempfile

@@ -1,4 +1,4 @@
-"""Which program, the simulator, the tools run, and whether it is one without proofs."""
+"""Finds the program (the simulator) that the tools run, and says whether it was built without proofs."""
 import contextlib
 import functools
 import os

@@ -1,4 +1,5 @@
-"""Long work: a line on a terminal that says how far it is, and an end that the user asks for by Ctrl-C."""
+"""Progress of long work: a line on a terminal with what is done and the seconds that are left, and Ctrl-C that asks for
+an end."""
 import signal
 import sys
 import threading

@@ -1,4 +1,5 @@
-"""What an import, or another reader of SUMO's files, has to say: warnings, and what is left out or has no effect."""
+"""The report of an import, or of another reader of SUMO's files: warnings, and what is left out or has no effect. Tools
+print it; pages list it."""
 from collections import Counter
 from collections.abc import Iterable, Iterator, Sequence
 from dataclasses import dataclass, replace

@@ -1,4 +1,5 @@
-"""What authorities ask of a base, and more: counts, routes, segments, saturation and queues of a day, within marks."""
+"""The criteria that a calibrated base must meet: counts (GEH), routes, segments, saturation and queues of a day.
+streetsim-calibrate reckons them before and after the fit."""
 from __future__ import annotations
 
 from collections import defaultdict

@@ -1,5 +1,5 @@
-"""What a planner measured on a day: travel times from stop line to stop line, a survey of saturation, queues and
-counts, in the spellings of the field's usual files. Fault, one line, for what cannot be read."""
+"""Reads what a planner measured on a day: tables of travel times (also SUMO's tripinfo and vehroute), saturation
+surveys, queues and counts, in the column names of usual files. Fault, one line, for what cannot be read."""
 from __future__ import annotations
 
 import csv

@@ -1,5 +1,5 @@
-"""Fits the drivers of a street to what was measured there: Gauss-Newton with common seeds, and what is known before, as
-a survey of saturation tells it, as a prior."""
+"""The fit of streetsim-calibrate: Gauss-Newton finds the drivers of a street whose travel times are those of the field.
+Runs have common seeds; a survey of saturation is the prior."""
 from __future__ import annotations
 
 from collections import Counter

@@ -1,4 +1,5 @@
-"""The street in the machine with some drivers: imported, run, and measured as the field is measured."""
+"""Imports and runs the street with the drivers of one trial, and measures the run as the field is measured. The fit and
+the criteria of streetsim-calibrate ask it."""
 from __future__ import annotations
 
 import json

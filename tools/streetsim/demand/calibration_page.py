@@ -1,4 +1,4 @@
-"""The files of a calibration: drivers, segments, criteria, runs, and a page of them."""
+"""Writes the files of streetsim-calibrate: drivers, segments.csv, criteria.csv, runs.csv and the page report.html."""
 from __future__ import annotations
 
 import hashlib

@@ -1,4 +1,4 @@
-"""A survey of saturated lanes, and the drivers that it tells."""
+"""Drivers (dawdle and lost seconds) by a saturation survey of lanes; the prior of the calibration's fit."""
 from __future__ import annotations
 
 from collections.abc import Iterable, Sequence

@@ -1,4 +1,5 @@
-"""The ways that a demand may take: the shortest by time between entries, exits and zones, several for a pair."""
+"""Candidate ways (routes) of a demand: the shortest by time between entries, exits or zones, several for each pair, and
+routes of files. Called where the inputs of streetsim-demand are read (demanding)."""
 import random
 from collections import Counter, defaultdict
 from collections.abc import Iterable, Iterator, Mapping, Sequence

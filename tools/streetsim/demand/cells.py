@@ -1,4 +1,5 @@
-"""Tables as planners keep them: CSV with commas, semicolons or tabs, whose rows know their line."""
+"""Reads CSV tables of planners, with commas, semicolons or tabs; each row knows its line. All readers of tables here
+use it: counts, matrices, zones, travel times."""
 import csv
 from codecs import BOM_UTF8
 from collections.abc import Callable, Collection, Iterator, Mapping, Sequence

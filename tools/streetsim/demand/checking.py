@@ -1,4 +1,5 @@
-"""Checks counts against the network and against each other: what is wrong is told with its line."""
+"""Checks counts against the network (edges, connections, periods) and against each other (contradictions). Each Fault
+names the line of the file."""
 from collections import defaultdict
 from collections.abc import Iterable, Iterator, Mapping, Sequence, Set
 from difflib import get_close_matches

@@ -1,4 +1,5 @@
-"""Travel times of a run's folder beside those that were measured: segments, routes, trips, and edges of SUMO."""
+"""Compares travel times in the folder of a run with those of the field, or of SUMO: segments, routes, trips and edges.
+streetsim-compare --times calls it."""
 from __future__ import annotations
 
 from collections import defaultdict

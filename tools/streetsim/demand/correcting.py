@@ -1,4 +1,5 @@
-"""The fit in the simulation: runs of a demand, each corrected by the one before, until one fits or no run is left."""
+"""Runs a demand, corrects the counts that the next fit is to meet by what passed in the run, and so on, until a run
+fits or no run is left. What streetsim-demand --runs does."""
 from collections.abc import Iterator, Sequence
 from dataclasses import dataclass
 

@@ -1,4 +1,5 @@
-"""Makes a demand from what a planner has: inputs read and checked, candidate ways, and the fit."""
+"""The steps of streetsim-demand before any run: reads and checks the inputs, finds candidate ways, and fits vehicles to
+counts (Basis, Fitted)."""
 from bisect import bisect_right
 from collections import defaultdict
 from collections.abc import Callable, Iterable, Mapping, Sequence

@@ -1,4 +1,4 @@
-"""Trips with their departures, from how many vehicles each way and slice has."""
+"""Trips with their departures, drawn from how many vehicles each way and slice has after the fit."""
 import random
 from collections import defaultdict
 from collections.abc import Sequence

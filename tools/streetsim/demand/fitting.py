@@ -1,4 +1,5 @@
-"""Finds the vehicles of each way and slice that fit counts best: sparse least squares with bounds."""
+"""The least squares of streetsim-demand: vehicles of each way and slice, none below 0, that fit the counts best. All
+matrices are sparse."""
 from collections.abc import Sequence
 from dataclasses import dataclass
 

@@ -1,5 +1,5 @@
-"""A demand that nobody counted, for a network without routes: so many vehicles an hour from edge to edge, where the
-network begins and ends. It is called invented wherever it shows."""
+"""A demand that nobody counted, for a network without routes: so many vehicles an hour between edges at its border.
+streetsim-open makes it, and calls it invented wherever it shows."""
 from bisect import bisect
 from collections.abc import Sequence
 from itertools import accumulate

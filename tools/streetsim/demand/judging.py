@@ -1,4 +1,5 @@
-"""How well vehicles that passed, in a run or on paper, fit those that were counted: GEH, totals, r and slope."""
+"""How well vehicles that passed, in a run or on paper, fit the counts: GEH, totals, r and slope. streetsim-demand,
+streetsim-compare and the page of streetsim-report show it."""
 from collections import defaultdict
 from collections.abc import Iterable, Iterator, Sequence
 from dataclasses import dataclass, replace

@@ -1,4 +1,5 @@
-"""Makes a demand from its basis to its files: fitted, run as often as asked for, written, and told."""
+"""Makes a demand from its Basis to its files: runs, the best of them, files, and lines for the terminal. streetsim-
+demand calls these functions one after another."""
 import sys
 from collections.abc import Callable, Sequence
 from dataclasses import asdict, dataclass

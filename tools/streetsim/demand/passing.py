@@ -1,4 +1,4 @@
-"""When vehicles of a way pass where was counted: the matrix by which a demand is fitted to counts."""
+"""When vehicles of a way pass the places of counts: the matrix (counts by ways and slices) on which the fit stands."""
 from bisect import bisect_right
 from collections import defaultdict
 from collections.abc import Iterable, Iterator, Sequence

@@ -1,4 +1,5 @@
-"""Pictures of a fit: what passed over what was counted, and a map of the differences."""
+"""Draws fit.png and differences.png: passed over counted, and a map of the differences. streetsim-demand and streetsim-
+compare call it."""
 from collections.abc import Sequence
 
 from streetsim.base.colours import LINE, OTHER_LINE

@@ -1,4 +1,5 @@
-"""Reads counts of edges and turns, from CSV and from SUMO's edgeData and edgeRelation files."""
+"""Reads counts of edges and turns, from CSV and from SUMO's edgeData and edgeRelation files; other modules read
+matrices, zones and ratios."""
 from collections.abc import Iterable, Iterator
 
 from streetsim.base.files import Fault, FilePath

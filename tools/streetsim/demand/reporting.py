@@ -1,4 +1,5 @@
-"""Counts beside a run on a page, as HTML: by hour, screen lines, scatter, map of the differences, and the worst."""
+"""The section on counts of a page of streetsim-report, as HTML: by hour, screen lines, scatter, map of the differences,
+worst fits."""
 from html import escape
 
 from streetsim.base.colours import LINE, OTHER_LINE

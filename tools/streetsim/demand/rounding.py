@@ -1,4 +1,4 @@
-"""Makes the vehicles of a fit whole, so that their sums stay near those of the fit."""
+"""Makes the vehicles of a fit whole numbers whose sums at counts stay near those of the fit."""
 from streetsim.demand.fitting import deviations
 from streetsim.demand.science import Array, Sparse, numpy_and_scipy
 

@@ -1,4 +1,5 @@
-"""Runs a demand in the simulation: when its vehicles passed where was counted, and what their ways took."""
+"""Makes one run of a demand: when its vehicles passed the counts, and how long movements took. The corrections by runs
+(correcting) call it."""
 from collections.abc import Sequence
 from dataclasses import dataclass
 

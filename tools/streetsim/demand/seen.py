@@ -1,4 +1,5 @@
-"""How many passed where was counted, in a folder of streetsim-run: by its tables, else by its rows of each second."""
+"""How many vehicles passed the counts in a folder of streetsim-run: by its tables, else by its rows of each second.
+streetsim-compare and streetsim-report call it."""
 import csv
 import os
 from collections import defaultdict

@@ -1,4 +1,5 @@
-"""What a planner has: counts, zones, matrices, inflows and turn ratios, each with the line that tells it."""
+"""Values that files of planners hold: counts, zones, cells of matrices, inflows and turn ratios, each with its location
+(file and line)."""
 from collections import defaultdict
 from collections.abc import Callable, Iterable, Iterator, Mapping, Sequence
 from dataclasses import dataclass

@@ -1,4 +1,5 @@
-"""Draws the ways that turn ratios give, as SUMO's jtrrouter does: vehicle by vehicle, turn by turn, until a sink."""
+"""Draws the way of each vehicle by turn ratios, turn by turn until a sink, as SUMO's jtrrouter does. For streetsim-
+demand --flows and --ratios."""
 import random
 from bisect import bisect_left, bisect_right
 from collections import defaultdict

@@ -1,4 +1,5 @@
-"""Writes the files of a fitted demand and of a comparison with counts."""
+"""Writes the CSV files of streetsim-demand and streetsim-compare: pairs, counts beside vehicles, contradictions,
+runs."""
 from collections import Counter
 from collections.abc import Iterator, Sequence
 from itertools import pairwise
