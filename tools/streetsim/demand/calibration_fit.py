@@ -99,25 +99,25 @@ class Fit:
         """measure: makes runs; most: of them; seeds: runs of each trial."""
         self.field_times = {key: values for key, values in pooled(day.times).items() if values[2] >= LEAST_SEEN}
         self.start, self.measure, self.most, self.seeds = start, measure, most, seeds
-        self.known: dict[FittedDrivers, list[MeasuredRun]] = {}
+        self.measured_runs: dict[FittedDrivers, list[MeasuredRun]] = {}
         self.trials: list[tuple[int, FittedDrivers, float]] = []
 
     @property
     def runs(self) -> int:
         """How many runs were made."""
-        return self.seeds * len(self.known)
+        return self.seeds * len(self.measured_runs)
 
     def run_missing(self, all_drivers: Sequence[FittedDrivers]) -> bool:
         """Makes the runs of drivers that are not known; gives whether their number allowed it."""
-        missing = [drivers for drivers in dict.fromkeys(all_drivers) if drivers not in self.known]
+        missing = [drivers for drivers in dict.fromkeys(all_drivers) if drivers not in self.measured_runs]
         if self.runs + self.seeds * len(missing) > self.most:
             return False
-        self.known |= zip(missing, self.measure(missing), strict=True) if missing else ()
+        self.measured_runs |= zip(missing, self.measure(missing), strict=True) if missing else ()
         return True
 
     def residuals(self, drivers: FittedDrivers) -> Array:
         """Model less field of each way, over its error; a way that nobody drove in the runs counts nothing."""
-        model_times = pooled_runs(self.known[drivers])
+        model_times = pooled_runs(self.measured_runs[drivers])
         residuals = []
         for key, (mean, deviation, count) in sorted(self.field_times.items()):
             error = hypot(deviation / sqrt(count), MODEL_ERROR * mean)
