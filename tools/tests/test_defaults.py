@@ -12,7 +12,7 @@ from argparse import Namespace
 from support import FORK, MAP, NUMBERED, PROGRAM, TOOLS, Case, needs_simulator
 
 from streetsim.base.files import Fault, read_json
-from streetsim.base.seeds import seeds_of, seeds_told
+from streetsim.base.seeds import seeds_of, seeds_text
 from streetsim.cli.defaults import map_beside, name_of_network, stem_of
 
 CONFIGURATION = (
@@ -42,7 +42,7 @@ class Names(Case):
             with self.subTest(text), self.assertRaisesRegex(Fault, "--seeds '.*': expected FIRST-LAST, or such"):
                 seeds_of(text, "--seeds")
         for text in ("1,4,7-9", "3", "1-2", "5,7"):
-            self.assertEqual(seeds_told(seeds_of(text, "--seeds")), text)
+            self.assertEqual(seeds_text(seeds_of(text, "--seeds")), text)
 
 
 class InAFolder(Case):

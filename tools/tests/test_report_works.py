@@ -7,7 +7,7 @@ import unittest
 
 from test_reports import Given
 from streetsim.base.shapes import point_along
-from streetsim.demand.judging import judged
+from streetsim.demand.judging import judge_counts
 from streetsim.demand.reporting import counts_section
 from streetsim.demand.values import Count
 from streetsim.model.tables import EDGES, QUEUES, WORKS, write_table
@@ -130,7 +130,7 @@ class Counts(Given):
         shutil.rmtree(self.folder / "after")
         counts = [Count(0, 3600, ("a",), 100, "x"), Count(0, 3600, ("b",), 100, "x")]
         runs = read_runs(str(self.folder / "before"))
-        text = counts_section("p", judged(counts, [100, 400]), runs.first.mapping)
+        text = counts_section("p", judge_counts(counts, [100, 400]), runs.first.mapping)
         self.assertIn("counted: 432 vehicles/h", text)
         self.assertEqual((text.count('fill="#c04000"'), text.count('fill="#225588"')), (1, 1))
         self.assertIn("b: +300", text)

@@ -60,7 +60,7 @@ def table():
     found, all_ = words(), set(commands())
     old = {}
     for made in commands().values():
-        for word, new in made.old.items():
+        for word, new in made.renamed.items():
             old.setdefault(new, {})[word] = True
     lines = ["| Word | Is | Of | Earlier |", "|---|---|---|---|"]
     for word, own in sorted(found.items(), key=lambda item: item[0].lstrip("-").lower()):
@@ -88,12 +88,12 @@ class Words(Case):
 
     def test_earlier_words_are_taken_and_not_told(self):
         for name, made in commands().items():
-            for word, new in made.old.items():
+            for word, new in made.renamed.items():
                 with self.subTest(f"{name} {word}"):
                     self.assertNotIn(word, made._option_string_actions)
                     self.assertIn(new, made._option_string_actions)
                     self.assertNotRegex(made.format_help(), rf"{word}\b(?!-)")
-        made = Parser(prog="x", old={"--old": "--new"})
+        made = Parser(prog="x", renamed={"--old": "--new"})
         made.add_argument("--new")
         self.assertEqual([made.parse_args(given).new for given in (["--old", "1"], ["--old=2"])], ["1", "2"])
 

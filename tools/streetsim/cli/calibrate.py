@@ -10,7 +10,7 @@ from collections.abc import Sequence
 from streetsim.base import program
 from streetsim.base.files import Fault, refuse_foreign, refuse_unwritable, whole_folder
 from streetsim.base.jobs import side_by_side
-from streetsim.base.progress import Meanwhile, Slow
+from streetsim.base.progress import Slow, WorkProgress
 from streetsim.base.report import Report
 from streetsim.base.seeds import seeds_of
 from streetsim.base.words import Parser, add_jobs, add_rounds, integer_within, names_in, paths_in
@@ -26,7 +26,7 @@ from streetsim.demand.calibration_field import (
 from streetsim.demand.calibration_fit import Fit, FitResult, classes_of, lines_of, start_of, values_of
 from streetsim.demand.calibration_model import FittedDrivers, MeasuredRun, StreetRuns, ways_of
 from streetsim.demand.calibration_page import (
-    AFTER, BEFORE, FITTED, LAST, OTHER, Calibration, JudgedDay, lines_told, sum_of_input, write_calibration,
+    AFTER, BEFORE, FITTED, LAST_FILE, OTHER, Calibration, JudgedDay, criteria_lines, sum_of_input, write_calibration,
     write_drivers,
 )
 from streetsim.model.sources import Sources, program_digest
@@ -41,13 +41,13 @@ OWN = {
     "check_seeds", "output", "out", "force", "jobs", "rounds", "program",
 }
 # All files of its folder.
-WRITTEN = {LAST, "segments.csv", "runs.csv", "report.html", f"{FITTED}.rou.xml", f"{OTHER}.rou.xml"}
+WRITTEN = {LAST_FILE, "segments.csv", "runs.csv", "report.html", f"{FITTED}.rou.xml", f"{OTHER}.rou.xml"}
 
 
 def parser() -> Parser:
     """The parser of the words that streetsim-calibrate takes."""
     made = Parser(
-        prog="streetsim-calibrate", old={"--check": "--check-seeds"},
+        prog="streetsim-calibrate", renamed={"--check": "--check-seeds"},
         examples=(
             "streetsim-calibrate net.net.xml --counts day1.csv --times times1.csv -o drivers.json --out fit",
             "streetsim-calibrate net.net.xml --counts day1.csv --times times1.csv --saturation survey.csv "
@@ -100,13 +100,13 @@ def main(arguments: list[str]) -> int:
     words.program = program.find_program(words.program)
     with tempfile.TemporaryDirectory() as folder:
         calibration = calibrated(words, given_words(made, words, OWN), folder)
-        with whole_folder(words.out, LAST, WRITTEN) as out:
+        with whole_folder(words.out, LAST_FILE, WRITTEN) as out:
             for name in {FITTED, OTHER} & {day.name for day in calibration.days}:
                 if os.path.exists(path := f"{folder}/{name}.rou.xml"):
                     shutil.copy(path, out)
             write_calibration(out, calibration)
             write_drivers(words.output, calibration)
-    print(*lines_of(calibration.result, calibration.days[0].day), *lines_told(calibration), sep="\n")
+    print(*lines_of(calibration.result, calibration.days[0].day), *criteria_lines(calibration), sep="\n")
     return 0 if calibration.is_valid() else 1
 
 
@@ -144,7 +144,7 @@ def calibrated(words: argparse.Namespace, options: list[str], folder: str) -> Ca
     routes = words.routes or [demand_of(words, options, day.counts, folder, FITTED)]
     street = street_runs(words, day, routes)
     seeds, check = seeds_of(words.seeds, "--seeds"), seeds_of(words.check_seeds, "--check-seeds")
-    meanwhile = Meanwhile("runs", words.runs)
+    meanwhile = WorkProgress("runs", words.runs)
 
     def measure(all_: Sequence[FittedDrivers]) -> list[list[MeasuredRun]]:
         """The runs of some drivers by the common seeds."""

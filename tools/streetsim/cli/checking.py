@@ -8,7 +8,7 @@ from collections.abc import Iterable, Sequence
 from pathlib import Path
 
 from streetsim.base.files import Fault, Json, read_json
-from streetsim.base.seeds import seeds_told
+from streetsim.base.seeds import seeds_text
 from streetsim.cli import run as run_words, study as study_words
 from streetsim.cli.given import given_words, refuse_other_words
 from streetsim.cli.run import main as run
@@ -21,7 +21,7 @@ from streetsim.report.run_tables import read_folders
 
 def seeds_words(seeds: Sequence[int]) -> list[str]:
     """The words of streetsim-run that name seeds, one at least."""
-    return [f"--seeds={seeds_told(sorted(seeds))}"]
+    return [f"--seeds={seeds_text(sorted(seeds))}"]
 
 
 def machine_words(words: argparse.Namespace) -> list[str]:

@@ -8,11 +8,11 @@ from streetsim.base.progress import Slow
 from streetsim.base.words import Parser, paths_in
 from streetsim.cli.words import add_attribute, add_files, add_out
 from streetsim.demand.compared_times import are_close, compared_times, lines_of_times, read_compared
-from streetsim.demand.judging import judged
+from streetsim.demand.judging import judge_counts
 from streetsim.demand.pictures import draw_fit
 from streetsim.demand.reading import read_counts
 from streetsim.demand.seen import passed_in
-from streetsim.demand.writing import LAST, write_judged
+from streetsim.demand.writing import LAST_FILE, write_judged
 from streetsim.model import trust
 from streetsim.model.folder import read_folder
 from streetsim.model.replications import is_drawn
@@ -106,9 +106,9 @@ def with_counts(path: str, files: list[str], attribute: str | None, out: str | N
         folder = read_folder(path)
         counts = read_counts(files, attribute)
         shown.text = f"comparing with {len(counts):,} counts"
-        fit = judged(counts, passed_in(folder, counts))
+        fit = judge_counts(counts, passed_in(folder, counts))
         if out:
-            with whole_folder(out, LAST, COMPARED) as made:
+            with whole_folder(out, LAST_FILE, COMPARED) as made:
                 write_judged(made, fit)
                 draw_fit(made, fit, folder.mapping.links, "passed in the run")
     print(*fit.lines(), *folder.notes, sep="\n")

@@ -88,7 +88,7 @@ def add_fit(made: argparse.ArgumentParser) -> None:
 
 def main(arguments: Sequence[str]) -> int:
     """Runs streetsim-demand: makes the demand, writes its files and prints how well it fits; gives its status, as
-    `making.tell_result` says. Without --begin, or with 0, the demand begins with the first slice, which may lead in to
+    `making.print_result` says. Without --begin, or with 0, the demand begins with the first slice, which may lead in to
     counts."""
     words, _ = words_and_options(parser(), arguments, "", ("end",))
     complete_outputs(words, output=f"{name_of_network(words)}.fitted.rou.xml", out=f"{name_of_network(words)}-fitted")
@@ -110,14 +110,14 @@ def main(arguments: Sequence[str]) -> int:
         town.works, town.lost = tuple(chain(*map(names_in, words.close))), words.lost or town.lost
         told("fitting")
         fitted = demanding.fit_to_counts(basis, asked, basis.free_costs())
-        making.tell_inputs(basis, fitted)
+        making.print_input_notes(basis, fitted)
         with Stopping() as stopping:
-            tried = making.run_and_tell(basis, asked, running, fitted, lambda: stopping.asked, told) if running else []
+            tried = making.run_attempts(basis, asked, running, fitted, lambda: stopping.asked, told) if running else []
         made = making.best_demand(basis, asked, fitted, tried)
         told("writing")
         note = program.proof_note(running.program) if running else {}
-        making.write_made(outputs, made, making.setting_of(asked, made, words.runs) | note)
-    return making.tell_result(made)
+        making.write_result(outputs, made, making.setting_of(asked, made, words.runs) | note)
+    return making.print_result(made)
 
 
 def asked_of(words: argparse.Namespace) -> DemandInputs:

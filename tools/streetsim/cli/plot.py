@@ -42,7 +42,7 @@ def parser() -> Parser:
         ("arrivals", "departures and arrivals over time"),
     ):
         one = kinds.add_parser(kind, help=words, description=words)
-        one.old = OLD.get(kind, {})
+        one.renamed = OLD.get(kind, {})
         often = "?" if kind == "fundamental" else None
         # argparse takes None too, which is its default.
         told = "what streetsim-run wrote"

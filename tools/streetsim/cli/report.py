@@ -10,7 +10,7 @@ from streetsim.base.words import Parser, add_names, integer_within, names_in, pa
 from streetsim.cli.defaults import complete_outputs, stem_of
 from streetsim.cli.given import given_words
 from streetsim.cli.words import add_attribute, add_clock, add_files
-from streetsim.demand.judging import judged
+from streetsim.demand.judging import judge_counts
 from streetsim.demand.reading import read_counts
 from streetsim.demand.reporting import counts_section
 from streetsim.demand.seen import passed_in
@@ -40,7 +40,7 @@ PICTURE = {"first": 0, "last": 600}  # seconds of the corridor's picture
 def parser() -> Parser:
     """The parser of the words that streetsim-report takes."""
     made = Parser(
-        prog="streetsim-report", old={"--plans": "--plan-names", "--begin": "--interval"},
+        prog="streetsim-report", renamed={"--plans": "--plan-names", "--begin": "--interval"},
         examples=(
             "streetsim-report zero-seeds -o report.html",
             'streetsim-report zero-seeds wave-seeds --plan-names "all at once" "green wave" --sealed -o report.html',
@@ -175,7 +175,7 @@ def counts_told(runs: Runs, words: argparse.Namespace) -> str:
     """How the first seed of a plan meets the counts of --counts, as HTML. Fault where these cannot be read, or as of
     passed_in."""
     counts = read_counts(paths_in(words.counts), words.attribute)
-    return counts_section(runs.name, judged(counts, passed_in(runs.first, counts)), runs.first.mapping)
+    return counts_section(runs.name, judge_counts(counts, passed_in(runs.first, counts)), runs.first.mapping)
 
 
 def sheets_told(plans: Sequence[Runs], timings: Sequence[Timings], asked: str) -> str:

@@ -39,7 +39,7 @@ KEPT = (
 def parser() -> Parser:
     """The parser of the words that streetsim-route takes."""
     made = Parser(
-        prog="streetsim-route", old={"--check": "--check-seeds"},
+        prog="streetsim-route", renamed={"--check": "--check-seeds"},
         examples=(
             "streetsim-route town.net.xml --trips town.trips.xml -o town.rou.xml --out ways",
             "streetsim-route town.net.xml --trips town.rou.xml --close A_0:0-100:600-1800 -o round.rou.xml --out ways",

@@ -9,7 +9,7 @@ from streetsim.base import limits, program
 from streetsim.base.client import Census
 from streetsim.base.files import Fault, note_kept, refuse_equal, refuse_foreign, whole_folder
 from streetsim.base.jobs import side_by_side
-from streetsim.base.progress import UnderWay
+from streetsim.base.progress import RunProgress
 from streetsim.base.seeds import mean_and_day, mean_and_half_width, seeds_of
 from streetsim.base.words import names_in
 from streetsim.control.actuated_lights import driven_lights
@@ -66,11 +66,11 @@ def run_by(words: argparse.Namespace, given: Sequence[str], again: Sequence[str]
     return 0
 
 
-def under_way(words: argparse.Namespace, run: Run, mapping: Map, settings: Settings, runs: int = 1) -> UnderWay:
+def under_way(words: argparse.Namespace, run: Run, mapping: Map, settings: Settings, runs: int = 1) -> RunProgress:
     """The line on the terminal that says how far a run is, or several of it."""
     departing = sum(line.command["depart"] < settings.until for line in run.enters)
     passes = 1 + words.rounds if mapping.yields else 1
-    return UnderWay(run.start(), settings.until, departing, runs, passes)
+    return RunProgress(run.start(), settings.until, departing, runs, passes)
 
 def as_asked(words: argparse.Namespace, run: Run, mapping: Map, settings: Settings) -> tuple[Run, Map, Settings]:
     """The run with its departures as the words ask for, its map, and the settings with its lights and buses; Fault as

@@ -8,7 +8,7 @@ from time import monotonic
 
 from streetsim.base import limits, program
 from streetsim.base.files import Fault, refuse_foreign, refuse_unwritable
-from streetsim.base.progress import Meanwhile, Slow
+from streetsim.base.progress import Slow, WorkProgress
 from streetsim.base.seeds import seeds_for, seeds_of
 from streetsim.base.words import Parser, add_rounds, add_run, integer_within, names_in, paths_in
 from streetsim.cli.defaults import complete_outputs, complete_run, plan_files, stem_of
@@ -40,7 +40,7 @@ RESERVE = 80  # a chance of slowing down, of 1,000, by which a tenth fewer pass 
 def parser() -> Parser:
     """The parser of the words that streetsim-signals takes."""
     made = Parser(
-        prog="streetsim-signals", old={"--change": "--vary", "--keep": "--fixed", "--check": "--check-seeds"},
+        prog="streetsim-signals", renamed={"--change": "--vary", "--keep": "--fixed", "--check": "--check-seeds"},
         examples=(
             "streetsim-signals zero.jsonl --plans corridor.net.xml.gz --until 4500",
             "streetsim-signals zero.jsonl --plans corridor.net.xml.gz --until 4500 --vary splits,cycle --budget 200",
@@ -286,7 +286,7 @@ def search_seeds(words: argparse.Namespace, runner: Runner, check: Sequence[int]
     """The seeds of the search: those of --seeds, else of tried_seeds as many as the spread of runs of the given plan
     asks for. Makes these runs in both cases; prints how many seeds, and why. Fault where --budget is below them."""
     tried = tried_seeds(check)
-    means, shown = [], Meanwhile("runs of the given plan", len(tried), abreast=words.jobs)
+    means, shown = [], WorkProgress("runs of the given plan", len(tried), abreast=words.jobs)
     for mean in runner.mean_trips([runner.town.plan], tried):
         means.append(mean)
         shown.show(len(means))

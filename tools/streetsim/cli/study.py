@@ -7,7 +7,7 @@ from itertools import accumulate, cycle
 
 from streetsim.base import program
 from streetsim.base.files import refuse_foreign, refuse_unwritable, whole_file, whole_folder
-from streetsim.base.progress import Meanwhile, Slow
+from streetsim.base.progress import Slow, WorkProgress
 from streetsim.base.words import ROUNDS, Parser, add_rounds
 from streetsim.cli.defaults import complete_outputs, stem_of
 from streetsim.cli.given import given_words
@@ -109,7 +109,7 @@ def run_all(words: argparse.Namespace, study: Study) -> dict[str, list[Outcome]]
     sessions = [session for variant in study.variants.values() for session in variant.sessions]
     first = dict(zip(study.variants, accumulate((len(one.sessions) for one in study.variants.values()), initial=0)))
     total = len(study.variants) * len(study.seeds)
-    meanwhile = Meanwhile("runs", total)
+    meanwhile = WorkProgress("runs", total)
     results: dict[str, list[Outcome]] = {}
     with machines(words.jobs, words.cluster, sessions) as workers:
         tasks = [

@@ -7,7 +7,7 @@ from types import MappingProxyType
 from typing import Any, NamedTuple
 
 from streetsim.base.files import Fault
-from streetsim.base.progress import Meanwhile
+from streetsim.base.progress import WorkProgress
 from streetsim.base.report import first_few
 from streetsim.control.actuated_lights import ACTUATED, NEMA, driven_lights
 from streetsim.control.bus_planned import planned
@@ -186,7 +186,7 @@ class Runner:
     def outcomes(self, plans: Sequence[Plan], seeds: Sequence[int], jobs: int) -> list[list[Outcome]]:
         """For each plan and each seed, what the plan gives by the session of the report, with gaps found under it;
         shows on the terminal how many of the runs, so many side by side (jobs), are done."""
-        shown, found = Meanwhile("runs by other seeds", len(plans) * len(seeds), abreast=jobs), []
+        shown, found = WorkProgress("runs by other seeds", len(plans) * len(seeds), abreast=jobs), []
         for outcome in self.ordered(outcome_giving_way, plans, seeds):
             found.append(outcome)
             shown.show(len(found))
