@@ -30,7 +30,7 @@ from streetsim.search.run_giving_way import (
 )
 from streetsim.search.run_prepared import Giving, Outcome, outcome, session_of, vehicle_seconds
 from streetsim.search.signal_formulas import Hop, StreetFlows, heaviest_tree, waved, webster_cycle
-from streetsim.search.signal_found import doubts_of, verdict
+from streetsim.search.signal_found import cycles_told, doubts_of, verdict
 from streetsim.search.signal_in_sumo import mean_trip, sumo_for
 from streetsim.search.signal_lines import LightLines, read_plans
 from streetsim.search.signal_plans import PlannedLight, PlannedTiming, light_and_timing, rounded_durations, spread
@@ -386,6 +386,7 @@ class Tool(Searching):
             r"mean trip [\d.]+ s as given, [\d.]+ s as found: -[\d.]+ s ± [\d.]+ "
             r"\(95 % interval of dawdling alone, 3 seeds",
         )
+        self.assertRegex(told, r"\ncycle 80 s as given, \d+ s as found")
         self.assertEqual([row["light"] for row in self.table("lights.csv")], ["J1", "J4", "J5"])
         trials = self.table("search.csv")
         self.assertEqual(trials[0]["step"], "given")
@@ -510,6 +511,28 @@ class Verdicts(Searching):
             found = {"here": rows[here], "in SUMO": rows[there]}
             worse = [where for where, (difference, half) in found.items() if difference + half >= 0]
             self.assertEqual(verdict(found, worse, PlanSearch(None, 1, 1)), told)
+
+    def test_cycles_are_named_and_the_end_of_those_that_were_tried(self):
+        """Two lights of 90 and 80 s; both at 60, the shortest; one at 60; between; and where only the given one is."""
+        timings = {cycle: PlannedTiming(0, (cycle - 3, 3)) for cycle in (60, 70, 80, 90, 120)}
+        given = {"L": timings[90], "M": timings[80]}
+        for tried, found, told in (
+            ((60, 70), (60, 60), "90 s as given, 60 s as found, the shortest that was tried (--cycle S-S tries others)"),
+            ((120,), (120, 120), "90 s as given, 120 s as found, the longest that was tried (--cycle S-S tries others)"),
+            ((60, 120), (70, 70), "90 s as given, 70 s as found"),
+            ((), (90, 80), "90 s as given, 80 to 90 s as found"),
+            (
+                (60, 120), (60, 70), "90 s as given, 60 to 70 s as found, at 1 of 2 lights the shortest that was tried "
+                "(--cycle S-S tries others)",
+            ),
+        ):  # fmt: skip
+            with self.subTest(told):
+                search = PlanSearch(lambda plans: (1.0 for _ in plans), 100, 1)
+                plans = [given, *({"L": timings[one], "M": timings[one]} for one in tried)]
+                plans.append(dict(zip("LM", (timings[one] for one in found))))
+                search.mean_trips([("", plan) for plan in plans])
+                search.best = 1.0, plans[-1]
+                self.assertEqual(cycles_told(given, search), "cycle 80 to " + told)
 
     def test_trips_in_sumo_are_over_the_vehicles_of_the_run(self):
         """Trips of 100 and 50 s; one that has not arrived counts from 400 to 1,000;

@@ -154,7 +154,28 @@ def tell_found(
     if stopped:
         print("stopped: the best plan found so far is written")
     print(trips_told(rows[0], search))
+    print(cycles_told(town.plan, search))
     return tell_verdict(rows[0], search, doubts, sumo)
+
+
+def cycles_told(given: Plan, search: PlanSearch) -> str:
+    """The line on the cycles of the plan given and of the plan found, and on how many lights the found one is the
+    shortest or the longest of those that were tried there."""
+    found, tried = search.best[1], search.cycles_tried()
+    before, after = (span_told([timing.cycle for timing in plan.values()]) for plan in (given, found))
+    told = f"cycle {before} as given, {after} as found"
+    for which, end in (("shortest", min), ("longest", max)):
+        at = [name for name, cycles in tried.items() if len(cycles) > 1 and found[name].cycle == end(cycles)]
+        if at:
+            where = f"at {len(at)} of {len(found)} lights " if len(at) < len(found) else ""
+            told += f", {where}the {which} that was tried (--cycle S-S tries others)"
+    return told
+
+
+def span_told(seconds: Sequence[int]) -> str:
+    """The least and the greatest of some seconds as a text; one number where they are equal."""
+    least, most = min(seconds), max(seconds)
+    return f"{least} s" if least == most else f"{least} to {most} s"
 
 
 def trips_told(row: BeforeAfter, search: PlanSearch) -> str:
