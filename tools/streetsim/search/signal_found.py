@@ -7,7 +7,6 @@ from dataclasses import dataclass, replace
 from statistics import fmean
 
 from streetsim.base.files import whole_file, whole_folder
-from streetsim.base.report import first_few
 from streetsim.base.seeds import paired
 from streetsim.model import trust
 from streetsim.model.folder import read_folder
@@ -231,9 +230,8 @@ def doubts_of(
         until, town.run, town.mapping,
         [one for one in town.settings.lights.listed_lights(town.mapping) if one not in town.lights],
     )
-    if town.lines.permissive and not sumo:
-        lights = first_few(sorted(town.lines.permissive))
-        yield f"without --verify-sumo, as turns find their gaps in oncoming traffic by formula at {lights}"
+    if not sumo and (gaps := town.gaps_told()):
+        yield f"without --verify-sumo, as {gaps}"
 
 
 def vehicle_doubts(town: SignalTown, before: Sequence[Outcome], after: Sequence[Outcome]) -> Iterator[str]:
