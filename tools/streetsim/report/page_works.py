@@ -125,7 +125,7 @@ def place_told(runs: Runs, seen: SeenWorks) -> str:
     ]
     picture = f'<div class="picture">{queues_picture(seen)}</div>' if seen.queues else ""
     unseen = any(not row[CAPACITY] for own in seen.rows.values() for row in own)
-    none = " Capacity -: no queue formed, so none was seen." if unseen else ""
+    none = " Capacity -: no queue stood for a quarter of an hour, so none was seen." if unseen else ""
     total = f'<p class="small">{seen.lost_told(len(runs.folders))}{none}</p>'
     return f'<section class="whole"><h3>{escape(title)}</h3>{table(head, rows)}{total}{picture}</section>'
 
