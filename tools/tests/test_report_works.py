@@ -80,7 +80,11 @@ class Works(Given):
         for words in (
             "after: a, from the west, lane 0, 30 to 60 m, from 0:05 to 0:20",
             "0:05 to 0:15 101.5 1350 10 5 15 40 22 12",  # means of two seeds, of the greatest the greatest
-            "0:15 to 0:20 50 0 0 0 0",
+            "0:15 to 0:20 50 - 0 0 0 0",  # nobody queued
+            # 101 and 102 vehicles of 10 s each in two runs: 1,015 s.
+            "In all 0.28 vehicle-hours were lost by those who passed. Capacity -: no queue stood for a quarter of an hour",
+            "For a closed lane, forecasts with an uncalibrated base were off by 148 % of the change on 6 streets: "
+            "streetsim-calibrate first.",
         ):
             with self.subTest(words):
                 self.assertIn(words, text)

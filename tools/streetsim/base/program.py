@@ -76,6 +76,8 @@ def proof_note(path: str) -> dict[str, str]:
 
 @functools.cache
 def warn_unproved(path: Path) -> None:
-    """Says on standard error that a program is one without proofs; once in a process."""
-    consequence = "results are those of the rules only if it is right; `./build` makes the proved program"
-    print(f"streetsim: NOT PROVED: {path} was built without proofs: {consequence}", file=sys.stderr, flush=True)
+    """Says on standard error that a program is one without proofs, and what to do; once in a process."""
+    tops = [*path.parents, *([] if PREFIX else [TOP])]
+    built = any((top / "build").is_file() for top in tops)
+    advice = "`./build` makes the proved one" if built else "ask for a package that was proved"
+    print(f"streetsim: NOT PROVED: this program was built without proofs: {advice}", file=sys.stderr, flush=True)

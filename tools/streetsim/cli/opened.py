@@ -4,12 +4,14 @@ import argparse
 import base64
 import os
 import shlex
+import shutil
 import tempfile
-from collections.abc import Iterator
+from collections.abc import Iterator, Sequence
 from contextlib import redirect_stdout
 from html import escape
 from io import StringIO
 from pathlib import Path
+from types import MappingProxyType
 
 from streetsim.base.files import Fault, whole_file
 from streetsim.cli.play import main as play
@@ -24,11 +26,15 @@ from streetsim.report.page_summary import doubted
 from streetsim.report.picture_files import load_pyplot, save_picture
 from streetsim.report.picture_plots import draw_queues
 from streetsim.report.run_tables import Runs, read_folders, read_runs
-from streetsim.report.timing_sheets import clashes
+from streetsim.report.timing_sheets import Timings, clashes
 
 SEARCH = (
     "(some minutes; Ctrl-C ends it with the best so far; where vehicles that turn wait for gaps in oncoming traffic, "
     'the plan is trusted only if SUMO judges it too: <span class="ids">--verify-sumo</span>)'
+)
+BY_SUMO = (
+    "(some minutes; Ctrl-C ends it with the best so far; SUMO judges the plan too, as vehicles that turn wait for gaps "
+    "in oncoming traffic)"
 )
 ONLY = "(the only lane of its street: who comes meanwhile waits, as ways round it are found by streetsim-route --close)"
 PLAYED = 600  # seconds that the page plays
@@ -44,8 +50,9 @@ def write_page(path: str, folder: str, run: str) -> None:
     try:
         runs = read_runs(folder)
         shown = interval_of([runs], argparse.Namespace(interval=None))
-        more = list(sections(runs, shown[0], run))
-        wishes = PageWishes(runs.name, "", DETAIL, False, clashes(timings_of(runs), runs), first=more)
+        timings = timings_of(runs)
+        more = list(sections(runs, shown[0], run, timings))
+        wishes = PageWishes(runs.name, "", DETAIL, False, clashes(timings, runs), first=more)
         text = report_of([runs], shown, wishes)
     except Fault as fault:
         text = page_without_junctions(read_folders(folder), run, str(fault))
@@ -62,13 +69,13 @@ def page_without_junctions(runs: Runs, run: str, why: str) -> str:
     return page(runs.name, lead, [*sections(runs, runs.first.made.get("start", 0), run), doubts], [told])
 
 
-def sections(runs: Runs, begin: int, run: str) -> Iterator[Section]:
+def sections(runs: Runs, begin: int, run: str, timings: Timings = MappingProxyType({})) -> Iterator[Section]:
     """What the page has beside a report: queues, the player from a clock on, and what next; what cannot be drawn is
-    told there."""
+    told there. timings: programs of lights, of those that are known."""
     for name, title, content in (
         ("queues", "Queues over time", lambda: queues_told(runs.first)),
         ("player", "The vehicles as they drive", lambda: player_told(runs.first, begin)),
-        ("next", "What next", lambda: next_told(runs, run)),
+        ("next", "What next", lambda: next_told(runs, run, search_words(timings))),
     ):
         try:
             yield Section(name, title, content())
@@ -101,8 +108,15 @@ def command(*words: str) -> str:
     return f"<code>{' '.join(kept)}</code>"
 
 
-def next_told(runs: Runs, run: str) -> str:
-    """Five questions, each with the command that answers it, as HTML; run: path of the run file, or none."""
+def search_words(timings: Timings) -> list[str]:
+    """Words that a search for signals needs, so that its result is trusted: where SUMO is installed and, at some light,
+    vehicles that turn wait for gaps in others."""
+    return ["--verify-sumo"] if shutil.which("sumo") and any(one.has_gaps() for one in timings.values()) else []
+
+
+def next_told(runs: Runs, run: str, search: Sequence[str]) -> str:
+    """Five questions, each with the command that answers it, as HTML; run: path of the run file, or none; search:
+    further words of a search for signals."""
     folder = runs.first
     name = run or folder.made.get("run", "RUN.jsonl")
     net = net_of(folder, name)
@@ -114,7 +128,7 @@ def next_told(runs: Runs, run: str) -> str:
     questions = (
         (
             "Would another cycle, other greens or offsets be better?",
-            command("streetsim-signals", name, "--plans", net) + f"<br>{SEARCH}",
+            command("streetsim-signals", name, "--plans", net, *search) + f"<br>{BY_SUMO if search else SEARCH}",
         ),
         (
             "What if a lane is closed?",

@@ -12,6 +12,7 @@ from streetsim.base.progress import Slow, WorkProgress
 from streetsim.base.seeds import seeds_for, seeds_of
 from streetsim.base.words import Parser, add_rounds, add_run, integer_within, names_in, paths_in
 from streetsim.cli.defaults import complete_outputs, complete_run, plan_files, stem_of
+from streetsim.cli.plan_commands import plan_commands
 from streetsim.cli.words import add_check, add_clock, add_machines, add_out, seeds_to_check
 from streetsim.control.ending import after_departures
 from streetsim.model.folder import Folder
@@ -132,6 +133,7 @@ def main(arguments: list[str]) -> int:
     if words.bounds:
         return find_bounds(words, reading, town, check)
     making = Making(reading.program, words.rounds)
+    warn_of_gaps(words, town)
     target = PlanFiles(words.output, words.out, corridor_of(words, town), making, words.until)
     in_sumo = sumo_for(reading, town.mapping, town.run) if words.verify_sumo else None
     with runner_of(words, town, check) as runner:
@@ -141,7 +143,23 @@ def main(arguments: list[str]) -> int:
     sumo = verified(in_sumo, town, texts, check, words.jobs) if in_sumo else None
     rows, doubts = before_after_rows(town, before, after, sumo), list(doubts_of(town, before, after, sumo))
     write_found(target, town, search, rows, doubts)
-    return tell_found(town, search, rows, stopped, doubts, sumo)
+    status = tell_found(town, search, rows, stopped, doubts, sumo)
+    tell_next(words, town)
+    return status
+
+
+def warn_of_gaps(words: argparse.Namespace, town: SignalTown) -> None:
+    """Warns on standard error, before the search, where its result will not be trusted without --verify-sumo."""
+    if gaps := "" if words.verify_sumo else town.gaps_told():
+        print(f"warning: the result will not be trusted without --verify-sumo: {gaps}", file=sys.stderr)
+
+
+def tell_next(words: argparse.Namespace, town: SignalTown) -> None:
+    """Prints, on standard error, the commands that show what was found beside what was given."""
+    if lines := plan_commands(words, town.mapping):
+        what = "bounds" if words.bounds else "plan"
+        told = f"the {what} found beside the {what} given, by five days each:"
+        print(told, *(f"$ {line}" for line in lines), sep="\n", file=sys.stderr)
 
 
 def complete_words(words: argparse.Namespace) -> None:
@@ -171,7 +189,9 @@ def find_bounds(words: argparse.Namespace, reading: Reading, town: SignalTown, c
     texts = [bounds_text(town.mapping, one, PROGRAM_ID) for one in (ground.given, search.best[1])]
     sumo = verified(in_sumo, town, texts, check, words.jobs) if in_sumo else None
     found = FoundBounds(search, stopped, before, after, beside, sumo)
-    return write_found_bounds(words.output, words.out, ground, found)
+    status = write_found_bounds(words.output, words.out, ground, found)
+    tell_next(words, town)
+    return status
 
 
 def refuse_unused(words: argparse.Namespace) -> None:

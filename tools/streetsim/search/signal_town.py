@@ -61,6 +61,11 @@ class SignalTown:
         """The plan given, mended where it breaks what its phases must keep: the one that a search begins with."""
         return {name: self.lights[name].mended(timing) for name, timing in self.plan.items()}
 
+    def gaps_told(self) -> str:
+        """At which lights turns find their gaps by formula under the plans that were run; empty where at none."""
+        lights = first_few(sorted(self.lines.permissive))
+        return f"turns find their gaps in oncoming traffic by formula at {lights}" if lights else ""
+
     def plan_lines(self, plan: Plan) -> bytes:
         """The signal lines of a plan, as bytes."""
         return self.lines.signal_lines(plan, self.lights)
