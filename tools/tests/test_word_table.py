@@ -56,23 +56,24 @@ def two_things(found):
 
 
 def table():
-    """The table of the page."""
-    found, all_ = words(), set(commands())
-    old = {}
-    for made in commands().values():
-        for word, new in made.old.items():
-            old.setdefault(new, {})[word] = True
-    lines = ["| Word | Is | Of | Earlier |", "|---|---|---|---|"]
-    for word, own in sorted(found.items(), key=lambda item: item[0].lstrip("-").lower()):
+    """The table of the page: the words by the commands that have them, those of most commands first."""
+    all_, groups = set(commands()), {}
+    old = earlier_words()
+    for word, own in sorted(words().items(), key=lambda item: item[0].lstrip("-").lower()):
         said = next((told for name, told in own.items() if not told.startswith(AS_OF)), "")
         names = "all" if set(own) == all_ else ", ".join(sorted(own))
-        lines.append(f"| `{word}` | {thing(said).replace('|', '/')} | {names} | {earlier(word, old)} |")
-    return "\n".join(line.replace("  |", " |") for line in lines)
+        groups.setdefault((-len(own), names), []).append(f"`{word}` {thing(said)}{old.get(word, '')}".replace("|", "/"))
+    rows = [f"| {names} | {'; '.join(told)} |" for (_, names), told in sorted(groups.items())]
+    return "\n".join(["| Commands | Words, and what each is |", "|---|---|", *rows])
 
 
-def earlier(word, old):
-    """The words of earlier versions that are this one now."""
-    return ", ".join(f"`{one}`" for name in word.split(", ") for one in old.get(name, ()))
+def earlier_words():
+    """{word: what its help does not tell: the words of earlier versions that are this one now}."""
+    found = {}
+    for made in commands().values():
+        for word, new in made.old.items():
+            found.setdefault(new, {})[f"`{word}`"] = True
+    return {word: f" (earlier {', '.join(names)})" for word, names in found.items()}
 
 
 class Words(Case):
