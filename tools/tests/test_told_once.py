@@ -24,7 +24,7 @@ SHARED: dict[str, str] = {}
 # Pages that have not been gone through: what these share with each other is not looked at.
 NOT_YET = {
     "README.md", "SECURITY.md",
-    "tools/CALIBRATION.md", "tools/LIVE.md",
+    "tools/LIVE.md",
     "tools/REPORTS.md",
 }  # fmt: skip
 
