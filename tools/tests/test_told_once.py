@@ -22,7 +22,7 @@ END = re.compile(r"[.:;!?](?=\s)|\n(?= *(?:[-*#]|\d+\.) )|\n\s*\n")
 # Rows of words that stand twice with reason, and the reason.
 SHARED: dict[str, str] = {}
 # Pages that have not been gone through: what these share with each other is not looked at.
-NOT_YET = {"README.md", "SECURITY.md"}
+NOT_YET: set[str] = set()
 
 DECISIONS = "docs/DECISIONS.md"
 ENTRY = ("- **", "  *Chosen:* ", "  *Why:* ", "  *Change:* ")
