@@ -1,5 +1,5 @@
-"""One word is one thing in all commands: the table in CONTRIBUTING.md of those that commands share, which
-`test_word_table.py --write` makes of the parsers; and words of earlier versions, which are still taken."""
+"""One word is one thing in all commands: the list of all words in CONTRIBUTING.md, which `test_word_table.py --write`
+makes of the parsers; and words of earlier versions, which are still taken."""
 import argparse
 import re
 import sys
@@ -12,7 +12,7 @@ from streetsim.base.words import Parser
 
 PAGE = TOOLS.parent / "CONTRIBUTING.md"
 TITLE = "## Words of the commands"
-SECTION = re.compile(rf"(?<={TITLE}\n\n)(.*?)(\|.*?)(?=\n## |\Z)", re.DOTALL)
+SECTION = re.compile(rf"(?<={TITLE}\n\n)(.*?)(```.*?)(?=\n## |\Z)", re.DOTALL)
 SUMO = "sumo"  # whose words are those of SUMO's command line, and mean what they mean there
 AS_OF = "as of streetsim-"  # which means what the other command says
 PARTS = re.compile(r" \(|; |: |, ")
@@ -56,17 +56,13 @@ def two_things(found):
 
 
 def table():
-    """The table of the page: words of several commands, or with earlier ones, by their commands."""
-    all_, groups = set(commands()), {}
-    old = earlier_words()
+    """The list of the page: each word, what it is, and the words of earlier versions that are this one now."""
+    old, lines = earlier_words(), []
     for word, own in sorted(words().items(), key=lambda item: item[0].lstrip("-").lower()):
         said = next((told for name, told in own.items() if not told.startswith(AS_OF)), "")
-        names = "all" if set(own) == all_ else ", ".join(sorted(own))
-        if len(own) == 1 and word not in old:
-            continue
-        groups.setdefault((-len(own), names), []).append(f"`{word}` {thing(said)}{old.get(word, '')}".replace("|", "/"))
-    rows = [f"| {names} | {'; '.join(told)} |" for (_, names), told in sorted(groups.items())]
-    return "\n".join(["| Commands | Words, and what each is |", "|---|---|", *rows])
+        earlier = "".join(old.get(name, "") for name in word.split(", "))
+        lines.append(f"{word:<26} {thing(said)}{earlier}")
+    return "\n".join(["```text", *lines, "```"])
 
 
 def earlier_words():
@@ -74,7 +70,7 @@ def earlier_words():
     found = {}
     for made in commands().values():
         for word, new in made.old.items():
-            found.setdefault(new, {})[f"`{word}`"] = True
+            found.setdefault(new, {})[word] = True
     return {word: f" (earlier {', '.join(names)})" for word, names in found.items()}
 
 
@@ -84,7 +80,7 @@ class Words(Case):
         one, other = {"a": "a file (.xml)"}, {"b": "the seconds of it"}
         self.assertEqual(two_things({"--x": {**one, **other}}), {"--x": ["a file", "the seconds of it"]})
 
-    def test_the_page_has_those_that_commands_share(self):
+    def test_the_page_has_them_all(self):
         found = SECTION.search(PAGE.read_text(encoding="utf-8"))
         told = "other words: tools/tests/test_word_table.py --write"
         self.assertEqual(found and found[2].strip().splitlines(), table().splitlines(), told)
