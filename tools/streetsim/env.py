@@ -80,15 +80,15 @@ class SignalEnv:
         self.begin, self.ended = self.session.clock, 0
         lights = self.session.control.lights
         names = sorted(lights if self.controlled is None else self.controlled)
-        found = {name: agent_of(lights[name]) for name in names}
-        single = [name for name, one in found.items() if len(one.greens) < 2]
+        agents = {name: agent_of(lights[name]) for name in names}
+        single = [name for name, agent in agents.items() if len(agent.greens) < 2]
         if single and self.controlled is not None:
             self.close()
             raise ValueError(f"light {single[0]!r} has a single green: there is nothing to choose")
-        self.agents = {name: one for name, one in found.items() if name not in single}
+        self.agents = {name: agent for name, agent in agents.items() if name not in single}
         self.note_lanes()
-        for name, one in self.agents.items():
-            self.session.control.hold(name, one.greens[0])
+        for name, agent in self.agents.items():
+            self.session.control.hold(name, agent.greens[0])
         return self.observations(), self.figures()
 
     def step(self, actions: Mapping[str, int]) -> tuple[dict[str, Observation], dict[str, float], bool, bool, dict]:
@@ -106,8 +106,8 @@ class SignalEnv:
             for name in changed:
                 session.control.hold(name, self.agents[name].greens[self.agents[name].chosen])
         self.go_on(self.every - self.yellow if changed else self.every)
-        for one in self.agents.values():
-            one.since += self.every
+        for agent in self.agents.values():
+            agent.since += self.every
         over = session.clock - self.begin >= self.seconds
         return self.observations(), self.take_rewards(), not self.has_vehicles_left(), over, self.figures()
 
@@ -119,55 +119,57 @@ class SignalEnv:
 
     def begin_change(self, name: str, action: int) -> bool:
         """Shows yellow where a light is to change and may, and notes the new phase; gives whether it changes."""
-        one = self.agents[name]
-        if action == one.chosen or one.since < self.least:
+        agent = self.agents[name]
+        if action == agent.chosen or agent.since < self.least:
             return False
-        pairs = zip(one.greens[one.chosen], one.greens[action], strict=True)
-        yellow = "".join("y" if now in GREEN and then not in GREEN else now for now, then in pairs)
+        pairs = zip(agent.greens[agent.chosen], agent.greens[action], strict=True)
+        yellow = "".join("y" if old in GREEN and new not in GREEN else old for old, new in pairs)
         self.running_session().control.hold(name, yellow)
-        one.chosen, one.since = action, 0
+        agent.chosen, agent.since = action, 0
         return True
 
     def observations(self) -> dict[str, Observation]:
         """{light: its observation, as SignalEnv describes it}."""
         columns, slots = self.running_session().lane_columns, self.slots
-        taken, queued = (self.shares_taken(cells) for cells in (columns.taken(slots), columns.queued(slots)))
-        found = {}
-        for name, one in self.agents.items():
-            chosen, own = [float(at == one.chosen) for at in range(len(one.greens))], self.places[name]
-            found[name] = [*chosen, float(one.since >= self.least), *taken[own], *queued[own]]
-        return found
+        occupied = self.shares_taken(columns.occupied_cells(slots))
+        queued = self.shares_taken(columns.queued_cells(slots))
+        by_light = {}
+        for name, agent in self.agents.items():
+            lanes = self.lanes_of_light[name]
+            chosen = [float(index == agent.chosen) for index in range(len(agent.greens))]
+            by_light[name] = [*chosen, float(agent.since >= self.least), *occupied[lanes], *queued[lanes]]
+        return by_light
 
     def shares_taken(self, cells: Array) -> list[float]:
         """The share, 0 to 1, of each lane before the lights that some cells of it are; 0 of lanes that are not
         there."""
-        return np.minimum(1.0, cells * limits.CELL_METRES / self.metres * self.there).tolist()
+        return np.minimum(1.0, cells * limits.CELL_METRES / self.metres * self.is_imported).tolist()
 
     def take_rewards(self) -> dict[str, float]:
         """The rewards, in hundreds of seconds, by light; notes what the next ones are reckoned from (waited)."""
-        waited, rewards = (self.running_session().lane_columns.waited(self.slots) * self.there).tolist(), {}
-        for name, one in self.agents.items():
-            before, one.waited = one.waited, sum(waited[self.places[name]]) / 100
-            rewards[name] = before - one.waited
+        waited, rewards = (self.running_session().lane_columns.waited(self.slots) * self.is_imported).tolist(), {}
+        for name, agent in self.agents.items():
+            waited_before, agent.waited = agent.waited, sum(waited[self.lanes_of_light[name]]) / 100
+            rewards[name] = waited_before - agent.waited
         return rewards
 
     def note_lanes(self) -> None:
         """Notes the lanes before the lights, light by light: slots, metres, which are there, and the place of each
         light's among them."""
         session = self.running_session()
-        lanes = [lane for one in self.agents.values() for lane in one.lanes]
-        known = [session.lane_of.get(lane) for lane in lanes]
-        self.slots = np.array([2 * place[0] + place[1] if place else 0 for place in known], np.int64)
-        self.there = np.array([place is not None for place in known], np.int64)
+        lanes = [lane for agent in self.agents.values() for lane in agent.lanes]
+        link_lanes = [session.lane_of.get(lane) for lane in lanes]
+        self.slots = np.array([2 * place[0] + place[1] if place else 0 for place in link_lanes], np.int64)
+        self.is_imported = np.array([link_lane is not None for link_lane in link_lanes], np.int64)
         self.metres = np.array([session.facts.lanes[lane].metres for lane in lanes])
-        ends = [0, *accumulate(len(one.lanes) for one in self.agents.values())]
-        self.places = {name: slice(*ends[at : at + 2]) for at, name in enumerate(self.agents)}
+        ends = [0, *accumulate(len(agent.lanes) for agent in self.agents.values())]
+        self.lanes_of_light = {name: slice(*ends[index : index + 2]) for index, name in enumerate(self.agents)}
 
     def pressure(self, name: str, action: int) -> int:
         """How many vehicles stand on the lanes from which a green phase (action) lets drive, less those on the lanes to
         which it leads, a lane counted for each of its connections; max-pressure chooses the phase with the greatest."""
-        one = self.agents[name]
-        open_to = [link for state, link in zip(one.greens[action], one.links, strict=True) if state in GREEN]
+        agent = self.agents[name]
+        open_to = [link for state, link in zip(agent.greens[action], agent.links, strict=True) if state in GREEN]
         queue = {lane: len(self.standing_on(lane)) for lane in {lane for link in open_to for lane in link}}
         return sum(queue[lane] - queue[behind] for lane, behind in open_to)
 
@@ -178,8 +180,8 @@ class SignalEnv:
 
     def standing_on(self, lane: str) -> list[int]:
         """The numbers of the vehicles that stand on a lane, from the stop line."""
-        there = self.running_session().view.there
-        return [number for number in self.vehicles_on(lane) if not there[number].speed]
+        positions = self.running_session().view.positions
+        return [number for number in self.vehicles_on(lane) if not positions[number].speed]
 
     def figures(self) -> dict:
         """{"time": clock in seconds, "vehicles": on the road, "standing": of these, "arrived": since the reset}."""
@@ -272,16 +274,16 @@ def space_of_actions(count: int) -> Discrete:
     """The space of so many actions: Gymnasium's where that is installed."""
     if (spaces := gymnasium_spaces()) is None:
         return Discrete(count)
-    found: Discrete = spaces.Discrete(count)
-    return found
+    space: Discrete = spaces.Discrete(count)
+    return space
 
 
 def space_of_observations(length: int) -> Box:
     """The space of observations of a length, all from 0 to 1: Gymnasium's where that is installed."""
     if (spaces := gymnasium_spaces()) is None:
         return Box(0.0, 1.0, (length,))
-    found: Box = spaces.Box(0.0, 1.0, (length,), np.float32)
-    return found
+    space: Box = spaces.Box(0.0, 1.0, (length,), np.float32)
+    return space
 
 
 def gymnasium_spaces() -> ModuleType | None:
@@ -308,7 +310,7 @@ class ParallelSignals:
         observations, _ = self.env.reset()
         self.possible_agents = self.env.lights
         self.agents: list[str] = []
-        self.observation_spaces = {name: space_of_observations(len(one)) for name, one in observations.items()}
+        self.observation_spaces = {name: space_of_observations(len(values)) for name, values in observations.items()}
         self.action_spaces = {name: space_of_actions(self.env.actions(name)) for name in observations}
 
     def observation_space(self, agent: str) -> Box:
@@ -333,8 +335,8 @@ class ParallelSignals:
         observations, rewards, ended, over, figures = self.env.step(actions)
         agents = self.agents
         self.agents = [] if ended or over else agents
-        gone, late = dict.fromkeys(agents, ended), dict.fromkeys(agents, over)
-        return arrays_of(observations), rewards, gone, late, {name: figures for name in agents}
+        terminated, truncated = dict.fromkeys(agents, ended), dict.fromkeys(agents, over)
+        return arrays_of(observations), rewards, terminated, truncated, {name: figures for name in agents}
 
     def render(self) -> None:
         """Does nothing: streetsim-live shows runs."""
@@ -358,29 +360,30 @@ class OneSignal:
     def __init__(self, words: Sequence[str], light: str | None = None, **more: int) -> None:
         """light: its name; None: the only one that has two greens. more: as SignalEnv takes them. ValueError where
         there are none or several; raises what reset raises."""
-        self.all = ParallelSignals(words, controlled=None if light is None else [light], **more)
-        if len(self.all.possible_agents) != 1:
-            self.all.close()
-            raise ValueError(f"{len(self.all.possible_agents)} lights have two greens: name one (light=)")
-        [self.light] = self.all.possible_agents
-        self.observation_space = self.all.observation_space(self.light)
-        self.action_space = self.all.action_space(self.light)
+        self.env = ParallelSignals(words, controlled=None if light is None else [light], **more)
+        if len(self.env.possible_agents) != 1:
+            self.env.close()
+            raise ValueError(f"{len(self.env.possible_agents)} lights have two greens: name one (light=)")
+        [self.light] = self.env.possible_agents
+        self.observation_space = self.env.observation_space(self.light)
+        self.action_space = self.env.action_space(self.light)
 
     def reset(self, seed: int | None = None, options: object = None) -> tuple[Array, dict]:
         """Begins a run; gives (observation, figures). options have no effect."""
-        observations, figures = self.all.reset(seed)
+        observations, figures = self.env.reset(seed)
         return observations[self.light], figures[self.light]
 
     def step(self, action: int) -> tuple[Array, float, bool, bool, dict]:
         """Makes a step; gives (observation, reward, whether no vehicle is left, whether the time is over, figures)."""
-        return tuple(one[self.light] for one in self.all.step({self.light: int(action)}))  # type: ignore[return-value]
+        results = self.env.step({self.light: int(action)})
+        return tuple(by_light[self.light] for by_light in results)  # type: ignore[return-value]
 
     def render(self) -> None:
         """Does nothing: streetsim-live shows runs."""
 
     def close(self) -> None:
         """Ends the run."""
-        self.all.close()
+        self.env.close()
 
     @property
     def unwrapped(self) -> OneSignal:
@@ -390,7 +393,7 @@ class OneSignal:
 
 def arrays_of(observations: Mapping[str, Observation]) -> dict[str, Array]:
     """Observations as arrays."""
-    return {name: np.array(one, np.float32) for name, one in observations.items()}
+    return {name: np.array(observation, np.float32) for name, observation in observations.items()}
 
 
 class SideBySide:
@@ -400,21 +403,21 @@ class SideBySide:
         """make: makes one of them; count: how many."""
         context = get_context("fork")
         pipes = [context.Pipe() for _ in range(count)]
-        self.ends = [one for one, _ in pipes]
-        self.processes = [context.Process(target=serve_environment, args=(make, other)) for _, other in pipes]
-        for process, (_, other) in zip(self.processes, pipes, strict=True):
+        self.ends = [parent_end for parent_end, _ in pipes]
+        self.processes = [context.Process(target=serve_environment, args=(make, child_end)) for _, child_end in pipes]
+        for process, (_, child_end) in zip(self.processes, pipes, strict=True):
             process.start()
-            other.close()
+            child_end.close()
 
     def call(self, method: str, words: Sequence[tuple]) -> list:
         """What a method of each gives, with words for each; the first exception of one is raised here."""
-        for end, own in zip(self.ends, words, strict=True):
-            end.send((method, own))
-        found = [end.recv() for end in self.ends]
-        for one in found:
-            if isinstance(one, Exception):
-                raise one
-        return found
+        for end, arguments in zip(self.ends, words, strict=True):
+            end.send((method, arguments))
+        results = [end.recv() for end in self.ends]
+        for result in results:
+            if isinstance(result, Exception):
+                raise result
+        return results
 
     def reset(self, seeds: Sequence[int]) -> list:
         """What reset of each gives, by its seed."""
@@ -422,7 +425,7 @@ class SideBySide:
 
     def step(self, actions: Sequence[object]) -> list:
         """What step of each gives, by its actions."""
-        return self.call("step", [(one,) for one in actions])
+        return self.call("step", [(action,) for action in actions])
 
     def close(self) -> None:
         """Ends all runs and processes."""
@@ -445,9 +448,9 @@ def serve_environment(make: Callable[[], object], end: Connection) -> None:
     """Makes an environment and does what comes through a pipe, until None comes or it is closed."""
     env = make()
     try:
-        while (asked := end.recv()) is not None:
+        while (call := end.recv()) is not None:
             try:
-                end.send(getattr(env, asked[0])(*asked[1]))
+                end.send(getattr(env, call[0])(*call[1]))
             except Exception as fault:  # noqa: BLE001  which is the caller's
                 end.send(fault)
     except EOFError:

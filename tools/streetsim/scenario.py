@@ -14,11 +14,11 @@ from streetsim.model.freeflow import Alone
 from streetsim.model.mapping import Place
 from streetsim.model.runs import Line, read_with_map
 from streetsim.observe.trips import End, seconds_at_stops, trip_rows
-from streetsim.simulation.asked import ScriptSettings
 from streetsim.simulation.calls import METRES, CallGroup, LaneCalls, SimulationCalls, StretchCalls, VehicleCalls
 from streetsim.simulation.detours import Detours
 from streetsim.simulation.errors import NotHere
 from streetsim.simulation.fleet import NOWHERE, OnRoad
+from streetsim.simulation.script_settings import ScriptSettings
 from streetsim.simulation.simulation import Simulation as Running
 
 __all__ = ["NOWHERE", "ListedScenario", "NotHere", "Scenario", "TrafficLight"]
@@ -74,14 +74,14 @@ class Scenario(Running):
         where a line is. Warns (Python's warnings) of lights and stops that are other than in SUMO."""
         source, read, _ = with_works(*read_with_map(run, mapping), mapping, [], WorksOptions(tuple(joint)))
         super().__init__(source, read, ScriptSettings(rounds, driven=self.lights_driven, **wishes), program, workers)
-        for told in self.notes:
-            warnings.warn(told, stacklevel=2)
+        for note in self.notes:
+            warnings.warn(note, stacklevel=2)
         self.detectors: dict[str, int] = {}  # by name: number
         self.simulation, self.vehicle, self.route = ScenarioSimulation(self), ScenarioVehicle(self), ScenarioRoute(self)
         self.lane, self.edge = ScenarioLane(self), ScenarioEdge(self)
         self.inductionloop, self.trafficlight = ScenarioLoop(self), TrafficLight(self)
 
-    def own_later(self) -> Iterable[Controller]:
+    def controllers_after_script(self) -> Iterable[Controller]:
         """What sends vehicles round shut edges."""
         self.detours = Detours(self)
         return [self.detours]
@@ -162,18 +162,19 @@ class Scenario(Running):
         """Rows as in trips.csv (tables.TRIPS), as they are at this clock, one for each vehicle."""
         fleet, dawdle = self.fleet, self.source.load.command.get("dawdle", 0) / 1000
         alone, stood, rescues = Alone(self.map, dawdle), seconds_at_stops(self.steering.stops()), self.steering.rescue
-        lines = (Line(0, "", {"plan": plan, "depart": at}) for plan, at in zip(fleet.plans, fleet.departs, strict=True))
-        more = ((alone.trip(plan), stood[at], rescues.count[at]) for at, plan in enumerate(fleet.plans))
+        departures = zip(fleet.plans, fleet.departs, strict=True)
+        lines = (Line(0, "", {"plan": plan, "depart": depart}) for plan, depart in departures)
+        delays = ((alone.trip(plan), stood[number], rescues.count[number]) for number, plan in enumerate(fleet.plans))
         ends = map(self.end_of, range(len(fleet.names)))
-        return list(trip_rows(zip(fleet.names, lines, ends, more, strict=True)))
+        return list(trip_rows(zip(fleet.names, lines, ends, delays, strict=True)))
 
     def end_of(self, number: int) -> End:
         """How a vehicle ended, or where it is."""
         if self.view.ended[number]:
             arrival = int(self.view.arrival[number])
             return (arrival, "arrived") if arrival else (None, "taken")
-        where = self.view.there.get(number)
-        return None, "waiting" if where is None else "buffer" if where.cell is None else "cell"
+        position = self.view.positions.get(number)
+        return None, "waiting" if position is None else "buffer" if position.cell is None else "cell"
 
     def write_trips(self, path: FilePath) -> None:
         """Writes the rows of trips to a file of CSV, below the names of the columns; Fault where that fails."""
@@ -250,28 +251,28 @@ class ScenarioVehicle(ScenarioPart, VehicleCalls[Scenario]):
 
     def on_road(self, name: str) -> OnRoad | None:
         """Where a vehicle on the road is; None before it departs and after its end, KeyError for an unknown name."""
-        return self.scenario.view.there.get(self.scenario.fleet.numbers[name])
+        return self.scenario.view.positions.get(self.scenario.fleet.numbers[name])
 
     def on_road_for_lane(self, name: str) -> OnRoad | None:
         """As on_road; None in a junction too."""
-        return where if (where := self.on_road(name)) is not None and where.cell is not None else None
+        return position if (position := self.on_road(name)) is not None and position.cell is not None else None
 
 
 class ScenarioStretch(ScenarioPart, StretchCalls[Scenario]):
     """Calls on lanes and edges. KeyError for an unknown name."""
 
-    def places(self, name: str) -> list[Place]:
+    def link_lanes(self, name: str) -> list[Place]:
         """All (link, lane) of a lane or an edge, by its name; each class below gives its own."""
         raise NotImplementedError
 
     def numbers(self, name: str) -> list[int]:
         """The numbers of the vehicles on it, from the stop line; of an edge, lane after lane."""
-        return [number for place in self.places(name) for number in self.scenario.view.on_lane(place)]
+        return [number for link_lane in self.link_lanes(name) for number in self.scenario.view.on_lane(link_lane)]
 
     def speeds(self, name: str) -> list[float]:
         """Metres a second of each vehicle on it, in the order of `numbers`."""
-        there = self.scenario.view.there
-        return [there[number].speed * METRES for number in self.numbers(name)]
+        positions = self.scenario.view.positions
+        return [positions[number].speed * METRES for number in self.numbers(name)]
 
 
 class ScenarioLane(LaneCalls[Scenario], ScenarioStretch):
@@ -289,7 +290,7 @@ class ScenarioEdge(ScenarioStretch):
 
     name = "edge"
 
-    def places(self, name: str) -> list[Place]:
+    def link_lanes(self, name: str) -> list[Place]:
         """All (link, lane) of an edge."""
         return self.scenario.lanes_on(name)
 

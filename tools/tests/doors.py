@@ -30,7 +30,7 @@ from streetsim.control.works_asked import all_works
 from streetsim.control.works_sites import WorksOptions, with_works
 from streetsim.demand.correcting import AFTER
 from streetsim.env import SignalEnv
-from streetsim.kernel.kept import ASKING
+from streetsim.kernel.session_program import QUESTION_PREFIXES
 from streetsim.live.joining import Joining
 from streetsim.live.session import PageSession
 from streetsim.model.runs import read_with_map
@@ -197,7 +197,7 @@ def changes(lines):
             clock += command["steps"]
         elif command["cmd"] == "enter":
             enters.append(command)
-        elif not line.startswith(ASKING):
+        elif not line.startswith(QUESTION_PREFIXES):
             others.append((clock, {name: value for name, value in command.items() if name not in ("at", "works")}))
     enters = [one for one in enters if one["depart"] < clock]
     return (enters, sorted((one for one in others if one[0] < clock), key=json.dumps)), clock
@@ -252,7 +252,7 @@ def by_live(files):
     try:
         session.step(150)
         session.go_back(1)
-        while (left := UNTIL - session.now.clock) > 0:
+        while (left := UNTIL - session.current.clock) > 0:
             session.step(min(left, next(parts)))
     finally:
         session.close()

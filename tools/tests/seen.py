@@ -47,7 +47,7 @@ def kernel_of(mapping, plans, first=(), sent=(), dawdle=0, departs=None):
     vehicles.add(range(len(plans)), [1] * len(plans))
     return SimpleNamespace(
         run=run, map=mapping, start=0, until=0, clock=0, vehicles=vehicles, entered=len(plans), sent=list(sent),
-        plans=Plans(run, mapping), departs=sorted(departs), last=None,
+        plans=Plans(run, mapping), departs=sorted(departs), last_second=None,
     )  # fmt: skip
 
 
@@ -63,7 +63,7 @@ def show(kernel, frames, *observers, parts=1):
         if part:
             blocks = blocks_of(part)
             seconds = seconds_of([blocks], seconds, clock, kernel.vehicles)
-            clock, kernel.last = part[-1][0], Block(blocks)
+            clock, kernel.last_second = part[-1][0], Block(blocks)
             for one in observers:
                 one.see(seconds)
     kernel.clock = kernel.until = clock

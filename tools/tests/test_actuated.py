@@ -5,11 +5,12 @@ import unittest
 from math import inf
 from types import SimpleNamespace
 
-from support import PROGRAM, Case, lane, needs_simulator, net
+from support import MAP, PROGRAM, Case, lane, needs_simulator, net
 from streetsim.base.report import Report
 from streetsim.control.actuated_detectors import DetectorSpot, Layout, LeadingLane, LitLane, LitTurn, extending, spots
 from streetsim.control.actuated_driver import Driver
-from streetsim.control.actuated_lights import Driven, driven_lights, phase_of
+from streetsim.control.actuated_kept import Cell, Listed
+from streetsim.control.actuated_lights import Driven, driven_lights, own_detectors, phase_of
 from streetsim.control.actuated_logic import Actuated, ActuatedPhase as Phase, EndedPhase
 from streetsim.control.actuated_showing import NodesOfLight, lasting, plan_command
 from streetsim.control.bus_coordinated import Coordinated
@@ -174,6 +175,30 @@ class Detectors(unittest.TestCase):
         self.assertEqual(self.extended(row, ["Gr", "GG"]), [[], ["a_0", "b_0"]])
 
 
+class Due(unittest.TestCase):
+    def test_a_phase_of_more_than_its_plan_goes_on(self):
+        """At the second at which the plan of 600 s would begin anew, and not before."""
+        light = SimpleNamespace(stopped=inf, logic=SimpleNamespace(due=900), wraps=600, goes_on=lambda: ["goes on"])
+        driver = Driver.__new__(Driver)
+        driver.controllers = [light]
+        self.assertEqual([[*driver.commands_after_look(clock, None)] for clock in (599, 600)], [[], ["goes on"]])
+        light.stopped = 0
+        self.assertEqual([*driver.commands_after_look(600, None)], [])
+
+
+class OwnLoops(unittest.TestCase):
+    def test_lanes_with_loops_of_the_user(self):
+        """As SUMO has it: a lane's name is the parameter, its value the loop, or NO_DETECTOR; an e2 is no loop."""
+        mapping = map_from("", {**MAP, "detectors": [["loop", "e1", 0, 0, 3, 3, 10], ["area", "e2", 0, 0, 0, 5, 10]]})
+
+        def found(**parameters):
+            return own_detectors(Layout([], ["a_0", "b_0"], parameters), mapping)
+
+        self.assertEqual(found(a_0="NO_DETECTOR", b_0="loop", z="area"), {"b_0": Cell(0, 0, 3)})
+        with self.assertRaisesRegex(Listed, "no inductionLoop area"):
+            found(a_0="area")
+
+
 class Reading(unittest.TestCase):
     def test_seconds_since_a_detector_saw_anybody(self):
         """Who passed within a second left in its middle; where nobody was since the begin, and for 32 s at most, it is
@@ -200,6 +225,21 @@ class Reading(unittest.TestCase):
         self.assertEqual(shown.learn(light), (36, 3))
         light.ended.append(EndedPhase(0, 16, 11, "gap"))
         self.assertEqual(shown.learn(light), (31, 3))
+
+    def test_a_plan_is_of_the_phase_under_way(self):
+        """Of a cycle of 42, 3, 42 and 3 s: two seconds of red and then green of one turn, yellow, green of another one,
+        yellow. At the begin of a run, which has 10 s left of its first phase, the last 10 s of that."""
+        shown = NodesOfLight(Driven("L", 0, TWO, 2.0, (), (), ()), SimpleNamespace(links=[]))
+        one, other, none = frozenset({(0, 0, 1)}), frozenset({(0, 0, 2)}), frozenset()
+        shown.nodes = [(None, SimpleNamespace(node=7))]
+        shown.greens_by_second = lambda *_: [none] * 2 + [one] * 40 + [none] * 3 + [other] * 42 + [none] * 3
+        ended = [EndedPhase(3, 0, 3, "listed")]
+        for at, before, phases in (
+            (0, ended, [[2, []], [600, [[0, 0, 1]]]]), (1, ended, [[600, []]]), (2, ended, [[600, [[0, 0, 2]]]]),
+            (0, [], [[600, [[0, 0, 1]]]]),
+        ):  # fmt: skip
+            [command] = shown.plans(SimpleNamespace(at=at, ended=before, due=110), 100)
+            self.assertEqual((command["node"], command["phases"]), (7, phases))
 
     def test_a_plan_begins_now_and_stays(self):
         rows = [frozenset({(0, 0, 1)})] * 3 + [frozenset()] * 2

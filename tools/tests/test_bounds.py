@@ -24,6 +24,12 @@ from streetsim.search.signal_search import PlanSearch
 OWN = Bounds(((0, 5, 40), (2, 5, 30)), (3.0,))
 
 
+class Gaps(unittest.TestCase):
+    def test_one_for_all_greens_or_one_for_each(self):
+        self.assertEqual([OWN.gap_of(at) for at in (0, 1)], [3.0, 3.0])
+        self.assertEqual([replace(OWN, gaps=(3.0, 4.0)).gap_of(at) for at in (0, 1)], [3.0, 4.0])
+
+
 class Changing(unittest.TestCase):
     def test_a_gap_and_a_green(self):
         self.assertEqual(OWN.with_gap(0, 2.5), Bounds(OWN.greens, (2.5,)))

@@ -9,10 +9,11 @@ from streetsim.base.report import Report
 from streetsim.control.actuated_logic import Actuated, ActuatedPhase as Phase
 from streetsim.control.bus_coordinated import Coordinated
 from streetsim.control.bus_fleet import BusFleet
-from streetsim.control.bus_planned import planned
-from streetsim.control.bus_priority import LESS_GAIN
+from streetsim.control.bus_planned import meets, planned
+from streetsim.control.bus_priority import LESS_GAIN, bounded
 from streetsim.control.bus_stopping import PATIENCE, BusAtStop, Road
 from streetsim.control.merging_rule import SeenVehicle
+from streetsim.control.works_closures import Closure
 from streetsim.model.folder import read_folder
 from streetsim.model.runs import run_of_texts
 from streetsim.model.stops import MADE, MISSED, OTHER_LANE, STANDING, Visit
@@ -111,6 +112,11 @@ class Files(Case):
         text = f'<trip id="t" depart="0">{AT_FIRST}<stop busStop="second" duration="5"/></trip>'
         self.assertEqual(self.visits(text, trips=True), [("t", "first", 20, None), ("t", "second", 5, None)])
 
+    def test_a_stop_without_a_name_is_told_by_its_lane_and_end(self):
+        stops = '<stop lane="a_0" endPos="150" duration="5"/><stop lane="b_0" endPos="72.5" duration="9"/>'
+        text = f'<vehicle id="v" depart="0"><route edges="a b"/>{stops}</vehicle>'
+        self.assertEqual(self.visits(text), [("v", "a_0:150", 5, None), ("v", "b_0:72.5", 9, None)])
+
     def test_what_can_not_be_made_is_told_by_name(self):
         for stop, why in (
             ('lane="a_0" endPos="99" duration="9" parking="true"', "in a bay beside the lane (parking): v at a_0"),
@@ -192,6 +198,38 @@ def visit(**more):
 
 def bus(cell, speed, size=2):
     return SeenVehicle(9, cell, speed, size)
+
+
+class Bounds(unittest.TestCase):
+    def test_works_at_a_stop(self):
+        """Cells 17 to 19, and cell 20 beyond, are the stop's; who departs as the works end does not meet them."""
+        def met(first, last, begin=0, end=101, depart=100, lane=0):
+            return meets(visit(), depart, Closure(0, lane, first, last, begin, end))
+
+        self.assertEqual([met(*cells) for cells in ((10, 17), (18, 18), (20, 25))], [True] * 3)
+        self.assertTrue(met(18, 18, begin=5000, end=5001))
+        others = met(10, 16), met(21, 25), met(18, 18, end=100), met(18, 18, lane=1)
+        self.assertEqual(others, (False,) * 4)
+
+    def test_cells_that_works_have_closed(self):
+        """Cells 3 to 5 of lane 0, from 300 s until 600 s: at 600 s they are open."""
+        fleet = BusFleet.__new__(BusFleet)
+        fleet.works = [Closure(0, 0, 3, 5, 300, 600)]
+        found = [fleet.is_at_works(clock, 0, 0, 4) for clock in (299, 300, 599, 600)]
+        self.assertEqual(found, [False, True, True, False])
+        others = [fleet.is_at_works(300, *place) for place in ((0, 0, 2), (0, 0, 6), (0, 1, 4), (1, 0, 4))]
+        self.assertEqual([fleet.is_at_works(300, 0, 0, cell) for cell in (3, 5)] + others, [True] * 2 + [False] * 4)
+
+    def test_greens_that_wait_for_a_bus(self):
+        """Without bounds of its own a green of 31 s may be as short as its half and longer by the 15 s in which the bus
+        is seen; none is shorter than 5 s, or than it is listed. A yellow lasts as long as it does."""
+        def bounds(*kept):
+            one = bounded(kept, 15)
+            return one.least, one.most
+
+        self.assertEqual([bounds(seconds, "Gr", None, None) for seconds in (31, 8, 4)], [(16, 46), (5, 23), (4, 19)])
+        self.assertEqual([bounds(31, "Gr", 20, 40), bounds(31, "Gr", 20, 10), bounds(3, "yr", None, None)],
+                         [(20, 40), (20, 20), (3, 3)])
 
 
 class OneStop(unittest.TestCase):

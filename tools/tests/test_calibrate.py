@@ -7,16 +7,19 @@ from contextlib import redirect_stderr, redirect_stdout
 from io import StringIO
 from math import sqrt
 
+import numpy
+
 from support import DATA, FORK, PROGRAM, TOOLS, Case, needs_simulator
 from test_counts import needs_scipy
 from streetsim.base.files import Fault
 from streetsim.cli import calibrate, import_
 from streetsim.demand.calibration_criteria import flow_mark, time_criteria
 from streetsim.demand.calibration_field import (
-    TRIP, FieldDay, TravelTime, counts_as_demand, pooled, read_lanes, read_times,
+    TRIP, FieldDay, TravelTime, counts_as_demand, period_in, pooled, read_lanes, read_times,
 )
 from streetsim.demand.calibration_fit import CUT, DAWDLE, SPEED, Fit, FittedValue, classes_of, values_of
 from streetsim.demand.calibration_model import FittedDrivers, MeasuredRun
+from streetsim.demand.calibration_page import sum_of_input
 from streetsim.demand.calibration_survey import SurveyedLane, discharge, drivers_of
 from streetsim.model.saturation import flow_here
 from streetsim.sumo.driver_words import cut_at, factor_of, with_cut
@@ -212,6 +215,27 @@ class Survey(Case):
         self.assertEqual(lane, SurveyedLane("a", 1800.0, 18.0, 36.0, 30, 3))
 
 
+class Fields(Case):
+    def test_periods_of_a_table(self):
+        """The least between its times; a quarter of an hour where it has one alone."""
+        self.assertEqual([period_in(times) for times in ([0, 900, 1800], [1800, 0, 300], [0, 0, 900, 3600], [7])],
+                         [900, 300, 900, 900])
+
+    def test_sums_of_inputs(self):
+        """The SHA-256 of "abc", as the standard (FIPS 180-2) prints it."""
+        known = "ba7816bf8f01cfea414140de5dae2223b00361a396177a9cb410ff61f20015ad"
+        self.assertEqual(sum_of_input(self.write("x", "abc")), known)
+
+    def test_files_of_another_day(self):
+        """The counts and the times, or the queues too."""
+        words = ["x.net.xml", "--times", "t", "--counts", "c", "-o", "drivers.toml", "--out", "out", "--validate"]
+        for count in (1, 4):
+            with self.subTest(count), self.assertRaisesRegex(Fault, "--validate: .* two or three files"):
+                calibrate.check_words(calibrate.parser().parse_args([*words, *"abcd"[:count]]))
+        for count in (2, 3):
+            calibrate.check_words(calibrate.parser().parse_args([*words, *"abcd"[:count]]))
+
+
 class Words(unittest.TestCase):
     def test_a_factor_is_of_the_class_of_a_street_or_of_all(self):
         speeds = (("", 0.9), ("50", 0.8))
@@ -266,6 +290,14 @@ class Fitting(unittest.TestCase):
         self.assertAlmostEqual(dict(result.drivers.speeds)[""], 0.8, delta=0.02)
         self.assertLess(result.errors[0], 0.05)
         self.assertEqual(result.untold, [])
+
+    def test_the_cost_is_of_squares(self):
+        """Eight ways of 50 s, each measured 100 times with a deviation of 1 s, and a model that is off by 7 %: an error
+        of (0.1^2 + 3.5^2)^0.5 = 3.50143 s. All slower by two errors, and a speed that is off by its spread, are 33."""
+        fit = self.fit(self.day([50.0] * 8), lambda _: [50 + 2 * 3.50143] * 8)
+        values = [value(SPEED, 1.0, 0.1, 0.04)]
+        fit.take([fit.drivers(values, numpy.array([1.1]))])
+        self.assertAlmostEqual(fit.cost(values, numpy.array([1.1]), numpy.array([1.0])), 8 * 2**2 + 1, places=3)
 
     def test_what_they_do_not_tell_stays_at_its_prior(self):
         def seconds_of(drivers):

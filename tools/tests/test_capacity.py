@@ -1,9 +1,11 @@
 """Vehicles that leave in each green of a lone cross, beside SUMO 1.15 on the same demand; who gives way to whom."""
 import unittest
 from types import SimpleNamespace
+from unittest import mock
 
 from crosses import LAST, a_green, cases, demand
 from support import DATA, PROGRAM, Case, lane, needs_simulator, net
+from streetsim.base import limits
 from streetsim.base.report import Report
 from streetsim.model.folder import read_folder
 from streetsim.report.beside_sumo import trip_times_of
@@ -15,6 +17,8 @@ from streetsim.sumo.heads import Heads, passing_heads
 from streetsim.sumo.import_files import convert
 from streetsim.sumo.net import NetConnection, NetEdge, SumoNet, request_of, wait_inside
 from streetsim.sumo.network import Options
+from streetsim.sumo.signals import AS_MAIN, shown_by_gaps
+from streetsim.sumo.way_minor import Minor
 from streetsim.sumo.yielding import lane_here, lane_queue, lane_there, seconds_for, settle, time_of
 
 # SUMO's vehicles a green by case and way, of the demand with seed 1; a tenth or 0.6 of a vehicle off is allowed.
@@ -148,6 +152,14 @@ class OneLane(Lanes):
         self.assertAlmostEqual(gap_wait(360), 2.655, places=3)
         self.assertEqual(gap_wait(0), 0)
 
+    def test_wait_without_a_light(self):
+        """For a gap of 6.5 s by Adams' formula, as above; nobody waits where nobody comes, and none for minutes."""
+        minor, gap = Minor.__new__(Minor), SimpleNamespace(before=lambda *_: 6.5)
+        minor.foes = {7: [(1, gap), (2, gap)]}
+        for flows, wait in (((600, 0), 5.227), ((180, 180), 2.655), ((0, 0), 0), ((3600, 3600), 150)):
+            self.assertAlmostEqual(minor.wait(7, [None, *flows].__getitem__), wait, places=3)
+        self.assertEqual(minor.wait(8, None), 0)
+
     def test_until_the_first_that_waits(self):
         # Of three with a share of a half: 1/2 + 1/4 + 1/8.
         self.assertEqual([until_first(3, 0.5), until_first(0, 0.5), until_first(5, 1.0)], [0.875, 0, 0])
@@ -183,6 +195,28 @@ class OneLane(Lanes):
         _, left, east, _ = self.lanes(80, 20, 1700, 0)
         self.assertEqual(lane_queue(left, east, 1.0), east.green)
         self.assertAlmostEqual(lane_there(left, 0, 42, 1.0), 4.0 * (1 - 0.8 ** 20.598) + 1, places=1)  # and one after
+
+
+class OneIndex(Lanes):
+    """Movements that share a letter of the light's state."""
+
+    def shown(self, *those, foes=True, stops=()):
+        """What is shown of the green from second 0 on, of (seconds, parts, seconds before them) of each movement."""
+        made = [self.movement(("w", "left"), ("w", 0), 100, [0]) for _ in those]
+        for one, (seconds, parts, lead) in zip(made, those, strict=True):
+            one.shown, one.parts, one.leads, one.stops = {0: seconds}, parts, {0: lead}, dict.fromkeys(stops, 9)
+            one.foes = made if foes else []
+        return shown_by_gaps(dict(enumerate(made)))[0][0]
+
+    def test_the_most_seconds_are_shown(self):
+        """12 s in one part are more than 8 s in two; of as many seconds those in more parts."""
+        for those, most in (((8, 2, 4), (12, 1, 5)), (12, 1, 5)), (((8, 2, 4), (8, 1, 5)), (8, 2, 4)):
+            self.assertEqual([self.shown(*those), self.shown(*reversed(those))], [most, most])
+
+    def test_one_without_foes_goes_as_if_first(self):
+        """But a red in which it goes after a stop keeps its parts."""
+        self.assertEqual(self.shown((8, 2, 4), foes=False), (8, AS_MAIN, 4))
+        self.assertEqual(self.shown((8, 2, 4), foes=False, stops=[0]), (8, 2, 4))
 
 
 class Heading(Lanes):
@@ -322,6 +356,9 @@ class Lanes(Case):
         report = Report()
         network, *_ = convert(self.write("x.net.xml", net(edges, turns)), [], [], Options(), report)
         self.assertEqual((len(network.links), list(network.over_limits())), (4095, []))
+        for most, told in ((4095, []), (4094, ["4,095 links, at most 4,094"])):
+            with mock.patch.object(limits, "LINKS", most):
+                self.assertEqual(list(network.over_limits()), told)
         self.assertIn("turn lanes are joined with the lanes beside them", report.warnings[0])
 
 

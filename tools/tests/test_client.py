@@ -21,6 +21,14 @@ def fake(case, replies):
     return path
 
 
+class Rows(unittest.TestCase):
+    def test_what_a_detector_noted(self):
+        """In 60 steps 20 vehicles that went 50 cells in all, and 30 steps with one on the cell; and nothing yet."""
+        noted, nothing = Row(0, 60, 20, 50, 30), Row(0, 0, 0, 0, 0)
+        self.assertEqual((noted.flow, noted.density, noted.mean_speed), (1 / 3, 0.5, 2.5))
+        self.assertEqual((nothing.flow, nothing.density, nothing.mean_speed), (0, 0, None))
+
+
 class Replies(Case):
     def test_short_advance_is_finished(self):
         with Client(fake(self, ['{"clock":3,"short":3}', '{"clock":5,"short":2}', '{"clock":9}'])) as sim:

@@ -10,8 +10,8 @@ from test_page_works import street
 from streetsim.base import limits
 from streetsim.control.settings import Settings
 from streetsim.live.facts import departures_and_ends
+from streetsim.live.page_texts import gain_text
 from streetsim.live.session import PageSession
-from streetsim.live.words import gain_told
 from streetsim.live.world import PageRun
 
 
@@ -68,7 +68,7 @@ class Compared(Case):
         counted = [lost_and_ended(text, self.run_file, self.mapping) for text in texts]
         (lost_was, ended_was, _), (lost, ended, wished) = counted
         self.assertEqual(told["gain"], {"seconds": (lost_was - lost) / wished, "ended": ended - ended_was})
-        self.assertEqual(told["said"], gain_told((lost_was - lost) / wished, ended - ended_was))
+        self.assertEqual(told["said"], gain_text((lost_was - lost) / wished, ended - ended_was))
         self.assertGreater(lost - lost_was, wished)
         # The chart has a point for each second, of both.
         now, was = told["worlds"]
@@ -80,7 +80,7 @@ class Compared(Case):
         self.assertEqual(self.texts(), ["works", "later", "taken out"])
         session.undo(0)
         saved = session.text(0).decode()
-        self.assertEqual((session.now.clock, self.texts()), (500, ["later", "taken out"]))
+        self.assertEqual((session.current.clock, self.texts()), (500, ["later", "taken out"]))
         self.assertIn('"cmd":"close","link":0,"lane":1', saved)
         self.assertNotIn('"cmd":"close","link":0,"lane":0,"first":50', saved)
         session.undo(1)
@@ -91,23 +91,23 @@ class Compared(Case):
     def test_the_traffic_as_it_was_runs_where_somebody_wants_it(self):
         session = self.session
         self.change("detector", (60, {"cmd": "meter", "link": 0, "lane": 0, "cell": 5, "period": 60}))
-        self.assertIsNone(session.was)
+        self.assertIsNone(session.unchanged)
         self.change("works", (60, close(0)))
-        self.assertEqual(session.was.clock, 60)
+        self.assertEqual(session.unchanged.clock, 60)
         session.compare(False, False)
-        self.assertIsNone(session.was)
+        self.assertIsNone(session.unchanged)
         session.step(40)
         session.compare(True, True)
-        self.assertEqual(session.was.clock, 100)
+        self.assertEqual(session.unchanged.clock, 100)
         session.go_back(60)
-        self.assertEqual((session.now.clock, self.texts(), session.was), (60, [], None))
+        self.assertEqual((session.current.clock, self.texts(), session.unchanged), (60, [], None))
 
 
 class Told(unittest.TestCase):
     def test_what_changes_gained(self):
-        self.assertEqual(gain_told(4.24, 0), "4.2 s a trip less so far; as many have arrived")
-        self.assertEqual(gain_told(-1.5, -1200), "1.5 s a trip more so far; 1,200 fewer have arrived")
-        self.assertEqual(gain_told(0.04, 3), "no difference in delay so far; 3 more have arrived")
+        self.assertEqual(gain_text(4.24, 0), "4.2 s a trip less so far; as many have arrived")
+        self.assertEqual(gain_text(-1.5, -1200), "1.5 s a trip more so far; 1,200 fewer have arrived")
+        self.assertEqual(gain_text(0.04, 3), "no difference in delay so far; 3 more have arrived")
 
 
 if __name__ == "__main__":

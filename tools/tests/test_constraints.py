@@ -51,6 +51,10 @@ class Constraints(Case):
                 constraints_of("L", made)
             self.assertIn(told, str(raised.exception))
 
+    def test_a_green_may_be_fixed_and_as_long_as_a_phase_may_be(self):
+        [first, second, *_] = constraints_of("L", program((20, 20), (600, None), (None, None), (None, None)))
+        self.assertEqual((first, second), (Constraint(20, 20), Constraint(600)))
+
     def test_a_file_may_tighten_and_not_loosen(self):
         own = constraints_of("L", program((12, 40), (None, None), (None, None), (None, None)))
         found = with_given("L", program(), own, {0: Constraint(15, None, 18), 2: Constraint(9)})
@@ -72,9 +76,10 @@ class Constraints(Case):
     def test_crossings_of_a_network(self):
         text = (
             '<net><edge id=":L_c0" function="crossing"><lane id=":L_c0_0" index="0" speed="1" length="9.6"/></edge>'
+            '<edge id=":L_c1" function="crossing"/><connection from=":L_w1" to=":L_c1" tl="L" linkIndex="5"/>'
             '<connection from=":L_w0" to=":L_c0" fromLane="0" toLane="0" tl="L" linkIndex="4" dir="s" state="M"/></net>'
         )
-        self.assertEqual(read_crossings(self.write("x.net.xml", text)), {"L": {4: 9.6}})
+        self.assertEqual(read_crossings(self.write("x.net.xml", text)), {"L": {4: 9.6, 5: 0.0}})
 
     def test_bounds_of_a_phase_are_within_what_it_must_keep(self):
         made = program((40, 60), (None, None), (5, 12), (None, None))

@@ -6,6 +6,7 @@ import random
 import sys
 import unittest
 from contextlib import redirect_stderr, redirect_stdout
+from importlib.util import find_spec
 from types import SimpleNamespace
 from unittest import mock
 
@@ -15,16 +16,19 @@ from support import DATA, FORK, MAP, NUMBERED, PROGRAM, Case, lane, needs_packag
 from streetsim.base.files import Fault
 from streetsim.base.report import Report
 from streetsim.cli import compare, demand
-from streetsim.demand import checking, demanding, judging, matrices, ratios, reading, science, zones
-from streetsim.demand.candidates import Pair, Way, with_given_routes
+from streetsim.demand import checking, correcting, demanding, judging, making, matrices, ratios, reading, science, zones
+from streetsim.demand.candidates import End, Pair, Way, with_given_routes
 from streetsim.demand.cells import clock_of
+from streetsim.demand.correcting import corrected_counts, full_edges
 from streetsim.demand.fitting import Expecting
 from streetsim.demand.judging import ComparedCount, differences_of, is_part_of, without_parts
 from streetsim.demand.passing import CountsByEdges, Slices
+from streetsim.demand.pictures import draw_fit
 from streetsim.demand.seen import NEVER, Visits, edge_rows, movement_rows, passed_by_rows, passed_in
 from streetsim.demand.values import Count, Ratio
 from streetsim.demand.walking import Turns
 from streetsim.model.folder import read_folder
+from streetsim.model.mapping import map_from
 from streetsim.model.tables import EDGES, TRIPS
 from streetsim.search.route_loading import read_town
 from streetsim.sumo.network import Options
@@ -159,6 +163,11 @@ class Inputs(Case):
             cells = matrices.read_matrices([self.write(name, text)], None)
             known = [(one.begin, one.end, one.source, one.target, one.vehicles) for one in cells]
             self.assertEqual(known[:2], [(25_200, 28_800, "1", "1", 2.0), (25_200, 28_800, "1", "2", 4.0)])
+        for lines in (v.splitlines(), o[: o.index("* some")].splitlines()):
+            for count in range(1, len(lines)):
+                cut = self.write("cut", "\n".join(lines[:count]))
+                with self.subTest(cut=lines[:count]), self.assertRaisesRegex(Fault, "ends (before|after)|from-time"):
+                    matrices.read_matrices([cut], None)
         cells = matrices.read_matrices([self.write("p", "from,to,vehicles\n1,2,7\n")], (0, 900))
         self.assertEqual((cells[0].begin, cells[0].end), (0, 900))
 
@@ -245,6 +254,35 @@ class Inputs(Case):
             self.assertEqual([one.edges for one in without_parts(hourly)], [("a",)] * 300)
         self.assertLessEqual(looks.call_count, 2 * len(hourly))
 
+    def test_a_count_is_part_of_one_with_time_in_common(self):
+        """The turns from a and the trucks on it are parts of the count on a of the same hour, not of those beside."""
+        def count(hour, edges, kind=""):
+            return ComparedCount(hour * 3600, hour * 3600 + 3600, edges, kind, "", 9.0, 8.0, 3600)
+
+        for part in (("a", "b"), ""), (("a",), "truck"), (("a", "b"), "truck"):
+            found = [is_part_of(count(1, *part), count(hour, ("a",))) for hour in (0, 1, 2)]
+            self.assertEqual(found, [False, True, False], part)
+        self.assertFalse(is_part_of(count(1, ("a",)), count(1, ("a", "b"))))
+
+    def test_edges_that_are_full(self):
+        """Those of which a movement loses more than 120 s."""
+        graph = Graph("abc", [("a", "b"), ("a", "c"), ("b", "c")], {name: (name, name + "+") for name in "abc"})
+        lost = dict.fromkeys(graph.movements, 0.0) | {(0, 1): 120.5, (0, 2): 150.0, (1, 2): 120.0}
+        self.assertEqual(full_edges(graph, list(lost.values())), {0: 150.0})
+
+    def test_counts_that_the_next_fit_is_to_meet(self):
+        """100 were counted on each edge, and the last fit was to meet 80 and 100; by the seconds of its run 100 would
+        pass, and 120 and 90 did: 90 less half of 20, and 100 more half of 10. At a full edge it is what was counted."""
+        counts = [Count(0, 900, (edge,), 100, "") for edge in "ab"]
+        graph = Graph("ab", [], {name: (name, name + "+") for name in "ab"})
+        basis = SimpleNamespace(counts=counts, town=SimpleNamespace(graph=graph))
+        fitted = SimpleNamespace(whole=numpy.array([100.0, 100.0]))
+        for full, wanted in (({}, [80, 105]), ({0: 150.0}, [100, 105])):
+            one = SimpleNamespace(fitted=fitted, passed=[120.0, 90.0], full=full)
+            with mock.patch("streetsim.demand.correcting.passing_by_class", return_value=numpy.eye(2)):
+                found = corrected_counts(basis, one, None, numpy.array([100.0, 100.0]), numpy.array([80.0, 100.0]))
+            self.assertEqual(found.tolist(), wanted)
+
     def test_ratios_of_many_periods_are_read_once_each(self):
         class Watched(Ratio):
             """A ratio that counts how often its begin is asked for."""
@@ -314,6 +352,7 @@ class Judging(Case):
         fit = judging.judged(counts, [90, 110, 100, 104, 500, 0])
         # GEH of 404 and 400 is 0.2; of 500 and 400 it is sqrt(2 * 100^2 / 900) = 4.71.
         self.assertEqual([round(one.geh, 2) for one in fit.hourly], [0.2, 4.71, 0])
+        self.assertEqual([one.meets_criteria for one in (fit, judging.judged(counts[1:2], [101]))], [False, True])
         hours = [(one.counts, one.good, one.meets_criteria) for one in fit.hours]
         self.assertEqual(hours, [(2, 2, False), (1, 1, True)])
         self.assertEqual([(one.group, one.counted, one.passed) for one in fit.groups], [("north", 800, 904)])
@@ -332,9 +371,24 @@ class Judging(Case):
 
     def test_slope(self):
         counts = [Count(0, 3600, (name,), value, "") for name, value in (("a", 100), ("b", 200), ("c", 300))]
-        r, slope = judging.correlation_and_slope(judging.judged(counts, [110, 210, 310]).each)
+        fit, single = judging.judged(counts, [110, 210, 310]), judging.judged(counts[:1], [1])
+        r, slope = judging.correlation_and_slope(fit.each)
         self.assertEqual((round(r, 6), round(slope, 6)), (1, 1))
-        self.assertIsNone(judging.correlation_and_slope(judging.judged(counts[:1], [1]).each))
+        self.assertEqual([*fit.lines()][1:], ["all 3 counts: r = 1.000, slope 1.000"])
+        self.assertIsNone(judging.correlation_and_slope(single.each))
+        self.assertEqual([*single.lines()][1:], [])
+
+
+class Pictures(Case):
+    @needs_package("python3-matplotlib", find_spec("matplotlib"))
+    def test_a_fit_is_drawn_where_matplotlib_is(self):
+        fit, links = judging.judged([Count(0, 3600, ("a",), 100, "")], [110]), map_from("", MAP).links
+        with mock.patch("streetsim.report.picture_files.pyplot_if_installed", return_value=None):
+            draw_fit(str(self.folder), fit, links, "passed in the run")
+        self.assertEqual(list(self.folder.iterdir()), [])
+        draw_fit(str(self.folder), fit, links, "passed in the run")
+        begins = {path.name: path.read_bytes()[:8] for path in self.folder.iterdir()}
+        self.assertEqual(begins, dict.fromkeys(("fit.png", "differences.png"), b"\x89PNG\r\n\x1a\n"))
 
 
 class Passing(unittest.TestCase):
@@ -562,6 +616,40 @@ class Fit(Tool):
         expecting = Expecting(ways, pairs, Slices((0, 900), False), 0.05)
         found = expecting.vehicles_by_counts(passing, numpy.array([90.0, 10.0, 100.0]))
         self.assertGreater(found[2], 2 * found[3])
+
+    def test_ends_outside_double_what_is_expected(self):
+        """Of three ways one has both ends at the border, one its begin, and one none: four, two and one."""
+        outside, within = End(1.0, True), End(1.0, False)
+        ends = (outside, outside), (outside, within), (within, within)
+        pairs = [Pair(f"from {at}", f"to {at}", {}, {}, *both) for at, both in enumerate(ends)]
+        ways = [Way(at, (2 * at, 2 * at + 1), 60.0, 1.0, 60.0, 1.0) for at in range(3)]
+        self.assertEqual(Expecting(ways, pairs, Slices((0, 900), False), 0.05).outside.tolist(), [4, 2, 1])
+
+    def test_pairs_without_a_way_are_told(self):
+        """Those of a matrix that no way joins."""
+        pairs = [Pair(source, target, {}, {}) for source, target in ("ab", "cd")]
+        town = SimpleNamespace(types=SimpleNamespace(report=Report()))
+        basis = SimpleNamespace(
+            town=town, contradictions=[], counts=[], ways=[SimpleNamespace(pair=0)], pairs=pairs, given=True,
+            kept_pairs=(2, 2),
+        )  # fmt: skip
+        with mock.patch.object(making, "unreachable_counts", return_value=[]), redirect_stderr(io.StringIO()) as said:
+            making.tell_inputs(basis, SimpleNamespace(passing=None))
+        told = "warning: no way leads from c to d: vehicles of the matrix are left out\n"
+        self.assertEqual(said.getvalue(), told)
+
+    def test_runs_go_on_behind_the_last_slice(self):
+        """By two hours at most, in which those who are on their way arrive."""
+        basis = SimpleNamespace(slices=Slices((0, 900, 1800), False), town=SimpleNamespace(graph=None))
+        wanted = SimpleNamespace(program="p", runs=1, rounds=0)
+        names = "RunGround", "program_digest", "correcting"
+        with mock.patch.multiple(making, **dict.fromkeys(names, mock.DEFAULT)) as made:
+            made["correcting"].AFTER, made["correcting"].try_demands.return_value = correcting.AFTER, []
+            self.assertEqual(making.run_and_tell(basis, None, wanted, None, None, None), [])
+        self.assertEqual(made["RunGround"].call_args.args[4], 1800 + 2 * 3600)
+
+    def test_slices_have_their_seconds(self):
+        self.assertEqual(Slices((0, 900, 1200), False).widths(), [900, 300])
 
     def test_a_route_of_a_file_that_turns_back(self):
         """10 s on each of both edges, and TURN_BACK between, as by the costs of the fit."""

@@ -10,7 +10,7 @@ import numpy
 from seen import kernel_of, show
 from support import DATA, MAP, NUMBERED, PROGRAM, RED, Case, needs_simulator
 from streetsim.base.client import Client
-from streetsim.kernel.seconds import Taken
+from streetsim.kernel.seconds import Takeout
 from streetsim.model.mapping import map_from
 from streetsim.model.runs import read_with_map
 from streetsim.observe.counts import Counts
@@ -54,7 +54,7 @@ class Schedules(Case):
             for clock in range(1, 1801)
         ]
         kernel = kernel_of(map_from("map", MAP), [[0, 1]] * 16)
-        kernel.vehicles.taken.append(Taken(950, 7, 16, 0, True))
+        kernel.vehicles.takeouts.append(Takeout(950, 7, 16, 0, True))
         show(kernel, frames, counts, parts=7)
         row = next(row for row in counts.edge_rows() if row[0] == 900)
         self.assertEqual(row, (900, 1800, "a", 12, 9, "40.00", "81.00", "3.33"))

@@ -7,12 +7,13 @@ import os
 import shutil
 import subprocess
 import unittest
+from argparse import Namespace
 
 from support import FORK, MAP, NUMBERED, PROGRAM, TOOLS, Case, needs_simulator
 
 from streetsim.base.files import Fault, read_json
 from streetsim.base.seeds import seeds_of, seeds_told
-from streetsim.cli.defaults import map_beside, stem_of
+from streetsim.cli.defaults import map_beside, name_of_network, stem_of
 
 CONFIGURATION = (
     '<configuration><input><net-file value="x.net.xml"/><route-files value="x.rou.xml"/></input>'
@@ -30,6 +31,9 @@ class Names(Case):
         ):
             self.assertEqual(stem_of(path), name)
         self.assertEqual(map_beside("day/zero.jsonl.gz"), "day/zero.map.json")
+        for configuration, name in ((None, "town"), ("b/x.sumocfg", "x")):
+            words = Namespace(net="day/town.net.xml.gz", configuration=configuration)
+            self.assertEqual(name_of_network(words), name)
 
     def test_seeds_are_numbers_and_ranges(self):
         self.assertEqual(list(seeds_of("1,4,7-9", "--seeds")), [1, 4, 7, 8, 9])

@@ -1,11 +1,13 @@
 """Vehicles, flows and routes; the departures of flows are those of SUMO 1.15."""
 import unittest
+from xml.etree.ElementTree import Element
 
 from support import FORK, SHARED, Case, lane, net
 from streetsim.base.files import Fault
 from streetsim.base.report import Report
 from streetsim.sumo.import_files import convert
 from streetsim.sumo.network import Options
+from streetsim.sumo.types import named_in
 
 
 class Demand(Case):
@@ -24,6 +26,11 @@ class Demand(Case):
 
     def flow(self, more):
         return self.departs(f'<flow id="f" {more}><route edges="a b"/></flow>')
+
+    def test_members_without_a_probability_weigh_one(self):
+        for told, weights in (("2 0.5", [2, 0.5, 1]), ("", [1, 1, 1]), ("3 0 0 9", [3, 0, 0])):
+            element = Element("vTypeDistribution", {"vTypes": "a b c", "probabilities": told})
+            self.assertEqual(named_in("x", element, "vTypes"), (["a", "b", "c"], weights))
 
     def test_flows(self):
         # 0, 14.29, 28.57, 42.86, 57.14, 71.43, 85.71: each enters in the next whole second.

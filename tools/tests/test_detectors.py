@@ -8,7 +8,8 @@ from statistics import fmean
 
 from support import DATA, PROGRAM, Case, lane, needs_simulator, net
 from streetsim.base.files import read_json
-from streetsim.model.detectors import longest_jam
+from streetsim.model.detectors import Detector, longest_jam
+from streetsim.simulation.tally import key_of
 
 # One lane of 10 cells, 5 cells a step.
 STREET = net([("a", "A", "B", [lane("a", 0, speed=37.0)])], [])
@@ -18,6 +19,13 @@ LOOPS = """<additional>
 <laneAreaDetector id="area" lane="a_0" pos="0" endPos="75" freq="10" file="x.xml"/>
 <e2Detector id="part" lane="a_0" pos="15" length="15" freq="60" file="x.xml"/>
 </additional>"""
+
+
+class Keys(unittest.TestCase):
+    def test_cells_stand_by_lanes_and_on_each_by_cells(self):
+        places = (0, 0, 3), (0, 0, 5), (0, 1, 0), (1, 0, 0), (1, 1, 9)
+        keys = [key_of(Detector("d", "e1", *place, place[-1], 60)) for place in places]
+        self.assertEqual(keys, sorted({*keys}))
 
 
 class Detectors(Case):

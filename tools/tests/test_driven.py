@@ -83,9 +83,9 @@ class Scripts(Case):
         # When the light is looked at next stays, as in SUMO: at 61 s it ends the phase that was set at 57.
         self.start(street(PHASES))
         traci.simulationStep(57)
-        sent = list(traci._now().client.changes)
+        sent = list(traci._current_session().client.changes)
         traci.trafficlight.setPhase("L", 0)  # which is shown: nothing changes, and no green begins anew
-        self.assertEqual((self.told(), traci._now().client.changes), ((0, "G", 61.0), sent))
+        self.assertEqual((self.told(), traci._current_session().client.changes), ((0, "G", 61.0), sent))
         traci.trafficlight.setPhase("L", 2)
         self.assertEqual(self.told(), (2, "r", 61.0))
         traci.simulationStep(62)
@@ -238,7 +238,7 @@ class Runs(Case):
         self.assertEqual(told_by(session.step(300))["worlds"][0]["shown"], [])
 
     def set_plan(self, session, command):
-        change = [{"clock": session.now.clock, "command": command}]
+        change = [{"clock": session.current.clock, "command": command}]
         return told_by(session.change("plan", change))
 
     def test_a_plan_that_is_undone_gives_the_light_back(self):

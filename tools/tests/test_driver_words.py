@@ -6,6 +6,7 @@ import unittest
 from pathlib import Path
 
 from support import DATA, FORK, PROGRAM, Case, needs_simulator
+from streetsim.demand.calibration_field import TRIP
 from streetsim.demand.compared_times import ComparedTime, are_close, lines_of_times
 from streetsim.model.fullness import LEFT, STRAIGHT, FullLane
 from streetsim.model.loaded_lanes import LOADED, forecast_doubts, loaded_lanes
@@ -77,6 +78,7 @@ class Imported(Case):
         self.assertEqual(self.imported("--drivers", drivers, "--dawdle", 200)[0][0]["dawdle"], 200)
 
 
+    @needs_simulator
     def test_a_plan_of_a_study_loads_lefts_as_its_import_would(self):
         """18 s of green for the street with the lefts in place of 42."""
         states = (18, "rrrGGgrrrGGg"), (3, "rrryyyrrryyy"), (66, "GGgrrrGGgrrr"), (3, "yyyrrryyyrrr")
@@ -123,6 +125,15 @@ class Doubts(unittest.TestCase):
 
 
 class Compared(unittest.TestCase):
+    def test_the_mean_error_is_that_of_squares(self):
+        """Of 3 and 4 % the root of (9 + 16) / 2 is 3.54 %; of a way of two edges or of a trip by its ends."""
+        far, near = ComparedTime(("a", "b"), 104, 100, 30), ComparedTime(("b", "c"), 97, 100, 30)
+        trip = ComparedTime((TRIP, "a", "z"), 90, 100, 30)
+        told = list(lines_of_times([near, far, trip]))
+        self.assertIn("off by 3.5 % (rms)", told[0])
+        here = "a .. z: 90.0 s here, {} (-10.0 %)", "a>b: 104.0 s here, {} (+4.0 %)", "b>c: 97.0 s here, {} (-3.0 %)"
+        self.assertEqual(told[2:], [text.format("100.0 s there") for text in here])
+
     def test_marks_of_segments_and_routes(self):
         good, bad = ComparedTime(("a", "b"), 110, 100, 30), ComparedTime(("b", "c"), 120, 100, 30)
         route = ComparedTime(("a", "b", "c"), 250, 200, 30)

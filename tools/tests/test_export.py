@@ -2,12 +2,15 @@
 import json
 import shutil
 import subprocess
+import unittest
+from types import SimpleNamespace
 
 from support import MAP, PROGRAM, Case, needs_package, needs_simulator
 from streetsim.base.report import Report
 from streetsim.model.service import COLOURS
 from streetsim.model.tables import APPROACHES, EDGES, JUNCTIONS, MOVEMENTS, write_table
 from streetsim.report.edge_values import traffic_of
+from streetsim.report.gis_export import export_told
 from streetsim.sumo.net import read_net
 
 OGR = shutil.which("ogr2ogr")
@@ -42,6 +45,14 @@ class Numbers(Case):
         text = f'<net>{place}<edge id="a" from="A" to="B">{lane}</edge></net>'
         net = read_net(self.write("x.net.xml", text), ("passenger",), Report())
         self.assertEqual(net.location, {"offset": (-604099.6, -5792153.74), "projection": UTM})
+
+
+class Told(unittest.TestCase):
+    def test_rows_and_intervals(self):
+        runs = SimpleNamespace(folders={}, rows=[0], first=SimpleNamespace(unproved=""))
+        for begins, text in (((0, 0), "2 rows of edges and junctions in 1 interval"), ((0, 900), "in 2 intervals")):
+            told = export_told("x.geojson", runs, [{"properties": {"begin": begin}} for begin in begins])
+            self.assertTrue(told.endswith(text), told)
 
 
 class Given(Case):

@@ -26,6 +26,18 @@ class Guarded(Case):
         self.assertEqual(cells[-len(PLAIN) :], PLAIN)
         self.assertEqual([row["id"] for row in read_table(path, HEADER)], texts)
 
+    def test_a_cell_behind_thousands_that_do_not_run(self):
+        """Rows come one by one; 1, 1.0 and True, which are equal, stand as they are."""
+        path, plain = self.folder / "x.csv", [("a", one, "b") for one in (1, 1.0, True)]
+        safe = {"=1": "'=1", "\t": "'\t", "c\rd": "c d"}
+        for row in (("=1", 1, "b"), ("a", 1, "\t"), ("c\rd", 1, "b")):
+            with self.subTest(row):
+                write_table(path, HEADER, (iter(one) for one in [*plain * 3_000, row, *plain]))
+                with open(path, encoding="utf-8", newline="") as file:
+                    found = [*csv.reader(file)][1:]
+                self.assertEqual(found[9_000], [safe.get(one, str(one)) for one in row])
+                self.assertEqual((len(found), [one for _, one, _ in found[9_001:]]), (9_004, ["1", "1.0", "True"]))
+
     def test_names_and_matrices_are_read_back(self):
         names = self.write("n.csv", "id,name\na,'=Main\n")
         mapping = map_from("m", MAP)

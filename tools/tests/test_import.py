@@ -2,18 +2,58 @@
 import gzip
 import json
 import unittest
+from types import SimpleNamespace
 
 from support import FORK, PROGRAM, SCENARIOS, SHARED, Case, lane, needs_simulator, needs_sumo_tools, net
 from streetsim.base.client import Client
 from streetsim.base.files import Fault
 from streetsim.base.report import Report
+from streetsim.model.fullness import LEFT, RIGHT, STRAIGHT, TURNAROUND
+from streetsim.model.mapping import read_map
 from streetsim.sumo.converting import refuse_over_limits
-from streetsim.sumo.import_files import convert
-from streetsim.sumo.net import read_net
-from streetsim.sumo.network import Options
+from streetsim.sumo.full import ways_of
+from streetsim.sumo.import_files import convert, write_run
+from streetsim.sumo.links import limit_of
+from streetsim.sumo.net import SumoNet, read_net
+from streetsim.sumo.network import Options, names_of
 
 # Seconds for a metre by km/h, of SUMO 1.15's usual cars.
 SUMO_SECONDS = {20: 0.20667, 30: 0.13197, 50: 0.07648, 70: 0.05388, 100: 0.03730, 130: 0.02854}
+
+
+class Parts(unittest.TestCase):
+    """What is taken of a network."""
+
+    def test_names(self):
+        net = SumoNet(called={"B": "Market", "Z": "nowhere"})
+        edges = [SimpleNamespace(name="a", street="Hill Street"), SimpleNamespace(name="b", street="")]
+        self.assertEqual(names_of(net, edges, "AB"), {"edges": {"a": "Hill Street"}, "junctions": {"B": "Market"}})
+        self.assertEqual([names_of(net, edges[1:], "AB"), names_of(net, edges, "A"), names_of(net, [], "A")],
+                         [{"junctions": {"B": "Market"}}, {"edges": {"a": "Hill Street"}}, {}])
+
+    def test_directions(self):
+        """As SUMO writes them: l and L (partly left), r and R, t (back), s, and what else there is is straight on."""
+        pairs = [SimpleNamespace(source="a", target=direction, direction=direction) for direction in "lLrRts"]
+        told = {"l": LEFT, "L": LEFT, "r": RIGHT, "R": RIGHT, "t": TURNAROUND, "s": STRAIGHT}
+        self.assertEqual(ways_of(SumoNet(connections=pairs)), {("a", name): way for name, way in told.items()})
+
+
+    def test_limits(self):
+        """A free vehicle has 7.5 m/s a cell of its limit less the share of steps in which it dawdles: of 50, 80 and 100
+        km/h the speeds of limits of 2, 3 and 4 are the nearest, 13.7, 21.2 and 28.7 m/s; in a ring of 45 km/h 13.7."""
+        for kmh, limit, in_ring in ((50, 2, False), (80, 3, False), (100, 4, False), (45, 2, True)):
+            nearest = min(range(1, 7), key=lambda cells: abs((cells - 0.17) * 7.5 - kmh / 3.6))
+            found = limit_of(SimpleNamespace(speed=kmh / 3.6), 0.17, range(1, 7), in_ring)
+            self.assertEqual((found, nearest), (limit, limit), kmh)
+
+
+class Written(Case):
+    def test_a_map_has_the_end_of_its_configuration(self):
+        run, mapped = str(self.folder / "run.jsonl"), str(self.folder / "map.json")
+        made = convert(self.write("x.net.xml", FORK), [], [], Options(), Report())
+        for more, end in (({}, 0), ({"end": 900}, 900)):
+            write_run(run, mapped, made, Report(), **more)
+            self.assertEqual(read_map(mapped).end, end)
 
 
 class Networks(Case):

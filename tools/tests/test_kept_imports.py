@@ -8,12 +8,22 @@ from support import TOOLS, Case
 
 from streetsim.base.files import Fault
 from streetsim.simulation import kept_imports, opening
-from streetsim.simulation.kept_imports import KeptImport, keep, kept_folder, key_of, read_kept
+from streetsim.simulation.kept_imports import KeptImport, kept_folder, key_of, read_kept, write_kept
 
 CROSS = TOOLS / "examples/actuated"
 NET, ROUTES = str(CROSS / "cross.net.xml.gz"), str(CROSS / "cross.rou.xml")
 MADE = KeptImport('{"cmd":"load"}\n', "{}", "warning: ä\n")
 KEY = "0" * 64
+
+
+class Bodies(unittest.TestCase):
+    def test_texts_behind_each_other(self):
+        """Each with its length in bytes before it; a body that is cut off is none."""
+        body = kept_imports.body_of(MADE)
+        self.assertTrue(body.startswith(b"\0" * 7 + b"\x0f" + b'{"cmd":"load"}\n'))
+        self.assertEqual([part.decode() for part in kept_imports.parts_of(body)], list(MADE))
+        with self.assertRaises(ValueError):
+            list(kept_imports.parts_of(body[:-1]))
 
 
 class KeptImports(Case):
@@ -26,7 +36,7 @@ class KeptImports(Case):
         """(what an import into a new folder said, its run, its map)."""
         folder = self.folder / name
         folder.mkdir()
-        said = opening.imported(folder, [NET, *words], [ROUTES], [NET, ROUTES])
+        said = opening.import_or_take_kept(folder, [NET, *words], [ROUTES], [NET, ROUTES])
         return said, (folder / "run.jsonl").read_bytes(), (folder / "map.json").read_bytes()
 
     def test_a_second_start_imports_nothing_and_has_the_same_bytes(self):
@@ -63,7 +73,7 @@ class KeptImports(Case):
         self.assertNotEqual(first, key_of(["x"], [path]))
 
     def test_an_entry_that_is_cut_changed_or_foreign_is_as_if_it_were_not_there(self):
-        keep(KEY, MADE)
+        write_kept(KEY, MADE)
         self.assertEqual(read_kept(KEY), MADE)
         path = self.kept / KEY
         whole = path.read_bytes()
@@ -79,32 +89,32 @@ class KeptImports(Case):
         path.unlink()
         path.mkdir()
         self.assertIsNone(read_kept(KEY))
-        keep(KEY, MADE)
+        write_kept(KEY, MADE)
         self.assertIsNone(read_kept(KEY))
 
     def test_a_folder_where_others_may_write_is_not_used(self):
-        keep(KEY, MADE)
+        write_kept(KEY, MADE)
         os.chmod(self.kept, 0o777)
         self.assertIsNone(kept_folder())
         self.assertIsNone(read_kept(KEY))
         os.chmod(self.kept, 0o700)
         self.assertEqual(read_kept(KEY), MADE)
         with patch.dict(os.environ, XDG_CACHE_HOME=self.write("file", "")):
-            keep(KEY, MADE)
+            write_kept(KEY, MADE)
             self.assertIsNone(read_kept(KEY))
 
     def test_the_folder_is_bounded(self):
         with patch.object(kept_imports, "MOST", 3):
             for number in range(6):
-                keep(f"{number:064}", MADE)
+                write_kept(f"{number:064}", MADE)
                 os.utime(self.kept / f"{number:064}", (number, number))
-            keep(f"{6:064}", MADE)
+            write_kept(f"{6:064}", MADE)
         self.assertEqual(sorted(one.name for one in self.kept.iterdir()), [f"{number:064}" for number in (4, 5, 6)])
         with patch.object(kept_imports, "LARGEST", 10):
-            keep(KEY, MADE)
+            write_kept(KEY, MADE)
         self.assertIsNone(read_kept(KEY))
         with patch.object(kept_imports, "MOST_BYTES", 10):
-            keep(KEY, MADE)
+            write_kept(KEY, MADE)
         self.assertEqual(list(self.kept.iterdir()), [])
 
 

@@ -5,7 +5,7 @@ import unittest
 
 from pages import LiveCase, PageCase, needs_driver, needs_selenium, state_after
 from support import MAP, needs_simulator
-from streetsim.live.bridge import MOST_BODY
+from streetsim.live.bridge import MOST_BODY, is_a
 from streetsim.live.page import lane_word, page_data
 from streetsim.model.mapping import read_map
 
@@ -28,6 +28,13 @@ globalThis.changeOnce = async i => {
 globalThis.makeChanges = async count => { \
 for (let i = 0; changes() < count && i < 3 * count; i++) await changeOnce(i); };
 """
+
+
+class Values(unittest.TestCase):
+    def test_true_and_false_are_no_numbers(self):
+        self.assertEqual([is_a(value, int) for value in (0, 7, True, False, 1.0, "7")], [True] * 2 + [False] * 4)
+        kinds = (True, bool), ("7", str), ([], list), (7, str)
+        self.assertEqual([is_a(*pair) for pair in kinds], [True] * 3 + [False])
 
 
 class Data(LiveCase):

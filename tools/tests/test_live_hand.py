@@ -360,7 +360,7 @@ class Joined(ImportCase):
             with self.assertRaisesRegex(Fault, "nothing is running"):
                 session.step(1)
             session.begin()
-            self.assertEqual((len(session.of.mapping.links), bridge.page != page), (4, True))
+            self.assertEqual((len(session.page_run.mapping.links), bridge.page != page), (4, True))
             with self.assertRaisesRegex(Fault, "no edge or lane 'x'"):
                 bridge.join_lanes(["x"])
             self.assertEqual(told_by(session.step(1))["worlds"][0]["clock"], 1)

@@ -1,18 +1,24 @@
 """A live page whose session is kept: its bridge and its program are killed, and it goes on where it was, with all that
 the page knew. What is wanted is what a session says that nothing ends."""
+import fcntl
 import http.client
 import json
 import os
 import signal
 import subprocess
+import threading
 import time
 import unittest
 from pathlib import Path
+from unittest import mock
 from urllib.parse import urlsplit
 
 from pages import LiveCase, state_after, told_by
-from support import PROGRAM, TOOLS, needs_simulator
+from support import PROGRAM, TOOLS, Case, needs_simulator
+from streetsim.base.files import Fault
+from streetsim.live import session_files
 from streetsim.live.session import PageSession
+from streetsim.live.session_files import SessionFiles
 
 CLOSE = {"cmd": "close", "link": 1, "lane": 0, "first": 4, "last": 5}
 REOPEN = {**CLOSE, "cmd": "reopen"}
@@ -34,6 +40,22 @@ DONE = (
     step(3), change((3, CLOSE), (30, REOPEN), text="works"), change((3, METER)), step(1), step(1),
     change((5, PLAN), text="plan"), change((5, {"cmd": "takeout", "car": 99})), step(1),
 )  # fmt: skip
+
+
+class Waiting(Case):
+    def test_a_program_that_ends_is_waited_for(self):
+        """One that has the file for 0.3 s more; one that keeps it is a fault."""
+        kept = SessionFiles.__new__(SessionFiles)
+        kept.file = Path(self.write("session", ""))
+        with open(kept.file, "rb") as other:
+            fcntl.flock(other, fcntl.LOCK_EX)
+            threading.Timer(0.3, fcntl.flock, (other, fcntl.LOCK_UN)).start()
+            begin = time.monotonic()
+            kept.await_end()
+            self.assertGreaterEqual(time.monotonic() - begin, 0.3)
+            fcntl.flock(other, fcntl.LOCK_EX)
+            with mock.patch.object(session_files, "PATIENCE", 0.1):
+                self.assertRaisesRegex(Fault, "another program keeps", kept.await_end)
 
 
 class KeptCase(LiveCase):

@@ -1,7 +1,7 @@
 """Maps of pages: directions apart, names where there is room, a bar that is as long as it says, north, a legend."""
 import re
 import unittest
-from itertools import combinations
+from itertools import combinations, pairwise
 from math import hypot
 
 from support import Case
@@ -9,7 +9,7 @@ from support import Case
 from streetsim.base.shapes import distance
 from streetsim.model.mapping import Map, MapLink, MapNode
 from streetsim.report.page_drawings import difference_map, service_keys, service_map
-from streetsim.report.page_labels import Room, text_width
+from streetsim.report.page_labels import Room, steps, text_width
 from streetsim.report.page_map import BETWEEN, Stroke, map_figure, moved, street_map
 
 LONG, SHORT = "Long Street", "A street with a name that is much longer than the street itself"
@@ -41,6 +41,17 @@ def lines_of(picture):
 
 def strokes(of, width=6.0):
     return {edge: Stroke("#123", width, edge) for edge in of.links_of}
+
+
+class Steps(unittest.TestCase):
+    def test_a_line_is_looked_at_in_steps_of_a_square_at_most(self):
+        """A square has 3 pixels: 10 pixels are four steps of 2.5, and a line of two parts has both its ends."""
+        self.assertEqual(list(steps([(0, 0), (10, 0)])), [(0, 0), (2.5, 0), (5, 0), (7.5, 0), (10, 0)])
+        self.assertEqual(list(steps([(0, 0), (0, 2), (3, 6)])), [(0, 0), (0, 2), (1.5, 4), (3, 6)])
+        for length in (0.5, 3.0, 9.0, 100.0):
+            points = list(steps([(0, 0), (length, 0)]))
+            self.assertLessEqual(max(after - before for (before, _), (after, _) in pairwise(points)), 3)
+            self.assertEqual(points[-1], (length, 0))
 
 
 class Directions(Case):

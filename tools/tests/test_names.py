@@ -58,7 +58,7 @@ class Told(Crossing):
             ("n", "s", "along Hill Street, from the north to the south"),
             ("n", "w", "Hill Street to the west, from the north"),
             ("i", "e", "from the west into Market Street"),
-            ("i", "w", "from the west to the west"),
+            ("i", "w", "from the west and back"),
         ):
             self.assertEqual(names.movement(edge, to), told)
         self.assertEqual((names.approach("n"), names.approach("i")), ("Hill Street, from the north", "from the west"))

@@ -5,6 +5,7 @@ import json
 import unittest
 from itertools import chain, repeat
 from pathlib import Path
+from types import SimpleNamespace
 
 from support import Case, lane, needs_simulator, net
 from streetsim.base.client import Lane
@@ -83,6 +84,19 @@ class Logic(unittest.TestCase):
         program = rings(recall=(1, 2, 4, 6, 8), orders=((1, 2, 0, 4), (0, 6, 0, 8)))
         told = drive(program, {6: range(11)}, 15)
         self.assertEqual(told, [(1, 0, 5, "gap"), (2, 10, 5, "gap"), (6, 0, 15, "barrier")])
+
+    def test_a_green_is_thought_to_last_the_mean_of_its_bounds(self):
+        self.assertEqual(RingPhase(2, "G", 5.0, 41.0, 2.0, 3.0, 1.0, ()).usual, 23.0)
+
+    def test_greens_under_way_end_with_the_run(self):
+        """Of one from 100 s on 30 are told up to 130 s; none of one that begins then, nor of a yellow."""
+        def running(number, began, green):
+            return SimpleNamespace(phase=SimpleNamespace(number=number), began=began, is_green=green)
+
+        logic = Nema(rings())
+        logic.active = [running(2, 100, True), running(6, 130, True), running(4, 100, False)]
+        [(row, _)] = logic.phases_until(130)
+        self.assertEqual(row, (2, 100, 30, ""))
 
     def test_who_alone_has_a_recall_rests_in_green(self):
         # Nobody else: no end. At 30 s somebody comes to 4, and has it at once; where traffic is on 2 the most of this,

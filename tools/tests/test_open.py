@@ -7,7 +7,10 @@ import shutil
 import subprocess
 import unittest
 from collections import Counter
+from contextlib import redirect_stdout
 from importlib.util import find_spec
+from io import StringIO
+from unittest import mock
 
 from support import DATA, FORK, PROGRAM, SCENARIOS, TOOLS, Case, lane, needs_package, needs_simulator, needs_sumo
 from support import needs_sumo_tools, net
@@ -16,6 +19,7 @@ from test_help import parsers
 
 from streetsim.base.files import Fault
 from streetsim.base.report import Report
+from streetsim.cli.open_ import run_tool
 from streetsim.demand.invented import invented_trips
 from streetsim.model.mapping import TOLD_INVENTED
 from streetsim.sumo.net import read_net
@@ -32,6 +36,11 @@ OSM = """<osm version="0.6"><bounds minlat="52.500" minlon="13.400" maxlat="52.5
 </osm>"""
 PLACES = ((1, 52.502, 13.400), (2, 52.502, 13.403), (3, 52.502, 13.406), (4, 52.500, 13.403), (5, 52.504, 13.403))
 NODE = '<node id="{}" lat="{}" lon="{}" version="1">{}</node>'
+
+
+def commands_in(text):
+    """The commands that a page has, in its order."""
+    return [html.unescape(re.sub("<[^>]*>", "", one)) for one in re.findall(r"<code>(.*?)</code>", text)]
 
 
 class Open(Case):
@@ -101,7 +110,7 @@ class Open(Case):
     def commands_are_taken(self, text, commands):
         """What is printed, and what the page advises next, are words that the commands take."""
         found = re.search(r'id="next">.*?</section>', text, re.S)[0]
-        told = [html.unescape(one) for one in re.findall(r"<code>(.*?)</code>", found)]
+        told = commands_in(found)
         self.assertGreaterEqual(len(told), 5)
         known = parsers()
         for line in (*told, *(command.removeprefix("$ ") for command in commands)):
@@ -111,14 +120,15 @@ class Open(Case):
 
     def works_end_well(self, text):
         """The works that the page advises to try leave a lane open, and what leads to it."""
-        [line] = [html.unescape(one) for one in re.findall(r"<code>(.*?)</code>", text) if " --close " in one]
+        [line] = [one for one in commands_in(text) if " --close " in one]
         _, *words = shlex.split(line)
+        self.assertRegex(line, r" --close \S+:00:05-00:15 ", "round clock times about the middle of the run")
         done = subprocess.run(
             [TOOLS / "streetsim-run", *words, "--until", "1200"], cwd=self.folder, capture_output=True, text=True,
             check=True, env={**os.environ, "STREETSIM_PROGRAM": PROGRAM},
         )  # fmt: skip
         self.assertNotIn("not to be trusted", done.stdout)
-        self.assertGreater(int((self.folder / "works/works.csv").read_text().splitlines()[1].split(",")[6]), 0)
+        self.assertGreater(int((self.folder / "works/seed-1/works.csv").read_text().splitlines()[1].split(",")[6]), 0)
 
     @needs_simulator
     def test_a_folder_with_a_configuration(self):
@@ -181,6 +191,14 @@ class Open(Case):
         summary = (self.folder / "cross-run/summary.csv").read_text().splitlines()
         self.assertEqual(summary[-1].split(",")[0], "180", "the end of the configuration")
         self.assertIn('id="player"', self.page("cross.html"))
+
+
+class Statuses(unittest.TestCase):
+    def test_a_tool_that_is_run_gives_its_status(self):
+        for status in (0, 3):
+            with mock.patch("streetsim.cli.live.main", return_value=status), redirect_stdout(StringIO()) as told:
+                self.assertEqual(run_tool("live", ["a b", "--no-open"]), status)
+            self.assertEqual(told.getvalue(), "$ streetsim-live 'a b' --no-open\n")
 
 
 class Invented(Case):

@@ -174,6 +174,28 @@ class ByHand(Case):
         self.assertEqual((area["sampledSeconds"], area["startedHalts"]), ("7.00", "4.00"))
         self.assertEqual((area["nVehSeen"], area["nVehLeft"]), ("2", "2"))
 
+    def test_a_halt_that_goes_on_into_the_next_interval(self):
+        """Vehicle 0 stands in the area from second 2 to second 6: 2 s in the first four seconds, and 3 s in the others,
+        where the halt is of 5 s in all."""
+        mapping = map_from("", {**MAPPING, "detectors": [["area", "e2", 0, 0, 0, 5, 4]]})
+        with Outputs({"e2": str(self.folder / "e2.xml")}, mapping, 0.0) as outputs:
+            outputs.expect_vehicle(0, "v", 0)
+            for clock in range(1, 9):
+                outputs.add_second(clock, [[0, 0, [[0, 3, 0 if 3 <= clock <= 7 else 1]], []]], ())
+        names = "startedHalts", "haltingDurationSum", "intervalHaltingDurationSum", "maxIntervalHaltingDuration"
+        found = [[float(row[name]) for name in names] for row in self.rows("e2", "interval")]
+        self.assertEqual(found, [[1, 2, 2, 2], [0, 5, 3, 3]])
+
+    def test_intervals_end_with_the_run(self):
+        paths = {"edgedata": str(self.folder / "edgedata.xml")}
+        for seconds, ends in ((8, ["4.00", "8.00"]), (7, ["4.00", "7.00"]), (4, ["4.00"]), (0, [])):
+            with Outputs(paths, map_from("", MAPPING), 0.0, period=4) as outputs:
+                outputs.expect_vehicle(0, "v", 0)
+                outputs.expect_vehicle(1, "w", 0)
+                for clock, lanes, arrived in FRAMES[:seconds]:
+                    outputs.add_second(clock, lanes, arrived)
+            self.assertEqual([row["end"] for row in self.rows("edgedata", "interval")], ends)
+
     def test_nothing_is_left_after_a_fault(self):
         before = sorted(self.folder.iterdir())
         paths = {"fcd": str(self.folder / "y.xml")}

@@ -54,8 +54,8 @@ class ByHand(Case):
         return session
 
     def play(self, session, until, stride=100):
-        while session.now.clock < until:
-            session.step(min(stride, until - session.now.clock))
+        while session.current.clock < until:
+            session.step(min(stride, until - session.current.clock))
 
     def in_page(self, run, mapping, deeds, stride=100, back=0):
         """What the page's session sent beside steps and vehicles, by clock."""
@@ -67,7 +67,7 @@ class ByHand(Case):
         if back:
             session.go_back(back)
             self.play(session, 900, stride)
-        return [(one.clock, one.line.command) for one in session.now.kernel.sent]
+        return [(one.clock, one.line.command) for one in session.current.kernel.sent]
 
     def in_run(self, run, mapping, deeds, until=900):
         """The same of streetsim-run."""
@@ -93,7 +93,7 @@ class ByHand(Case):
         self.play(session, 60)
         session.change("works", [{"clock": 60, "command": DEEDS[0][1]}])
         self.play(session, 900)
-        self.assertEqual([one.line.command for one in session.now.kernel.sent], [DEEDS[0][1]])
+        self.assertEqual([one.line.command for one in session.current.kernel.sent], [DEEDS[0][1]])
 
     def works(self, session, **more):
         asked = {"cmd": "close", "link": 0, "lanes": [0], "begin": 370, "end": 530, "from": 0, "until": None}
@@ -105,11 +105,11 @@ class ByHand(Case):
         self.works(session, until=100)
         self.works(session, lanes=[0, 1], begin=0, end=60)
         self.works(session, cmd="reopen", begin=375, end=450)
-        sent = [tuple(one.line.command[name] for name in SPAN) for one in session.now.kernel.sent]
+        sent = [tuple(one.line.command[name] for name in SPAN) for one in session.current.kernel.sent]
         self.assertEqual(sent, [("close", 0, 49, 70), ("close", 0, 4, 7), ("close", 1, 4, 7), ("reopen", 0, 50, 59)])
         self.play(session, 101)
         self.assertIn(("reopen", 0, 49, 70), [
-            tuple(one.line.command[name] for name in SPAN) for one in session.now.kernel.sent if one.clock == 100
+            tuple(one.line.command[name] for name in SPAN) for one in session.current.kernel.sent if one.clock == 100
         ])
 
     def test_parallel_links_are_refused(self):
@@ -134,7 +134,7 @@ class ByHand(Case):
         ):
             told = told_by(session.change("", [{"clock": 0, "command": command}]))
             self.assertIn(name, told["refused"])
-            self.assertEqual((told["changes"], session.now.kernel.sent), ([], []))
+            self.assertEqual((told["changes"], session.current.kernel.sent), ([], []))
 
 
 if __name__ == "__main__":

@@ -1,15 +1,19 @@
 """When vehicles come to links and pass stop lines, of seconds by hand and of a run."""
 import unittest
 from collections import defaultdict
+from types import SimpleNamespace
 
 from seen import kernel_of, made, show
 from support import DATA, MAP, PROGRAM, Case, needs_simulator
 from streetsim.control.settings import Settings
 from streetsim.kernel.loop import Observer
-from streetsim.kernel.seconds import Taken
+from streetsim.kernel.progress import ProgressReports
+from streetsim.kernel.seconds import Takeout
 from streetsim.model.mapping import map_from
 from streetsim.model.runs import read_with_map
 from streetsim.observe.link_passings import Passings
+from streetsim.observe.polls import ClosedLanes
+from streetsim.observe.queues import Summary
 
 TWO_LANES = {**MAP, "links": [["a", [0, 1], *MAP["links"][0][2:]], MAP["links"][1]]}
 # One comes to a at 1 s, stands in its first cell until 3 s and passes its line at 9; it is on b from 12 s on.
@@ -22,11 +26,44 @@ ONE = [
 ]
 
 
+class Closed(unittest.TestCase):
+    def test_what_is_closed_at_a_poll(self):
+        """A line of the file at its clock and one that a controller sends for it count; what is passed on then counts
+        from the next poll on."""
+        def sent(clock, name, lane, passed_on=False):
+            line = SimpleNamespace(command={"cmd": name, "link": 0, "lane": lane, "first": 2, "last": 3})
+            return SimpleNamespace(clock=clock, passed_on=passed_on, line=line)
+
+        lines = [sent(5, "close", 0), sent(5, "close", 1, True), sent(9, "reopen", 0)]
+        kernel = SimpleNamespace(run=SimpleNamespace(first=[]), sent=lines)
+        closed = ClosedLanes(kernel, [True] * 2)
+        found = [closed.at(clock) for clock in (4, 5, 6, 9)]
+        self.assertEqual(found, [{}, {0: [(2, 3)]}, {0: [(2, 3)], 1: [(2, 3)]}, {1: [(2, 3)]}])
+
+
+class Told(unittest.TestCase):
+    def test_how_far_a_run_is(self):
+        """Two are on cells, and then one of them behind its stop line."""
+        told, frames = [], [(1, [[0, 0, [[0, 5, 2], [1, 3, 2]], []]]), (2, [[0, 0, [[1, 5, 2]], [0]]])]
+        reports = ProgressReports(lambda *one: told.append(one))
+        show(kernel_of(map_from("", MAP), [[0, 1]] * 2), frames, reports, parts=2)
+        found = [(clock, one.cells, one.buffers, one.admitted) for clock, one in told]
+        self.assertEqual(found, [(1, 2, 0, 2), (2, 1, 1, 2)])
+
+    def test_all_are_counted_at_the_end_once(self):
+        """Also where the end is a clock at which they are counted anyway."""
+        frames = [(1, [[0, 0, [[0, 5, 2], [1, 3, 2]], []]]), (2, [[0, 0, [[1, 5, 2]], [0]]])]
+        for looks, expected in (((), [(2, 1, 1)]), ((1,), [(1, 2, 0), (2, 1, 1)]), ((2,), [(2, 1, 1)])):
+            summary = Summary(None, looks)
+            show(kernel_of(map_from("", MAP), [[0, 1]] * 2), frames, summary)
+            self.assertEqual(summary.found, expected)
+
+
 class ByHand(unittest.TestCase):
     def passings(self, frames, plans=((0, 1),), mapping=TWO_LANES, taken=(), **more):
         kernel, passings = kernel_of(map_from("", mapping), [list(plan) for plan in plans], **more), Passings()
         for one in taken:
-            kernel.vehicles.taken.append(one)
+            kernel.vehicles.takeouts.append(one)
             kernel.vehicles.add([int(kernel.vehicles.owner[one.car])], [1])
         for parts in (1, 5):
             show(kernel, frames, passings, parts=parts)
@@ -58,7 +95,7 @@ class ByHand(unittest.TestCase):
         """They go on as cars 2 and 3 on b. The one behind the line has passed it; the other one has not."""
         seen = [(1, [[0, 0, [[0, 1, 0], [1, 0, 0]], []]]), (2, [[0, 0, [[1, 0, 0]], [0]]])]
         anew = [(3, [[1, 0, [[2, 0, 0]], []]]), (4, [[1, 0, [[2, 1, 0], [3, 0, 0]], []]])]
-        taken = Taken(2, 0, 2, 0, False), Taken(3, 1, 3, 0, True)
+        taken = Takeout(2, 0, 2, 0, False), Takeout(3, 1, 3, 0, True)
         frames = [(1, [[0, 0, [[0, 0, 0]], []]]), *((clock + 1, lanes) for clock, lanes in [*seen, *anew])]
         found = self.passings(frames, [(0, 1), (0, 1)], taken=taken)
         self.assertEqual(found, ([[1, 4], [2, 5]], {(0, 0): [(3, 1, 3.0)]}))

@@ -8,7 +8,7 @@ from xml.etree import ElementTree
 
 from pages import CROSSING_PLAN, crossing_links, crossing_turns
 from support import TOOLS, Case, needs_package
-from streetsim.live.page import KINDS
+from streetsim.live.page import TURN_WORDS
 from streetsim.observe.junction_layout import turn_name
 
 NODE = shutil.which("node")
@@ -37,7 +37,7 @@ def crossing():
         for number, (name, begin, end, points) in enumerate(crossing_links())
     ]
     shapes = [link["points"] for link in links]
-    return links, [[*turn, KINDS[turn_name(shapes[turn[0]], shapes[turn[2]])]] for turn in crossing_turns()]
+    return links, [[*turn, TURN_WORDS[turn_name(shapes[turn[0]], shapes[turn[2]])]] for turn in crossing_turns()]
 
 
 @needs_package("nodejs", NODE)

@@ -83,14 +83,22 @@ class Lines(unittest.TestCase):
         line.last -= 1
         line.show(2)
         line.end()
-        longer = f"[{'#' * 7}{' ' * 23}] 1 of 4 runs, best 100.0 s, 3.0 min left"
-        shorter = f"[{'#' * 15}{' ' * 15}] 2 of 4 runs, 1.0 min left"
+        longer = f"[{'#' * 7}{' ' * 23}] 1 of 4 runs, best 100.0 s, 3 min left"
+        shorter = f"[{'#' * 15}{' ' * 15}] 2 of 4 runs, 60 s left"
         told = line.stream.getvalue().split("\r")[1:]
         self.assertEqual(told, [longer, f"{shorter:{len(longer)}}", " " * len(shorter), ""])
 
     def test_more_is_done_than_was_thought(self):
         told = Meanwhile("plans", 4, Terminal()).line(5, "", 60)
-        self.assertEqual(told, f"[{'#' * 30}] 5 of 4 plans, 0.0 min left")
+        self.assertEqual(told, f"[{'#' * 30}] 5 of 4 plans, 0 s left")
+
+    def test_half_of_what_is_done_side_by_side_counts(self):
+        """1 of 20 and the half of 4 are done in 3 s: 17 are left."""
+        self.assertIn(", 17 s left", Meanwhile("runs", 20, Terminal(), abreast=4).line(1, "", 3))
+        self.assertIn(", 0 s left", Meanwhile("runs", 20, Terminal(), abreast=4).line(20, "", 3))
+
+    def test_an_end_that_is_told_counts(self):
+        self.assertIn("1 of 20 runs, 5 s left", Meanwhile("runs", 20, Terminal()).line(1, "", 3, 5.2))
 
     def test_nothing_elsewhere(self):
         elsewhere = io.StringIO()

@@ -8,6 +8,7 @@ import subprocess
 import unittest
 from dataclasses import asdict, replace
 from importlib.util import find_spec
+from types import SimpleNamespace
 from unittest import mock
 
 from support import MAP, PROGRAM, TOOLS, Case, needs_package, needs_simulator
@@ -20,12 +21,14 @@ from streetsim.model.replications import WORD
 from streetsim.model.service import COLOURS, WHITE_LETTERS
 from streetsim.model.tables import APPROACHES, JUNCTIONS, MOVEMENTS, SEEDS, TRIPS, write_table
 from streetsim.report.forecast_errors import PAGE, errors_table
-from streetsim.report.page_drawings import anchor, queue_picture
+from streetsim.report.page_choice import RowChange
+from streetsim.report.page_drawings import anchor, letter_mark, queue_picture
 from streetsim.report.page_junctions import full_mark
-from streetsim.report.page_summary import trips_told
+from streetsim.report.page_summary import groups_table, state_verdict, trips_told
 from streetsim.report.plan_costs import PlanCosts
 from streetsim.report.plan_differences import difference_of, mean_delays
 from streetsim.report.run_tables import ResultRow, read_runs
+from streetsim.report.works_queues import LinkOnWay, note_standing
 
 CHROMIUM = shutil.which("chromium") or shutil.which("chromium-browser")
 CORRIDOR = TOOLS / "examples/corridor"
@@ -76,6 +79,42 @@ class Numbers(unittest.TestCase):
         self.assertEqual(trips_told(PlanCosts([20], lost=2, won=3))[1:], [alone])
         self.assertEqual(trips_told(PlanCosts()), ["No trip arrived with both plans."])
 
+    def test_flows_that_lose_and_that_win(self):
+        """Six flows all stand in the table; of seven the three that lose most and the three that win most."""
+        def shown(count):
+            sides = {f"f{at}": ({1: 50.0, 2: 50.0}, {1: 50.0 + at, 2: 50.0 + at}) for at in range(count)}
+            flows = {name: (10, difference_of(*both, drawn=False)) for name, both in sides.items()}
+            text = groups_table(PlanCosts(groups=flows))
+            return "".join(re.findall(r"f\d", text)), re.findall(r"\d of [\d,]+", text)
+
+        self.assertEqual(shown(6), ("f5f4f3f2f1f0", []))
+        self.assertEqual(shown(7), ("f6f5f4f2f1f0", ["6 of 7"]))
+        self.assertEqual(groups_table(PlanCosts()), "")
+
+    def test_who_stands_at_works(self):
+        """The works begin at 30 m: who stands on the cell from 22.5 to 30 m is right before them, and one on the next
+        cell stands in them. Before they begin, and behind their end, nobody does."""
+        polls = [{"clock": clock, "lanes": [[0, 0, [[1, 3, 0], [2, 4, 0], [3, 1, 0], [4, 0, 2]], [], []]]}
+                 for clock in (290, 300, 600, 610)]  # fmt: skip
+        mapping = SimpleNamespace(links=[SimpleNamespace(metres=75.0, cells=10)])
+        place = SimpleNamespace(begin=300, end=600, way=[LinkOnWay(0, -45.0, 30.0)], standing=[])
+        note_standing(SimpleNamespace(mapping=mapping, polls=lambda: polls), [place])
+        self.assertEqual(place.standing, [(300, 0), (300, 15), (600, 0), (600, 15)])
+
+    def test_what_is_told_of_a_movement(self):
+        """E and F are worse than D; a change is told from 5 s on, or where it comes with another level of service."""
+        def row(letter, before="C", seconds=0.0):
+            own = [SimpleNamespace(letter=lambda one=one: one) for one in (letter, before)]
+            delays = [dict.fromkeys((1, 2), delay) for delay in (50.0, 50.0 + seconds)]
+            return RowChange((), *own, difference_of(*delays, drawn=False))
+
+        self.assertEqual([letter for letter in "ABCDEF" if row(letter).is_bad], ["E", "F"])
+        self.assertEqual([letter_mark(letter) for letter in "AF"],
+                         [f'<span class="los los-{letter}">{letter}</span>' for letter in "AF"])
+        noticed = row("C", seconds=5.0), row("C", seconds=-5.0), row("D", seconds=4.9)
+        self.assertEqual([one.changes_noticeably for one in noticed], [True] * 3)
+        self.assertEqual([one.changes_noticeably for one in (row("C", seconds=4.9), row("D"))], [False] * 2)
+
     def test_queues(self):
         """Bars of 480 pixels for the longest: 75 of 150 m are 240. A full edge has the gap behind its last vehicle."""
         rows = [("a", 30, 75, 147.5, 150), ("b", 0, 0, 0, 75), ("c", 9, 9, 140, 150), ("d", 9, 9, 196.7, 199.2)]
@@ -84,6 +123,12 @@ class Numbers(unittest.TestCase):
         self.assertIn("30, 75, 148 of 150 m, fills the edge", picture)
         self.assertEqual(picture.count("fills"), 1)
         self.assertEqual(queue_picture(rows).count("fills"), 2)
+
+    def test_names_before_bars_have_room(self):
+        """Of 40 letters at 7 pixels: 280 pixels, and 630 are left for names and bars."""
+        picture = queue_picture([("along the long street, from the north-east"[:40], 0, 0, 0, 100)])
+        self.assertIn('<text x="280"', picture)
+        self.assertIn('<rect width="350.0" height="18"', picture)
 
     def test_letters_in_grey(self):
         """Each letter is darker than the better one, and its writing has the contrast 4.5 that WCAG 2 asks for."""
@@ -149,6 +194,19 @@ class Marks(unittest.TestCase):
 
 
 class Pages(Given):
+    def test_the_verdict_of_one_plan_names_the_worst_junction(self):
+        runs, shown = read_runs(str(self.folder / "before")), (0, 900)
+        junctions = runs.rows["junctions", *shown]
+        self.assertIn("Junction B has level of service F.", state_verdict(runs, shown))
+        level = {"vehicles": 9.0, "vehicles_per_hour": 99.0}
+        for name, delay in (("C", 40.0), ("D", 20.0)):
+            junctions[name,] = ResultRow((name,), "signals", "", {**level, "control_delay_s": delay}, {})
+        told = "One of three junctions has a level of service worse than D; the worst is F, at Junction B."
+        self.assertIn(told, state_verdict(runs, shown))
+        del junctions["B",]
+        told = "Every junction has level of service D or better; the worst is Junction C."
+        self.assertIn(told, state_verdict(runs, shown))
+
     def test_means_over_seeds(self):
         runs = read_runs(str(self.folder / "before"))
         row = runs.rows["movements", 0, 900]["B", "a", "b"]
@@ -167,7 +225,7 @@ class Pages(Given):
             # Changes of -60 and -62, quantile 12.706.
             "A vehicle's mean delay at a junction is 31.0 s, and 92.0 s before: 61.0 s less "
             "(95 % interval of dawdling alone: 48.3 to 73.7 s less); at one of one junction it is less beyond the "
-            "chance of dawdling, at no more.",
+            "chance of dawdling, at none more.",
             "two runs of each plan, simulated by streetsim; departures as listed: the seeds differ by dawdling alone, "
             "so nothing is sure of another day.",
             "2 vehicles, departures as listed",
@@ -177,7 +235,7 @@ class Pages(Given):
             "from the west to the east B: a to b 92.0 31.0",
             "Junction B: 31.0 s C , 40 vehicles an hour, signals",
             "program SHA-256 abc",
-            "0:00 to 0:30, seeds 1, 2, dawdle 170",
+            "0:00 to 0:30, seeds 1, 2, dawdle 170 (in each second 17 % of drivers slow down by chance)",
             "2 <turns> & more",
             "8, 15, 22 of 75 m",
             "L, T, R, U: left, straight on, right, back. Queues: what half of the cycles",

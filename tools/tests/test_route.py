@@ -20,7 +20,9 @@ from types import SimpleNamespace
 from clusters import ClusterCase, needs_distributed
 from support import DATA, PROGRAM, SCENARIOS, TOOLS, Case, lane, needs_simulator, needs_sumo_tools, net
 from streetsim.base import limits
+from streetsim.base.files import Fault
 from streetsim.base.report import Report
+from streetsim.cli import route
 from streetsim.model.mapping import Map, MapLink, read_map
 from streetsim.model.runs import Line, Run, read_run
 from streetsim.model.waiting import Gap
@@ -128,6 +130,16 @@ class Routing(unittest.TestCase):
             parts = wish_parts(wishes, count)
             self.assertLessEqual(len(parts), count)
             self.assertEqual(sorted(wish.trip for part in parts for wish in part), list(range(10)))
+
+
+class Words(unittest.TestCase):
+    def test_slices_are_of_a_minute_to_a_day(self):
+        made = route.parser()
+        found = [made.parse_args(["x.net.xml", "--slice", text]).slice for text in ("60", "86400")]
+        self.assertEqual(found, [60, 86_400])
+        for text in ("59", "86401"):
+            with self.assertRaisesRegex(Fault, "is not 60 to 86,400 s"):
+                made.parse_args(["x.net.xml", "--slice", text])
 
 
 class Seconds(unittest.TestCase):

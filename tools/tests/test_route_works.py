@@ -13,6 +13,7 @@ from streetsim.control.works_movements import in_common
 from streetsim.model.mapping import MapLink, read_map
 from streetsim.search.route_closing import Closing, knows_of_works, turn_off
 from streetsim.search.route_diverting import why_within_gap
+from streetsim.search.route_drawing import scale_of_counts
 from streetsim.search.route_underway import Diversion, PlannedVehicle, WaysRound, impassable_edges, turning_to
 from streetsim.sumo.trips import Trip
 from streetsim.sumo.way_costs import flat_costs
@@ -118,6 +119,20 @@ class WithinTheGap(unittest.TestCase):
         self.assertEqual(self.told((300, 2), (305, 1)), told.format("+5.0 s", "without", "6.0"))
         self.assertEqual(self.told((300, 2), (295, 1)), told.format("-5.0 s", "without", "6.0"))
         self.assertEqual(self.told((300, 1), (305, 2)), told.format("+5.0 s", "with", "6.1"))
+
+
+class Colours(unittest.TestCase):
+    @needs_package("python3-matplotlib", importlib.util.find_spec("matplotlib"))
+    def test_flows_are_darker_for_more(self):
+        """The most has the first colour of matplotlib's viridis, #440154; of fewer each is lighter than the next."""
+        from matplotlib.colors import to_hex
+
+        for most in (2, 3, 8, 600):
+            colours = scale_of_counts(most).colours.colors
+            self.assertEqual(to_hex(colours[-1]), "#440154", most)
+            light = [0.2126 * red + 0.7152 * green + 0.0722 * blue for red, green, blue, _ in colours]
+            self.assertEqual(light, sorted(light, reverse=True))
+        self.assertEqual(len(scale_of_counts(1).colours.colors), 1)
 
 
 class UnderWay(Case):

@@ -5,14 +5,22 @@ import os
 import pty
 import subprocess
 import unittest
+from argparse import Namespace
+from types import SimpleNamespace
 
 from support import FORK, MAP, NUMBERED, PROGRAM, RED, TOOLS, Case, lane, needs_simulator, net
 from streetsim.base.files import Fault
 from streetsim.base.seeds import mean_and_half_width
-from streetsim.cli.running import mean_told
+from streetsim.cli import run
+from streetsim.cli.opened import lane_to_close
+from streetsim.cli.running import along_of, mean_told
 from streetsim.model.folder import read_folder
-from streetsim.model.runs import read_run, read_with_map
+from streetsim.model.mapping import map_from
+from streetsim.model.runs import Line, read_run, read_with_map
+from streetsim.observe.making import first_poll
 from streetsim.scenario import Scenario
+from streetsim.simulation.connections import Connections
+from streetsim.search.signal_town import read_run_and_map, signal_node
 
 
 class Runs(Case):
@@ -42,6 +50,64 @@ class Runs(Case):
 
 def enter(plan, depart=0):
     return {"cmd": "enter", "plan": plan, "lane": 0, "depart": depart}
+
+
+class Asked(Case):
+    def test_lanes_are_polled_at_multiples(self):
+        """Every ten seconds from a start at 0, 9 or 10 s on: first at 10, 10 and 20 s; never where nobody asks."""
+        self.assertEqual([first_poll(10, start) for start in (0, 9, 10)], [10, 10, 20])
+        self.assertEqual([first_poll(every, 7) for every in (0, None)], [7, 7])
+
+    def test_somebody_has_to_depart_before_the_end(self):
+        lines = {"cmd": "load", **NUMBERED}, enter([0], 5)
+        run = self.write("run.jsonl", "".join(json.dumps(one) + "\n" for one in lines))
+        mapping = self.write("map.json", json.dumps({**MAP, "cars": ["v"]}))
+        for until in (None, 6):
+            self.assertEqual(len(read_run_and_map(run, mapping, until)[0].enters), 1)
+        for until, told in ((5, "no vehicle departs before 5 s"), (0, "starts at 0 s, which is not before 0 s")):
+            with self.assertRaisesRegex(Fault, told):
+                read_run_and_map(run, mapping, until)
+
+    def test_a_route_has_two_edges_or_more(self):
+        mapping = map_from("", MAP)
+        self.assertEqual(along_of(Namespace(along=["a b", "b,a,b"]), mapping), [["a", "b"], ["b", "a", "b"]])
+        for route, told in (("a", "'a': a route has two edges or more"), ("a x", "the map has no edge 'x'")):
+            with self.assertRaisesRegex(Fault, told):
+                along_of(Namespace(along=[route]), mapping)
+
+    def test_signals_of_a_run_by_their_nodes(self):
+        commands = {"cmd": "signal", "node": 3}, {"cmd": "enter", "plan": [0]}
+        self.assertEqual([signal_node(Line(0, "", one)) for one in commands], [3, None])
+
+    def test_lanes_of_departures(self):
+        """The lane that leads on, as here the second one; the first where none does, or the vehicle ends there."""
+        links = [["a", [0, 1], *MAP["links"][0][2:]], *MAP["links"][1:], ["c", [0], *MAP["links"][1][2:]]]
+        turns = [[0, 1, 1, 0, "L", 0, False], [1, 0, 2, 0, "", None, False]]
+        connections = Connections(map_from("", {**MAP, "links": links, "turns": turns}))
+        plans = (0, 1), (0, 1, 2), (0,), (0, 2), (1, 2)
+        self.assertEqual([connections.departure_lane(plan) for plan in plans], [1, 1, 0, 0, 0])
+
+    def test_a_lane_that_works_may_close(self):
+        """Of 500 m with one lane, 100 and 200 m with two, to which a street leads, 300 m with two, to which none does,
+        and 400 m with two that are two links: the lane of 200 m; of one lane the longest to which a street leads."""
+        def link(edge, lanes, begin, end, metres):
+            return [edge, lanes, begin, end, 10, 2, metres, [[0, 0], [metres, 0]]]
+
+        two = [link("b", [0, 1], 1, 2, 100.0), link("c", [1, 2], 1, 2, 200.0), link("d", [0, 1], 0, 1, 300.0)]
+        two += [link("e", [0], 1, 2, 400.0), link("e", [1], 1, 2, 400.0)]
+        single = [link("a", [0], 0, 1, 500.0), link("f", [0], 1, 2, 90.0)]
+        for links, lane in ((single + two, ("c_1", 200.0, False)), (single, ("f_0", 90.0, True))):
+            turns = [[0, 0, at, 0, "", None, False] for at, one in enumerate(links) if one[2] == 1]
+            mapping = map_from("", {**MAP, "links": links, "turns": turns, "signals": []})
+            self.assertEqual(lane_to_close(SimpleNamespace(mapping=mapping)), lane)
+
+    def test_limits_along_works(self):
+        """5 to 130 km/h."""
+        words = ["run.jsonl", "--map", "map.json", "--close", "a_0:0-10:0-10", "--works-limit"]
+        self.assertEqual([run.parser().parse_args([*words, kmh]).works_limit for kmh in ("5", "130")], [5, 130])
+        for kmh in ("4", "131"):
+            with self.assertRaisesRegex(Fault, "5 to 130"):
+                run.parser().parse_args([*words, kmh])
 
 
 @needs_simulator

@@ -8,7 +8,7 @@ from streetsim import client
 from streetsim.model.mapping import read_map
 from streetsim.model.tables import TRIPS, read_table
 from streetsim.scenario import NOWHERE, NotHere, Scenario
-from streetsim.simulation.shown import SignalsInForce
+from streetsim.simulation.signals_in_force import SignalsInForce
 
 # One that in SUMO takes as long on streets of 75 m, with its start, as one takes for 10 cells here.
 EVEN = '<vType id="even" accel="2.08" sigma="0" speedFactor="1.08" speedDev="0"/>'

@@ -109,7 +109,7 @@ class Scripts(Case):
         traci.simulationStep(60)
         traci.lane.setDisallowed("a_0", "all")
         traci.simulationStep(300)
-        return traci._now()
+        return traci._current_session()
 
     def test_traci(self):
         self.assertGreater(self.held(self.started()), 2)

@@ -47,6 +47,26 @@ def other_digit(text, at):
     return text[:at] + str((int(text[at]) + 1) % 10) + text[at + 1 :]
 
 
+class Mismatches(unittest.TestCase):
+    """Where a page and one that is made anew differ."""
+
+    PAGE = (
+        "<h1>Town</h1><h2>Junctions</h2><table><tr><th>name</th><th>delay, s</th><th>level</th></tr>"
+        '<tr><th scope="row">J1</th><td>20</td><td>B</td></tr><tr><th scope="row">J2</th><td>31</td><td>C</td></tr>'
+        "</table><p>41 in all</p><h3>J2</h3><p>51</p>"
+    )
+
+    def test_each_is_told_by_its_headings_row_and_column(self):
+        for said, found, where in (
+            ("20", "21", "Junctions, J1, delay, s"), ("C", "D", "Junctions, J2, level"),
+            ("41 in all", "42 in all", "Junctions"), ("51", "52", "Junctions, J2"), ("Town", "City", "City"),
+        ):  # fmt: skip
+            other = self.PAGE.replace(f">{said}<", f">{found}<", 1)
+            told = [(one.where, one.said, one.found) for one in page_mismatches(self.PAGE, other)]
+            self.assertEqual(told, [(where, said, found)])
+        self.assertEqual(page_mismatches(self.PAGE, self.PAGE), [])
+
+
 class Numbers(unittest.TestCase):
     def test_names_of_tags_are_no_numbers(self):
         page = '<h1>In 2026</h1><style>p { margin: 3px }</style><p>8,000 of 9.5</p><path d="M 4 5"/><h2>7</h2>'

@@ -15,7 +15,7 @@ from streetsim.base.files import Fault
 from streetsim.control.settings import Settings
 from streetsim.control.steering import Steering
 from streetsim.kernel.loop import Kernel
-from streetsim.kernel.seconds import Taken
+from streetsim.kernel.seconds import Takeout
 from streetsim.kernel.serving import serving_program
 from streetsim.model.folder import read_folder
 from streetsim.model.mapping import map_from
@@ -58,7 +58,7 @@ class ByHand(unittest.TestCase):
     def test_who_is_rescued(self):
         """The first one is taken out on b at 8 s, 3 s behind the line of a, and comes to the end of b 3 s later. One
         who is taken out behind the line of a, at 9 s, has passed it."""
-        self.kernel.vehicles.taken += [Taken(8, 0, 4, 2, True), Taken(9, 1, 5, 0, False)]
+        self.kernel.vehicles.takeouts += [Takeout(8, 0, 4, 2, True), Takeout(9, 1, 5, 0, False)]
         rows = [("", "", 1, "18.0"), ("", "a", 2, "5.5"), ("", "b", 1, "3.0")]
         rows += [("a", "", 1, "3.0"), ("a", "b", 1, "12.0")]
         self.assertEqual([row[2:6] for row in self.rows(900)], rows)

@@ -19,10 +19,11 @@ from support import DATA, PROGRAM, TOOLS, Case, needs_package, needs_simulator, 
 import streetsim.traci as traci
 from streetsim.base.files import Fault
 from streetsim.simulation.errors import FatalTraCIError
-from streetsim.simulation.options import options_of
+from streetsim.simulation.options import read_options
 from streetsim.traci import constants as tc, domain, server
-from streetsim.traci.protocol import MOST, BadMessage, WordReader, command, double, string, strings, text
-from streetsim.traci.server import OK, Server, TraciClient, listen
+from streetsim.traci.answering import ReadCall
+from streetsim.traci.protocol import MOST_MESSAGE, BadMessage, ValueReader, command, double, string, strings, text
+from streetsim.traci.server import OK_STATES, Server, TraciClient, listen
 from streetsim.traci.table import DOMAINS, GETS, SETS
 
 CROSS = TOOLS / "examples/actuated"
@@ -60,7 +61,7 @@ def answers(data):
             if not length:
                 (length,), head = struct.unpack_from("!i", body, at + 1), 5
             assert head < length <= len(body) - at, (length, body[at:])
-            words = WordReader(body, at + head + 1, at + length)
+            words = ValueReader(body, at + head + 1, at + length)
             result = words.byte()
             if not states or at >= skipped:
                 states.append((body[at + head], result, words.text()))
@@ -87,6 +88,17 @@ def values_behind(body, at, state):
             break
         at += length
     return at - begin
+
+
+class Answers(unittest.TestCase):
+    def test_a_message_begins_with_its_length(self):
+        """The four bytes of the length count too, as SUMO's pages on TraCI's messages have it."""
+        whole = ReadCall(0xA4, lambda: 7, (), b"head", "i", struct.Struct(">i").pack)
+        sized = ReadCall(0xA4, lambda: ("a", "bc"), (), b"head", "l")
+        self.assertEqual(whole.message()(), struct.pack(">i4si", 12, b"head", 7))
+        for one in (whole, sized):
+            made = one.message()()
+            self.assertEqual((int.from_bytes(made[:4], "big"), made[4:]), (len(made), one.answer()))
 
 
 @needs_simulator
@@ -161,7 +173,7 @@ class Protocol(Served):
         whole = message(asked("simulation", tc.VAR_TIME))
         for data, why in (
             (struct.pack("!i", 2**31 - 1), "2,147,483,647 bytes"), (struct.pack("!i", -1), "-1 bytes"),
-            (struct.pack("!i", 5), "5 bytes"), (struct.pack("!i", MOST + 1), "bytes"),
+            (struct.pack("!i", 5), "5 bytes"), (struct.pack("!i", MOST_MESSAGE + 1), "bytes"),
             (struct.pack("!ib", 7, 100) + b"xy", "a command of 100 bytes"), (b"\0\0\0\x09\0\x7f\xff\xff\xff", "bytes"),
             (b"\0\0\0\x07\0ab", "ends in the length"), (whole[:4] + b"\x01" + whole[5:], "a command of 1 bytes"),
         ):
@@ -184,7 +196,7 @@ class Protocol(Served):
                 body = bytes((variable,)) + text("WJ") + words
                 [states] = answers(self.talk(message((DOMAINS["edge"].set, body))))
                 self.assertEqual([result for _, result, _ in states], [tc.RTYPE_ERR])
-        with patch.object(server, "MOST_TOLD", 1000):
+        with patch.object(server, "MOST_ANSWER", 1000):
             [*_, states] = answers(self.talk(message(*100 * [asked("lane", tc.TRACI_ID_LIST)])))
         self.assertIn("would have more than 1,000 bytes", states[-1][2])
 
@@ -289,8 +301,8 @@ class Protocol(Served):
         with ours, theirs, socket.socket() as unused:
             serving = Server(unused, 0, self.told.append)
             serving.clients = [TraciClient(ours, 3), TraciClient(ours)]
-            words = WordReader(struct.pack("!i", 3), 0, 4)
-            said = serving.answered(serving.clients[1], tc.CMD_SETORDER, words)
+            words = ValueReader(struct.pack("!i", 3), 0, 4)
+            said = serving.answer_command(serving.clients[1], tc.CMD_SETORDER, words)
         self.assertIn(b"another client has the place 3", said)
 
     def test_a_run_begins_anew_by_load(self):
@@ -537,9 +549,9 @@ class Clients(Case):
 class Options(unittest.TestCase):
     def test_the_nearest_word_is_named(self):
         with self.assertRaisesRegex(FatalTraCIError, "'net-fil' exists. The nearest is --net-file"):
-            options_of(["--net-fil", "x"])
+            read_options(["--net-fil", "x"])
         with self.assertRaisesRegex(FatalTraCIError, "'qqqq' exists.$"):
-            options_of(["--qqqq"])
+            read_options(["--qqqq"])
 
 
 if __name__ == "__main__":

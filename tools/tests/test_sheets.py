@@ -2,6 +2,7 @@
 import json
 import re
 import unittest
+from pathlib import Path
 
 from support import PROGRAM, TOOLS, Case, needs_simulator
 from streetsim.base.files import Fault
@@ -158,6 +159,23 @@ class Sheets(Case):
         (out / "lights.json").write_text('[{"light": "J1"}]')
         with self.assertRaisesRegex(Fault, "lights.json: cannot be read: 'junction'"):
             timings_of(read_folders(str(out)))
+
+    def test_the_map_has_the_programs(self):
+        """The network may be gone; a map that does not have them, as those of earlier imports, needs it."""
+        net, away = Path(self.write("x.net.xml", network(BAD))), self.folder / "y.net.xml"
+        kept = self.run_of(net) / "lights.json"
+        [known], mapped = json.loads(kept.read_text()), self.folder / "x.json"
+        self.assertEqual((known["light"], known["phases"]), ("L", [[30.0, "GG"], [30.0, "rG"]]))
+        words = "run", self.folder / "x.jsonl", "--map", mapped, "--until", 60, "--junctions", "--out", kept.parent
+        net.rename(away)
+        self.tool(*words, "--program", PROGRAM)
+        self.assertEqual(json.loads(kept.read_text()), [known])
+        mapped.write_text(json.dumps({**json.loads(mapped.read_text()), "timings": []}))
+        self.tool(*words, "--program", PROGRAM)
+        self.assertFalse(kept.exists())
+        away.rename(net)
+        self.tool(*words, "--program", PROGRAM)
+        self.assertEqual(json.loads(kept.read_text()), [known])
 
     def test_before_and_after(self):
         out = self.run_of(CORRIDOR / "corridor.net.xml.gz", "--routes", CORRIDOR / "corridor.rou.xml")

@@ -10,6 +10,7 @@ import time
 import unittest
 import xml.etree.ElementTree as ElementTree
 from collections import Counter
+from itertools import permutations
 from math import exp, lgamma, pi, sqrt
 from unittest import mock
 from unittest.mock import Mock
@@ -22,11 +23,13 @@ from streetsim.control.settings import Settings
 from streetsim.model.mapping import map_from, read_map
 from streetsim.model.runs import Line, Run, read_run
 from streetsim.model.trust import missing_doubts
+from streetsim.observe.giving_way_rounds import Yielding
+from streetsim.search import run_giving_way
 from streetsim.search.run_giving_way import (
-    for_search, giving_session, outcome_giving_way, seconds_of_run, with_gap_lines,
+    for_search, gap_lines, giving_session, outcome_giving_way, seconds_of_run, with_gap_lines,
 )
-from streetsim.search.run_prepared import Outcome, outcome, session_of, vehicle_seconds
-from streetsim.search.signal_formulas import heaviest_tree, webster_cycle
+from streetsim.search.run_prepared import Giving, Outcome, outcome, session_of, vehicle_seconds
+from streetsim.search.signal_formulas import Hop, StreetFlows, heaviest_tree, waved, webster_cycle
 from streetsim.search.signal_found import doubts_of, verdict
 from streetsim.search.signal_in_sumo import mean_trip, sumo_for
 from streetsim.search.signal_lines import LightLines, read_plans
@@ -150,6 +153,33 @@ class Formulas(unittest.TestCase):
         self.assertEqual(parents, {"a": "b", "c": "b"})
         self.assertEqual(behind, {"b": ["b", "c", "a"], "a": ["a"], "c": ["c"], "d": ["d"]})
 
+    def test_equal_flows_are_taken_by_names(self):
+        """Of the ring a-b, a-c, b-c, each of 5, the first two are the tree, whichever was seen first."""
+        ways = [(pair, Counter({(at,): 5})) for at, pair in enumerate((("a", "b"), ("a", "c"), ("c", "b")))]
+        for seen in permutations(ways):
+            self.assertEqual(heaviest_tree(["a", "b", "c"], dict(seen))[0], {"b": "a", "c": "a"})
+
+    def test_green_comes_when_the_platoon_does(self):
+        """It leaves L in its third phase, at 10 + 33 s, and comes 22 s later to M's second one, 30 s into M's cycle: an
+        offset of 35 s."""
+        plan = {"L": PlannedTiming(10, (30, 3, 20, 3)), "M": PlannedTiming(7, (30, 26))}
+        streets = StreetFlows(["L", "M"], {"L": ["L", "M"], "M": ["M"]}, {"M": Hop("L", 22.0, 2, 1)}, {})
+        self.assertEqual(waved(plan, streets), {**plan, "M": PlannedTiming(35, (30, 26))})
+
+
+class GivingWay(unittest.TestCase):
+    def test_rounds_are_made_where_somebody_gives_way(self):
+        """By runs without rescues, from the search's first clock to its last; without a giving there are none."""
+        giving = Giving(mock.sentinel.run, mock.sentinel.map, 600, frozenset(), 2)
+        parts = dict.fromkeys(("gaps_of", "with_load", "with_signals"), mock.DEFAULT)
+        with mock.patch.multiple(run_giving_way, **parts) as made:
+            self.assertEqual(gap_lines(Mock(giving=None), b"", 7), ([], Yielding()))
+            made["gaps_of"].assert_not_called()
+            self.assertIs(gap_lines(Mock(giving=giving), b"", 7), made["gaps_of"].return_value)
+        made["with_load"].assert_called_with(mock.sentinel.run, seed=7)
+        _, mapping, settings, rounds, *_ = made["gaps_of"].call_args.args
+        self.assertEqual((mapping, settings.until, settings.rescue, rounds), (mock.sentinel.map, 600, 0, 2))
+
 
 class Climbing(unittest.TestCase):
     """The search over a value that is known: how far offsets are from 30 and 50."""
@@ -176,11 +206,27 @@ class Climbing(unittest.TestCase):
         self.assertEqual((plan["L"].offset, plan["M"].offset), (30, 50))
         self.assertEqual(len({(one["L"].offset, one["M"].offset) for one in asked}), len(asked))
 
+    def streets(self):
+        behind = {"L": ["L", "M"], "M": ["M"]}
+        return type("Streets", (), {"order": ["L", "M"], "behind": behind, "hops": {}, "loads": {}})
+
+    def test_how_many_climbs_there_are_is_known_before(self):
+        for changed in (["offsets"], ["offsets", "splits"]):
+            search, _ = self.search(1000)
+            search_plan(search, self.plan, {"L": self.light, "M": self.light}, self.streets(), changed, [])
+            self.assertEqual(len(search.climbed) - 1, search.climbs)
+            self.assertEqual(search.expected(), search.simulations)
+
+    def test_climbs_from_the_best_proposal(self):
+        """A wave with M 50 s behind L is 30 off and the given plan 80: the first step moves L, with M at 50."""
+        search, asked = self.search(3)
+        streets = StreetFlows(["L", "M"], {"L": ["L", "M"], "M": ["M"]}, {"M": Hop("L", 50.0, 0, 0)}, {})
+        search_plan(search, self.plan, {"L": self.light, "M": self.light}, streets, ["offsets"], [])
+        self.assertEqual([plan["M"].offset for plan in asked], [0, 50, 50])
+
     def test_ends_with_its_budget(self):
         search, asked = self.search(7)
-        streets = type(
-            "Streets", (), {"order": ["L", "M"], "behind": {"L": ["L"], "M": ["M"]}, "hops": {}, "loads": {}}
-        )
+        streets = self.streets()
         search_plan(search, self.plan, {"L": self.light, "M": self.light}, streets, ["offsets"], [])
         self.assertEqual((len(asked), search.simulations), (7, 7))
         self.assertEqual(search.best[0], min(trial.value for trial in search.trials))
@@ -426,7 +472,7 @@ class Tool(Searching):
             told = tool.stdout.read()
         os.close(terminal)
         self.assertRegex(
-            shown, r"\[#* *\] [\d,]+ of 100,000 simulations, best [\d.]+ s \([-+][\d.]+ %\), [\d.]+ min left"
+            shown, r"\[#* *\] [\d,]+ of [\d,]+ simulations, best [\d.]+ s \([-+][\d.]+ %\), [\d.]+ (s|min|h) left"
         )
         self.assertTrue(told.startswith("stopped: the best plan found so far is written\nmean trip "), told)
         trials = self.table("search.csv")

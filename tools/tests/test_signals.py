@@ -192,6 +192,14 @@ class Signals(Case):
         with self.assertRaisesRegex(Fault, "light 'L': a cycle of 10,000,005 s; at most 200,000 s are read"):
             self.made(street(phases((10_000_000, "G"), (5, "r"))))
 
+    def test_a_cycle_that_just_fits_in_one_plan(self):
+        # A plan is of 16 phases of 600 s: 9,600 s; of one second more the phases are lines.
+        [command], warnings = self.made(street(phases((9_600, "r"))))
+        self.assertEqual([seconds for seconds, _ in command["phases"]], [600] * 16)
+        self.assertEqual(warnings, ["light 'L': a turn is never green on edges a"])
+        _, warnings = self.made(street(phases((9_601, "r"))))
+        self.assertIn("light 'L': a cycle of 9,601 s does not fit in one plan", warnings[0])
+
     def test_a_departure_so_late_that_the_lines_would_have_no_end(self):
         # 1,000,086,400 s are 133,344 greens and reds of 7,500 s in the mean.
         street_file = self.write("x.net.xml", street(phases((5_000, "G"), (10_000, "r"))))

@@ -3,6 +3,7 @@ their exceptions for its own."""
 import os
 import signal
 import subprocess
+import time
 import unittest
 from contextlib import redirect_stderr
 from io import StringIO
@@ -10,7 +11,7 @@ from io import StringIO
 from support import TOOLS, Case
 from test_install import COMMANDS
 
-from streetsim.base.files import ASKED, interrupt, status_of
+from streetsim.base.files import ASKED, end_again, end_by_signal, interrupt, status_of
 
 # In the place of a module that all commands read: it says that it is read, and waits.
 SLOW = """import time
@@ -71,9 +72,41 @@ class Asked(Case):
         with redirect_stderr(StringIO()) as said:
             self.assertEqual(status_of(main), 130)
         self.assertIn(": ended by Ctrl-C: nothing was written\n", said.getvalue())
+        for number, name in ((signal.SIGTERM, "SIGTERM"), (signal.SIGHUP, "SIGHUP")):
+            ASKED[:] = [number]
+            with redirect_stderr(StringIO()) as said:
+                self.assertEqual(status_of(lambda _: int("wrong")), 128 + number)
+            self.assertIn(f": ended by {name}: nothing was written\n", said.getvalue())
         ASKED.clear()
         with self.assertRaisesRegex(ValueError, "wrong"):
             status_of(lambda _: int("wrong"))
+
+    def test_an_end_that_got_lost_comes_again(self):
+        """As where Python forgets a module's lock, and drops what is raised meanwhile. What cleans up after the signal
+        is left alone, however long it takes."""
+        ended = []
+
+        class Lost:
+            def __del__(self):
+                signal.raise_signal(signal.SIGTERM)
+
+        def main(_):
+            Lost()
+            try:
+                time.sleep(60)
+            finally:
+                time.sleep(0.7)
+                ended.append("cleaned up")
+
+        for number, how in ((signal.SIGTERM, end_by_signal), (signal.SIGALRM, end_again)):
+            self.addCleanup(signal.signal, number, signal.signal(number, how))
+        self.addCleanup(ASKED.clear)
+        begin = time.monotonic()
+        with redirect_stderr(StringIO()) as said, self.assertRaises(SystemExit) as raised:
+            status_of(main)
+        self.assertEqual((raised.exception.code, ended), (143, ["cleaned up"]))
+        self.assertLess(time.monotonic() - begin, 10)
+        self.assertIn(": ended by SIGTERM: nothing was written\n", said.getvalue())
 
 
 if __name__ == "__main__":

@@ -16,19 +16,24 @@ from io import StringIO
 from pathlib import Path
 from types import SimpleNamespace
 
+import numpy
+
 from support import (
-    DATA, FORK, PROGRAM, SCENARIOS, TOOLS, Case, lane, needs_package, needs_simulator, needs_sumo, needs_sumo_tools,
-    net,
+    DATA, FORK, MAP, PROGRAM, SCENARIOS, TOOLS, Case, lane, needs_package, needs_simulator, needs_sumo,
+    needs_sumo_tools, net,
 )
 from streetsim.base.files import Fault
 from streetsim.model.detectors import Detector
+from streetsim.model.mapping import map_from
 from streetsim.report.beside_sumo import geh
 from streetsim.scenario import TrafficLight
+from streetsim.simulation import tally
 from streetsim.simulation.fleet import OnRoad
 from streetsim.simulation.lights import LightShow
 from streetsim.simulation.options import OUTPUT, SHORT, check_option
 from streetsim.simulation.session import TraciSession
 from streetsim.simulation.street_facts import read_facts
+from streetsim.simulation.view import View
 from streetsim.traci import constants as tc
 import streetsim.traci as traci
 from streetsim.traci.advice import NOTHING
@@ -84,7 +89,7 @@ class Loops(unittest.TestCase):
         detector = Detector("loop", "e1", 0, 0, 3, 3, 60)
         driving = 100 * 5 / 15
         for where, percent in ((OnRoad(1, 0, 3, 2), driving), (OnRoad(0, 1, 3, 2), driving), (OnRoad(0, 0, 3, 0), 100)):
-            view, fleet = SimpleNamespace(there={7: where}, there_before={}), SimpleNamespace(size={7: 1}.get)
+            view, fleet = SimpleNamespace(positions={7: where}, positions_before={}), SimpleNamespace(size={7: 1}.get)
             loops = SimpleNamespace(passed={"loop": [7]}.__getitem__)
             mapping = SimpleNamespace(links=[SimpleNamespace(cell_metres=7.5)])
             session = SimpleNamespace(view=view, fleet=fleet, detectors={"loop": detector}, loops=loops, map=mapping)
@@ -96,7 +101,7 @@ class Vehicles(Started):
     def test_one_vehicle(self):
         """It departs in the first step, whatever the draws, and stands in cell 0."""
         self.start()
-        cell = 75 / traci.vehicle.now().map.links[0].cells
+        cell = 75 / traci.vehicle.session().map.links[0].cells
         self.assertEqual((traci.vehicle.getIDList(), traci.simulation.getMinExpectedNumber()), ((), 2))
         traci.simulationStep()
         self.assertEqual(
@@ -205,6 +210,25 @@ class Vehicles(Started):
         )
         self.assertEqual((traci.edge.getLastStepMeanSpeed("b"), traci.edge.getTraveltime("b")), (13.89, 75 / 13.89))
         self.assertEqual(traci.vehicle.getWaitingTime("v"), traci.edge.getWaitingTime("a"))
+        self.assertEqual((traci.edge.getLastStepPersonIDs("a"), traci.edge.getLastStepVehicleIDs("a")), ((), ("v",)))
+
+    def test_junctions(self):
+        """Their outlines are closed, as SUMO's are."""
+        outline = SIGNALLED.replace('<junction id="B"', '<junction id="B" shape="0,0 5,0 5,5"')
+        self.start(outline)
+        self.assertEqual(traci.junction.getIDList(), ("A", "B", "C", "D"))
+        shapes = [tuple(traci.junction.getShape(name)) for name in "AB"]
+        self.assertEqual(shapes, [(), ((0, 0), (5, 0), (5, 5), (0, 0))])
+
+    def test_waiting_is_summed_up_in_parts(self):
+        self.start()
+        with unittest.mock.patch.object(tally, "MOST_SECONDS", 3):
+            traci.trafficlight.setRedYellowGreenState("L", "rr")
+            self.steps(30)
+            before = traci.vehicle.getWaitingTime("v")
+            self.steps(10)
+            self.assertEqual(traci.vehicle.getWaitingTime("v") - before, 10)
+            self.assertEqual(traci.vehicle.getAccumulatedWaitingTime("v"), traci.vehicle.getWaitingTime("v") + 1)
 
     def test_loop(self):
         """Each vehicle is seen, and the time since counts from the step at which it last was."""
@@ -502,7 +526,7 @@ class Vehicles(Started):
         self.assertEqual(traci.vehicle.getNextTLS("v"), (("L", 0, 0.0, "r"),))
         [(*light, metres, state)] = traci.vehicle.getNextTLS("later")
         self.assertEqual((light, state), (["L", 0], "r"))
-        cells = traci.vehicle.now().map.links[0].cells
+        cells = traci.vehicle.session().map.links[0].cells
         self.assertAlmostEqual(metres, 75 / cells)
         self.assertEqual(
             (traci.vehicle.getDrivingDistance("v", "b", 30), traci.vehicle.getDrivingDistance("v", "a", 10)),
@@ -520,8 +544,8 @@ class Vehicles(Started):
         traci.simulationStep()
         self.assertEqual([link[0] for link in traci.lane.getLinks("a_0")], ["b_0"])
         self.assertEqual((traci.lane.getLinkNumber("a_0"), traci.lane.getShape("a_0")), (1, ((0.0, 0.0), (75.0, 0.0))))
-        self.assertIn("b", {link.edge for link in traci.junction.now().map.links})
-        node = traci.junction.now().map.nodes[traci.junction.now().map.links[0].end][0]
+        self.assertIn("b", {link.edge for link in traci.junction.session().map.links})
+        node = traci.junction.session().map.nodes[traci.junction.session().map.links[0].end][0]
         traci.junction.subscribeContext(node, tc.CMD_GET_VEHICLE_VARIABLE, 1000, [tc.VAR_SPEED])
         self.assertEqual(traci.junction.getContextSubscriptionResults(node), {"v": {tc.VAR_SPEED: 0.0}})
         self.assertEqual(traci.junction.getAllContextSubscriptionResults(), {node: {"v": {tc.VAR_SPEED: 0.0}}})
@@ -794,7 +818,7 @@ class Vehicles(Started):
                 raise LookupError
 
         self.start()
-        process = traci._now().client.process
+        process = traci._current_session().client.process
         traci.addStepListener(Listener())
         with self.assertRaises(LookupError):
             traci.close()
@@ -814,7 +838,7 @@ class Vehicles(Started):
     def test_a_run_ends_also_where_its_outputs_fail(self):
         words = ["sumo", "-n", self.write("x.net.xml", SIGNALLED), "-r", self.write("x.rou.xml", ROUTES), "-W"]
         traci.start([*words, "--summary-output", str(self.folder / "x.xml")])
-        session = traci._now()
+        session = traci._current_session()
         self.addCleanup(session.writer.close)
         with unittest.mock.patch.object(session.writer, "close", side_effect=Fault("full")):
             with self.assertRaisesRegex(Fault, "full"):
@@ -1068,7 +1092,7 @@ class Lights(Started):
     def test_a_state_is_sent_as_a_whole_program_of_it(self):
         """By setProgramLogic of Scenario, which looks at each second; in less than a millisecond, the least of many."""
         self.start()
-        session, states = traci._now(), ("rr", "Gr", "yG", "GG", "sO", "uU", "or")
+        session, states = traci._current_session(), ("rr", "Gr", "yG", "GG", "sO", "uU", "or")
         for clock, state in enumerate(states):
             traci.simulationStep(3 * clock + 1)
             traci.trafficlight.setRedYellowGreenState("L", state)
@@ -1113,6 +1137,22 @@ class Lights(Started):
         self.assertEqual(told, [(1, 0), (0, 9), (0, 0), (1, 19), (1, 0), (0, 9)])
         light.since = 105  # a script has set its second phase then
         self.assertEqual([light.phase_at(clock) for clock in (105, 106)], [(1, 20), (1, 19)])
+
+
+class Seen(unittest.TestCase):
+    def test_who_is_seen_first_departed_a_second_before(self):
+        view, nobody = View(map_from("", MAP)), numpy.zeros(0, int)
+        for clock, numbers in ((7, [3]), (8, [3, 5])):
+            rows = dict.fromkeys(("slot", "cell", "speed"), numpy.zeros(len(numbers), int))
+            view.note_second(SimpleNamespace(clock=clock, number=numpy.array(numbers), arrived=nobody, **rows))
+        self.assertEqual((view.departed, view.departure[[3, 5]].tolist()), ([3, 5], [6, 7]))
+
+
+class Facts(Case):
+    def test_types_and_routes_of_files(self):
+        path = self.write("r.xml", '<routes><vType id="t" accel="1"/><route id="r" edges="a b"/><vType/></routes>')
+        facts = read_facts(self.write("x.net.xml", FORK), [], [path])
+        self.assertEqual((facts.types, facts.routes), ({"t": {"id": "t", "accel": "1"}}, {"r": ("a", "b")}))
 
 
 class Spoilt(Case):

@@ -5,8 +5,8 @@ from collections import namedtuple
 
 from support import MAP, NUMBERED, PROGRAM, RED, Case, needs_simulator
 from streetsim.model import trust
-from streetsim.model.folder import NAME
-from streetsim.model.mapping import map_from
+from streetsim.model.folder import NAME, Folder
+from streetsim.model.mapping import TOLD_INVENTED, map_from
 from streetsim.model.runs import Line, Run
 
 Census = namedtuple("Census", "clock waiting")
@@ -15,6 +15,15 @@ Census = namedtuple("Census", "clock waiting")
 def row(depart, arrival="", free=10.0):
     """A row of trips.csv."""
     return "v", depart, arrival, arrival - depart if arrival != "" else "", f"{free:.1f}", "", 2, 0, ""
+
+
+class Told(unittest.TestCase):
+    def test_what_each_page_says_at_its_head(self):
+        """That the program is without proofs, and that vehicles are invented, whose names begin so."""
+        for cars, invented in ((["v", "invented.7"], [TOLD_INVENTED]), (["v", "w.invented."], [])):
+            mapping = map_from("", {**MAP, "cars": cars})
+            folders = [Folder("out", mapping, [], 0, 0, 900, made) for made in ({}, {"unproved": "NOT PROVED"})]
+            self.assertEqual([one.notes for one in folders], [invented, ["NOT PROVED", *invented]])
 
 
 class Marks(unittest.TestCase):

@@ -1,5 +1,6 @@
 """The words of the commands: faults in one line, times and lists as SUMO reads them,
 and output that cannot be written."""
+import argparse
 import json
 import re
 import subprocess
@@ -8,6 +9,7 @@ import unittest
 from support import FORK, MAP, NUMBERED, PROGRAM, TOOLS, Case, needs_simulator
 from streetsim.base.files import Fault, read_json
 from streetsim.base.words import Parser, integer_within, names_in, paths_in, time_within
+from streetsim.cli.given import given_words
 from streetsim.model.folder import read_folder
 
 ENTER = {"cmd": "enter", "plan": [0, 1], "lane": 0, "depart": 0}
@@ -20,6 +22,30 @@ VERSION_1 = {  # the options that tools of 1.0.0 told in their --help
     "iterations jobs joint knowing lights lost map out output permissive program residence rounds run seed seeds share "
     "sign sizes slice tried trips turns until zone",
 }
+
+
+class Given(unittest.TestCase):
+    def test_words_that_say_what_was_given(self):
+        """What is as by default is not said, nor a word that is left out."""
+        made = argparse.ArgumentParser()
+        made.add_argument("files", nargs="*")
+        made.add_argument("--seed", type=int, default=3)
+        made.add_argument("--anew", action="store_true")
+        made.add_argument("--close", action="append", default=[])
+        made.add_argument("--routes", nargs="+")
+        made.add_argument("--out", default="x")
+        words = ["--seed=4", "--anew", "--close=a", "--close=b", "--routes", "r", "s"]
+        self.assertEqual(given_words(made, made.parse_args(["f", *words, "--out", "y"]), ["out"]), words)
+        self.assertEqual(given_words(made, made.parse_args(["f", "--seed", "3"]), ["out"]), [])
+
+
+    def test_the_first_word_that_a_command_does_not_have(self):
+        """Short forms are known, and what stands behind a word is not looked at."""
+        made = Parser(prog="streetsim-x", description="x")
+        made.add_argument("--until")
+        for words, told in ((["--until", "--colour"], None), (["--unt=9", "x"], None), (["--", "--colour"], None),
+                            (["--until", "9", "--colour", "red"], "unrecognized arguments: --colour")):  # fmt: skip
+            self.assertEqual(made.unknown_in(words), told)
 
 
 class Words(Case):

@@ -6,7 +6,7 @@ from dataclasses import replace
 from types import SimpleNamespace
 
 from seen import made
-from support import PROGRAM, Case, needs_simulator
+from support import MAP, PROGRAM, Case, needs_simulator
 from test_pictures import needs_matplotlib
 from test_works import fan, flows
 from streetsim.base.client import Lane
@@ -22,8 +22,9 @@ from streetsim.control.works_sites import imported_for, lanes_to_join, lanes_to_
 from streetsim.control.works_watched import Watched, WorksPassing, WorksQueue, doubts_of
 from streetsim.kernel.loop import Observer
 from streetsim.kernel.seconds import Vehicles
-from streetsim.model.mapping import Map, MapLink, MapTurn
+from streetsim.model.mapping import Map, MapLink, MapTurn, map_from
 from streetsim.model.runs import Line, Run
+from streetsim.model.tables import BEFORE_WORKS
 from streetsim.observe.works import LanesNow, WorksTable, upstream_of
 
 
@@ -54,6 +55,15 @@ def lane(*cells):
 def lanes(**places):
     """By z0, z1, a0, a1."""
     return {("za".index(name[0]), int(name[1])): lane(*cells) for name, cells in places.items()}
+
+
+class Rows(unittest.TestCase):
+    def test_queues_have_one_decimal(self):
+        """Works on cells 3 to 5 of 7.5 m begin at 22.5 m."""
+        table = WorksTable([])
+        table.kernel = SimpleNamespace(map=map_from("", MAP))
+        table.queues = [(60, Closure(0, 0, 3, 5, 0, 900), 2, 12.345)]
+        self.assertEqual(list(table.queue_rows()), [(60, "a", 0, 2, 12.3, BEFORE_WORKS, "22.5")])
 
 
 class Queues(unittest.TestCase):

@@ -1,13 +1,13 @@
 """Works that are asked for wrongly: each ends in one line that names what is wrong, and nothing is written."""
 import unittest
 
-from support import PROGRAM, Case, needs_simulator
+from support import MAP, PROGRAM, Case, needs_simulator
 from test_pictures import needs_matplotlib
 from test_works import fan, flows
 import streetsim.traci as traci
 from streetsim.base.files import Fault
 from streetsim.control.works_asked import all_works
-from streetsim.model.mapping import read_map
+from streetsim.model.mapping import map_from, read_map
 from streetsim.scenario import Scenario
 
 HOW = "expected LANE:METRES-METRES:S-S, whole numbers that rise"
@@ -32,6 +32,17 @@ WRONG = {  # of --close: what the line says behind its text
     "a_0:100-200:00:20-00:30": "begins at the end, 1200 s, or later",
     "a_0:100-200:0-300": "ends at the start, 300 s, or earlier",
 }
+
+
+class Times(unittest.TestCase):
+    def test_works_lie_within_the_run(self):
+        """From 5 to 20 s, in a run from a start to an end, or to one that nobody knows."""
+        mapping, works = map_from("", MAP), ["a_0:0-10:5-20"]
+        for start, until in ((0, 6), (19, None), (0, None)):
+            self.assertEqual(len(all_works(works, mapping, start, until)), 1)
+        for start, until, told in ((20, None, "ends at the start, 20 s"), (0, 5, "begins at the end, 5 s")):
+            with self.assertRaisesRegex(Fault, told):
+                all_works(works, mapping, start, until)
 
 
 class AskedCase(Case):

@@ -19,7 +19,7 @@ use Rattle.street_base.specs.Shown.{buffer_entry, cell_entry, have_arrived, were
 abbrev pub slot_of : Place → ℕ
 slot_of place = 2 * place.link + place.lane
 
--- where a row says that a vehicle in a buffer is: 2^31 and the step from which it may go on
+-- the spot in the row of a vehicle in a buffer: 2^31 and the step from which the vehicle may go on, added
 abbrev pub buffer_spot : ℕ → ℕ
 buffer_spot ready = 2147483648 + ready
 
@@ -45,7 +45,7 @@ lane_rows slot lane =
     map (cell_row slot) (reverse (filter_map cell_entry (enumerate_from 0 lane.track.cells)))
     ++ map (buffer_row slot) (map buffer_entry lane.queue)
 
--- a leaver that is on its last link arrives, and no other
+-- the vehicle that arrives, of one that leaves a lane: itself where it is on its last link; none else
 abbrev pub arriving : Option Vehicle → Option Vehicle
 arriving None = None
 arriving (Some v) = if is_on_last v then Some v else None
@@ -69,19 +69,19 @@ rows_of_step m = rows_between (changed m) (step m)
 abbrev pub head_after : Traffic → ℕ → RecordHead
 head_after after rows = record { clock = after.clock; rows = rows; arrived = have_arrived after; taken = were_taken after }
 
--- a head as it is written: four numbers of 32 bits, least byte first
+-- the bytes of a block's head: four numbers of 32 bits, least byte first
 abbrev pub head_bytes : RecordHead → List ℕ
 head_bytes head = to_le_bytes w32 head.clock ++ to_le_bytes w32 head.rows ++ to_le_bytes w32 head.arrived ++ to_le_bytes w32 head.taken
 
--- a row as it is written: four numbers of 32 bits, least byte first
+-- the bytes of a row: four numbers of 32 bits, least byte first
 abbrev pub row_bytes : RecordRow → List ℕ
 row_bytes row = to_le_bytes w32 row.car ++ to_le_bytes w32 row.slot ++ to_le_bytes w32 row.spot ++ to_le_bytes w32 row.speed
 
--- rows as they are written, one after another
+-- the bytes of rows, one row after another
 abbrev pub rows_bytes : List RecordRow → List ℕ
 rows_bytes rows = flat_map row_bytes rows
 
--- a block as it is written, by the state after the step and its rows
+-- the bytes of a block: its head, by the state after the step, and its rows
 abbrev pub block_after : Traffic → List RecordRow → List ℕ
 block_after after rows = head_bytes (head_after after (length rows)) ++ rows_bytes rows
 

@@ -14,11 +14,11 @@ use Rattle.street_base.specs.Outcomes.{MayStarveUnder, Answers}
 abbrev pub StaysRefused : State → Command → Refusal → Type 0
 StaysRefused old c r = refusal old c ≡ Some r → (reply : Reply) (outcome : Outcome) (new : State) → Answers old c reply outcome new → new ≡ old
 
--- done whole, it is answered by its refusal
+-- a command with this refusal, done whole, is answered by the refusal, and changes nothing
 abbrev pub IsToldRefused : State → Command → Refusal → Type 0
 IsToldRefused old c r = refusal old c ≡ Some r → (reply : Reply) (new : State) → Answers old c reply Whole new → reply ≡ Refused r
 
--- it is done whole, or starved, where the refusal is one under which it may be
+-- a command with this refusal is done whole; or starved, where memory may run out for a command with such a refusal
 abbrev pub IsWholeRefused : State → Command → Refusal → Type 0
 IsWholeRefused old c r = refusal old c ≡ Some r → (reply : Reply) (outcome : Outcome) (new : State)
     → Answers old c reply outcome new → (outcome ≡ Whole) ⊎ ((outcome ≡ Starved) × MayStarveUnder (Some r))

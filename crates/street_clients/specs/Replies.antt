@@ -63,6 +63,6 @@ own_lines session (c ∷ cs) (r ∷ rs) = if is_of session (entry_reading true c
 abbrev pub replies_to : ℕ → List ℕ → List ℕ → List ℕ
 replies_to session tape replies = own_lines session (drop 1 (cut tape).0) (cut replies).0
 
--- each of both was told these replies to its calls of the tape, and nothing else
+-- each of the two callers was given these replies to its own calls of the tape, and nothing else
 abbrev pub Agrees : Told → List ℕ → Type 0
 Agrees told replies = (told.first.items ≡ replies_to 0 told.tape.items replies) × (told.second.items ≡ replies_to 1 told.tape.items replies)

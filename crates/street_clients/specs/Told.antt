@@ -41,8 +41,7 @@ pub record EndsDesk (sessions calls : ℕ) (one two : Client) (told : Told) : Ty
   pub first : one.replies ≡ Some told.first
   pub second : two.replies ≡ Some told.second
 
--- the replies are the whole output of lines of which these are the first, from the session's first call on; each is the machine's at
--- the place of its call in the history
+-- the replies are the whole output of lines of which these are the first, from the session's first call on; each is the machine's at the place of its call in the history
 pub record IsTold (session : ℕ) (firsts : List (List ℕ)) (replies : List ℕ) (history : List Entry) : Type 0 where
   pub before : PassView
   pub after : PassView
@@ -52,7 +51,7 @@ pub record IsTold (session : ℕ) (firsts : List (List ℕ)) (replies : List ℕ
   pub served : Goes DeskServes before (firsts ++ more) replies after
   pub begins : BeginsWith history after.seen
 
--- so of both sessions, in one history of at least so many calls, whose tape this is
+-- the replies of both sessions are those of one history of at least `calls` calls, whose tape this is
 pub record AreTold (calls : ℕ) (firsts seconds : List (List ℕ)) (told : Told) : Type 0 where
   pub history : List Entry
   pub is_history : IsHistory 2 history

@@ -9,7 +9,7 @@ use Rattle.street_desk.specs.declared.journal.Entry.{Entry}
 use Rattle.street_desk.specs.declared.view.SeatView.{SeatView}
 use Rattle.street_desk.specs.History.{IsLegal, IsHistory, AllBelow, BeginsWith}
 use Rattle.street_desk.specs.Rule.{Recorded, recorded, Turn, turn_bit, home_of, Knows, Apart, AllApart, KeepsRule, first_view}
-use Rattle.street_desk.specs.Steps.{looked, with_turn, Sat, Sees, Looks, look, Grabs, grab, release, less_one, last_one, noted, longer, heard, spent_view}
+use Rattle.street_desk.specs.Steps.{looked, with_turn, Sat, Sees, Looks, look, Grabs, grab, release, kept_half, given_half, noted, longer, heard, spent_view}
 use Rattle.street_desk.proofs.Histories.{legal_front, below_front, calls_other, below_snoc, starts_refl, starts_nil, starts_snoc, starts_both, starts_length, calls_none, calls_between}
 
 abbrev St : Type 0
@@ -383,9 +383,9 @@ cut calls sessions id v left right inl_ inr_ apart to_left to_right s r at =
           (at_set s.views id j left u e));
     }
 
-pub splits : (calls sessions id : ℕ) (v : SeatView) → v.turn ≡ false → v.least < v.greatest → Splits (KeepsRule calls sessions) id v (less_one v) (last_one v)
+pub splits : (calls sessions id : ℕ) (v : SeatView) → v.turn ≡ false → v.least < v.greatest → Splits (KeepsRule calls sessions) id v (kept_half v) (given_half v)
 splits calls sessions id v idle several =
-    cut calls sessions id v (less_one v) (last_one v)
+    cut calls sessions id v (kept_half v) (given_half v)
     (λ o. (o, le_refl _, omega arith))
     (λ o. (o, omega arith, le_refl _))
     (λ _ _. inl (omega arith))

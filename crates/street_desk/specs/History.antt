@@ -15,7 +15,7 @@ abbrev pub state_from : State → List Entry → State
 state_from m [] = m
 state_from m (e ∷ es) = state_from (state_after m e.command e.outcome) es
 
--- each outcome is one that the machine allows at its point
+-- a history is legal from a state on: each outcome is one that the machine allows at that point
 abbrev pub IsLegalFrom : State → List Entry → Type 0
 IsLegalFrom m [] = Unit {0}
 IsLegalFrom m (e ∷ es) = Allows m e.command e.outcome × IsLegalFrom (state_after m e.command e.outcome) es
@@ -33,7 +33,7 @@ abbrev pub answers_from : State → List Entry → List (Reply × Outcome)
 answers_from m [] = []
 answers_from m (e ∷ es) = (reply_to m e.command e.outcome, e.outcome) ∷ answers_from (state_after m e.command e.outcome) es
 
--- so from nothing loaded on
+-- the machine's replies to the calls of a history, with their outcomes, from nothing loaded on
 abbrev pub answers_of : List Entry → List (Reply × Outcome)
 answers_of history = answers_from None history
 

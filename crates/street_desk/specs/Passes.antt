@@ -55,7 +55,7 @@ pub record Rests (v : SeatView) : Type 0 where
 
 -- ---- what calls tell
 
--- it is a pass of the same desk with the same sessions
+-- q is a pass of the same desk as p, with the same sessions
 abbrev pub Same : PassView → PassView → Type 0
 Same p q = (q.desk ≡ p.desk) × (q.least ≡ p.least) × (q.greatest ≡ p.greatest)
 
@@ -74,7 +74,7 @@ pub record Answered (p : PassView) (command : Command) (answer : Reply) (q : Pas
   pub kept : p.count ≤ q.count
   pub same : Same p q
 
--- what is seen then is legal and begins with what was seen; it has no new call of its own, and the count known is not lower
+-- pass q has learned from p on: the history that q has seen is legal and begins with what p had seen, has no new call of the pass's own session, and the count that q knows is not lower
 pub record Learns (p q : PassView) : Type 0 where
   pub is_history : IsHistory p.desk.sessions q.seen
   pub begins : BeginsWith q.seen p.seen
@@ -93,13 +93,13 @@ abbrev pub Told : PassView → Command → ℕ → Result Reply Full → PassVie
 Told p command calls told q =
     MatchResult told (λ r. Answered p command r q) (λ f. (f.command ≡ command) × (f.served ≡ calls) × Filled p q)
 
--- n calls were found finished
+-- pass p found n calls finished, and is q then
 pub record ServedCount (p : PassView) (n : ℕ) (q : PassView) : Type 0 where
   pub learns : Learns p q
   pub count : q.count ≡ n
   pub long : length q.seen ≤ n
 
--- what the note's maker had seen and known is seen and known
+-- pass p has heard a note, and is q then: what the note's maker had seen and known is seen and known by q
 pub record Heard (p : PassView) (note : NoteView) (q : PassView) : Type 0 where
   pub learns : Learns p q
   pub heard : BeginsWith q.seen note.seen
@@ -119,14 +119,14 @@ pub record Finished (p : PassView) (journal : List Entry) : Type 0 where
 abbrev pub first_pass : DeskView → PassView
 first_pass d = record { desk = d; seen = []; count = 0; least = 0; greatest = d.sessions - 1 }
 
--- the pass without its greatest session
+-- a pass that is split, the part that stays: the pass without its greatest session
 abbrev pub without_last : PassView → PassView
 without_last p = record p { greatest = p.greatest - 1 }
 
--- a pass that has seen the same and owns that session
+-- a pass that is split, the part that is given away: it has seen the same, and owns the greatest session alone
 abbrev pub of_last : PassView → PassView
 of_last p = record p { least = p.greatest }
 
--- no call that it has seen bears its session
+-- no call that the pass has seen bears the session that the pass calls as
 abbrev pub OwnsUnused : PassView → Type 0
 OwnsUnused p = calls_of p.least p.seen ≡ []

@@ -31,8 +31,7 @@ abbrev pub home_of : Turn → Recorded → maybe.Option (Option Recorded)
 home_of maybe.none r = maybe.some (Some r)
 home_of (maybe.some seat) r = maybe.none
 
--- a view knows of the history what is true: it has seen beginnings of it and all calls of the session that it calls as, and no
--- call bears another session that it owns
+-- a view knows of the history what is true: it has seen beginnings of it and all calls of the session that it calls as, and no call bears another session that it owns
 pub record Knows (calls sessions : ℕ) (history : List Entry) (busy : Turn) (seat : ℕ) (v : SeatView) : Type 0 where
   pub seen : BeginsWith history v.seen
   pub also : BeginsWith history v.also

@@ -24,7 +24,7 @@ looked v seen count = record v { seen = seen; also = []; count = count }
 abbrev pub with_turn : SeatView → List Entry → Bool → SeatView
 with_turn v seen turn = record v { seen = seen; also = []; turn = turn }
 
--- what is seen afterwards is legal and begins with what was seen and heard, with no new call of its own
+-- the history that a seat sees afterwards is legal, begins with what the seat had seen and heard, and has no new call of the seat's own session
 pub record Sees (v : SeatView) (history : List Entry) : Type 0 where
   pub legal : IsLegal history
   pub below : v.live ≡ true → AllBelow v.sessions history
@@ -55,7 +55,7 @@ pub record Grabs (v : SeatView) (n : ℕ) (w : SeatView) (slots : List (ℕ × O
   pub word : 2 * length w.seen ≡ n
   pub taken : slots ≡ (0, Some (recorded w.seen v.calls)) ∷ []
 
--- one that loses changes nothing
+-- what a compare-exchange tells the seat: one that finds another word than it expects changes nothing
 abbrev pub grab : Step (Option Recorded) → Sat → ℕ → Sat → Type 0
 grab st m n m' = (n ≡ st.first → Grabs m.0 n m'.0 m'.1) × (n ≢ st.first → m' ≡ m)
 
@@ -72,15 +72,15 @@ Calls v session command reply after = (o : Outcome)
 
 -- ---- seats split and joined
 
--- a pass without its greatest session
-abbrev pub less_one : SeatView → SeatView
-less_one v = record v { also = []; turn = false; greatest = v.greatest - 1 }
+-- a seat that is split, the half that stays: it owns its session numbers but the greatest. A seat at rest has heard nothing and has no turn
+abbrev pub kept_half : SeatView → SeatView
+kept_half v = record v { also = []; turn = false; greatest = v.greatest - 1 }
 
--- a pass that has seen the same and owns that session
-abbrev pub last_one : SeatView → SeatView
-last_one v = record v { also = []; turn = false; least = v.greatest }
+-- a seat that is split, the half that is given away: it has seen the same, and owns the greatest session number alone
+abbrev pub given_half : SeatView → SeatView
+given_half v = record v { also = []; turn = false; least = v.greatest }
 
--- a note has seen the same and owns none
+-- the seat of a note: it has seen the same as the pass, and owns no session
 abbrev pub noted : SeatView → SeatView
 noted v = record v { also = []; turn = false; owns = false; least = 0; greatest = 0 }
 
@@ -92,10 +92,10 @@ longer a b = if leb (length b) (length a) then a else b
 abbrev pub most : ℕ → ℕ → ℕ
 most a b = if leb b a then a else b
 
--- the hearer keeps both lists until it loads, and takes the greater count
+-- the seat of a pass that has heard a note: it keeps both histories until its next load, and takes the greater count
 abbrev pub heard : SeatView → SeatView → SeatView
 heard v w = record v { also = w.seen; count = most v.count w.count; turn = false }
 
--- what the note is left with
+-- the seat of a note that was heard: it has seen nothing, and owns nothing
 abbrev pub spent_view : SeatView
 spent_view = record { seen = []; also = []; count = 0; turn = false; owns = false; least = 0; greatest = 0; calls = 0; sessions = 0; live = false }

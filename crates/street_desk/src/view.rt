@@ -80,11 +80,11 @@ impl<G: Gate + Sync + Drop> Play<Option<Recorder<G>>, SeatView> for Release {
 pub(crate) struct Last;
 
 impl Split<SeatView> for Last {
-    ghost use Rattle.street_desk.specs.Steps.{less_one, last_one};
+    ghost use Rattle.street_desk.specs.Steps.{kept_half, given_half};
 
-    ghost left = { less_one };
+    ghost left = { kept_half };
 
-    ghost right = { last_one };
+    ghost right = { given_half };
 }
 
 /// A note is made, and heard.

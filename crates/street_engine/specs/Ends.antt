@@ -14,6 +14,6 @@ pub record AreCounted (ends : List (Option End)) (arrived taken : ℕ) : Type 0 
   pub arrived_is : arrived ≡ count_by has_arrived ends
   pub taken_is : taken ≡ count_by was_taken ends
 
--- these numbers were given, and each is that of one vehicle which has not ended
+-- these numbers were handed out, no two the same, and their vehicles have not ended
 abbrev pub AreComing : List ℕ → List (Option End) → Type 0
 AreComing numbers ends = (n : ℕ) → count_by (λ k. k == n) numbers + has_ended n ends ≤ one_if (nat_lt n (length ends))

@@ -10,7 +10,7 @@ use Rattle.street_tile.specs.Prelude.{HaveStepped}
 use Rattle.street_engine.specs.Streets.{StreetsView, StreetsStandFor}
 use Rattle.street_engine.specs.Refines.{EngineView, StandsFor}
 
--- these streets have just made the step from this traffic
+-- the streets have just made the step from this traffic
 pub record HasStepped (x : StreetsView) (m : Traffic) : Type 0 where
   pub stands : StreetsStandFor x (step m)
   pub tiles : HaveStepped x.tiles m
@@ -42,7 +42,7 @@ abbrev pub recorded_in : State → Command → Reply → List ℕ
 recorded_in None command reply = []
 recorded_in (Some m) command reply = blocks (steps_made command reply) m
 
--- whatever traffic the streets stood for, the sink was told of each of so many steps of it, and of nothing else
+-- the sink was told of each of n steps from the traffic of the streets, whatever traffic they stood for, and of nothing else
 abbrev pub ToldOf : {K : Type 0} → (K → Traffic → K → Type 0) → StreetsView → ℕ → K → K → Type 0
 ToldOf notes x made old new = (m : Traffic) → StreetsStandFor x m → FoldsTo notes old (befores made m) new
 

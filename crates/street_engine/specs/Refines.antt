@@ -21,11 +21,11 @@ StandsFor None (Some m) = ⊥
 StandsFor (Some x) None = ⊥
 StandsFor (Some x) (Some m) = StreetsStandFor x m
 
--- whatever state it stood for, it then stands for the machine's, and the reply is the machine's
+-- a command is served: whatever state the engine stood for, it then stands for the machine's state after the command, and the reply is the machine's
 abbrev pub Serves : EngineView → Command → Reply → Outcome → EngineView → Type 0
 Serves before command reply outcome after = (old : State) → StandsFor before old → (new : State) × Answers old command reply outcome new × StandsFor after new
 
--- what was refused is as it was
+-- an engine that refused a command is as it was
 abbrev pub KeepsRefused : EngineView → Reply → EngineView → Type 0
 KeepsRefused before reply after = (refusal : Refusal) → reply ≡ Refused refusal → after ≡ before
 

@@ -11,14 +11,14 @@ pub record ShiftResultView (K : Type 0) : Type 0 where
   pub sink : K
   pub made : ℕ
 
--- so many steps, of at most these, lead from these streets to those, and were noted
+-- `made` steps, at most `most`, lead from the streets `begun` to the streets left, and the sink was told of each
 pub record HaveRun {K : Type 0} (notes : K → Traffic → K → Type 0) (begun : StreetsView) (most : ℕ) (start : Option K) (streets : StreetsView) (sink : K) (made : ℕ) : Type 0 where
   pub within : made ≤ most
   pub clock : streets.clock ≡ begun.clock + made
   pub stands : StreetsGo (steps made) begun streets
   pub noted : (k : K) → start ≡ Some k → ToldOf notes begun made k sink
 
--- each call of f may be made of up to 16 steps before the last clock, and makes as many as it says
+-- the closure may be called for up to 16 steps before the last clock, and makes as many steps as it says
 pub record MakesSteps {F K : Type 0} (notes : K → Traffic → K → Type 0) (g : Shared F (StreetsView × (K × (ℕ × Unit {0}))) (StreetsView × K × ℕ)) (f : F) : Type 0 where
   pub may : (x : StreetsView) (k : K) (count : ℕ) → count ≤ 16 → x.clock + count ≤ last_clock → g.pre f (x, (k, (count, tt)))
   pub does : (x : StreetsView) (k : K) (count : ℕ) (r : StreetsView × K × ℕ) → g.post f (x, (k, (count, tt))) r

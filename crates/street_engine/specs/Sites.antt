@@ -11,7 +11,7 @@ pub record IsDetectorSite (net : NetSpec) (ds : List Detector) (i : ℕ) (s : De
   pub lane : IsLane net s.at
   pub there : slice_get (detectors_on s.at ds) s.number ≡ slice_get ds i
 
--- each detector has its site, in their order, and there are no more than may stand
+-- there is a site for each detector, in the order of the detectors, and no more than may stand
 pub record AreDetectorSites (net : NetSpec) (sites : List DetectorSite) (ds : List Detector) : Type 0 where
   pub even : length sites ≡ length ds
   pub few : length ds ≤ most_detectors

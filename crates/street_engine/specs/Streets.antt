@@ -22,8 +22,7 @@ streets_of tiles sites clock ends = record { tiles = tiles; sites = sites; clock
 abbrev pub no_streets : StreetsView
 no_streets = record { tiles = record { network = no_network; tiles = [] }; sites = []; clock = 0; ends = [] }
 
--- the tiles stand for the traffic; it has each number in one place or ended, a signal plan or none for each node, and the detectors of
--- these sites
+-- the tiles stand for the traffic; the traffic has each number in one place or ended, a signal plan or none for each node, and the detectors of these sites
 pub record IsTrafficOf (x : StreetsView) (m : Traffic) : Type 0 where
   pub clock : x.clock ≡ m.clock
   pub ends : x.ends ≡ m.ends
@@ -32,15 +31,15 @@ pub record IsTrafficOf (x : StreetsView) (m : Traffic) : Type 0 where
   pub signals : length m.signals ≡ length x.tiles.network.nodes
   pub sites : AreDetectorSites x.tiles.network x.sites m.detectors
 
--- it stands for this traffic of the machine
+-- the streets stand for this traffic of the machine
 unfoldable pub StreetsStandFor : StreetsView → Traffic → Type 0
 StreetsStandFor x m = IsTrafficOf x m
 
--- whatever traffic it stood for, it then stands for f of that
+-- whatever traffic the streets x stood for, the streets y stand for f of that
 abbrev pub StreetsGo : (Traffic → Traffic) → StreetsView → StreetsView → Type 0
 StreetsGo f x y = (m : Traffic) → StreetsStandFor x m → StreetsStandFor y (f m)
 
--- one more vehicle waits on this lane of the first link of its plan
+-- whatever traffic the streets x stood for, the streets y stand for that with one more vehicle, which waits on this lane of the first link of its plan
 abbrev pub StreetsAdmit : List ℕ → ℕ → ℕ → ℕ → StreetsView → StreetsView → Type 0
 StreetsAdmit plan lane depart size x y = (ids : List ℕ) → plan ≡ plan_links x.tiles.network ids
     → StreetsGo (λ m. entered m ids lane depart size) x y
@@ -50,8 +49,7 @@ abbrev pub StreetsSignal : ℕ → SignalPlan → StreetsView → StreetsView �
 StreetsSignal node plan x y = (id : ℕ) (other : SignalPlan) → node_of x.tiles.network id ≡ Some node → ShowsAs plan other
     → StreetsGo (λ m. signalled m id other) x y
 
--- what is kept between commands: who arrived was taken note of, the clock is in its range, and there is traffic for which all this
--- stands
+-- what holds of the streets between commands: each vehicle that arrived is noted, the clock is in its range, and there is traffic for which the streets stand
 pub record IsKept (x : StreetsView) : Type 0 where
   pub nobody : NobodyArrived x.tiles
   pub in_time : x.clock ≤ last_clock

@@ -17,7 +17,7 @@ use Rattle.street_yard.proofs.YardLemmas.{without-is, parts_apart, mapped-same}
 use Rattle.street_yard.proofs.FallingLists.{falling-wider, falling-split, key_at-split, key_at-is, key_at-drop, key_at-gone, cells-length, cells-read, seen-key, falling-agree, found-agree}
 use Rattle.street_lanes.specs.declared.lanes.Extent.{Extent}
 use Rattle.street_lanes.specs.Prelude.{IsLaneOf, waiting_of, queued_of, AreInOrder, GoesIf, cells_list, buffer_list, waiting_list, cars_on, SameList, Touches, IsSought, IsFound, TakesOut}
-use Rattle.street_lanes.specs.Search.{IsOf}
+use Rattle.street_lanes.specs.Search.{IsListOfLane}
 use Rattle.street_lanes.specs.Inside.{length_at, closed_at, lane_in, view_of, IsLaidOut}
 use Rattle.street_lanes.proofs.Cars.{car_there}
 use Rattle.street_lanes.proofs.Frames.{with-cells, with-buffer, with-waiting, frame-sound, frame-if}
@@ -222,7 +222,7 @@ module _ (y new : Yard) (closures : List (List Stretch)) (extents : List Extent)
 -- ---- the car of a key that was found
 
 module _ (y new : Yard) (closures : List (List Stretch)) (extents : List Extent) (odds : Odds) (n : ℕ) (sound : IsLaidOut y closures extents) (within : n < length extents) (number key : ℕ) (car : Car) (whole : IsWhole y) (t : TakesOut y new key car) where
-  by-list : car.number ≡ number → (list : ℕ) → IsOf n list → Has (list_at y list) key → IsTaken y new closures extents odds n number
+  by-list : car.number ≡ number → (list : ℕ) → IsListOfLane n list → Has (list_at y list) key → IsTaken y new closures extents odds n number
   by-list is list (inl e) h =
       let at = subst (λ l. Has (list_at y l) key) e h in
       cells-taken y new closures extents odds n sound within number key car whole t is at.0 at.1 at.2

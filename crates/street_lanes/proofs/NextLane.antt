@@ -8,7 +8,10 @@ use Rattle.street_yard.proofs.FallingLists.{key_at-split, stands-key}
 use Rattle.street_yard.proofs.YardLemmas.{first-like}
 use Rattle.street_lanes.specs.declared.lanes.Lanes.TheInside.{Inside}
 use Rattle.street_lanes.specs.Prelude.{LaneView, Lanes, lane_of, waiting_of, queued_of, buffer_list, waiting_list, cars_on}
-use Rattle.street_lanes.specs.Prelude.{IsDeserted, HasNobodyInCells, HasEmptyBuffer, HasNobodyWaiting}
+use Rattle.street_lanes.specs.Prelude.{IsDeserted, HasNobody, HasNobodyInCells, HasEmptyBuffer, HasNobodyWaiting}
+use Rattle.street_yard.specs.Kinds.{class_of}
+use Rattle.street_yard.specs.declared.names.ListKind.{ListKind}
+use Rattle.street_yard.specs.declared.names.ListKind.TheVariants.{Cells, Buffer, Waiting}
 use Rattle.street_lanes.specs.Inside.{length_at, lane_in, seen, IsSound}
 use Rattle.street_lanes.proofs.Access.{lanes-are, in-extents, lane-is}
 use Rattle.street_lanes.proofs.Cars.{cars-length}
@@ -59,7 +62,7 @@ module _ (x : Inside) (v : Lanes) (is : seen x ≡ v) (sound : IsSound x) where
         (λ n lt empty. subst IsSuch (sym (lane-is x v is n lt)) (such n lt empty))
         (λ n lt is_such. none n lt (subst IsSuch (lane-is x v is n lt) is_such))
 
-    pub next-cells : IsNextFilled 0 → IsNextBut HasNobodyInCells
+    next-cells : IsNextFilled 0 → IsNextBut HasNobodyInCells
     next-cells = by-kind HasNobodyInCells 0
         (λ n h none. nobody-listed x.yard (3 * n) (length_at x.extents.items n) whole (subst (λ (l : ℕ). list_at x.yard l ≡ []) (at n) none))
         (λ n h deserted. subst (λ (l : ℕ). list_at x.yard l ≡ []) (sym (at n)) (nobody-stands x.yard (3 * n) (length_at x.extents.items n) whole (sound.falls n (in-extents x v is n h)) deserted))
@@ -67,12 +70,17 @@ module _ (x : Inside) (v : Lanes) (is : seen x ≡ v) (sound : IsSound x) where
         at : (n : ℕ) → 3 * n + 0 ≡ 3 * n
         at n = omega arith
 
-    pub next-buffer : IsNextFilled 1 → IsNextBut HasEmptyBuffer
+    next-buffer : IsNextFilled 1 → IsNextBut HasEmptyBuffer
     next-buffer = by-kind HasEmptyBuffer 1
         (λ n h none. ap (λ (ks : List ℕ). map queued_of (filter_map (car_of x.yard) ks)) none)
         (λ n h none. nobody-made queued_of x.yard (buffer_list n) whole none)
 
-    pub next-waiting : IsNextFilled 2 → IsNextBut HasNobodyWaiting
+    next-waiting : IsNextFilled 2 → IsNextBut HasNobodyWaiting
     next-waiting = by-kind HasNobodyWaiting 2
         (λ n h none. ap (λ (ks : List ℕ). map waiting_of (filter_map (car_of x.yard) ks)) none)
         (λ n h none. nobody-made waiting_of x.yard (waiting_list n) whole none)
+
+    pub next-of-kind : (kind : ListKind) → IsNextFilled (class_of kind) → IsNextBut (HasNobody kind)
+    next-of-kind Cells = next-cells
+    next-of-kind Buffer = next-buffer
+    next-of-kind Waiting = next-waiting

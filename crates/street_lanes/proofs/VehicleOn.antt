@@ -19,7 +19,7 @@ use Rattle.street_yard.proofs.FallingLists.{key_at-split, cells-read}
 use Rattle.street_lanes.specs.declared.lanes.Extent.{Extent}
 use Rattle.street_lanes.specs.declared.lanes.Lanes.TheInside.{Inside}
 use Rattle.street_lanes.specs.Prelude.{LaneStands, IsLaneOf, waiting_of, queued_of, Lanes, lane_of, place_at, cells_list, buffer_list, waiting_list, IsSought, IsFound, told_in_cell, told_in_buffer, told_waiting, vehicle_on}
-use Rattle.street_lanes.specs.Search.{IsOf}
+use Rattle.street_lanes.specs.Search.{IsListOfLane}
 use Rattle.street_lanes.specs.Inside.{length_at, lane_in, seen, IsLaidOut, IsSound}
 use Rattle.street_lanes.proofs.Without.{in_queue, in_wait, cars, cars-split, numbered, counted, at-least, cell-counted, in_order-sum}
 use Rattle.street_lanes.proofs.LaneWithout.{none-there}
@@ -255,7 +255,7 @@ module _ (number : ℕ) (s : LaneState) where
   on-nowhere none = told-none (vehicle_at s.track.cells) in_queue in_wait number s none
 
   module _ (y : Yard) (closures : List (List Stretch)) (extents : List Extent) (n : ℕ) (sound : IsLaidOut y closures extents) (inside : n < length extents) (whole : IsWhole y) (st : IsLaneOf (lane_in y closures extents n) s) (key : ℕ) (car : Car) (held : car_of y key ≡ Some car) where
-    taken-on : (list : ℕ) → IsOf n list → IsSought y list number (Some key) → IsTold (vehicle_at s.track.cells) in_queue in_wait number s (vehicle_of car)
+    taken-on : (list : ℕ) → IsListOfLane n list → IsSought y list number (Some key) → IsTold (vehicle_at s.track.cells) in_queue in_wait number s (vehicle_of car)
     taken-on list (inl e) sought = by-cells y closures extents n sound inside whole s st number key car held (vehicle_at s.track.cells) in_queue in_wait (vehicle_of car) (λ at. at) (subst (λ l. IsSought y l number (Some key)) e sought)
     taken-on list (inr (inl e)) sought = by-buffer y closures extents n sound inside whole s st number key car held (vehicle_at s.track.cells) in_queue in_wait (subst (λ l. IsSought y l number (Some key)) e sought)
     taken-on list (inr (inr e)) sought = by-waiting y closures extents n sound inside whole s st number key car held (vehicle_at s.track.cells) in_queue in_wait (subst (λ l. IsSought y l number (Some key)) e sought)

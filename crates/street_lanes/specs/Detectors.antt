@@ -6,7 +6,7 @@ use Rattle.street_meter.specs.Meter.{Meter, Stands, IsPlacedAs, detector_of, nex
 use Rattle.street_rule.specs.declared.watch.Watch.{Watch}
 use Rattle.street_rule.specs.Prelude.{watched}
 
--- how many cells the lane has, its meters, and for each what its detector saw of the last motion
+-- the detectors of a lane: how many cells the lane has, a meter for each detector, and for each meter what it saw of the last motion
 pub record Detectors : Type 0 where
   pub size : ℕ
   pub meters : List Meter
@@ -26,7 +26,7 @@ watch_of m p x = watched (drive_on m p) (lane_at m p).track (cleared x)
 abbrev pub occupied_at : Cells → ℕ → ℕ
 occupied_at cells cell = if is_covered cells cell then 1 else 0
 
--- what a detector notes of a step, by what its watch saw and by who covers what at its end
+-- what a detector in this cell notes of a step: what its watch saw of the motion, and 1 if the cell is covered at the step's end, else 0
 abbrev pub triple_of : Cells → Watch → ℕ → Triple
 triple_of cells w cell = record { passes = w.passes; speeds = w.speeds; occupied = occupied_at cells cell }
 
@@ -35,7 +35,7 @@ pub record GoesOn (old new : Meter) : Type 0 where
   pub placed : IsPlacedAs new old
   pub next : next_step new ≡ next_step old + 1
 
--- whatever triples the meter stood for, it then stands for one more
+-- the meter notes a step: whatever steps it stood for, it then stands for one more, with what its watch saw and whether its cell is covered
 abbrev pub Notes : Cells → Watch → Meter → Meter → Type 0
 Notes cells w old new = (triples : List Triple) → Stands old triples → Stands new (triples ++ triple_of cells w old.cell ∷ [])
 
@@ -51,7 +51,7 @@ AllNote cells ws olds news = (k : ℕ) (x : Meter) (w : Watch) → k < length ol
 
 -- ---- the machine's detectors
 
--- a meter stands for a detector: it is where the detector is, and shows what that answers
+-- a meter stands for a detector: the meter is where the detector is, and its rows are those of the detector
 pub record MeterStands (x : Meter) (d : Detector) : Type 0 where
   pub placed : d ≡ detector_of x d.triples
   pub stands : Stands x d.triples

@@ -20,7 +20,7 @@ WhereBothStand net clock l r P = (m : Traffic) (a b : LaneState) → m.network �
 abbrev pub changed_lane : Changing → ℕ → LaneState → LaneState → LaneState
 changed_lane changing lane own other = with_cells own (changed_cells changing lane own.track other.track)
 
--- the lists of lanes n and n + 1, which are the lanes of a link, stand for whatever lanes they stood for after lane changes
+-- the lists of lanes n and n + 1, which are the two lanes of a link, stand for those lanes after lane changes, whatever lanes they stood for before
 pub record ChangesLanes (net : NetSpec) (clock link : ℕ) (own other : List Stretch) (n : ℕ) (old new : Yard) : Type 0 where
   pub touches : Touches (cells_list n ∷ cells_list (n + 1) ∷ []) old new
   pub room : new.room ≡ old.room
@@ -32,7 +32,8 @@ pub record ChangesLanes (net : NetSpec) (clock link : ℕ) (own other : List Str
   pub second : WhereBothSeen net clock (lane_seen old own (link_at net link).length n) (lane_seen old other (link_at net link).length (n + 1))
       (λ m a b. IsLaneOf (lane_seen new other (link_at net link).length (n + 1)) (changed_lane (changing_on m link) 1 b a))
 
--- whatever lanes of whatever traffic lanes n and n + 1 stood for, they then stand for those lanes after lane changes; the other lanes are as they were
+-- lanes n and n + 1 stand for the two lanes of a link after lane changes, whatever lanes of whatever traffic they stood for before; the other lanes are
+-- as they were
 pub record ChangesAt (net : NetSpec) (clock n : ℕ) (x y : Lanes) : Type 0 where
   pub same : Same x y
   pub others : (k : ℕ) → k ≢ n → k ≢ n + 1 → lane_of y k ≡ lane_of x k

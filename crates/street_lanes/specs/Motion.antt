@@ -32,17 +32,17 @@ pub record IsStepOf (net : NetSpec) (signal : Option SignalPlan) (step : ℕ) (p
 
 -- ---- the exit
 
--- the buffer of a lane, in which there are so many, is below its capacity
+-- the buffer of a lane has room: `buffered` vehicles are below its capacity
 abbrev pub has_room : NetSpec → Place → ℕ → Bool
 has_room net place buffered = option_map_or (λ node. nat_lt buffered node.capacity) (end_node net place.link) false
 
--- a lane's exit is open to a vehicle that goes on to this link, with so many in the buffer: on its last link, or with a turn of
--- the lane that is green by the plan, and room in the buffer
+-- a lane's exit is open to a vehicle whose next link is `next`, with `buffered` vehicles in the buffer: the vehicle is on its last link; or the lane has
+-- a turn to that link, which the signal plan shows green, and the buffer has room
 abbrev pub opens_to : NetSpec → Option SignalPlan → ℕ → Place → ℕ → Option ℕ → Bool
 opens_to net plan step place buffered next =
     option_map_or (λ next. serves net place next && is_green plan place next step && has_room net place buffered) next true
 
--- the same, to a vehicle by its next link
+-- a lane's exit is open to this vehicle, with `buffered` vehicles in the buffer (`opens_to` of the vehicle's next link)
 abbrev pub is_open_to : NetSpec → Option SignalPlan → ℕ → Place → ℕ → Vehicle → Bool
 is_open_to net plan step place buffered v = opens_to net plan step place buffered (next_link v)
 
@@ -50,15 +50,15 @@ is_open_to net plan step place buffered v = opens_to net plan step place buffere
 abbrev pub cells_on : NetSpec → Place → ℕ
 cells_on net p = (link_at net p.link).length
 
--- a vehicle that cannot come past the lane's end in a step, as it drives within the limit, which is less than the gap to an open exit
+-- a vehicle in this cell cannot come past the lane's end in a step: the lane's end is farther away than the limit, and the limit is at most 16
 abbrev pub IsFarFrom : NetSpec → Place → ℕ → Type 0
 IsFarFrom net p cell = ((link_at net p.link).limit ≤ 16) × (cell + (link_at net p.link).limit < cells_on net p)
 
--- the exit is told as it is to a front vehicle, but for one to which it does not matter
+-- the exit is told as it is to the front vehicle, unless that vehicle is too far from the lane's end for the exit to matter
 abbrev pub IsToldExit : NetSpec → Option SignalPlan → ℕ → Place → ℕ → Car → Bool → Type 0
 IsToldExit net plan step p buffered car exit = IsFarFrom net p car.cell ⊎ (exit ≡ is_open_to net plan step p buffered (vehicle_of car))
 
--- what is told of the exit of a leg's lane is so for the car of a key, the front one, with the buffer as it is
+-- the exit of a leg's lane is told to the front car, that of this key, as it is, with the buffer as it is
 abbrev pub TellsExit : Yard → Leg → ℕ → ℕ → Bool → Type 0
 TellsExit y leg buffer front exit =
     (car : Car) → car_of y front ≡ Some car → IsToldExit leg.net.now leg.signal.now leg.clock leg.at (length (list_at y buffer)) car exit
@@ -74,7 +74,8 @@ abbrev pub arrived_car : Option Vehicle → Option ArrivedCar
 arrived_car None = None
 arrived_car (Some v) = if is_on_last v then Some (record { number = v.number; speed = v.speed }) else None
 
--- a car that has left its lane and is on its last link is taken out, and told; else it comes last on a list
+-- a car that has left its lane: on its last link it is taken out, and is the vehicle that arrived; on any other link it comes last on a list, the
+-- buffer's
 pub record Settles (list ready : ℕ) (car : Car) (old new : Yard) (told : Option ArrivedCar) : Type 0 where
   pub arrived : told ≡ arrived_car (Some (vehicle_of car))
   pub touches : Touches (list ∷ []) old new
@@ -83,12 +84,12 @@ pub record Settles (list ready : ℕ) (car : Car) (old new : Yard) (told : Optio
 
 -- ---- the lane
 
--- of whatever traffic of the step these lists stand for its lane at p, P holds
+-- P holds of whatever traffic of the step these lists stand for the lane at p of
 abbrev pub WhereSeen : NetSpec → Option SignalPlan → ℕ → Place → LaneView → (Traffic → Type 0) → Type 0
 WhereSeen net signal step p lane P = (m : Traffic) → IsStepOf net signal step p m → IsLaneOf lane (lane_at m p) → P m
 
--- the lists of lane n, which is the lane at p, stand for whatever lane they stood for after motion; who arrives is told, and each
--- watch has noted what its detector notes
+-- the lists of lane n, which is the lane at p, stand for that lane after motion, whatever lane they stood for; the vehicle that arrives is told, and
+-- each watch has noted what its detector notes
 pub record MovesLane (net : NetSpec) (signal : Option SignalPlan) (step : ℕ) (p : Place) (closed : List Stretch) (n : ℕ)
     (old new : Yard) (told : Option ArrivedCar) (before after : List Watch) : Type 0 where
   pub touches : Touches (cells_list n ∷ buffer_list n ∷ []) old new
@@ -105,12 +106,12 @@ abbrev pub MovesLeg : Leg → Yard → Yard → Option ArrivedCar → List Watch
 MovesLeg leg old new told before after =
     MovesLane leg.net.now leg.signal.now leg.clock leg.at leg.closures.now leg.lane old new told before after
 
--- of whatever traffic of the step lane n stands for its lane, P holds
+-- P holds of whatever traffic of the step lane n stands for its lane of
 abbrev pub WhereStands : NetSpec → Option SignalPlan → ℕ → ℕ → Lanes → (Traffic → Type 0) → Type 0
 WhereStands net signal step n x P = (m : Traffic) → IsStepOf net signal step (place_at x n) m → LaneStands (lane_of x n) (lane_at m (place_at x n)) → P m
 
--- of whatever traffic lane n stood for its lane, it then stands for that lane after motion, who arrives is told, and each watch has
--- noted what its detector notes; the other lanes are as they were
+-- lane n stands for its lane after motion, of whatever traffic it stood for its lane; the vehicle that arrives is told, and each watch has noted what
+-- its detector notes; the other lanes are as they were
 pub record DrivesAt (net : NetSpec) (signal : Option SignalPlan) (step n : ℕ) (x y : Lanes) (told : Option ArrivedCar) (before after : List Watch) : Type 0 where
   pub same : Same x y
   pub others : Others n x y

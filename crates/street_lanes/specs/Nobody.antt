@@ -1,6 +1,8 @@
 -- Lanes on which somebody is, and lanes on which nobody is, which a phase of a step may leave out.
 use Rattle.std.specs.Prelude.{◌≡◌, ℕ, [], None}
 use Rattle.street_base.specs.Prelude.{Cells, vehicle_at}
+use Rattle.street_yard.specs.declared.names.ListKind.{ListKind}
+use Rattle.street_yard.specs.declared.names.ListKind.TheVariants.{Cells as InCells, Buffer, Waiting}
 use Rattle.street_lanes.specs.Views.{LaneView}
 
 -- nobody stands in any of the cells
@@ -18,3 +20,9 @@ HasEmptyBuffer x = x.queue ≡ []
 -- nobody waits on the lane
 abbrev pub HasNobodyWaiting : LaneView → Type 0
 HasNobodyWaiting x = x.waiting ≡ []
+
+-- nobody is on the lane's list of this kind: in its cells, in its buffer, or among those who wait
+abbrev pub HasNobody : ListKind → LaneView → Type 0
+HasNobody InCells x = HasNobodyInCells x
+HasNobody Buffer x = HasEmptyBuffer x
+HasNobody Waiting x = HasNobodyWaiting x

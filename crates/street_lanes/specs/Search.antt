@@ -9,16 +9,16 @@ abbrev pub IsSought : Yard → ℕ → ℕ → Option ℕ → Type 0
 IsSought y list number None = (k : ℕ) (c : Car) → Has (list_at y list) k → car_of y k ≡ Some c → c.number ≢ number
 IsSought y list number (Some k) = Has (list_at y list) k × IsSomeAnd (car_of y k) (λ c. c.number ≡ number)
 
--- this is a list of lane n
-abbrev pub IsOf : ℕ → ℕ → Type 0
-IsOf n list = (list ≡ cells_list n) ⊎ ((list ≡ buffer_list n) ⊎ (list ≡ waiting_list n))
+-- this list is one of the three lists of lane n
+abbrev pub IsListOfLane : ℕ → ℕ → Type 0
+IsListOfLane n list = (list ≡ cells_list n) ⊎ ((list ≡ buffer_list n) ⊎ (list ≡ waiting_list n))
 
 -- the car of this key has the number, and is on a list of lane n; with no key, none on the lane has it
 abbrev pub IsFound : Yard → ℕ → ℕ → Option ℕ → Type 0
 IsFound y n number None = IsSought y (cells_list n) number None × IsSought y (buffer_list n) number None × IsSought y (waiting_list n) number None
-IsFound y n number (Some k) = (list : ℕ) × IsOf n list × IsSought y list number (Some k)
+IsFound y n number (Some k) = (list : ℕ) × IsListOfLane n list × IsSought y list number (Some k)
 
--- the car of a key on a list is taken out
+-- the car of this key, which is on a list, is taken out: that list is without the key, there is room for one car more, and no other car is changed
 pub record TakesOut (old new : Yard) (key : ℕ) (gone : Car) : Type 0 where
   pub list : ℕ
   pub on : list_on old key ≡ Some list

@@ -4,7 +4,8 @@ ghost use Rattle.std.specs.Prelude.{◌≡◌, ◌+◌, ◌<◌, length, option_
 ghost use Rattle.street_base.specs.Prelude.{LaneState};
 ghost use Rattle.street_lanes.specs.Prelude.{LaneStands, queued_of, ready_next, without_front, lane_of, GoesAt, cars_on, HasShortPlan, LetsGo};
 
-use crate::lanes::{Lanes, buffer_list};
+use crate::lanes::Lanes;
+use crate::lists::buffer_list;
 use street_base::{Car, LinkIx, Step};
 use street_rule::Dice;
 use street_yard::{ListId, Yard};

@@ -6,7 +6,8 @@ ghost use Rattle.street_meter.specs.Meter.{next_step};
 ghost use Rattle.street_rule.specs.Prelude.{IsReady};
 ghost use Rattle.street_yard.specs.Prelude.{cells_at, IsLane};
 
-use crate::lanes::{Lanes, cells_list};
+use crate::lanes::Lanes;
+use crate::lists::cells_list;
 use std::alloc::Global;
 use std::marker::Model;
 use street_base::{CellNo, Place, Reply, Starved, Step};

@@ -5,7 +5,8 @@ ghost use Rattle.street_base.specs.Prelude.{LaneState, shown_lane};
 ghost use Rattle.street_lanes.specs.Prelude.{LaneStands, lane_of, cars_on, shown_in_buffer, shown_in_cell, shown_waiting, shown_stretch};
 ghost use Rattle.street_yard.specs.Prelude.{viewed};
 
-use crate::lanes::{Lanes, buffer_list, cells_list, waiting_list};
+use crate::lanes::Lanes;
+use crate::lists::{buffer_list, cells_list, waiting_list};
 use std::alloc::{AllocError, Global};
 use street_base::{BufferEntry, CellEntry, Listing, Reply, Starved, Stretch, WaitingEntry};
 use street_yard::{CarView, ListId, Yard};

@@ -1,4 +1,5 @@
-//! Motion on one lane of a tile. The second phase of a tile calls it for each lane with somebody.
+//! Motion on one lane of a tile: whether its exit is open, the walk of `street_rule`, and what becomes of the vehicle that leaves:
+//! into the buffer, or arrived. The second phase of a tile calls it for each lane with somebody.
 //!
 //! Source: Nagel and Schreckenberg 1992.
 ghost use Rattle.std.specs.Prelude.{◌≡◌, ◌^◌, ◌<◌, ◌≤◌, [], length, map, Some, IsSome, All};
@@ -12,7 +13,8 @@ ghost use Rattle.street_lanes.specs.Prelude.{opens_to, cells_on, Settles, MovesL
 ghost use Rattle.street_lanes.specs.Lanes.{IsOf};
 
 use crate::detectors::{Detectors, Kind};
-use crate::lanes::{Lanes, buffer_list, cells_list};
+use crate::lanes::Lanes;
+use crate::lists::{buffer_list, cells_list};
 use street_base::{CarNo, CellNo, LinkIx, NodeSpec, Place, Speed, Step, Turn};
 use street_gap::Closures;
 use street_net::Network;

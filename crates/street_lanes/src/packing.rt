@@ -2,7 +2,8 @@
 ghost use Rattle.std.specs.Prelude.{◌≡◌, ◌*◌, ◌^◌, ◌<◌, ◌≤◌, length};
 ghost use Rattle.street_lanes.specs.Prelude.{Packs};
 
-use crate::lanes::{Lanes, buffer_list, cells_list};
+use crate::lanes::Lanes;
+use crate::lists::{buffer_list, cells_list};
 use street_base::Step;
 use street_rule::Dice;
 use street_yard::{ListId, Yard};

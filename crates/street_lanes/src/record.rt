@@ -9,7 +9,8 @@ ghost use Rattle.street_base.specs.Prelude.{buffer_spot, lane_rows};
 ghost use Rattle.street_record.specs.Rows.{as_written};
 ghost use Rattle.street_lanes.specs.Record.{car_row};
 
-use crate::lanes::{Lanes, buffer_list, cells_list};
+use crate::lanes::Lanes;
+use crate::lists::{buffer_list, cells_list};
 use street_base::RecordRow;
 use street_record::RowSink;
 use street_yard::{Key, ListId, Yard};

@@ -3,7 +3,7 @@ ghost use Rattle.std.specs.Prelude.{◌≡◌, ◌^◌, ◌<◌, length, true, I
 ghost use Rattle.street_lanes.specs.Prelude.{waiting_list, IsSought, IsFound, TakesOut};
 ghost use Rattle.street_yard.specs.Prelude.{list_on, IsWhole};
 
-use crate::lanes::{buffer_list, cells_list, waiting_list};
+use crate::lists::{buffer_list, cells_list, waiting_list};
 use street_base::{Car, CarNo};
 use street_yard::{Key, ListId, Yard};
 

@@ -6,7 +6,8 @@ ghost use Rattle.street_lanes.specs.Lanes.{IsOf};
 ghost use Rattle.street_lanes.specs.Prelude.{told_in_cell, told_in_buffer, told_waiting, TellsWhere, TellsWhether};
 ghost use Rattle.street_yard.specs.Prelude.{viewed};
 
-use crate::lanes::{Lanes, buffer_list, cells_list, waiting_list};
+use crate::lanes::Lanes;
+use crate::lists::{buffer_list, cells_list, waiting_list};
 use crate::search::seek;
 use std::alloc::{AllocError, Global};
 use street_base::{CarNo, LinkIx, Listing, NetSpec, Place, Starved, Whereabouts};

@@ -1,5 +1,5 @@
 -- What a line says, from what is kept of it.
-use Rattle.std.proofs.Common.{◌≡◌, ℕ, ◌+◌, ◌<◌, List, [], ◌∷◌, length, true, false, Result, Ok, Err, Some, refl, sym, ap, ◌∙◌, arith, inl, inr, lt-ltb, length-append, codes}
+use Rattle.std.proofs.Common.{◌≡◌, ℕ, ◌+◌, ◌<◌, List, [], ◌∷◌, length, true, false, Result, Err, Some, refl, sym, ap, ◌∙◌, arith, inl, inr, lt-ltb, length-append, codes}
 use Rattle.std.proofs.lemmas.List.{take_all, length-take-le}
 use Rattle.std.proofs.lemmas.Bool.{cases_lt}
 use Rattle.serde_json.specs.Data.{Data}
@@ -38,10 +38,6 @@ said_full line h = rw h refl
 -- what is kept says the same as the line
 pub said_kept : (line bytes : List ℕ) → is_blank line ≡ false → bytes ≡ kept longest_line line → said line ≡ said_by (reading bytes)
 said_kept line bytes h e = said_full line h ∙ ap said_by (sym (ap reading e ∙ reading_kept line))
-
-pub has_reply_said_by : (r : Result Command LineFault) → has_reply (said_by r) ≡ true
-has_reply_said_by (Ok c) = refl
-has_reply_said_by (Err f) = refl
 
 -- what was refused, and is told by a line, is that fault
 pub refused : (f : LineFault) (r : Result Command LineFault) (out : List ℕ) → Fails f r → fault_line f ≡ Some out → r ≡ Err f

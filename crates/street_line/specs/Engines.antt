@@ -21,7 +21,7 @@ MachineServes old command (Answered reply) new = (outcome : Outcome) × Answers 
 MachineServes old command Full new = ⊥
 MachineServes old command Unrecorded new = ⊥
 
--- the command of a line, if it calls one
+-- the command of a line, if the line calls one
 abbrev pub called : Said → List Command
 called silent = []
 called (faulty fault) = []

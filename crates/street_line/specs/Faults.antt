@@ -34,9 +34,9 @@ pub record Breaks {S : Type 0} (serves : S → Command → Served → S → Type
   pub mid : S
   pub first_lines : lines_of text ≡ done ++ rest
   pub served : Goes serves start done out mid
-  -- nothing was served behind them, or one command that is not answered
+  -- behind those lines nothing was served, or one command that is not answered
   pub ends : (now ≡ mid) ⊎ ((kind ≡ Starved) × IsUnanswered serves mid rest now)
-  -- what is written of it
+  -- how much of the output of those lines is written
   pub within : tally.bytes ≤ length out
   pub written : Appends before after (take tally.bytes out)
   -- a line for which memory ran out, or that is not answered, was taken up
@@ -45,7 +45,7 @@ pub record Breaks {S : Type 0} (serves : S → Command → Served → S → Type
   pub replies : CountsReplies tally out (count_by (λ l. has_reply (said l)) done)
   pub whole : IsAtRead kind → (done ≡ (cut text).0) × IsTally tally done out
 
--- so of what was read
+-- what a run left that a fault ended: of the text that was read the first lines were served, and of their output the first bytes are written
 pub record ServedInPart {S : Type 0} (serves : S → Command → Served → S → Type 0) (start : S) (unread before : Option (List ℕ))
     (now : S) (left after : Option (List ℕ)) (fault : RunFault) : Type 0 where
   pub text : List ℕ

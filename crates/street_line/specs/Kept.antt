@@ -38,18 +38,18 @@ abbrev pub is_short : Reply → Bool
 is_short (Short clock short) = true
 is_short reply = false
 
--- of a line whose command changed something the line is kept, as it came, and of any other nothing
+-- what is kept of a line: the line as it came, where its command changed something; nothing where it did not
 abbrev pub entry_of : Bool → List ℕ → List ℕ
 entry_of true line = line ++ 10 ∷ []
 entry_of false line = []
 
--- what is kept of a line that was served so; an advance that stopped short is not answered, and nothing is kept of it
+-- what is kept of a line whose command was served so: the line itself or nothing. An advance that stopped short is not answered, and nothing is kept of its line
 abbrev pub IsEntry : List ℕ → Served → List ℕ → Type 0
 IsEntry line (Answered reply) entry = (is_short reply ≡ false) × (entry ≡ entry_of (is_change reply) line)
 IsEntry line Full entry = entry ≡ []
 IsEntry line Unrecorded entry = ⊥
 
--- it is noted behind what was
+-- what is kept of the line is noted behind what had been noted
 abbrev pub IsNoted : List ℕ → Served → List ℕ → List ℕ → Type 0
 IsNoted line served old new = (entry : List ℕ) × IsEntry line served entry × (new ≡ old ++ entry)
 
@@ -58,18 +58,18 @@ abbrev pub IsLast : Option (List ℕ) → List ℕ → List ℕ → List (List �
 IsLast left seen got ls = (ls ≡ (cut ((cut seen).1 ++ got)).0) ⊎ ((got ≡ []) × IsAtEnd left × (ls ≡ if_any (cut seen).1))
 
 module _ {S : Type 0} (serves : S → Command → Served → S → Type 0) where
-  -- what a line gives, and what is kept of it
+  -- what a line gives, and what is kept of that line
   abbrev pub KeepsSaid : S → Said → List ℕ → List ℕ → List ℕ → S → Type 0
   KeepsSaid old silent line out entry new = (new ≡ old) × (out ≡ []) × (entry ≡ [])
   KeepsSaid old (faulty f) line out entry new = (new ≡ old) × (fault_line f ≡ Some out) × (entry ≡ [])
   KeepsSaid old (calls c) line out entry new = (r : Served) × serves old c r new × (served_line r ≡ Some out) × IsEntry line r entry
 
-  -- so as a handler of lines sees it
+  -- what a line gives and what is kept of that line, as a handler of lines sees it: the effect, and what is kept so far
   abbrev pub KeepsLine : S × List ℕ → List ℕ → Effect → S × List ℕ → Type 0
   KeepsLine old line effect new = (out : List ℕ) × (entry : List ℕ) × KeepsSaid old.0 (said line) line out entry new.0
       × (effect ≡ effect_of (said line) out) × (new.1 ≡ old.1 ++ entry)
 
-  -- so by an answer that gives this, of a line that says this
+  -- what a line that says this gives, by the handler's answer, and what is kept of that line
   abbrev pub AnswersKept : S × List ℕ → Said → List ℕ → LineAnswer → S × List ℕ → Type 0
   AnswersKept old what line answer new = (out : List ℕ) × (entry : List ℕ) × KeepsSaid old.0 what line out entry new.0
       × Gives answer (effect_of what out) × (new.1 ≡ old.1 ++ entry)
@@ -92,8 +92,8 @@ module _ {S : Type 0} (serves : S → Command → Served → S → Type 0) where
     pub holds : Appends log held kept
     pub stays : synced ≡ held
 
-  -- what a fault left that came where these lines were served. The log failed: no reply is out, and it holds the first bytes of what is kept of them, of which the
-  -- first may stay. The writer failed: all that is kept of them is held and stays, and of their output the first bytes are written. Else nothing was called
+  -- what a fault left that came as these lines were served. Where the log failed, no reply is out, and the log holds the first bytes of what is kept of the lines, of which the first may stay. Where
+  -- the writer failed, all that is kept of the lines is held and stays, and of their output the first bytes are written. Else nothing was called
   abbrev pub PassStops : S → Option (List ℕ) → Option (List ℕ) → Option (List ℕ) → List (List ℕ) → KeptFault → Option (List ℕ) → Option (List ℕ) → Option (List ℕ) → Type 0
   PassStops old log stayed before ls Log held synced after =
       (out : List ℕ) × (kept : List ℕ) × (new : S) × GoesKept old ls out kept new × (after ≡ before)
@@ -128,7 +128,7 @@ module _ {S : Type 0} (serves : S → Command → Served → S → Type 0) where
     pub passed : Passed start log before (cut seen).0 mid owed owed told
     pub stops : PassStops mid owed owed told last fault held synced after
 
-  -- so only of the output of the first lines the first bytes are written, and all that is kept of these lines is held, and stays
+  -- what every fault leaves in common: of the output of the first lines the first bytes are written, and all that is kept of these lines is held, and stays
   pub record KeptFirst (start : S) (unread log before : Option (List ℕ)) (left held synced after : Option (List ℕ)) : Type 0 where
     pub text : List ℕ
     pub done : List (List ℕ)

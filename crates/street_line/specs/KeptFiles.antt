@@ -14,25 +14,25 @@ use Rattle.street_line.specs.declared.kept_file.ServeFault.{ServeFault}
 use Rattle.street_line.specs.declared.kept_file.ServeFault.TheVariants.{Begin, Session}
 use Rattle.street_line.specs.declared.service.Served.{Served}
 
--- what stands from a place on
+-- the bytes from a position on, where the text is known
 abbrev pub left_from : ℕ → Option (List ℕ) → Option (List ℕ)
 left_from at held = option_map (λ text. drop at text) held
 
--- the first bytes
+-- the first bytes, where the text is known
 abbrev pub first_of : ℕ → Option (List ℕ) → Option (List ℕ)
 first_of size held = option_map (λ text. take size text) held
 
--- how many bytes stand before the first NUL, or all
+-- how many bytes stand before the first NUL of a text; all where there is none
 abbrev pub sound_len : List ℕ → ℕ
 sound_len [] = 0
 sound_len (zero ∷ xs) = 0
 sound_len (suc x ∷ xs) = suc (sound_len xs)
 
--- these bytes: a line that is kept has no NUL
+-- the bytes before the first NUL of a text, as no line that is kept has a NUL
 abbrev pub sound : List ℕ → List ℕ
 sound text = take (sound_len text) text
 
--- so of what may be known
+-- the bytes before the first NUL of a text, where the text is known
 abbrev pub sound_of : Option (List ℕ) → Option (List ℕ)
 sound_of held = option_map sound held
 
@@ -42,7 +42,7 @@ IsText None text = ⊤
 IsText (Some xs) text = xs ≡ text
 
 module _ {S : Type 0} (serves : S → Command → Served → S → Type 0) where
-  -- a file had these lines that have ended, and behind them what a crash has left: no line that has ended before a NUL; the lines were done
+  -- the lines of a file were done again. Behind the lines that have ended the file had what a crash has left: no line that has ended before a NUL
   pub record Redone (start : S) (had : Option (List ℕ)) (mid : S) (redo : RedoneLines) : Type 0 where
     pub whole : List ℕ
     pub torn : List ℕ
@@ -53,26 +53,28 @@ module _ {S : Type 0} (serves : S → Command → Served → S → Type 0) where
     pub lines : redo.lines ≡ length (cut whole).0
     pub bytes : redo.bytes ≡ length whole
 
-  -- and so it was left with these lines alone
+  -- the lines of a file were done again, and the file was left with these lines alone
   pub record Recovered (start : S) (had : Option (List ℕ)) (mid : S) (log : Option (List ℕ)) (redo : RedoneLines) : Type 0 where
     pub redone : Redone start had mid redo
     pub cut_off : Keeps (first_of redo.bytes had) log
 
-  -- so, and then all lines of the text that was read were served from the state that those led to; what is kept of them is held behind those, and stays
+  -- the lines of a file were done again, and then all lines of the text that was read were served from the state to which those lines led; what is kept of
+  -- the lines that were read is held behind the file's, and stays
   pub record ServesOn (start : S) (had unread before : Option (List ℕ)) (redo : RedoneLines) (now : S) (left held synced after : Option (List ℕ)) : Type 0 where
     pub mid : S
     pub log : Option (List ℕ)
     pub recovered : Recovered start had mid log redo
     pub whole : KeptWhole serves mid unread log before now left held synced after
 
-  -- a fault ended that: at a line of the file, which is as it was, or as it has no line; or as the file was written anew, when of what was synced no line is lost
+  -- a fault came before a session went on from a file: at a line of the file, which is then as it was; because the file has no line; or as the file was
+  -- written anew, when no line of what was synced is lost
   abbrev pub BeginBreaks : S → Option (List ℕ) → Option (List ℕ) → S → Option (List ℕ) → Option (List ℕ) → BeginFault → Type 0
   BeginBreaks start had stayed now held synced (Recover fault) = ((rest : Option (List ℕ)) × RedoBroke serves start (sound_of had) fault now rest) × (held ≡ had) × (synced ≡ stayed)
   BeginBreaks start had stayed now held synced Foreign = ((redo : RedoneLines) × Redone start had now redo × (redo.bytes ≡ 0)) × (held ≡ had) × (synced ≡ stayed)
   BeginBreaks start had stayed now held synced Settle =
       (redo : RedoneLines) × Redone start had now redo × (Keeps had held ⊎ Keeps (first_of redo.bytes had) held) × Extends (first_of redo.bytes stayed) synced
 
-  -- so before any line was served; or in the session, of which no more is out or held than the fault left
+  -- a fault ended a session that goes on from a file: before any line was served; or in the session, of which no more is out or held than the fault left
   module _ (start : S) (had stayed unread before : Option (List ℕ)) (now : S) (left held synced after : Option (List ℕ)) where
     abbrev pub ServeBreaks : ServeFault → Type 0
     ServeBreaks (Begin fault) = BeginBreaks start had stayed now held synced fault × (after ≡ before)
@@ -84,7 +86,7 @@ IsBeginCaused has_failed (Recover fault) file = ⊤
 IsBeginCaused has_failed Foreign file = ⊤
 IsBeginCaused has_failed Settle file = has_failed file
 
--- so of the session
+-- a fault of a session that goes on from a file comes only where its cause was counted
 abbrev pub IsServeCaused : {K R W : Type 0} → (K → Type 0) → ServeFault → Counted R → K → Counted W → ℕ → Type 0
 IsServeCaused has_failed (Begin fault) reader file writer reads = IsBeginCaused has_failed fault file
 IsServeCaused has_failed (Session fault) reader file writer reads = IsKeptCaused has_failed fault reader file writer reads

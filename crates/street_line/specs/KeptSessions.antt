@@ -22,7 +22,7 @@ WholeServes old command Unrecorded new = ⊥
 
 -- ---- lines that are served
 
--- a session as far as it has come: the machine, what went out, and what is kept
+-- a kept session as far as it has come: the machine, what went out, and what is kept
 pub record Session : Type 0 where
   pub machine : State
   pub replies : List ℕ

@@ -14,7 +14,8 @@ module _ {K D W : Type 0} (held synced : K → Option (List ℕ)) (remaining : D
   MachineServesOn old file reader writer kept read written redo = (new : State)
       × ServesOn MachineServes old (held file) (remaining reader.stream) (contents writer.stream) redo new (remaining read.stream) (held kept) (synced kept) (contents written.stream)
 
-  -- so up to a fault
+  -- the machine did the lines of the file and served those of the reader up to a fault, whatever state these lead to; the file keeps the first of them,
+  -- and the first bytes of their output are in the writer
   abbrev pub MachineServesOnFirst : State → K → Counted D → Counted W → K → Counted D → Counted W → ServeFault → Type 0
   MachineServesOnFirst old file reader writer kept read written fault = (new : State)
       × ServeBreaks MachineServes old (held file) (synced file) (remaining reader.stream) (contents writer.stream) new (remaining read.stream) (held kept) (synced kept) (contents written.stream) fault
@@ -24,7 +25,8 @@ module _ {K D W : Type 0} (held synced : K → Option (List ℕ)) (remaining : D
   EngineServesOn before file reader writer after kept read written redo = (old : State) → StandsFor before old → (new : State) × StandsFor after new
       × ServesOn MachineServes old (held file) (remaining reader.stream) (contents writer.stream) redo new (remaining read.stream) (held kept) (synced kept) (contents written.stream)
 
-  -- so up to a fault
+  -- whatever state the engine stood for, the machine did the lines of the file and served those of the reader from there on, up to a fault, and the engine
+  -- then stands for the state to which these lead
   abbrev pub EngineServesOnFirst : EngineView → K → Counted D → Counted W → K → Counted D → Counted W → ServeFault → Type 0
   EngineServesOnFirst before file reader writer kept read written fault = (old : State) → StandsFor before old
       → MachineServesOnFirst old file reader writer kept read written fault

@@ -23,7 +23,7 @@ pub record RecordedMachine : Type 0 where
   pub whole : List ℕ
   pub begun : Option (List ℕ)
 
--- a command is done, and its blocks go behind the record: it is answered; or it is not, and from then on nothing more is done
+-- a command is done, and its blocks go behind the record. Where they are written whole the command is answered; where they are not it has no answer, and nothing more is done from then on
 abbrev pub MachineRecords : RecordedMachine → Command → Served → RecordedMachine → Type 0
 MachineRecords old c (Answered reply) new = (old.begun ≡ None) × (new.begun ≡ None) × MachineServes old.machine c (Answered reply) new.machine
     × (new.whole ≡ old.whole ++ recorded_in old.machine c reply)
@@ -34,7 +34,7 @@ MachineRecords old c Unrecorded new = (IsSome old.begun × (new ≡ old))
 
 -- ---- the session
 
--- what contracts see of it: its engine, and what writes its record
+-- what contracts see of a recorded session: its engine, and the writer of its record
 pub record RecordedView (W : Type 0) : Type 0 where
   pub engine : EngineView
   pub writer : Option (WriterView W)
@@ -48,8 +48,7 @@ module _ {W : Type 0} (contents : W → Option (List ℕ)) where
   IsReplyBehind old reply Unrecorded new = (new.has_failed ≡ true) × HasFailed new.writer
       × ((start : Option (List ℕ)) (given : List ℕ) → IsGiven contents start given old → IsGiven contents start given new)
 
-  -- a command is answered where the blocks of its steps are written; else the record had failed, and nothing is done; or the command is done, and of its
-  -- blocks the first bytes are written
+  -- a command is answered where the blocks of its steps are written; else the record had failed, and nothing is done; or the command is done, and of its blocks the first bytes are written
   abbrev pub Records : EngineView → WriterView W → Command → Served → EngineView → WriterView W → Type 0
   Records old w c (Answered reply) new v = (w.has_failed ≡ false) × (v.has_failed ≡ false) × EngineServes old c (Answered reply) new
       × ((m : State) → StandsFor old m → Appends (contents w.writer.stream) (contents v.writer.stream) (recorded_in m c reply))
@@ -58,7 +57,7 @@ module _ {W : Type 0} (contents : W → Option (List ℕ)) where
       ⊎ ((reply : Reply) × (w.has_failed ≡ false) × (v.has_failed ≡ true) × HasFailed v.writer × EngineServes old c (Answered reply) new
       × ((m : State) → StandsFor old m → (n : ℕ) × Appends (contents w.writer.stream) (contents v.writer.stream) (take n (recorded_in m c reply))))
 
-  -- so of a session where nothing waited
+  -- a session serves a command (`Records`), where no byte of the record waited before the command, nor does after it
   abbrev pub RecordServes : RecordedView W → Command → Served → RecordedView W → Type 0
   RecordServes old c served new = (w : WriterView W) → old.writer ≡ Some w → HasNoRest w
       → (v : WriterView W) × (new.writer ≡ Some v) × HasNoRest v × Records old.engine w c served new.engine v
@@ -89,17 +88,17 @@ module _ {W D V : Type 0} (contents : W → Option (List ℕ)) (remaining : D �
   RecordServesAll before reader writer after read written tally = (start : Option (List ℕ)) (old : RecordedMachine) → StandsRecorded contents start before old
       → (new : RecordedMachine) × StandsRecorded contents start after new × ServesAll MachineRecords remaining outputs old reader writer new read written tally
 
-  -- so of the first lines, where a fault ended the run
+  -- whatever machine and record the session stood for, the machine serves the first lines from there on, until a fault ends the run, and the session then stands for what these lead to
   abbrev pub RecordServesFirst : RecordedView W → Counted D → Counted V → RecordedView W → Counted D → Counted V → RunFault → Type 0
   RecordServesFirst before reader writer after read written fault = (start : Option (List ℕ)) (old : RecordedMachine) → StandsRecorded contents start before old
       → (new : RecordedMachine) × StandsRecorded contents start after new × ServesFirst MachineRecords remaining outputs old reader writer new read written fault
 
-  -- nothing being loaded at first, the machine serves so, every command is answered, and since it held `start` the file has taken the record
+  -- the machine, with nothing loaded at first, serves all lines and answers every command, and the file has taken the record since it held `start`
   abbrev pub MachineRecordsAll : Option (List ℕ) → Counted D → Counted V → Option (WriterView W) → Counted D → Counted V → Tally → Type 0
   MachineRecordsAll start reader writer file read written tally = (new : RecordedMachine) × (w : WriterView W) × (file ≡ Some w) × (new.begun ≡ None)
       × HoldsRecord contents start w new.whole None × ServesAll MachineRecords remaining outputs no_steps reader writer new read written tally
 
-  -- so of the first lines, where a fault ended the run
+  -- the machine, with nothing loaded at first, serves the first lines until a fault ends the run, and the file has taken their record since it held `start`
   abbrev pub MachineRecordsFirst : Option (List ℕ) → Counted D → Counted V → Option (WriterView W) → Counted D → Counted V → RunFault → Type 0
   MachineRecordsFirst start reader writer file read written fault = (new : RecordedMachine) × (w : WriterView W) × (file ≡ Some w)
       × HoldsRecord contents start w new.whole new.begun × ServesFirst MachineRecords remaining outputs no_steps reader writer new read written fault

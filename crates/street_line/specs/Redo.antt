@@ -54,28 +54,28 @@ module _ {S : Type 0} (serves : S → Command → Served → S → Type 0) where
   RedoSaid old (faulty f) new = ⊥
   RedoSaid old (calls c) new = (reply : Reply) × serves old c (Answered reply) new × (is_done reply ≡ true)
 
-  -- a line that is not done is no command, or its command is refused where it stands
+  -- a line that cannot be done: it is no command, or its command is refused where it stands
   abbrev pub BadSaid : S → Said → S → Type 0
   BadSaid old silent new = ⊥
   BadSaid old (faulty f) new = new ≡ old
   BadSaid old (calls c) new = (served : Served) × serves old c served new × (is_refused served ≡ true)
 
-  -- or memory ran out: to read it, or while its command was served
+  -- a line that was not done because memory ran out: to read it, or while its command was served
   abbrev pub StarvedSaid : S → Said → S → Type 0
   StarvedSaid old silent new = ⊥
   StarvedSaid old (faulty f) new = new ≡ old
   StarvedSaid old (calls c) new = (new ≡ old) ⊎ ((served : Served) × serves old c served new × (is_short served ≡ true))
 
-  -- whichever
+  -- a line that was not done, for this reason: it cannot be done, or memory ran out
   abbrev pub RedoStopSaid : S → Said → RedoStop → S → Type 0
   RedoStopSaid old what stop.Bad new = BadSaid old what new
   RedoStopSaid old what stop.Starved new = StarvedSaid old what new
 
-  -- so as a handler of lines sees it
+  -- a line is done, as a handler of lines sees it: it has no reply
   abbrev pub RedoLine : S → List ℕ → Effect → S → Type 0
   RedoLine old line effect new = RedoSaid old (said line) new × (effect.reply ≡ None)
 
-  -- so of a line that is not done
+  -- a line that was not done, for this reason, as a handler of lines sees it
   abbrev pub RedoStopLine : S → List ℕ → RedoStop → S → Type 0
   RedoStopLine old line why new = RedoStopSaid old (said line) why new
 
@@ -84,8 +84,7 @@ module _ {S : Type 0} (serves : S → Command → Served → S → Type 0) where
   Redoes old [] new = new ≡ old
   Redoes old (l ∷ ls) new = (mid : S) × RedoSaid old (said l) mid × Redoes mid ls new
 
-  -- lines of a text that stand behind so many others were done up to a fault: before a bad line, which has this number; up to where memory ran out; or all that
-  -- have ended
+  -- lines of a text that stand behind so many others were done up to a fault: before a bad line, which has this number; up to where memory ran out; or all that have ended
   abbrev pub RedoHalts : S → ℕ → List ℕ → RedoFault → S → Type 0
   RedoHalts old before text (BadLine number) new = (done : List (List ℕ)) × (bad : List ℕ) × (rest : List (List ℕ)) × (mid : S)
       × ((cut text).0 ≡ done ++ bad ∷ rest) × Redoes old done mid × BadSaid mid (said bad) new × (number ≡ before + length done + 1)
@@ -96,7 +95,7 @@ module _ {S : Type 0} (serves : S → Command → Served → S → Type 0) where
   RedoHalts old before text (Run kind.Endless) new = Redoes old (cut text).0 new
   RedoHalts old before text (Run kind.Write) new = ⊥
 
-  -- a text was read to its end, and its lines that have ended were done; there are so many, of so many bytes, and no byte behind the last LF was looked at
+  -- a text was read to its end, and those of its lines that have ended were done: `redo.lines` lines of `redo.bytes` bytes. What stands behind the last LF was not looked at
   pub record RedoDone (start : S) (unread : Option (List ℕ)) (now : S) (left : Option (List ℕ)) (redo : RedoneLines) : Type 0 where
     pub text : List ℕ
     pub read : Consumes unread left text
@@ -105,13 +104,13 @@ module _ {S : Type 0} (serves : S → Command → Served → S → Type 0) where
     pub lines : redo.lines ≡ length (cut text).0
     pub bytes : redo.bytes + length (cut text).1 ≡ length text
 
-  -- a fault ended that: of what was read the lines before it were done
+  -- a fault ended the redo of a text: of what was read the lines before the fault were done
   pub record RedoBroke (start : S) (unread : Option (List ℕ)) (fault : RedoFault) (now : S) (left : Option (List ℕ)) : Type 0 where
     pub text : List ℕ
     pub read : Consumes unread left text
     pub halts : RedoHalts start 0 text fault now
 
--- the fault of lines of which one ended so, behind so many others
+-- the fault of a redo that one of its lines ended for this reason, behind `before` other lines
 abbrev pub IsFaultOf : ℕ → StopCause RedoStop → Tally → RedoFault → Type 0
 IsFaultOf before (causes.Line stop.Bad) tally fault = fault ≡ BadLine (min (before + tally.lines) (2 ^ 128 - 1))
 IsFaultOf before (causes.Line stop.Starved) tally fault = fault ≡ Run kind.Starved
@@ -129,7 +128,7 @@ IsInLine (Run kind.Starved) = ⊤
 IsInLine (Run kind.Write) = ⊥
 IsInLine (BadLine line) = ⊤
 
--- each fault comes only where its cause was counted
+-- a fault of a redo comes only where its cause was counted
 abbrev pub IsRedoCaused : {R : Type 0} → RedoFault → Counted R → ℕ → Type 0
 IsRedoCaused (Run kind.Read) reader reads = 0 < reader.failures
 IsRedoCaused (Run kind.Endless) reader reads = reader.calls ≡ reads

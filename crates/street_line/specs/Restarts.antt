@@ -22,7 +22,7 @@ pub record KeepsAnswered (start : State) (file : List ℕ) (before after : Optio
   pub written : Appends before after (take sent out)
   pub redo : Redoes MachineServes start (lines_of first) now
 
--- of these lines the first were served, and these lead there
+-- of the lines `ls` the first were served, and the lines `redo` that are kept of them lead to the same state
 pub record PartDone (old : State) (ls redo : List (List ℕ)) : Type 0 where
   pub first : List (List ℕ)
   pub rest : List (List ℕ)

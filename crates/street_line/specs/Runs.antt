@@ -13,7 +13,7 @@ use Rattle.street_text.specs.FaultLines.{fault_line}
 
 -- ---- one line
 
--- a command is answered by its reply, or told that no place is left; or it is not answered
+-- the line that answers a served command: its reply, or that no place is left; none where the command is not answered
 unfoldable pub served_line : Served → Option (List ℕ)
 served_line (Answered reply) = Some (reply_line reply)
 served_line Full = Some (line_of (error_data 23 (codes "Full")))
@@ -34,13 +34,13 @@ said_by (Err f) = faulty f
 unfoldable pub said : List ℕ → Said
 said line = if is_blank line then silent else said_by (reading line)
 
--- it calls a command
+-- the line calls a command
 abbrev pub is_call : Said → Bool
 is_call silent = false
 is_call (faulty f) = false
 is_call (calls c) = true
 
--- it gets a reply: all but a blank line
+-- the line gets a reply: each line but a blank one does
 abbrev pub has_reply : Said → Bool
 has_reply silent = false
 has_reply (faulty f) = true
@@ -60,7 +60,7 @@ module _ {S : Type 0} (serves : S → Command → Served → S → Type 0) where
   Goes old [] out new = (new ≡ old) × (out ≡ [])
   Goes old (l ∷ ls) out new = (mid : S) × (first : List ℕ) × (rest : List ℕ) × Done old (said l) first mid × Goes mid ls rest new × (out ≡ first ++ rest)
 
--- the tally of lines, and of what was written to them
+-- the tally is that of these lines, and of what was written for them
 pub record IsTally (tally : Tally) (ls : List (List ℕ)) (out : List ℕ) : Type 0 where
   pub lines : tally.lines ≡ length ls
   pub calls : tally.calls ≡ count_by (λ l. is_call (said l)) ls

@@ -19,7 +19,7 @@ in_memory Write = Starved
 in_memory Starved = Starved
 in_memory Endless = Endless
 
--- each fault comes only where its cause was counted: a read that failed; so many reads; else memory ran out
+-- a fault comes only where its cause was counted: a read that failed; as many reads as are allowed; else memory ran out
 abbrev pub IsCausedInMemory : {R : Type 0} → FaultKind → Counted R → ℕ → Type 0
 IsCausedInMemory Read reader reads = 0 < reader.failures
 IsCausedInMemory Endless reader reads = reader.calls ≡ reads
@@ -32,7 +32,7 @@ ScriptServed old text replies None new = Goes DeskServes old (lines_of text) rep
 ScriptServed old text replies (Some fault) new = (kind : FaultKind) × (tally : Tally)
     × (fault ≡ in_memory kind) × Breaks DeskServes old (Some []) text new (Some replies) kind tally
 
--- so of the text that was read: all of it, where no fault ended it
+-- the replies of a script are the output of the lines that were read of its text: of all, where no fault ended the script
 pub record ReaderServed (old : PassView) (unread left : Option (List ℕ)) (replies : List ℕ) (fault : Option FaultKind) (new : PassView) : Type 0 where
   pub text : List ℕ
   pub read : Consumes unread left text

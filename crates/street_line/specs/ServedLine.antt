@@ -24,11 +24,11 @@ IsAnswerTo served answer = (out : List ℕ) × (served_line served ≡ Some out)
 abbrev pub IsAnswered : {S : Type 0} → (S → Command → Served → S → Type 0) → S → Said → Effect → S → Type 0
 IsAnswered serves old what effect new = (out : List ℕ) × Done serves old what out new × (effect ≡ effect_of what out)
 
--- so by an answer that gives this
+-- a line that says this was served, by the handler's answer
 abbrev pub IsAnsweredBy : {S : Type 0} → (S → Command → Served → S → Type 0) → S → Said → LineAnswer → S → Type 0
 IsAnsweredBy serves old what answer new = (effect : Effect) × IsAnswered serves old what effect new × Gives answer effect
 
--- so of the line itself
+-- a line was served, whatever it says, and this is its effect
 abbrev pub IsServed : {S : Type 0} → (S → Command → Served → S → Type 0) → S → List ℕ → Effect → S → Type 0
 IsServed serves old line effect new = IsAnswered serves old (said line) effect new
 

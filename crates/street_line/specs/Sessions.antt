@@ -21,8 +21,7 @@ pub record IsAlone (p : PassView) : Type 0 where
   pub least : p.least ≡ 0
   pub history : IsHistory 1 p.seen
 
--- what one session that nobody stands beside is served, as its history grows: the machine's reply at that point, while there are
--- fewer calls than may be; nothing from then on
+-- what one session that nobody stands beside is served, as its history grows: the machine's reply at that point, while there are fewer calls than may be; nothing from then on
 abbrev pub AloneServes : ℕ → List Entry → Command → Served → List Entry → Type 0
 AloneServes most old command (Answered reply) new = (outcome : Outcome)
     × Allows (state_of old) command outcome

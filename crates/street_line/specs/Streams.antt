@@ -25,7 +25,7 @@ module _ {S D W : Type 0} (serves : S → Command → Served → S → Type 0) (
   ServesFirst old reader writer new read written fault =
       ServedInPart serves old (remaining reader.stream) (contents writer.stream) new (remaining read.stream) (contents written.stream) fault
 
-  -- what became of a run of so many reads at most: all lines were served; or the first, and a fault comes only where its cause was counted
+  -- what became of a run of at most `reads` reads: all lines were served; or the first lines were, and the fault has a cause that was counted
   pub record ServesLines (reads : ℕ) (old : S) (reader : Counted D) (writer : Counted W) (run : Result Tally RunFault)
       (new : S) (read : Counted D) (written : Counted W) : Type 0 where
     pub served : IfOk run (ServesAll old reader writer new read written)
@@ -34,16 +34,16 @@ module _ {S D W : Type 0} (serves : S → Command → Served → S → Type 0) (
     pub bounded : read.calls ≤ reads
 
 module _ {D W : Type 0} (remaining : D → Option (List ℕ)) (contents : W → Option (List ℕ)) where
-  -- so of a pass that nobody stands beside, as the history grows that it has seen
+  -- a run of at most `reads` reads by a pass that has the desk alone (`ServesLines`), as the history grows that the pass has seen
   abbrev pub AloneServesLines : ℕ → PassView → Counted D → Counted W → Result Tally RunFault → PassView → Counted D → Counted W → Type 0
   AloneServesLines reads old reader writer run new read written =
       ServesLines (AloneServes old.desk.calls) remaining contents reads old.seen reader writer run new.seen read written
 
-  -- so of the machine, whatever state that leads to
+  -- the machine serves all lines of the reader, whatever state these lead to
   abbrev pub MachineServesAll : State → Counted D → Counted W → Counted D → Counted W → Tally → Type 0
   MachineServesAll old reader writer read written tally = (new : State) × ServesAll MachineServes remaining contents old reader writer new read written tally
 
-  -- so of the first lines, where a fault ended the run
+  -- the machine serves the first lines of the reader, until a fault ends the run, whatever state these lead to
   abbrev pub MachineServesFirst : State → Counted D → Counted W → Counted D → Counted W → RunFault → Type 0
   MachineServesFirst old reader writer read written fault =
       (new : State) × ServesFirst MachineServes remaining contents old reader writer new read written fault
@@ -53,7 +53,7 @@ module _ {D W : Type 0} (remaining : D → Option (List ℕ)) (contents : W → 
   EngineServesAll before reader writer after read written tally = (old : State) → StandsFor before old
       → (new : State) × StandsFor after new × ServesAll MachineServes remaining contents old reader writer new read written tally
 
-  -- so of the first lines, where a fault ended the run
+  -- whatever state the engine stood for, the machine serves the first lines of the reader from there on, until a fault ends the run, and the engine then stands for the state to which these lead
   abbrev pub EngineServesFirst : EngineView → Counted D → Counted W → EngineView → Counted D → Counted W → RunFault → Type 0
   EngineServesFirst before reader writer after read written fault = (old : State) → StandsFor before old
       → (new : State) × StandsFor after new × ServesFirst MachineServes remaining contents old reader writer new read written fault

@@ -10,7 +10,8 @@ use street_base::Starved;
 use street_stream::LineAnswer;
 use street_text::{error_text, reply_text};
 
-/// The answer to a call with this line. Lack of memory for the line stands in it, as the command was served.
+/// The answer to a call, with this line as its reply. Where there was no memory for the line the answer says so, and this is no error
+/// of the call: its command is already served.
 fn answer_with(text: Result<Vec<u8>, Starved>) -> LineAnswer
     ensures { (line : List ℕ) → 0 < length line → IfOk text (λ text. text.items ≡ line) → Gives result (record { is_call = true; reply = Some line }) }
 {

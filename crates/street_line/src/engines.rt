@@ -1,4 +1,5 @@
-//! Lines served by an engine. A run with no desk and one worker calls it.
+//! Lines served by an engine; workers, where it has several, are started anew for each part of a step. A run with no desk and one
+//! worker calls it; several stay, in `teams.rt`.
 ghost use Rattle.std.specs.Prelude.{◌≡◌, ◌≤◌, IfOk, IfErr, OnOk};
 ghost use Rattle.street_base.specs.Prelude.{most_reads};
 ghost use Rattle.street_stream.specs.Streams.{IsFlushed, IsFresh, IsPrompt};

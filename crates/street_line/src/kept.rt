@@ -1,5 +1,5 @@
-//! Lines that are served, with their replies and what is kept of them, before either goes out. A line whose command changed
-//! something is kept as it came. `kept_runs.rt` calls it for the bytes of each read.
+//! Lines served in memory: their replies, and what is to be kept of them; nothing is written. A line whose command changed something
+//! is kept as it came. `kept_runs.rt` calls it for the bytes of each read.
 ghost use Rattle.std.specs.Prelude.{◌≡◌, ◌<◌, ◌^◌, ◌++◌, [], List, ℕ, IfOk, OnOk, length};
 ghost use Rattle.street_stream.specs.Lines.{cut, if_any};
 ghost use Rattle.street_stream.specs.OpenTexts.{IsOpen};

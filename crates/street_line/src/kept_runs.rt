@@ -1,5 +1,5 @@
-//! A text of lines, served by a session that is kept. What is kept of the lines of a read is in the log, and stays there,
-//! before any reply to them goes out. `kept_file.rt` calls it.
+//! A text of lines: read, served (`kept.rt`), kept in the log, and answered, in this order. What is kept of the lines of a read stays
+//! in the log before any reply to them goes out. `kept_file.rt` calls it.
 ghost use Rattle.std.specs.Prelude.{◌≡◌, ◌<◌, ◌≤◌, ◌^◌, ◌++◌, List, ℕ, OnOk, IfErr, length};
 ghost use Rattle.street_base.specs.Prelude.{most_reads};
 ghost use Rattle.street_stream.specs.Lines.{cut, if_any};
@@ -44,7 +44,7 @@ fn fault_of(fault: KeepFault) -> KeptFault
 ///
 /// `Run` with `Starved` where memory ran out: nothing went out. `Log` where the log failed: no reply went out. `Run` with `Write`
 /// where the writer failed: the log holds what is kept.
-fn pass_more<S: Service, L: WriteAheadLog, W: Write>(
+fn serve_and_keep_more<S: Service, L: WriteAheadLog, W: Write>(
     alloc: Global,
     service: &mut S,
     lines: &mut LineReader,
@@ -81,12 +81,13 @@ fn pass_more<S: Service, L: WriteAheadLog, W: Write>(
     }
 }
 
-/// Serves the last line of a text that has ended, where bytes stand behind its last LF, as [`pass_more`] does.
+/// Serves what stands behind the last LF of a text that has ended, as a line, and keeps and answers it as [`serve_and_keep_more`]
+/// does: none is served where nothing stands there.
 ///
 /// # Errors
 ///
-/// Those of [`pass_more`].
-fn pass_last<S: Service, L: WriteAheadLog, W: Write>(
+/// Those of [`serve_and_keep_more`].
+fn serve_and_keep_last<S: Service, L: WriteAheadLog, W: Write>(
     alloc: Global,
     service: &mut S,
     lines: &mut LineReader,
@@ -160,10 +161,10 @@ pub fn run_kept<S: Service, R: Read, L: WriteAheadLog, W: Write>(
             Err(_) => return Err(KeptFault::Run(FaultKind::Read)),
         };
         if count == 0 {
-            return pass_last(alloc, service, &mut lines, text, log, writer);
+            return serve_and_keep_last(alloc, service, &mut lines, text, log, writer);
         }
         let bytes = &buffer[..count];
-        match pass_more(alloc, service, &mut lines, &mut text, log, writer, bytes) {
+        match serve_and_keep_more(alloc, service, &mut lines, &mut text, log, writer, bytes) {
             Ok(()) => {}
             Err(fault) => return Err(fault),
         }

@@ -1,5 +1,6 @@
-//! Lines served by an engine of whose steps a record is written. A reply goes out once the blocks of all steps up to it are
-//! written. `street_runs` calls it for `--record` with one worker.
+//! Lines served by an engine of whose steps a record is written; workers, where it has several, are started anew for each part of a
+//! step. A reply goes out once the blocks of all steps up to it are written. `street_runs` calls it for `--record` with one worker;
+//! several stay, in `recorded_teams.rt`.
 ghost use Rattle.std.specs.Prelude.{◌≡◌, ◌≤◌, IfOk, IfErr, OnOk, Some};
 ghost use Rattle.street_base.specs.Prelude.{most_reads};
 ghost use Rattle.street_stream.specs.Streams.{IsFlushed, IsFresh, IsPrompt};
@@ -60,7 +61,7 @@ impl<'a, R: Threads + Sync, F: Write + Drop> RecordedSession<'a, R, F> {
         }
     }
 
-    /// Gives back the writer. Takes no memory.
+    /// Gives back the writer, which is there between any two calls. Takes no memory.
     pub fn into_writer(self) -> Option<RecordWriter<F>>
         ensures { result ≡ self.entry.writer }
     {

@@ -1,5 +1,6 @@
 //! Lines served by an engine whose workers stay, and of whose steps a record is written. A reply goes out once the blocks of
-//! all steps up to it are written. `street_runs` calls it for `--record` with several workers.
+//! all steps up to it are written. `street_runs` calls it for `--record` with several workers. Workers wait for each other, so that a
+//! run returns is not proved: all promises hold where it does.
 ghost use Rattle.std.specs.Prelude.{◌≡◌, ◌≤◌, IfOk, IfErr, OnOk, Some};
 ghost use Rattle.street_base.specs.Prelude.{most_reads};
 ghost use Rattle.street_stream.specs.Streams.{IsFlushed, IsFresh, IsPrompt};

@@ -1,4 +1,5 @@
-//! Lines served by an engine whose workers stay. `street_runs` calls it for `--endless` with several workers.
+//! Lines served by an engine whose workers stay. `street_runs` calls it for `--endless` with several workers. Workers wait for each
+//! other, so that a run returns is not proved: all promises hold where it does.
 ghost use Rattle.std.specs.Prelude.{◌≡◌, ◌≤◌, IfOk, IfErr, OnOk};
 ghost use Rattle.street_base.specs.Prelude.{most_reads};
 ghost use Rattle.street_stream.specs.Streams.{IsFlushed, IsFresh, IsPrompt};

@@ -17,7 +17,7 @@ shown m = record {
   running = m.running;
 }
 
--- the running row is not full, its sums are those of so many steps, and 32 full rows have room
+-- a meter between two steps: its running row is not full, and sums no more than so many steps can; there is room for 32 full rows
 pub record IsSound (m : Inside) : Type 0 where
   pub some : 1 ≤ m.period
   pub short : m.period ≤ most_period

@@ -9,7 +9,7 @@ use Rattle.street_net.specs.declared.faults.PlanFault.{PlanFault}
 use Rattle.street_net.specs.declared.faults.PlanFault.TheVariants.{Bad as BadPlan, Lane, Starved as StarvedPlan}
 use Rattle.std.specs.List.{list_any, range_with_len}
 
--- where a load is refused, this is its first fault; where memory ran out nothing is told
+-- the fault of a load is the first that the load has; or it is that memory ran out, which says nothing of the load
 abbrev pub TellsFault : Option Fault → NetFault → Type 0
 TellsFault first (BadLoad part at) = first ≡ Some (record { part = part; at = at })
 TellsFault first StarvedLoad = Unit {0}
@@ -26,19 +26,19 @@ TellsEntry net plan at found =
     let is_bad = is_bad_entry net plan at (slice_index plan at) in
     MatchOption found (is_bad ≡ true) (λ link. is_bad ≡ false)
 
--- how many lanes the first link of a plan has
+-- how many lanes the first link of a vehicle's plan has
 abbrev pub entry_lanes : NetSpec → List ℕ → ℕ → ℕ
 entry_lanes net plan lane = (link_at net (entry_of net plan lane).link).lanes
 
--- why a plan is refused that has no bad entry: its first link has not the lane
+-- why a vehicle's plan without a bad entry is refused: its first link has no such lane
 abbrev pub lane_refusal : NetSpec → List ℕ → ℕ → Option PlanFault
 lane_refusal net plan lane = if nat_le (entry_lanes net plan lane) lane then Some Lane else None
 
--- why a plan is refused: its first bad entry, or else the lane
+-- why a vehicle's plan is refused, if it is: its first bad entry; or, where no entry is bad, the lane
 abbrev pub plan_refusal : NetSpec → List ℕ → ℕ → Option PlanFault
 plan_refusal net plan lane = option_map_or (λ at. Some (BadPlan at)) (plan_fault net plan) (lane_refusal net plan lane)
 
--- a plan without such a reason is refused only for lack of memory, and any other for its reason
+-- the refusal of a vehicle's plan is the reason for which the plan is refused; a plan without a reason is refused only for lack of memory
 abbrev pub TellsRefusal : Option PlanFault → PlanFault → Type 0
 TellsRefusal reason StarvedPlan = reason ≡ None
 TellsRefusal reason (BadPlan at) = reason ≡ Some (BadPlan at)

@@ -17,14 +17,14 @@ use Rattle.street_net.specs.declared.nexts.Pair.{Pair}
 
 -- ---- what a step asks of a link
 
--- the brief of a link tells the node that it runs to, and what the list tells
+-- the brief of a link has the position of the node to which the link runs, and the length, lanes and limit of the load
 pub record IsBrief (net : NetSpec) (link : ℕ) (brief : Brief) : Type 0 where
   pub runs_to : node_of net (link_at net link).to ≡ Some brief.end
   pub same_length : brief.length ≡ (link_at net link).length
   pub same_lanes : brief.lanes ≡ (link_at net link).lanes
   pub same_limit : brief.limit ≡ (link_at net link).limit
 
--- for each link its brief
+-- there is a brief for each link, in the order of the links
 pub record AreBriefs (net : NetSpec) (briefs : List Brief) : Type 0 where
   pub one_each : length briefs ≡ length net.links
   pub told : (link : ℕ) (d : Brief) → link < length net.links → IsBrief net link (slice_index_or briefs link d)
@@ -39,7 +39,7 @@ ends_at net node place = option_map_or (λ end. end == node) (node_of net (link_
 abbrev pub in_places : NetSpec → ℕ → List Place
 in_places net node = filter (ends_at net node) (places net)
 
--- for each node the lanes that run to it
+-- there is a list for each node, of the lanes that run to that node
 pub record AreInLanes (net : NetSpec) (listed : List (Vec Place Global)) : Type 0 where
   pub one_each : length listed ≡ length net.nodes
   pub lists : (node : ℕ) (d : Vec Place Global) → node < length net.nodes → (slice_index_or listed node d).items ≡ in_places net node
@@ -58,7 +58,7 @@ seen_turn net t = record { link = unwrap_or (link_of net t.link) 0; lane = t.lan
 abbrev pub is_from : NetSpec → Place → TurnSpec → Bool
 is_from net place t = names_link net t.link place.link && (t.lane == place.lane)
 
--- those of these turns that leave a lane
+-- of these turns those that leave a lane
 abbrev pub turns_from : NetSpec → Place → List TurnSpec → List Turn
 turns_from net place turns = map (seen_turn net) (filter (is_from net place) turns)
 
@@ -81,11 +81,11 @@ pub record IsStart (turns : List Turn) (list start : ℕ) : Type 0 where
   pub before : (k : ℕ) (d : Turn) → k < start → list_number (slice_index_or turns k d) < list
   pub after : (k : ℕ) (d : Turn) → start ≤ k → k < length turns → list ≤ list_number (slice_index_or turns k d)
 
--- for each list, where it starts
+-- there is a start for each list of turns
 abbrev pub AreStarts : List ℕ → List Turn → Type 0
 AreStarts starts turns = (list d : ℕ) → list < length starts → IsStart turns list (slice_index_or starts list d)
 
--- the turns of a list: those from where it starts to where the next one does
+-- the turns of a list, from the position where that list starts to the position where the next list starts
 abbrev pub list_at : List ℕ → List Turn → ℕ → List Turn
 list_at starts turns list = between (slice_index_or starts list 0) (slice_index_or starts (list + 1) 0) turns
 
@@ -96,11 +96,11 @@ pub record IsTurnTable (net : NetSpec) (starts : List ℕ) (turns : List Turn) :
   pub two_each : length starts ≡ 2 * length net.links + 1
   pub cut : AreStarts starts turns
 
--- for each link its brief, for each node the lanes that run to it, and the table of all turns
+-- the tables of a network: a brief for each link, the lanes that run to each node, and all turns with where each list of them starts
 abbrev pub AreTables : NetSpec → List Brief → List (Vec Place Global) → List ℕ → List Turn → Type 0
 AreTables net briefs in_lanes starts turns = AreBriefs net briefs × AreInLanes net in_lanes × IsTurnTable net starts turns
 
--- one of these turns, to this next link; nothing is found where none of them goes there
+-- the turn that was found is one of these turns and leads to the next link; nothing is found where none of these turns leads there
 abbrev pub FindsTurn : List Turn → ℕ → Option Turn → Type 0
 FindsTurn turns next found =
     MatchOption found ((k : ℕ) (d : Turn) → k < length turns → (slice_index_or turns k d).next ≢ next) (λ t. Contains turns t × (t.next ≡ next))
@@ -111,7 +111,7 @@ FindsTurn turns next found =
 abbrev pub has_next : Nexts → ℕ → Bool
 has_next n next = nat_lt next 65535 && (((n.first == next || n.second == next) || n.third == next) || n.fourth == next)
 
--- a lane serves the next link, or it names none
+-- a lane serves the next link, where `next` is the position of a link: it is none from 65535 on
 abbrev pub IsServedOrNone : NetSpec → Place → ℕ → Type 0
 IsServedOrNone net place next = next < 65535 → serves net place next ≡ true
 
@@ -119,7 +119,7 @@ IsServedOrNone net place next = next < 65535 → serves net place next ≡ true
 abbrev pub AreServed : NetSpec → Place → Nexts → Type 0
 AreServed net place n = (next : ℕ) → has_next n next ≡ true → serves net place next ≡ true
 
--- the lanes of this link serve those that are kept of them
+-- the next links that are kept for the two lanes of a link are links that these lanes serve
 pub record IsKept (net : NetSpec) (link : ℕ) (pair : Pair) : Type 0 where
   pub zero : AreServed net (record { link = link; lane = 0 }) pair.zero
   pub one : AreServed net (record { link = link; lane = 1 }) pair.one

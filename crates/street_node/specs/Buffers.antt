@@ -13,7 +13,7 @@ pub record Buffers : Type 0 where
   pub capacity : ℕ
   pub lists : List ℕ
 
--- the list of the buffer of a lane, by its place among the node's lanes
+-- the list of the buffer of a lane, by the lane's position among those that run to the node
 abbrev pub list_of : Buffers → ℕ → ℕ
 list_of b lane = slice_index_or b.lists lane 0
 
@@ -21,13 +21,13 @@ list_of b lane = slice_index_or b.lists lane 0
 abbrev pub node_at : NetSpec → ℕ → NodeSpec
 node_at net node = slice_index_or net.nodes node (record { id = 0; residence = 0; capacity = 0 })
 
--- they are the buffers of a node of this network, one for each lane that runs to it
+-- these are the buffers of a node of the network, one for each lane that runs to the node
 pub record AreOf (net : NetSpec) (b : Buffers) : Type 0 where
   pub node : b.node < length net.nodes
   pub capacity : b.capacity ≡ (node_at net b.node).capacity
   pub one_each : length b.lists ≡ length (in_places net b.node)
 
--- these are lists of the yard, no two the same
+-- these numbers are lists of the yard, no two the same
 pub record AreListed (y : Yard) (ns : List ℕ) : Type 0 where
   pub within : All (λ n. n < length y.lists) ns
   pub apart : IsApart ns

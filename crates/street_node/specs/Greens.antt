@@ -50,7 +50,7 @@ phase_seen duration turns = record { duration = duration; greens = map green_see
 abbrev pub plan_seen : ℕ → List Phase → SignalPlan
 plan_seen offset phases = record { offset = offset; phases = phases }
 
--- the cycle that is kept is that of the phases, and the offset lies in it
+-- the cycle that is kept is that of the phases, and the offset is less than the cycle
 pub record IsCycle (offset kept : ℕ) (phases : List Phase) : Type 0 where
   pub cycle_is : kept ≡ cycle (plan_seen offset phases)
   pub within : offset < kept
@@ -60,7 +60,7 @@ pub record IsSamePhase (phase other : Phase) : Type 0 where
   pub duration : phase.duration ≡ other.duration
   pub greens : IsPermutation other.greens phase.greens
 
--- these phases are, one by one, those that were told
+-- these phases are, one by one, the phases of the command, with links by position
 abbrev pub AreSamePhases : NetSpec → List PhaseSpec → List Phase → Type 0
 AreSamePhases net told phases =
     (k : ℕ) (d : Phase) (e : PhaseSpec) → k < length told → IsSamePhase (slice_index_or phases k d) (phase_of_spec net (slice_index_or told k e))
@@ -79,7 +79,7 @@ shown place next (phase ∷ phases) time = if nat_lt time phase.duration then li
 abbrev pub node_id : NetSpec → ℕ → ℕ
 node_id net node = (slice_index_or net.nodes node (record { id = 0; residence = 0; capacity = 0 })).id
 
--- what a refused plan tells: its first fault; lack of memory only where there is none
+-- the fault of a refused signal plan: the plan's first fault; lack of memory only where the plan has no fault
 abbrev pub TellsSignalFault : Option ℕ → SignalFault → Type 0
 TellsSignalFault first (Bad at) = first ≡ Some at
 TellsSignalFault first Starved = first ≡ None

@@ -14,13 +14,13 @@ use Rattle.street_node.specs.declared.release.Released.{Released}
 
 -- ---- who crosses, by the machine
 
--- a vehicle on its way from a buffer into a lane, as it enters it
+-- a crossing: a vehicle on the way from a buffer into a lane, as it enters that lane
 pub record Crossing : Type 0 where
   pub from : Place
   pub to : Place
   pub vehicle : Vehicle
 
--- who crosses from this buffer: if its front goes, the one who enters the lane that it leads to
+-- the crossing from this buffer, if its front goes in this step: the vehicle, as it enters the lane to which its turn leads
 abbrev pub crossing : Traffic → Place → Option Crossing
 crossing m from =
     if gives m from then option_and_then (λ to. option_map (λ v. record { from = from; to = to; vehicle = v }) (entering m to)) (target m from) else None
@@ -31,7 +31,7 @@ queue_after m from = if gives m from then drop 1 (lane_at m from).queue else (la
 
 -- ---- mouths
 
--- it is a lane of the network whose link begins at this node
+-- the link of this lane begins at this node
 abbrev pub begins_at : NetSpec → ℕ → Place → Bool
 begins_at net node p = option_map_or (λ begin. begin == node) (node_of net (link_at net p.link).from) false
 
@@ -43,7 +43,7 @@ pub record IsAhead (net : NetSpec) (node : ℕ) (p : Place) : Type 0 where
 
 -- ---- what the buffers and the mouths of a node stand for
 
--- these lists stand for queues, one for each lane that runs to the node
+-- these lists stand for queues: the list of each lane that runs to the node for the queue of that lane
 abbrev pub StandFor : NetSpec → ℕ → List ℕ → Yard → (Place → List Queued) → Type 0
 StandFor net node ns y queue = (k : ℕ) (p : Place) → slice_get (in_places net node) k ≡ Some p → queue_of y (slice_index_or ns k 0) ≡ queue p
 
@@ -60,19 +60,19 @@ pub record Shows (net : NetSpec) (node clock : ℕ) (ns : List ℕ) (y : Yard) (
 abbrev pub lane_to : Released → Place
 lane_to r = record { link = r.turn.next; lane = r.turn.next_lane }
 
--- the lane whose buffer it leaves
+-- the lane whose buffer a released vehicle leaves
 abbrev pub lane_from : Released → Place
 lane_from r = record { link = r.turn.link; lane = r.turn.lane }
 
--- who crosses, as it stands in the yard
+-- the crossing of a released vehicle, as the yard has the vehicle
 abbrev pub crossing_in : Yard → Released → Option Crossing
 crossing_in y r = option_map (λ v. record { from = lane_from r; to = lane_to r; vehicle = v }) (vehicle_with y r.key)
 
--- what is kept of a vehicle that is sent on: it is on no list, no faster than the limit, and one further in its plan
+-- the entry of a vehicle that is sent on: on no list, no faster than the limit, and one link further in its plan
 abbrev pub sent_on : ℕ → YardEntry → YardEntry
 sent_on limit e = record e { car = record e.car { speed = min e.car.speed limit; at = e.car.at + 1 }; list = None }
 
--- where a front goes, if it is ready
+-- the lane to which the front of a buffer may go, if it is ready by the clock
 abbrev pub way_out : NetSpec → ℕ → Place → Option Queued → Option Place
 way_out net clock from =
     option_and_then
@@ -81,7 +81,7 @@ way_out net clock from =
     then option_and_then (λ next. option_map (λ t. record { link = next; lane = t.next_lane }) (turn net from next)) (next_link q.vehicle)
     else None)
 
--- the first of a list, with its turn
+-- `r` is the front of list n, the buffer of the lane `from`, with the turn that this vehicle takes
 pub record IsFront (net : NetSpec) (y : Yard) (from : Place) (n : ℕ) (r : Released) : Type 0 where
   pub car : Car
   pub held : car_of y r.key ≡ Some car
@@ -89,7 +89,7 @@ pub record IsFront (net : NetSpec) (y : Yard) (from : Place) (n : ℕ) (r : Rele
   pub next : next_link (vehicle_of car) ≡ Some r.turn.next
   pub turn : option_map (turn_by_position from r.turn.next) (turn net from r.turn.next) ≡ Some r.turn
 
--- a vehicle of list n is sent on
+-- the vehicle of a key on list n is sent on: the list loses it, it is loose, and nothing else is changed
 pub record SendsOn (old new : Yard) (n key limit : ℕ) : Type 0 where
   pub list : list_at new n ≡ without key (list_at old n)
   pub others : (j : ℕ) → j ≢ n → list_at new j ≡ list_at old j
@@ -99,7 +99,8 @@ pub record SendsOn (old new : Yard) (n key limit : ℕ) : Type 0 where
   pub room : new.room ≡ old.room
   pub whole : IsWhole new
 
--- a front that finds the mouth shut stays, and nothing changes; else it is sent on and told, and the mouth closes behind it
+-- the front of list n stays where it finds the mouth of its next lane shut, and nothing is changed. Else it is sent on and added to those released, and
+-- the mouth closes behind it
 pub record SendsFront (net : NetSpec) (n : ℕ) (front : Released) (old new : Yard) (open_old open_new : List Bool) (before after : List Released) : Type 0 where
   pub shut : mouth open_old (lane_to front) ≡ false → (new ≡ old) × (open_new ≡ open_old) × (after ≡ before)
   pub goes : mouth open_old (lane_to front) ≡ true → SendsOn old new n front.key (link_at net front.turn.next).limit
@@ -108,7 +109,7 @@ pub record SendsFront (net : NetSpec) (n : ℕ) (front : Released) (old new : Ya
 
 -- ---- the walk over the first k buffers
 
--- those told are sent on, and no other; only these buffers have changed
+-- the vehicles that are released are sent on, and no other; only these buffers are changed
 pub record Sends (net : NetSpec) (ns : List ℕ) (old new : Yard) (more : List Released) : Type 0 where
   pub sent : All (λ r. entry_at new r.key ≡ option_map (sent_on (link_at net r.turn.next).limit) (entry_at old r.key)) more
   pub rest : (key : ℕ) → All (λ r. key ≢ r.key) more → entry_at new key ≡ entry_at old key
@@ -116,8 +117,8 @@ pub record Sends (net : NetSpec) (ns : List ℕ) (old new : Yard) (more : List R
   pub count : length new.lists ≡ length old.lists
   pub room : new.room ≡ old.room
 
--- of the first k buffers each front went that goes by the machine, in their order, and no other; a mouth is open yet if
--- none of them is ready to go there
+-- of the first k buffers each front that goes by the machine has gone, in the order of the buffers, and no other front; a mouth is still open where no
+-- front of these buffers is ready to go there
 pub record ReleasesFirst (net : NetSpec) (node : ℕ) (ns : List ℕ) (m : Traffic) (k : ℕ) (new : Yard) (mouths : List Bool) (more : List Released) : Type 0 where
   pub queues : (j : ℕ) (p : Place) → j < k → slice_get (in_places net node) j ≡ Some p → queue_of new (slice_index_or ns j 0) ≡ queue_after m p
   pub shut : AreShut m (IsAhead net node) (in_places net node) k mouths

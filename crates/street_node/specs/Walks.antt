@@ -13,7 +13,8 @@ times q ps = sum_by (λ p. one_if (is_place q p)) ps
 abbrev pub AtMostOnce : List Place → Type 0
 AtMostOnce ps = (q : Place) → times q ps ≤ 1
 
--- the order of a walk over buffers: each at most once; and for a lane to which one of them leads, the first is that of the whole network
+-- the order of a walk over buffers: each buffer at most once; and of the buffers that lead to one lane, the first in the walk is the first in the whole
+-- network
 pub record IsWalk (m : Traffic) (ps : List Place) : Type 0 where
   pub once : AtMostOnce ps
   pub firsts : (k : ℕ) (to from : Place) → slice_get ps k ≡ Some from → may_give m to from ≡ true

@@ -136,7 +136,7 @@ fn kept_phases(
     Ok(kept)
 }
 
-/// The same green turns by the positions of their links. Each is a turn to the node with the identifier `node`, which is for the
+/// The green turns of a phase, with their links by position in place of identifier, in the order of the command. Each is a turn to the node with the identifier `node`, which is for the
 /// contract alone.
 ///
 /// # Errors
@@ -163,7 +163,8 @@ fn green_turns(
     Ok(turns)
 }
 
-/// The position of the link with an identifier; 0 where there is none, which a plan without a fault never names.
+/// The position of the link with an identifier; 0 where there is none, which a signal plan without a fault never
+/// names.
 fn position_of(net: &Network, id: u64) -> LinkIx
     ensures { result ≡ position_of net.now id }
 {

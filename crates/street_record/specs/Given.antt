@@ -9,7 +9,7 @@ pub record WriterView (W : Type 0) : Type 0 where
   pub waiting : List ℕ
   pub has_failed : Bool
 
--- since its stream held `start` it was given these bytes: the stream has the first of them, and where no write failed the others wait
+-- since the writer's stream held `start` the writer was given these bytes: the stream has the first of them, and where no write failed the others wait
 pub record IsGiven {W : Type 0} (contents : W → Option (List ℕ)) (start : Option (List ℕ)) (given : List ℕ) (w : WriterView W) : Type 0 where
   pub out : List ℕ
   pub rest : List ℕ
@@ -25,6 +25,6 @@ HasNoRest w = w.has_failed ≡ false → w.waiting ≡ []
 abbrev pub IsFresh : {W : Type 0} → WriterView W → Type 0
 IsFresh w = (w.has_failed ≡ false) × (w.waiting ≡ [])
 
--- whatever it was given, it was then given these bytes too
+-- the writer was given these bytes, behind whatever it had been given
 abbrev pub Adds : {W : Type 0} → (W → Option (List ℕ)) → List ℕ → WriterView W → WriterView W → Type 0
 Adds contents bytes old new = (start : Option (List ℕ)) (given : List ℕ) → IsGiven contents start given old → IsGiven contents start (given ++ bytes) new

@@ -101,7 +101,7 @@ impl<W: Write + Drop> RecordWriter<W> {
     pub fn head(&mut self, head: RecordHead)
         ensures { Adds W.contents (head_bytes head) self.old self.new }
     {
-        self.put(&bytes_of(head.clock, head.rows, head.arrived, head.taken));
+        self.put(&record_bytes(head.clock, head.rows, head.arrived, head.taken));
     }
 
     /// Takes bytes. Those that wait are written first where there is no room for these.
@@ -122,8 +122,8 @@ impl<W: Write + Drop> RecordWriter<W> {
     }
 }
 
-/// Four numbers of 32 bits, least byte first.
-fn bytes_of(first: u32, second: u32, third: u32, fourth: u32) -> [u8; 16]
+/// The bytes of a head or of a row: its four numbers of 32 bits, each with the least byte first.
+fn record_bytes(first: u32, second: u32, third: u32, fourth: u32) -> [u8; 16]
     ensures { result ≡ to_le_bytes w32 first ++ to_le_bytes w32 second ++ to_le_bytes w32 third ++ to_le_bytes w32 fourth }
 {
     let a = first.to_le_bytes();
@@ -141,6 +141,6 @@ impl<W: Write + Drop> RowSink for RecordWriter<W> {
 
     /// Takes a row: 16 bytes at once.
     fn row(&mut self, row: RecordRow) {
-        self.put(&bytes_of(row.car, row.slot, row.spot, row.speed));
+        self.put(&record_bytes(row.car, row.slot, row.spot, row.speed));
     }
 }

@@ -8,7 +8,7 @@ use Rattle.street_rule.specs.Road.{Road, tracks}
 abbrev pub StandsFor : Yard → Road → List LaneState → Type 0
 StandsFor y road lanes = tracks y road ≡ map (λ lane. lane.track) lanes
 
--- whatever lanes of whatever traffic the lists of the link stood for, they now stand for those lanes after lane changes
+-- the lists of a link stand for its lanes after lane changes, whatever lanes of whatever traffic they stood for before
 abbrev pub Changes : Yard → Yard → Road → ℕ → Type 0
 Changes old new road step =
     (m : Traffic) (lanes : List LaneState) → m.network ≡ road.network → m.clock ≡ step

@@ -18,7 +18,7 @@ bits_of test (suc n) = (if test 0 then 1 else 0) + 2 * bits_of (λ i. test (suc 
 abbrev pub is_within : ℕ → ℕ → ChaCha → ℕ → Bool
 is_within lane slow g i = nat_le (word_at 10 g.key g.stream (g.word_pos + i)) (if i % 2 == 0 then lane else slow)
 
--- so many words were asked, and the bits answer for them
+-- the stream was asked for the words that the bits are made of
 pub record Asked (n lane slow : ℕ) (old new : ChaCha) (bits : ℕ) : Type 0 where
   pub answers : bits ≡ bits_of (is_within lane slow old) n
   pub moved : new ≡ record old { word_pos = old.word_pos + n }
@@ -29,7 +29,7 @@ pub record IsKept (key : List ℕ) (dawdle change : ℕ) (kept : KeptDraws) : Ty
   pub dawdles : 0 < dawdle → dawdle < 1000 → (i : ℕ) → i < 32
       → (kept.bits / 2 ^ (2 * i + 1) % 2 == 1) ≡ is_drawn key dawdle kept.number (kept.block * 64 + 2 * i + 1)
 
--- all that is kept is right, whatever its place
+-- all draws that are kept are right, in whatever entry they are kept
 pub record IsSound (key : List ℕ) (seed dawdle change : ℕ) (dawdle_drawn change_drawn : Bool) (kept aside : List KeptDraws) : Type 0 where
   pub of_seed : key ≡ key_of_seed seed
   pub of_dawdle : IsTrue dawdle_drawn ↔ (0 < dawdle) × (dawdle < 1000)

@@ -26,11 +26,11 @@ lane_seen lane = record { list = lane.list.0; closed = lane.closures.now }
 abbrev pub no_lane : RoadLane
 no_lane = record { list = 0; closed = [] }
 
--- the lane of a number
+-- the lane of a road with this number, 0 or 1
 abbrev pub lane_of : Road → ℕ → RoadLane
 lane_of road lane = slice_index_or road.lanes lane no_lane
 
--- how many cells each lane has
+-- how many cells each lane of a road has
 abbrev pub length_of : Road → ℕ
 length_of road = (link_at road.network road.link).length
 
@@ -38,21 +38,21 @@ length_of road = (link_at road.network road.link).length
 abbrev pub track_of : Yard → ℕ → RoadLane → Track
 track_of y count lane = record { cells = cells_at y lane.list count; closed = closed_marks lane.closed count }
 
--- the tracks of all its lanes
+-- the tracks of all lanes of a road
 abbrev pub tracks : Yard → Road → List Track
 tracks y road = map (track_of y (length_of road)) road.lanes
 
--- a list of the yard that stands for the cells of a lane of so many, on which the closed stretches lie
+-- the lane's list is one of the yard's and stands for `count` cells, and the lane's closed stretches lie within these
 pub record IsRoadLane (y : Yard) (count : ℕ) (lane : RoadLane) : Type 0 where
   pub listed : lane.list < length y.lists
   pub stands : IsLane y lane.list count
   pub within : IsWithin lane.closed count
 
--- the lists of its lanes
+-- the lists of a road's lanes
 abbrev pub lists_of : Road → List ℕ
 lists_of road = map (λ lane. lane.list) road.lanes
 
--- the lists of the yard, no two the same, stand for the lanes of the link
+-- each lane of the road is a list of the yard that stands for cells, with its closed stretches within these, and no two lanes are one list
 pub record IsRoad (y : Yard) (road : Road) : Type 0 where
   pub lanes : All (IsRoadLane y (length_of road)) road.lanes
   pub apart : IsApart (lists_of road)

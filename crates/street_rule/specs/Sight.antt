@@ -42,30 +42,30 @@ wishes_with changing lane count gap x speed next =
     then option_map_or (λ n. zone_wish (changing.serves lane n) (changing.serves (1 - lane) n) (nat_lt gap (speed + 1))) next (nat_lt gap (speed + 1))
     else nat_lt gap (speed + 1)
 
--- there is room for it on the other lane, with its front at x and its rear at r: the cells
--- beside are free, the gap ahead long enough to speed up, the gap behind above 5
+-- there is room on the other lane for a vehicle with its front at x and its rear at r: the cells beside are free, the gap ahead is long enough to speed
+-- up, the gap behind is above 5
 abbrev pub has_room : Track → ℕ → ℕ → ℕ → Bool
 has_room other x r speed = are_free other r x && (nat_lt (speed + 1) (free_ahead other x) && nat_lt 5 (free_behind other r))
 
--- the same, by the rear of the vehicle above the front's cell beside, the cell of the one at it or
--- below, and whether the cells beside are open; who covers one of them leaves no gap
+-- as `has_room`, told by the rear of the vehicle above cell x on the other lane, by the cell of the vehicle at x or below, and by whether the cells
+-- beside are open. A vehicle that covers a cell beside makes a gap 0, so it needs no test of its own
 abbrev pub has_room_between : List Bool → Bool → Option ℕ → Option ℕ → ℕ → ℕ → ℕ → Bool
 has_room_between closed is_open above below x r speed =
     is_open && (nat_lt (speed + 1) (gap_up closed above x) && nat_lt 5 (gap_down below r))
 
--- whether the vehicle in cell x goes to the other lane, with the rear of the vehicle ahead of it in this cell
+-- whether a vehicle in cell x goes to the other lane, where the rear of the vehicle ahead of it is in cell `ahead`
 abbrev pub decision : Changing → ℕ → ℕ → List Bool → Option ℕ → Track → ℕ → Vehicle → Bool
 decision changing lane count closed ahead other x v =
     wishes_with changing lane count (gap_up closed ahead x) x v.speed (next_link v) && (has_room other x (rear x v) v.speed && changing.may_change v.number)
 
--- the same, of the vehicle that a key has on a lane of a link, in a step
+-- whether the vehicle of a key, on a lane of a link, goes to the other lane in a step, where the rear of the vehicle ahead is in cell `ahead`
 abbrev pub decision_of : Yard → Road → ℕ → ℕ → List Bool → Option ℕ → ℕ → Vehicle → Bool
 decision_of y road lane step closed ahead key v =
     decision (changing_of road step) lane (length_of road) closed ahead (track_of y (length_of road) (lane_of road (1 - lane))) (cell_at y key) v
 
 -- ---- what the code tells
 
--- whether there is room on a lane, of whatever length it stands for
+-- `fits` tells whether there is room on a lane for a vehicle with its front at x and its rear at r, whatever length the lane's list stands for
 abbrev pub TellsRoom : Yard → RoadLane → ℕ → ℕ → ℕ → Bool → Type 0
 TellsRoom y lane x r speed fits = (count : ℕ) → IsRoadLane y count lane → fits ≡ has_room (track_of y count lane) x r speed
 
@@ -76,12 +76,12 @@ pub record IsOutlook (road : Road) (outlook : Outlook) : Type 0 where
   pub closed : outlook.has_closed ≡ false → outlook.own.closures.now ≡ []
   pub zone : outlook.zone ≡ length_of road - road.network.zone
 
--- whether the vehicle of a key goes to the other lane, by the rear of the one ahead of it and its lane's closed cells
+-- `goes` tells whether the vehicle of a key goes to the other lane, by the rear of the vehicle ahead and by the closed cells of its lane
 abbrev pub Decides : Yard → Road → ℕ → ℕ → Option ℕ → ℕ → Bool → Type 0
 Decides y road lane step ahead key goes =
     (v : Vehicle) → vehicle_with y key ≡ Some v → goes ≡ decision_of y road lane step (closed_marks (lane_of road lane).closed (length_of road)) ahead key v
 
--- the same by the gap ahead of it, whatever closed cells and vehicle ahead leave it
+-- `goes` tells whether the vehicle of a key goes to the other lane, by the gap ahead, whatever closed cells and vehicle ahead make this gap
 abbrev pub DecidesAt : Yard → Road → ℕ → ℕ → ℕ → ℕ → Bool → Type 0
 DecidesAt y road lane step gap key goes =
     (v : Vehicle) (closed : List Bool) (ahead : Option ℕ) → vehicle_with y key ≡ Some v

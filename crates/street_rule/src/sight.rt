@@ -1,5 +1,5 @@
-//! What a driver sees on both lanes, and whether they wish to change and have room for it. `pass.rt` calls it for each vehicle
-//! of a lane.
+//! Whether a driver changes lane: the wish, the room on the other lane, and the draw. `pass.rt` calls it for each vehicle of a lane.
+//! What a driver sees on one lane is reckoned by `street_gap`.
 //!
 //! Source: Rickert, Nagel, Schreckenberg and Latour 1996.
 ghost use Rattle.std.specs.Prelude.{◌≡◌, ℕ, ◌<◌, ◌≤◌, ◌+◌, ◌-◌, nat_lt, Option, length, Some, not, false};
@@ -62,7 +62,7 @@ pub(crate) fn zone_begin(road: &Road<'_>) -> CellNo
     u64::from(road.length()).saturating_sub(zone) as CellNo
 }
 
-/// Whether a vehicle in this cell is slow: its gap up to the obstacle is less than one more than its speed. The gap is 16 where
+/// Whether a vehicle in this cell is slow, and so wishes to change lane: its gap up to the obstacle is less than one more than its speed. The gap is 16 where
 /// nothing is in sight. To reckon it then with a cell far ahead spares a branch that the processor cannot predict where there
 /// are few vehicles on each lane.
 fn is_slow(obstacle: Option<CellNo>, cell: CellNo, speed: Speed) -> bool
@@ -108,7 +108,8 @@ fn may_wish(
 
 /// Whether another lane has room for a vehicle of this speed, beside its cells from its front `cell` to its rear: no cell
 /// beside is closed, the gap ahead is above one more than the speed, and the gap behind above 5 cells. `above` is the last key
-/// there whose vehicle is above `cell`. Whoever covers a cell beside leaves no gap, and is not asked for.
+/// there whose vehicle is above `cell`. A vehicle that covers a cell beside makes a gap 0, so it needs
+/// no test of its own.
 fn fits(
     yard: &Yard,
     other: RoadLane<'_>,

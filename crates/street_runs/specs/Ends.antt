@@ -25,13 +25,13 @@ pub record TellsWriting {W : Type 0} (fault : ProgramFault) (name : Bor (List �
   pub is : fault ≡ fault_of_run kind name name
   pub caused : IsCausedByWriting kind writer
 
--- its tape was written
+-- a desk was ended with this pass, and the tape of its journal was written
 pub record IsTaped (pass : PassView) (before after : Option (List ℕ)) : Type 0 where
   pub journal : List Entry
   pub ended : IsEnded pass journal
   pub written : Appends before after (tape_text journal)
 
--- of its tape the first bytes were written, and memory ran out or the writer has failed
+-- a desk was ended with this pass, and of the tape of its journal the first bytes were written; memory ran out or the writer has failed
 pub record IsTapedInPart {W : Type 0} (pass : PassView) (before after : Option (List ℕ)) (writer : Counted W) (name : Bor (List ℕ))
     (fault : ProgramFault) : Type 0 where
   pub journal : List Entry
@@ -39,7 +39,7 @@ pub record IsTapedInPart {W : Type 0} (pass : PassView) (before after : Option (
   pub begun : IsBegun before after (tape_text journal)
   pub told : TellsWriting fault name writer
 
--- or the desk was left within a turn, and nothing was written
+-- the tape of a desk was not written whole: its first bytes were; or the desk was left within a turn, and nothing was
 abbrev pub StopsTape : {W : Type 0} → PassView → Option (List ℕ) → Option (List ℕ) → Counted W → Counted W → Bor (List ℕ) → ProgramFault → Type 0
 StopsTape pass before after old new name fault =
     IsTapedInPart pass before after new name fault ⊎ ((new ≡ old) × (fault ≡ Write name))

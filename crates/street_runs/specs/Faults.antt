@@ -51,29 +51,30 @@ fault_of_tape tape.NotTape from to = BadTape 1
 fault_of_tape (tape.BadEntry line) from to = BadTape line
 fault_of_tape (tape.Run fault) from to = fault_of_run fault.kind from to
 
--- lines of a kept file are done again; a line that is no command, or is refused, is told as that of a tape
+-- what the program tells where the lines of the file of this name were not done again; a line that is no command, or is refused, is told as a bad line of a tape
 abbrev pub redo_fault : RedoFault → Bor (List ℕ) → ProgramFault
 redo_fault (redo.Run kind) name = fault_of_run kind name name
 redo_fault (redo.BadLine line) name = BadTape line
 
--- a session that is kept in a file reads standard input and writes standard output
+-- how a fault is told of a session that is kept in the file of this name, reads standard input and writes standard output
 abbrev pub IsKeptFault : KeptFault → Bor (List ℕ) → ProgramFault → Type 0
 IsKeptFault (kept.Run kind) name fault = (input : Bor (List ℕ)) × (output : Bor (List ℕ)) × (fault ≡ fault_of_run kind input output)
     × (input.now ≡ codes "standard input") × (output.now ≡ codes "standard output")
 IsKeptFault kept.Log name fault = fault ≡ Write name
 
--- a session does not go on from a file
+-- what the program tells where a session does not go on from the file of this name: why its lines were not done again; a file that has no kept line, as
+-- a bad tape at line 1; a file that was not written anew, as not written
 abbrev pub begin_fault : BeginFault → Bor (List ℕ) → ProgramFault
 begin_fault (begin.Recover fault) name = redo_fault fault name
 begin_fault begin.Foreign name = BadTape 1
 begin_fault begin.Settle name = Write name
 
--- a session that goes on from a file
+-- how a fault is told of a session that goes on from the file of this name
 abbrev pub IsServeFault : ServeFault → Bor (List ℕ) → ProgramFault → Type 0
 IsServeFault (serve.Begin fault) name told = told ≡ begin_fault fault name
 IsServeFault (serve.Session fault) name told = IsKeptFault fault name told
 
--- so with a record in a second file
+-- how a fault is told of a session that goes on from the file of this name, with the record of its steps in a second file
 abbrev pub IsRecordedFault : RecordedFault → Bor (List ℕ) → Bor (List ℕ) → ProgramFault → Type 0
 IsRecordedFault (recorded.Begin fault) name second told = told ≡ begin_fault fault name
 IsRecordedFault (recorded.Open opens.Output) name second told = told ≡ Write second

@@ -25,7 +25,7 @@ module _ {K D V : Type 0} (held synced : K → Option (List ℕ)) (remaining : D
         × KeptWhole MachineRecords (recorded_from mid) (remaining reader.stream) log (outputs writer.stream) new (remaining read.stream) (held kept) (synced kept) (outputs written.stream)
         × (recorder ≡ Some w) × HoldsRecord contents start w new.whole None
 
-  -- so up to a fault: before any line was served; as the stream of the record could not be opened, when the file has its lines alone; or in the session
+  -- a fault ended a kept session with a record: before any line was served; because the stream of the record could not be opened, when the file has its lines alone; or in the session
   abbrev pub KeepsRecordedFirst : K → Counted D → Counted V → K → Counted D → Counted V → RecordedFault → Type 0
   KeepsRecordedFirst file reader writer kept read written (Begin fault) = (now : State)
       × BeginBreaks MachineServes None (held file) (synced file) now (held kept) (synced kept) fault × (read ≡ reader) × (written ≡ writer)

@@ -52,11 +52,11 @@ streetsim_app = with_rules (with_version (new_app (codes "streetsim"))) streetsi
 abbrev pub found_in : List Text → List Row
 found_in = matches_of streetsim_app
 
--- why it refuses them: no kind where it takes them
+-- the kinds of fault for which the parser refuses the words: none where it takes them
 abbrev pub refusals_of : List Text → Kinds
 refusals_of = fault_of streetsim_app
 
--- the scripts that it found, in their order
+-- the scripts that the parser found, in their order
 abbrev pub scripts_in : List Row → List Text
 scripts_in rows = unwrap_or (all_of (codes "script") rows) []
 
@@ -110,7 +110,7 @@ pub record IsFound (rows : List Row) (found : ProgramOptions) : Type 0 where
   pub record_file : option_map (λ s. s.now) found.record_file ≡ first_of (codes "record") rows
   pub scripts : map (λ s. s.now) found.scripts.items ≡ scripts_in rows
 
--- there are options: the parser takes the words, and what it finds is fit
+-- the words ask for these options: the parser takes the words, and what it finds is fit
 pub record IsAsked (words : List Text) (found : ProgramOptions) : Type 0 where
   pub taken : refusals_of words ≡ []
   pub fit : IsFit (found_in words)
@@ -122,8 +122,7 @@ IsUnfit fit (Bad error) = fit → ⊥
 IsUnfit fit (Help error) = ⊥
 IsUnfit fit Starved = ⊤
 
--- there are none: the parser refuses the words, as it does where they ask for help or the version, or takes them and finds what is not fit, or memory
--- ran out
+-- the words ask for no options: the parser refuses them, as it does where they ask for help or the version; or finds what is not fit; or memory ran out
 abbrev pub IsRefused : List Text → WordsFault → Type 0
 IsRefused words (Bad error) = IsAmong (kind_of error) (refusals_of words) ⊎ ((refusals_of words ≡ []) × (IsFit (found_in words) → ⊥))
 IsRefused words (Help error) = IsAmong DisplayHelp (refusals_of words) ⊎ IsAmong DisplayVersion (refusals_of words)

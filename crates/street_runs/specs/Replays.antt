@@ -19,7 +19,7 @@ use Rattle.street_runs.specs.Outputs.{IsBegun}
 abbrev pub count_line : List Entry → List ℕ
 count_line entries = reply_line (reply_to (state_of entries) Count Whole)
 
--- the tape was read to its end
+-- `unread` was read to its end, which left `left`, and is the tape of these calls, each of which can be replayed
 pub record ReadsTape (unread left : Option (List ℕ)) (entries : List Entry) : Type 0 where
   pub text : List ℕ
   pub read : Consumes unread left text
@@ -27,7 +27,7 @@ pub record ReadsTape (unread left : Option (List ℕ)) (entries : List Entry) : 
   pub says : tape_reading text ≡ Some entries
   pub good : AreReplayable None entries
 
--- the replies to the calls of the tape are written, and then what a count answers
+-- the whole tape was read, and the output grew by the replies to its calls and then the reply to a count
 abbrev pub ReplaysCounted : Option (List ℕ) → Option (List ℕ) → Option (List ℕ) → Option (List ℕ) → Type 0
 ReplaysCounted unread before left after =
     (entries : List Entry) × ReadsTape unread left entries × Appends before after (output_from None entries ++ count_line entries)
@@ -43,7 +43,7 @@ abbrev pub CountedStops : Option (List ℕ) → Option (List ℕ) → Option (Li
 CountedStops unread before left after fault =
     ((view : EngineView) × ReplayStops unread before view left after fault) ⊎ CountStops unread before left after fault
 
--- so from one counted stream to another
+-- a replay and its count, from one counted stream to another
 module _ {D W : Type 0} (remaining : D → Option (List ℕ)) (contents : W → Option (List ℕ)) where
   -- the tape was replayed, and the count answered
   abbrev pub ReplaysAndCounts : Counted D → Counted W → Counted D → Counted W → Type 0

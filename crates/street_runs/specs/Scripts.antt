@@ -46,8 +46,7 @@ pub record IsFirstFault {R : Type 0} (scripts : List (Script R)) (names : List (
   pub before : (k : ℕ) (d : Script R) → k < place → IsNone (slice_index_or scripts k d).fault
   pub told : (n : Bor (List ℕ)) → fault ≡ fault_of_run kind (slice_index_or names place n) (slice_index_or names place n)
 
--- no fault is told only where no script has one, and all replies are written and passed on; else the first script's fault, and where none has one, that of
--- standard output
+-- no fault is told only where no script has one, and all replies are written and passed on; else the first script's fault, and where none has one, that of standard output
 abbrev pub Tells : {R W : Type 0} → List (Script R) → List (Bor (List ℕ)) → Option (List ℕ) → Option (List ℕ) → Counted W → Result (Unit {0}) ProgramFault → Type 0
 Tells scripts names before after writer (Ok u) = All (λ s. IsNone s.fault) scripts × Appends before after (replies_of scripts) × IsFlushed writer
 Tells scripts names before after writer (Err fault) =

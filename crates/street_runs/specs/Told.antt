@@ -24,7 +24,7 @@ pub record IsTold (session : ℕ) (replies : List ℕ) (journal : List Entry) : 
   pub served : Goes DeskServes before (lines_of text) replies after
   pub begins : BeginsWith journal after.seen
 
--- so of each script that has no fault, in one history, and these replies are printed
+-- the replies of each script that has no fault are those of one history, and all these replies are printed
 pub record AreTold {W : Type 0} (R : Type 0) (desk : DeskView) (names : List (Bor (List ℕ))) (before after : Option (List ℕ)) (writer : Counted W)
     (journal : List Entry) : Type 0 where
   pub scripts : List (Script R)
@@ -34,7 +34,7 @@ pub record AreTold {W : Type 0} (R : Type 0) (desk : DeskView) (names : List (Bo
   pub each : (k : ℕ) (d : Script R) → k < length scripts → IsNone (slice_index_or scripts k d).fault
       → IsTold k (slice_index_or scripts k d).replies.items journal
 
--- scripts that were played at a desk are told so, where the desk is ended with the pass that comes back from them
+-- scripts that were played at a desk have replies of one history (`AreTold`), where the desk is ended with the pass that comes back from them
 abbrev pub PlayedAreTold : Type 0 → Type 0 → Type 0
 PlayedAreTold R W = (desk : DeskView) (names : List (Bor (List ℕ))) (before after : Option (List ℕ)) (writer : Counted W)
     (told : Result (Unit {0}) ProgramFault) (pass : PassView) (journal : List Entry)

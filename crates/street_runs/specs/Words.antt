@@ -9,7 +9,7 @@ use Rattle.street_runs.specs.declared.words.ProgramOptions.{ProgramOptions}
 use Rattle.street_runs.specs.declared.words.WordsFault.{WordsFault}
 use Rattle.street_runs.specs.declared.words.WordsFault.TheVariants.{Bad, Help, Starved}
 
--- each number is in its range
+-- each number of the options is in its range
 pub record IsInRange (found : ProgramOptions) : Type 0 where
   pub some_workers : 1 ≤ found.workers
   pub few_workers : found.workers ≤ most_workers
@@ -17,22 +17,22 @@ pub record IsInRange (found : ProgramOptions) : Type 0 where
   pub few_calls : found.calls ≤ most_calls
   pub few_scripts : vec_len found.scripts ≤ most_sessions
 
--- a replay stands with neither scripts nor a tape to write, and so does an upgrade; one of them stands without the other
+-- a replay is asked for with neither scripts nor a tape to write, and so is an upgrade; a replay and an upgrade are not asked for together
 pub record StandsTogether (found : ProgramOptions) : Type 0 where
   pub replay : IsSome found.replay → (found.tape ≡ None) × (vec_len found.scripts ≡ 0)
   pub upgrade : IsSome found.upgrade → (found.tape ≡ None) × (found.replay ≡ None) × (vec_len found.scripts ≡ 0)
 
--- there is no desk: no end of calls is asked for, or the session is kept, or its steps are recorded
+-- the run has no desk: no end of calls is asked for, or the session is kept, or its steps are recorded
 abbrev pub IsDeskless : ProgramOptions → Type 0
 IsDeskless found = (found.endless ≡ true) ⊎ IsSome found.keep ⊎ IsSome found.record_file
 
 -- neither scripts nor tapes are there
-abbrev pub HasNoCompany : ProgramOptions → Type 0
-HasNoCompany found = (found.tape ≡ None) × (found.replay ≡ None) × (found.upgrade ≡ None) × (vec_len found.scripts ≡ 0)
+abbrev pub HasNoScriptsOrTapes : ProgramOptions → Type 0
+HasNoScriptsOrTapes found = (found.tape ≡ None) × (found.replay ≡ None) × (found.upgrade ≡ None) × (vec_len found.scripts ≡ 0)
 
--- where there is no desk there are neither scripts nor tapes; only a file in which a session is kept is not synced
+-- a run without a desk is asked for with neither scripts nor tapes; `unsynced` is asked for only together with `keep`
 pub record StandsAlone (found : ProgramOptions) : Type 0 where
-  pub alone : IsDeskless found → HasNoCompany found
+  pub alone : IsDeskless found → HasNoScriptsOrTapes found
   pub unsynced : found.unsynced ≡ true → IsSome found.keep
 
 -- the fault that tells of the parser's error

@@ -1,4 +1,5 @@
-//! The command, as the parser knows it. `command_line.rt` has the words parsed by it.
+//! The words that the program's command line may have, as clap knows them: flags, options with a value, scripts. `command_line.rt`
+//! has the words parsed by it.
 ghost use Rattle.std.specs.Prelude.{◌≡◌, All, IfOk, false, map};
 ghost use Rattle.clap.specs.Words.{app_of, rule_of};
 ghost use Rattle.street_runs.specs.Parser.{flag_rule, option_rule, script_rule, streetsim_app, streetsim_rules};

@@ -4,7 +4,7 @@ ghost use Rattle.std.specs.Str.Parse.{digits_value, without_leading_plus};
 ghost use Rattle.street_base.specs.Prelude.{most_sessions};
 ghost use Rattle.clap.specs.Words.{app_of, first_of, found_of, matched_of, raw_values, rows_of};
 ghost use Rattle.street_runs.specs.Parser.{IsAsked, IsCount, IsCountIfSaid, IsFit, IsFound, IsNumberOf, IsRefused, IsUnfit, is_said, streetsim_app};
-ghost use Rattle.street_runs.specs.Words.{HasNoCompany, IsDeskless, IsInRange, StandsAlone, StandsTogether, TellsBad};
+ghost use Rattle.street_runs.specs.Words.{HasNoScriptsOrTapes, IsDeskless, IsInRange, StandsAlone, StandsTogether, TellsBad};
 
 use crate::command::streetsim;
 use crate::words::{ProgramOptions, WordsFault};
@@ -98,17 +98,17 @@ pub fn options<'a>(alloc: Global, words: &'a [String]) -> Result<ProgramOptions<
     ensures refused { IfErr result (IsRefused (map string_bytes words.now)) }
 {
     match streetsim(alloc) {
-        Ok(mut command) => asked(alloc, &mut command, words),
+        Ok(mut command) => options_by(alloc, &mut command, words),
         Err(_) => Err(WordsFault::Starved),
     }
 }
 
-/// The options that words ask this command for, the program's name first.
+/// The options that these words ask for, as clap's `command` reads them; the first word is the program's name.
 ///
 /// # Errors
 ///
 /// Those of [`options`].
-fn asked<'a>(
+fn options_by<'a>(
     alloc: Global,
     command: &mut Command<'a>,
     words: &'a [String],
@@ -224,8 +224,8 @@ fn is_deskless(found: &ProgramOptions<'_>) -> bool
 /// Whether scripts, a tape to write, a replay or an upgrade are asked for, beside which `--endless`, `--keep` and `--record` may not
 /// stand.
 fn has_company(found: &ProgramOptions<'_>) -> bool
-    ensures not { result ≡ false → HasNoCompany found.now }
-    ensures is { result ≡ true → HasNoCompany found.now → ⊥ }
+    ensures not { result ≡ false → HasNoScriptsOrTapes found.now }
+    ensures is { result ≡ true → HasNoScriptsOrTapes found.now → ⊥ }
 {
     if found.tape.is_some() {
         return true;

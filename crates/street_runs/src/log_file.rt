@@ -66,7 +66,8 @@ impl<'r, 'a, R: Eprint + Files<File = File>> LogFile<'r, 'a, R> {
         Ok(())
     }
 
-    /// Appends what stands behind the first bytes to the file that is named for what was lost, has that stay, and tells it on standard error.
+    /// Appends the bytes of this file from `size` to `length` to the file of its lost bytes (`.lost`), syncs that file and its folder where
+    /// syncs are asked for, and tells it on standard error.
     ///
     /// # Errors
     ///

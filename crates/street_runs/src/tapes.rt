@@ -1,4 +1,4 @@
-//! A tape, replayed or upgraded. `main` calls them for `--replay` and `--upgrade`.
+//! A tape, replayed or upgraded, and the count that is printed behind a replay. `main` calls them for `--replay` and `--upgrade`.
 ghost use Rattle.std.specs.Prelude.{◌≤◌, IfErr, OnOk};
 ghost use Rattle.std.specs.Io.KnownBytes.{Appends};
 ghost use Rattle.street_base.specs.Prelude.{most_reads, most_workers};
@@ -76,7 +76,7 @@ pub fn replay_and_count<R: Threads + Sync, D: Read, W: Write>(
     }
 }
 
-/// Writes the line of a reply, with LF, and flushes.
+/// Writes the line of the reply to the count behind a replay, with LF, and flushes.
 ///
 /// # Errors
 ///

@@ -1,4 +1,5 @@
-//! What the words of the command line come to. `command_line.rt` makes them, and `main` goes by them.
+//! `ProgramOptions` and `WordsFault`: what the words of the command line ask for, or why they ask for nothing. `command_line.rt`
+//! makes them, and `main` goes by them.
 ghost use Rattle.std.specs.Prelude.{◌≡◌};
 ghost use Rattle.street_runs.specs.Words.{ToldOf};
 ghost use Rattle.street_runs.specs.declared.words.WordsFault.TheVariants.{Starved};

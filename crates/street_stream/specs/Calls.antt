@@ -19,7 +19,7 @@ Passes W = W → Result (Unit {0}) Error → W → Type 0
 
 -- ---- the writer
 
--- so many writes, one after another, and no other call
+-- the writer got so many writes, one after another, and no other call
 abbrev pub AreWrites : {W : Type 0} → Takes W → ℕ → W → W → Type 0
 AreWrites takes zero old new = new ≡ old
 AreWrites {W} takes (suc n) old new = (mid : W) × (bytes : List ℕ) × (result : Result ℕ Error) × AreWrites takes n old mid × takes mid bytes result new
@@ -38,18 +38,18 @@ IsCutShort {W} takes passes old new = OnlyWrites takes old new ⊎ ((mid : W) ×
 
 -- ---- the reader
 
--- one read, whatever it gave
+-- the reader got one read, whatever that gave
 abbrev pub IsRead : {R : Type 0} → Gives R → R → R → Type 0
 IsRead gives old new = (buffer : List ℕ) × (result : Result ℕ Error) × (filled : List ℕ) × gives old buffer result new filled
 
--- one read, and it failed
+-- the reader got one read, which failed
 abbrev pub IsReadThatFailed : {R : Type 0} → Gives R → R → R → Type 0
 IsReadThatFailed gives old new = (buffer : List ℕ) × (error : Error) × (filled : List ℕ) × gives old buffer (Err error) new filled
 
 -- ---- both
 
 module _ {R W : Type 0} (gives : Gives R) (takes : Takes W) (passes : Passes W) where
-  -- so many rounds and no other call: each is one read, and behind it writes and a flush that did not fail
+  -- reader and writer got so many rounds, and no other call: each round is one read, and behind it writes and a flush that did not fail
   abbrev pub AreRounds : ℕ → R → W → R → W → Type 0
   AreRounds zero reader writer read written = (read ≡ reader) × (written ≡ writer)
   AreRounds (suc n) reader writer read written =

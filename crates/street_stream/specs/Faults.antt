@@ -10,26 +10,27 @@ use Rattle.street_stream.specs.declared.tally.Tally.{Tally}
 
 -- ---- causes
 
--- where nothing is read: memory ran out, a write or a flush failed, or a write took no byte
+-- the cause of a fault where nothing is read: memory ran out, a write or a flush failed, or a write took no byte
 abbrev pub IsCausedByWriting : {W : Type 0} → FaultKind → Counted W → Type 0
 IsCausedByWriting Write writer = HasFailed writer
 IsCausedByWriting Starved writer = ⊤
 IsCausedByWriting Read writer = ⊥
 IsCausedByWriting Endless writer = ⊥
 
--- each kind comes only where its cause was counted: a read that failed, behind which the writer was not called; so many reads; else as in writing
+-- the cause of a fault of this kind: a read that failed, behind which the writer was not called; as many reads as are allowed; or one of
+-- `IsCausedByWriting`
 abbrev pub IsCaused : {R W : Type 0} → FaultKind → Counted R → Counted W → ℕ → Type 0
 IsCaused Read reader writer reads = (0 < reader.failures) × IsLastRead reader writer
 IsCaused Endless reader writer reads = reader.calls ≡ reads
 IsCaused Write reader writer reads = IsCausedByWriting Write writer
 IsCaused Starved reader writer reads = IsCausedByWriting Starved writer
 
--- a line that ends a run says why itself
+-- the cause why a run ended: that of a fault of the run; a line that ends a run says why itself
 abbrev pub IsCausedBy : {S R W : Type 0} → StopCause S → Counted R → Counted W → ℕ → Type 0
 IsCausedBy (Run kind) reader writer reads = IsCaused kind reader writer reads
 IsCausedBy (Line stop) reader writer reads = ⊤
 
--- so while a line is handled, when nothing is read
+-- the cause why a run ended while a line was handled, when nothing is read
 abbrev pub IsCausedByLine : {S W : Type 0} → StopCause S → Counted W → Type 0
 IsCausedByLine (Run kind) writer = IsCausedByWriting kind writer
 IsCausedByLine (Line stop) writer = ⊤

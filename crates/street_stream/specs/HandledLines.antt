@@ -14,7 +14,7 @@ use Rattle.street_stream.specs.declared.tally.Tally.{Tally}
 
 -- ---- one line
 
--- what a line gives: whether it is a call, and the text of its reply, if it gets one
+-- what a line gives: whether it is a call, and the text of its reply, if there is a reply
 pub record Effect : Type 0 where
   pub is_call : Bool
   pub reply : Option (List ℕ)
@@ -71,11 +71,11 @@ output (e ∷ es) = text_in e.reply ++ output es
 abbrev pub calls_in : List Effect → ℕ
 calls_in es = count_by (λ e. e.is_call) es
 
--- how many of them get a reply
+-- how many of the lines get a reply
 abbrev pub replies_in : List Effect → ℕ
 replies_in es = count_by has_reply es
 
--- the tally of lines, and of what they gave
+-- the tally is that of these lines, and of the replies and calls that these lines gave
 pub record IsTally (tally : Tally) (ls : List (List ℕ)) (es : List Effect) : Type 0 where
   pub lines : tally.lines ≡ length ls
   pub calls : tally.calls ≡ calls_in es
@@ -101,7 +101,7 @@ pub record Whole {S : Type 0} (takes : S → List ℕ → Effect → S → Type 
 abbrev pub EndsLine : List ℕ → List ℕ → Type 0 → Type 0
 EndsLine text rest at_end = ((front : List ℕ) × (text ≡ front ++ 10 ∷ [])) ⊎ ((rest ≡ []) × at_end)
 
--- this line of the text follows these, and was read to its end
+-- `line` of the text follows the lines `done`, and was read to its end
 pub record IsNext (at_end : Type 0) (text : List ℕ) (done : List (List ℕ)) (line : List ℕ) : Type 0 where
   pub first : List ℕ
   pub rest : List ℕ
@@ -128,14 +128,15 @@ pub record Breaks {S Stop : Type 0} (takes : S → List ℕ → Effect → S →
   pub mid : S
   pub first_lines : lines_of text ≡ done ++ rest
   pub handled : Handles takes start done effects mid
-  -- what is written of it
+  -- how much of the output of those lines is written
   pub within : tally.bytes ≤ length (output effects)
   pub written : Appends before after (take tally.bytes (output effects))
   pub calls : tally.calls ≡ calls_in effects
   pub replies : CountsReplies tally (output effects) (replies_in effects)
   pub leaves : Leaves stops at_end text done effects mid now cause tally
 
--- so of what was read
+-- what a run left that was ended before the end of its input: of the text that was read the first lines were handled, and of their output the first
+-- bytes are written
 pub record Broke {S Stop : Type 0} (takes : S → List ℕ → Effect → S → Type 0) (stops : S → List ℕ → Stop → S → Type 0)
     (start : S) (unread before : Option (List ℕ)) (now : S) (left after : Option (List ℕ)) (cause : StopCause Stop) (tally : Tally) : Type 0 where
   pub text : List ℕ
@@ -156,7 +157,7 @@ module _ {S Stop D W : Type 0} (meaning : Meaning S Stop) (remaining : D → Opt
       Broke meaning.takes meaning.stops old (remaining reader.stream) (contents writer.stream) new (remaining read.stream)
       (contents written.stream) halt.cause halt.tally
 
-  -- what became of a run of so many reads at most: all lines were handled; or the first, and a fault comes only where its cause was counted
+  -- what became of a run of at most `reads` reads: all lines were handled; or the first lines were, and the fault has a cause that was counted
   pub record Drives (reads : ℕ) (old : S) (reader : Counted D) (writer : Counted W) (run : Result Tally (Halt Stop))
       (new : S) (read : Counted D) (written : Counted W) : Type 0 where
     pub whole : IfOk run (HandlesAll old reader writer new read written)

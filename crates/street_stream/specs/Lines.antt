@@ -21,7 +21,7 @@ if_any (x ∷ xs) = (x ∷ xs) ∷ []
 abbrev pub lines_of : List ℕ → List (List ℕ)
 lines_of text = (cut text).0 ++ if_any (cut text).1
 
--- no byte of it is LF
+-- no byte of these is LF: they lie inside a line
 abbrev pub IsInsideLine : List ℕ → Type 0
 IsInsideLine bytes = (k : ℕ) → k < length bytes → slice_index bytes k ≢ 10
 
@@ -34,7 +34,7 @@ abbrev pub is_blank : List ℕ → Bool
 is_blank [] = true
 is_blank (b ∷ bs) = is_space b && is_blank bs
 
--- what is kept of a line that may have `most` bytes: enough to tell that it is too long
+-- what is kept of a line that may have `most` bytes: one byte more at most, which is enough to tell that the line is too long
 unfoldable pub kept : ℕ → List ℕ → List ℕ
 kept most line = take (most + 1) line
 

@@ -9,12 +9,12 @@ use Rattle.street_stream.specs.declared.counted.Counted.{Counted}
 use Rattle.street_stream.specs.declared.open_text.OpenText.{OpenText}
 use Rattle.street_stream.specs.declared.tally.Tally.{Tally}
 
--- these are the bytes of the line that has not ended
+-- `line` has the bytes of the text's last line, which has not ended
 pub record IsOpen (most : ℕ) (text : OpenText) (line : List ℕ) : Type 0 where
   pub part : IsPart most text.progress.part line
   pub inside : IsInsideLine line
 
--- these lines were handled, their replies are in the writer, and they are counted
+-- these lines were handled and counted, and their replies are in the writer
 pub record HandlesTo {S Stop W : Type 0} (meaning : Meaning S Stop) (contents : W → Option (List ℕ)) (old : S) (writer : Counted W) (ls : List (List ℕ))
     (new : S) (written : Counted W) (tally : Tally) : Type 0 where
   pub effects : List Effect

@@ -23,7 +23,7 @@ pub record Grows (old new : Tally) (n : ℕ) : Type 0 where
   pub lines : new.lines ≤ old.lines + n
   pub within : IsWithin new
 
--- a tally counts one line more, and what it gave
+-- a tally counts one line more, and what that line gave
 pub record Counts (old new : Tally) (e : Effect) : Type 0 where
   pub lines : new.lines ≡ old.lines + 1
   pub calls : new.calls ≡ old.calls + (if e.is_call then 1 else 0)
@@ -72,13 +72,13 @@ module _ {S : Type 0} (takes : S → List ℕ → Effect → S → Type 0) (long
       (effects : List Effect) × Handles takes start (cut seen).0 effects now × Appends before after (output effects)
       × IsPart longest progress.part (cut seen).1 × IsTally progress.tally (cut seen).0 effects
 
-  -- from one such state to the next
+  -- whatever a text had led to before these bytes, the text with them leads to the new state (`Stands`)
   abbrev pub Feeds : S → Option (List ℕ) → Progress → List ℕ → S → Option (List ℕ) → Progress → Type 0
   Feeds old written progress bytes new written_then fed =
       (start : S) (before : Option (List ℕ)) (seen : List ℕ) → Stands start before seen old written progress
       → Stands start before (seen ++ bytes) new written_then fed
 
-  -- the text ends
+  -- whatever a text had led to, at its end all of its lines are handled and counted
   abbrev pub Finishes : S → Option (List ℕ) → Progress → S → Option (List ℕ) → Tally → Type 0
   Finishes old written progress new written_then tally =
       (start : S) (before : Option (List ℕ)) (seen : List ℕ) → Stands start before seen old written progress
@@ -106,7 +106,7 @@ module _ {S Stop W : Type 0} (meaning : Meaning S Stop) (contents : W → Option
   TakesTo old writer part tally new written counted =
       Taken meaning.takes meaning.longest old (contents writer.stream) part tally new (contents written.stream) counted
 
-  -- it ended the run, or its reply is not whole in the writer
+  -- the line of this part ended the run, or its reply is not whole in the writer
   abbrev pub TakeStops : S → Counted W → PartialLine → Tally → S → Counted W → Tally → StopCause Stop → Type 0
   TakeStops old writer part tally new written counted cause = (line : List ℕ) → IsPart meaning.longest part line
       → LineBreaks meaning.takes meaning.stops old (contents writer.stream) tally line new (contents written.stream) cause counted
@@ -116,7 +116,7 @@ module _ {S Stop W : Type 0} (meaning : Meaning S Stop) (contents : W → Option
   FeedsTo old writer progress bytes new written fed =
       Feeds meaning.takes meaning.longest old (contents writer.stream) progress bytes new (contents written.stream) fed
 
-  -- the run ended while they were fed
+  -- the run ended while these bytes were fed; of the replies the first bytes are in the writer
   abbrev pub FeedStops : S → Counted W → Progress → List ℕ → S → Counted W → Progress → StopCause Stop → Type 0
   FeedStops old writer progress bytes new written fed cause =
       FeedBreaks meaning.takes meaning.stops meaning.longest old (contents writer.stream) progress bytes new (contents written.stream) cause fed.tally
@@ -126,12 +126,12 @@ module _ {S Stop W : Type 0} (meaning : Meaning S Stop) (contents : W → Option
   FinishesTo old writer progress new written ended =
       Finishes meaning.takes meaning.longest old (contents writer.stream) progress new (contents written.stream) ended.tally
 
-  -- the run ended there by a fault, or by that line
+  -- the run ended at the end of the text, by a fault or by the last line
   abbrev pub FinishStops : S → Counted W → Progress → S → Counted W → Progress → StopCause Stop → Type 0
   FinishStops old writer progress new written ended cause =
       FinishBreaks meaning.takes meaning.stops meaning.longest old (contents writer.stream) progress new (contents written.stream) cause ended.tally
 
-  -- what became of the line of this part: it was handled and counted; or it ended the run, or its reply is not whole, and why is told
+  -- what became of the line of this part: the line was handled and counted; or it ended the run; or its reply is not whole. The result says which, and why
   pub record TakesLine (old : S) (writer : Counted W) (part : PartialLine) (tally : Tally) (done : Result (Unit {0}) (StopCause Stop))
       (new : S) (written : Counted W) (counted : Tally) : Type 0 where
     pub taken : OnOk done (TakesTo old writer part tally new written counted)
@@ -139,7 +139,7 @@ module _ {S Stop W : Type 0} (meaning : Meaning S Stop) (contents : W → Option
     pub broken : IfErr done (TakeStops old writer part tally new written counted)
     pub caused : IfErr done (λ cause. IsCausedByLine cause written)
 
-  -- what became of these bytes, in which so many lines end at most: they were fed, or the run ended in them, and why is told
+  -- what became of these bytes, in which at most `lines` lines end: all were fed, or the run ended in them. The result says which, and why
   pub record FeedsBytes (old : S) (writer : Counted W) (progress : Progress) (bytes : List ℕ) (lines : ℕ) (done : Result (Unit {0}) (StopCause Stop))
       (new : S) (written : Counted W) (fed : Progress) : Type 0 where
     pub feeds : OnOk done (FeedsTo old writer progress bytes new written fed)
@@ -147,7 +147,7 @@ module _ {S Stop W : Type 0} (meaning : Meaning S Stop) (contents : W → Option
     pub broken : IfErr done (FeedStops old writer progress bytes new written fed)
     pub caused : IfErr done (λ cause. IsCausedByLine cause written)
 
-  -- what became of the end of the text: a last line without an end, if there was one, was handled, or it ended the run, and why is told
+  -- what became of the end of the text: a last line without an end, if there was one, was handled, or it ended the run. The result says which, and why
   pub record FinishesText (old : S) (writer : Counted W) (progress : Progress) (done : Result (Unit {0}) (StopCause Stop))
       (new : S) (written : Counted W) (over : Progress) : Type 0 where
     pub finishes : OnOk done (FinishesTo old writer progress new written over)
@@ -155,7 +155,7 @@ module _ {S Stop W : Type 0} (meaning : Meaning S Stop) (contents : W → Option
     pub broken : IfErr done (FinishStops old writer progress new written over)
     pub caused : IfErr done (λ cause. IsCausedByLine cause written)
 
--- how a run ended that has come so far
+-- the result of a run that has come so far: its tally, and the cause if it broke off
 abbrev pub ended : {T Stop : Type 0} → Result T (StopCause Stop) → Progress → Result Tally (Halt Stop)
 ended (Ok done) progress = Ok progress.tally
 ended (Err cause) progress = Err (record { cause = cause; tally = progress.tally })

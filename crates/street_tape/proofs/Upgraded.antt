@@ -128,9 +128,6 @@ module _ (start : Upgrader) (fresh : start.tape.rest ≡ None) (none : start.lin
   pub calls_fit : length now.lines.items < 2 ^ 64 → tally.calls < 2 ^ 64
   calls_fit few = let all = kept.1 in omega (arith, all.calls, few_calls kept.0, ap length all.lines, few)
 
-  pub no_bytes : tally.bytes ≡ 0
-  no_bytes = kept.1.bytes
-
   text_is : (es : List Entry) → AreKept es → head_line tally.calls ++ now.lines.items ≡ tape_text es
   text_is es k = ap (λ n. head_line n ++ now.lines.items) k.calls ∙ ap (λ (t : List ℕ). head_line (length es) ++ t) k.lines
 

@@ -73,17 +73,17 @@ abbrev pub is_sized : TapeHead → Bool
 is_sized Version1 = false
 is_sized (Version2 calls) = true
 
--- what it tells of the lines after a call, if one may follow
+-- what the first line of a tape tells of the lines behind a call, if a call may follow
 abbrev pub after_call : TapeHead → Option TapeHead
 after_call Version1 = Some Version1
 after_call (Version2 calls) = if calls == 0 then None else Some (Version2 (calls - 1))
 
--- so many calls are not too many
+-- a tape with this first line may have n calls: they are not too many
 abbrev pub may_have : TapeHead → ℕ → Bool
 may_have Version1 n = true
 may_have (Version2 calls) n = nat_le n calls
 
--- nor too few
+-- a tape with this first line is whole after n calls: they are not too few
 abbrev pub is_whole : TapeHead → ℕ → Bool
 is_whole Version1 n = true
 is_whole (Version2 calls) n = n == calls
@@ -146,7 +146,7 @@ abbrev pub calls_in : List (List ℕ) → Option (List Entry)
 calls_in [] = Some []
 calls_in (l ∷ ls) = calls_after (head_reading l) ls
 
--- as many of them as the first line says
+-- the calls of these lines, where they are as many as the first line says
 abbrev pub all_after : Result TapeHead LineFault → List (List ℕ) → Option (List Entry)
 all_after (Ok head) ls = if is_whole head (length ls) then entries_of (is_sized head) ls else None
 all_after (Err f) ls = None
@@ -168,7 +168,7 @@ OutcomeFits Whole = ⊤
 OutcomeFits Starved = ⊤
 OutcomeFits (Short k) = IsWord k
 
--- each number of the call is one of 64 bits, it can have its outcome, and its line is no longer than a tape line may be
+-- a call fits a tape: each of its numbers is one of 64 bits, it can have its outcome, and its line is no longer than a line of a tape may be
 pub record EntryFits (e : Entry) : Type 0 where
   pub session : IsWord e.session
   pub command : Fits e.command
@@ -182,11 +182,11 @@ pub record IsOfWords (e : Entry) : Type 0 where
   pub command : Fits e.command
   pub outcome : OutcomeFits e.outcome
 
--- its line is no longer than a tape line may be
+-- the line of a call is no longer than a line of a tape may be
 abbrev pub HasTapeLine : Entry → Type 0
 HasTapeLine e = length (compact_text (entry_data e)) ≤ longest_tape_line
 
--- so of each call, and their number is one of 64 bits
+-- each call fits a tape (`EntryFits`), and the number of the calls is one of 64 bits
 pub record TapeFits (es : List Entry) : Type 0 where
   pub few : IsWord (length es)
   pub each : All EntryFits es

@@ -37,7 +37,7 @@ pub record ReplaysWhole (unread before : Option (List ℕ)) (view : EngineView) 
 abbrev pub HasBegun : State → Command → EngineView → Type 0
 HasBegun m c view = StandsFor view m ⊎ ((k : ℕ) × MayBeShort m c k × StandsFor view (short_state m k))
 
--- so of the call of the line that follows these
+-- the engine stands for the state after these calls; or the line that follows is an advance, of which perhaps the first steps were made
 abbrev pub HasBegunNext : State → List (List ℕ) → List Entry → List (List ℕ) → EngineView → Type 0
 HasBegunNext start done es [] view = StandsFor view (state_from start es)
 HasBegunNext start done es (l ∷ ls) view =
@@ -55,7 +55,8 @@ pub record BreaksAfter (start : State) (before : Option (List ℕ)) (done rest :
   pub calls : tally.calls ≡ length entries
   pub replies : CountsReplies tally (output_from start entries) (length entries)
 
--- so of the lines of a text; at a read the replies are whole, and those of all lines read to their end
+-- what a fault of a run leaves of a text: the calls of its first lines are applied, and the first bytes of their replies written. Where a read failed
+-- the replies are whole, and are those of all lines that were read to their end
 pub record Breaks (start : State) (before : Option (List ℕ)) (text : List ℕ) (view : EngineView)
     (after : Option (List ℕ)) (kind : FaultKind) (tally : Tally) : Type 0 where
   pub done : List (List ℕ)
@@ -68,20 +69,20 @@ pub record Breaks (start : State) (before : Option (List ℕ)) (text : List ℕ)
 
 -- ---- all faults
 
--- what each leaves: nothing of what is no tape; of a bad tape the calls before its first bad line, with their replies
+-- what each fault of a replay leaves: nothing of what is no tape; of a bad tape the calls before its first bad line, with their replies
 abbrev pub TapeBreaks : Type 0 → State → Option (List ℕ) → List ℕ → EngineView → Option (List ℕ) → TapeFault → Type 0
 TapeBreaks at_end start before text view after NotTape = IsNoTape at_end text × StandsFor view start × Appends before after []
 TapeBreaks at_end start before text view after (BadEntry line) =
     (es : List Entry) × IsBadAt at_end (AreReplayable start) text es line × StandsFor view (state_from start es) × Appends before after (output_from start es)
 TapeBreaks at_end start before text view after (Run fault) = Breaks start before text view after fault.kind fault.tally
 
--- so of what was read
+-- what a replay left that a fault ended, of the text that was read
 pub record ReplayStops (unread before : Option (List ℕ)) (view : EngineView) (left after : Option (List ℕ)) (fault : TapeFault) : Type 0 where
   pub text : List ℕ
   pub read : Consumes unread left text
   pub breaks : TapeBreaks (IsAtEnd left) None before text view after fault
 
--- each kind comes only where its cause was counted; a tape is bad by itself
+-- a fault of a replay or an upgrade comes only where its cause was counted; a bad tape has no other cause
 abbrev pub IsTapeCaused : {R W : Type 0} → TapeFault → Counted R → Counted W → ℕ → Type 0
 IsTapeCaused NotTape reader writer reads = ⊤
 IsTapeCaused (BadEntry line) reader writer reads = ⊤

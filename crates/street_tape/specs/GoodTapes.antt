@@ -23,7 +23,7 @@ IsNeverBad tape = (text more : List ℕ) → text ++ more ≡ tape
     → (before : Option (List ℕ)) (view : EngineView) (after : Option (List ℕ)) (fault : TapeFault)
     → TapeBreaks (more ≡ []) None before text view after fault → IsOfRun fault
 
--- nor is an upgrade
+-- no beginning of this tape makes an upgrade refuse it
 abbrev pub IsNeverRefused : List ℕ → Type 0
 IsNeverRefused tape = (text more : List ℕ) → text ++ more ≡ tape
     → (before after : Option (List ℕ)) (fault : TapeFault)

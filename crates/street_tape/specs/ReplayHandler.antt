@@ -45,7 +45,7 @@ abbrev pub CallReplays : EngineView → Command → Outcome → Reply → Engine
 CallReplays before c o reply after =
     (m : State) → StandsFor before m → IsReplayable m c o × (reply ≡ reply_to m c o) × StandsFor after (state_after m c o)
 
--- so of an advance of which the clock alone is asked: one that is done whole can always be replayed
+-- an advance is applied, of which the clock alone is asked; one that is done whole can always be replayed
 abbrev pub AdvanceGoes : EngineView → ℕ → Option ℕ → EngineView → Type 0
 AdvanceGoes before steps clock after =
     (m : State) → StandsFor before m → (clock ≡ clock_in (reply_to m (Advance steps) Whole)) × StandsFor after (state_after m (Advance steps) Whole)

@@ -12,13 +12,13 @@ use Rattle.street_desk.specs.History.{answers_from}
 use Rattle.street_stream.specs.declared.tally.Tally.{Tally}
 use Rattle.street_text.specs.ReplyLines.{reply_line}
 
--- a call can be replayed, but one that says a number of steps which the machine would not make there as a part of it
+-- a call can be replayed at this state: any that is whole or starved; a short one where the machine may stop after so many steps
 abbrev pub IsReplayable : State → Command → Outcome → Type 0
 IsReplayable m c Whole = ⊤
 IsReplayable m c Starved = ⊤
 IsReplayable m c (Short k) = MayBeShort m c k
 
--- each of these calls, one after another
+-- each of these calls can be replayed, one after another
 abbrev pub AreReplayable : State → List Entry → Type 0
 AreReplayable m [] = ⊤
 AreReplayable m (e ∷ es) = IsReplayable m e.command e.outcome × AreReplayable (state_after m e.command e.outcome) es

@@ -31,7 +31,7 @@ abbrev pub may_end : Option TapeHead → Bool
 may_end None = false
 may_end (Some head) = is_whole head 0
 
--- the call of a line, if it says one
+-- the call of a line, as a list; none where the line says no call
 abbrev pub calls_of : Option Entry → List Entry
 calls_of None = []
 calls_of (Some e) = e ∷ []

@@ -1,6 +1,5 @@
 -- The text of a tape.
--- A first line with the version and the number of calls, then a line for each call of the journal. Keys stand in byte order,
--- and each line ends with LF.
+-- A first line with the version and the number of calls, then a line for each call of the journal. Keys stand in byte order, and each line ends with LF.
 use Rattle.std.specs.Prelude.{ℕ, List, [], ◌∷◌, ◌++◌, length, codes}
 use Rattle.serde_json.specs.Data.{Data, number, unsigned, string, object, no_members, member}
 use Rattle.street_base.specs.declared.reply.Outcome.{Outcome}
@@ -48,7 +47,7 @@ tape_text es = head_line (length es) ++ entry_lines es
 abbrev pub old_head_data : Data
 old_head_data = object (number_at (codes "tape") 1 no_members)
 
--- its first line does not say how many calls follow
+-- the first line of a tape of version 1, which does not say how many calls follow
 unfoldable pub old_head_line : List ℕ
 old_head_line = line_of old_head_data
 

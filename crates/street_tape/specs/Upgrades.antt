@@ -60,7 +60,7 @@ UpgradeBreaks at_end before text after NotTape = IsNoTape at_end text × Appends
 UpgradeBreaks at_end before text after (BadEntry line) = (es : List Entry) × IsBadAt at_end (λ es. ⊤) text es line × Appends before after []
 UpgradeBreaks at_end before text after (Run fault) = Cuts at_end before text after fault.kind fault.tally
 
--- so of what was read
+-- what an upgrade left that a fault ended, of the text that was read
 pub record UpgradeStops (unread before left after : Option (List ℕ)) (fault : TapeFault) : Type 0 where
   pub text : List ℕ
   pub read : Consumes unread left text

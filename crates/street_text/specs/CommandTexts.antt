@@ -27,12 +27,12 @@ stretch_data_of name link lane first last =
 abbrev pub car_data_of : List ℕ → ℕ → Data
 car_data_of name car = object (number_at (codes "car") car (text_at (codes "cmd") name no_members))
 
--- a vehicle enters whose size is told: it is not 1
+-- the text of this command has a size: it is the entry of a vehicle whose size is not 1
 abbrev pub tells_size : Command → Bool
 tells_size (Enter plan lane depart size) = not (size == 1)
 tells_size c = false
 
--- the size of a vehicle, where it is not 1
+-- the members of an `enter` with the size of the vehicle, where the size is not 1
 abbrev pub size_at : ℕ → Members → Members
 size_at size more = if size == 1 then more else number_at (codes "size") size more
 

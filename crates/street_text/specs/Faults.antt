@@ -10,7 +10,7 @@ number_of NotJson = Some 20
 number_of BadCommand = Some 21
 number_of Starved = None
 
--- its name
+-- the name of a line's fault, as the reply spells it
 abbrev pub name_of : LineFault → List ℕ
 name_of LineTooLong = codes "LineTooLong"
 name_of NotJson = codes "NotJson"

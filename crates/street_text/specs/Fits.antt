@@ -16,19 +16,19 @@ IsWord n = n < 2 ^ 64
 abbrev pub NodeFits : NodeSpec → Type 0
 NodeFits n = IsWord n.id × IsWord n.residence × IsWord n.capacity
 
--- so of a link
+-- each number of a link is one of 64 bits
 abbrev pub LinkFits : LinkSpec → Type 0
 LinkFits l = IsWord l.id × IsWord l.from × IsWord l.to × IsWord l.lanes × IsWord l.length × IsWord l.limit
 
--- so of a turn
+-- each number of a turn is one of 64 bits
 abbrev pub TurnFits : TurnSpec → Type 0
 TurnFits t = IsWord t.link × IsWord t.lane × IsWord t.next × IsWord t.next_lane
 
--- so of a green turn
+-- each number of a green turn is one of 64 bits
 abbrev pub GreenFits : GreenSpec → Type 0
 GreenFits g = IsWord g.link × IsWord g.lane × IsWord g.next
 
--- so of a phase, and of its green turns
+-- each number of a phase and of its green turns is one of 64 bits
 abbrev pub PhaseFits : PhaseSpec → Type 0
 PhaseFits p = IsWord p.duration × All GreenFits p.greens
 

@@ -16,7 +16,7 @@ flat_data (Number n) = number_data n
 flat_data (Text text) = string text.now
 flat_data (Numbers list) = array (numbers list.items)
 
--- these members put to others, one after another, so that the last of a name stays
+-- members with these ones put to them, one after another: of two with one name the later one stays
 abbrev pub put_flat : List FlatMember → Members → Members
 put_flat [] found = found
 put_flat (m ∷ ms) found = put_flat ms (put m.name.now (flat_data m.value) found)
@@ -29,10 +29,10 @@ flat_members ms = put_flat ms no_members
 abbrev pub flat_object : FlatLine → Data
 flat_object line = object (flat_members line.members.items)
 
--- the items of a list are read up to its end, at any depth, and these tokens are left
+-- the items of a list are read from these tokens up to the list's end, at any depth, and the tokens `rest` are left
 abbrev pub ReadsItems : List Token → Items → List Token → Type 0
 ReadsItems ts found rest = (depth : ℕ) → converted of_items (items (value depth) (length ts) ts) ≡ Some (found, rest)
 
--- so the members of an object
+-- the members of an object are read from these tokens up to the object's end, at any depth, and the tokens `rest` are left
 abbrev pub ReadsMembers : List Token → Members → List Token → Type 0
 ReadsMembers ts found rest = (depth : ℕ) → converted (λ ms. of_members ms no_members) (members (value (suc depth)) (length ts) ts) ≡ Some (found, rest)

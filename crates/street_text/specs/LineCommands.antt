@@ -37,7 +37,7 @@ list_in entry d = option_and_then (entries_of entry) (as_array d)
 unfoldable pub row_in : ℕ → Data → Option (List ℕ)
 row_in n d = option_and_then (λ ns. if length ns == n then Some ns else None) (list_in number_in d)
 
--- a node of its three numbers
+-- a node, made of its three numbers: identifier, residence, capacity
 abbrev pub node_from : List ℕ → Option NodeSpec
 node_from (a ∷ b ∷ c ∷ []) = Some (record { id = a; residence = b; capacity = c })
 node_from _ = None
@@ -46,7 +46,7 @@ node_from _ = None
 unfoldable pub node_in : Data → Option NodeSpec
 node_in d = option_and_then node_from (row_in 3 d)
 
--- a link of its six numbers
+-- a link, made of its six numbers: identifier, from, to, lanes, length, limit
 abbrev pub link_from : List ℕ → Option LinkSpec
 link_from (a ∷ b ∷ c ∷ d ∷ e ∷ f ∷ []) = Some (record { id = a; from = b; to = c; lanes = d; length = e; limit = f })
 link_from _ = None
@@ -55,7 +55,7 @@ link_from _ = None
 unfoldable pub link_in : Data → Option LinkSpec
 link_in d = option_and_then link_from (row_in 6 d)
 
--- a turn of its four numbers
+-- a turn, made of its four numbers: link, lane, next link, next lane
 abbrev pub turn_from : List ℕ → Option TurnSpec
 turn_from (a ∷ b ∷ c ∷ d ∷ []) = Some (record { link = a; lane = b; next = c; next_lane = d })
 turn_from _ = None
@@ -64,7 +64,7 @@ turn_from _ = None
 unfoldable pub turn_in : Data → Option TurnSpec
 turn_in d = option_and_then turn_from (row_in 4 d)
 
--- a green turn of its three numbers
+-- a green turn, made of its three numbers: link, lane, next link
 abbrev pub green_from : List ℕ → Option GreenSpec
 green_from (a ∷ b ∷ c ∷ []) = Some (record { link = a; lane = b; next = c })
 green_from _ = None
@@ -231,7 +231,7 @@ abbrev pub named_in : List (List ℕ × (Data → Option Command)) → List ℕ 
 named_in [] name d = None
 named_in ((key, reads) ∷ rest) name d = if bytes_eq name key then reads d else named_in rest name d
 
--- the command of this name, whichever it is; sizes are read or not
+-- the command of this name that an object says, if it says one; the size of a vehicle is read or not
 unfoldable pub named : Bool → List ℕ → Data → Option Command
 named sized name d = named_in (names sized) name d
 
@@ -277,7 +277,7 @@ abbrev pub Gives : {Y : Type 0} → Result Y LineFault → Result Y LineFault �
 Gives (Ok x) wanted = wanted ≡ Ok x
 Gives (Err e) wanted = Fails e wanted
 
--- so where the value of a line was wanted, of which too long a line is no fault
+-- the fault tells why a line has not the value that was wanted: it is no JSON, or memory ran out
 abbrev pub FailsValue : LineFault → Option Data → Type 0
 FailsValue Starved wanted = Unit {0}
 FailsValue LineTooLong wanted = ⊥

@@ -23,11 +23,11 @@ abbrev pub is_absent : Member → Bool
 is_absent (Optional None) = true
 is_absent m = false
 
--- this member put to others, if it is not absent
+-- members with this one put to them, if it is not absent
 abbrev pub put_member : List ℕ → Member → Members → Members
 put_member key m found = if is_absent m then found else put key (member_data m) found
 
--- these members put to others, one after another
+-- members with these ones put to them, one after another
 abbrev pub put_all : List (Bor (List ℕ) × Member) → Members → Members
 put_all [] found = found
 put_all ((key, m) ∷ rest) found = put_all rest (put_member key.now m found)

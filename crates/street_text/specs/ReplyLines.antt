@@ -44,7 +44,7 @@ numbers ns = items_from number_data ns
 abbrev pub meter_data : MeterRow → Data
 meter_data r = array (numbers (r.start ∷ r.passes ∷ r.speeds ∷ r.occupied ∷ []))
 
--- its running row, with the steps so far
+-- the value of a detector's running row, with the steps so far
 abbrev pub running_data : RunningRow → Data
 running_data r = array (numbers (r.start ∷ r.steps ∷ r.passes ∷ r.speeds ∷ r.occupied ∷ []))
 
@@ -52,7 +52,7 @@ running_data r = array (numbers (r.start ∷ r.steps ∷ r.passes ∷ r.speeds �
 abbrev pub buffer_data : BufferEntry → Data
 buffer_data e = array (numbers (e.car ∷ e.speed ∷ e.ready ∷ []))
 
--- the size stands there only where it is more than one cell
+-- the value of a vehicle in a cell: its number, cell and speed, and its size where that is more than one cell
 abbrev pub cell_data : CellEntry → Data
 cell_data e = array (numbers (e.car ∷ e.cell ∷ e.speed ∷ (if nat_lt 1 e.size then e.size ∷ [] else [])))
 
@@ -82,7 +82,7 @@ turn_data t = array (numbers (t.link ∷ t.lane ∷ t.next ∷ t.next_lane ∷ [
 abbrev pub green_data : GreenSpec → Data
 green_data g = array (numbers (g.link ∷ g.lane ∷ g.next ∷ []))
 
--- a phase: its duration, and the list of its green turns
+-- the value of a phase: its duration, and the list of its green turns
 abbrev pub phase_data : PhaseSpec → Data
 phase_data p = array (item (number_data p.duration) (item (array (items_from green_data p.greens)) no_items))
 
@@ -104,7 +104,7 @@ list_at key one list more = member key (array (items_from one list)) more
 abbrev pub plan_at : List ℕ → Members → Members
 plan_at plan more = list_at (codes "plan") number_data plan more
 
--- the size of a vehicle, where it is more than one cell
+-- the members of a reply with the size of a vehicle, where the size is more than one cell
 abbrev pub size_at : ℕ → Members → Members
 size_at size more = if nat_lt 1 size then number_at (codes "size") size more else more
 
@@ -122,7 +122,7 @@ refusal_at r more = error_at (number_of r) (name_of r) more
 abbrev pub error_data : ℕ → List ℕ → Data
 error_data n name = object (error_at n name no_members)
 
--- a refusal, with its place where it has one
+-- the value of a refusal, with the place of its fault where it has one
 abbrev pub refused_data : Refusal → Data
 refused_data (BadNetwork part at) =
     object (number_at (codes "at") at (refusal_at (BadNetwork part at) (text_at (codes "part") (part_name part) no_members)))
@@ -134,7 +134,7 @@ refused_data refusal = object (refusal_at refusal no_members)
 abbrev pub ended_data : ℕ → List ℕ → ℕ → Data
 ended_data car state step = object (number_at (codes "car") car (text_at (codes "state") state (number_at (codes "step") step no_members)))
 
--- where a vehicle is, or how it ended
+-- the value of a reply to `vehicle`: where the vehicle is, or how it ended
 abbrev pub vehicle_data : ℕ → Whereabouts → Data
 vehicle_data car (Cell link lane cell speed size plan) =
     object (number_at (codes "car") car (number_at (codes "cell") cell (number_at (codes "lane") lane (number_at (codes "link") link

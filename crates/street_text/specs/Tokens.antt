@@ -15,7 +15,7 @@ use Rattle.street_text.specs.ReplyLines.{items_from, number_data, numbers, meter
 abbrev pub tokens_of : Data → List Token
 tokens_of d = json_tokens (outline d)
 
--- these tokens were written after those that were there
+-- these tokens were written behind those that had been written
 abbrev pub Adds : List Token → Written → Written → Type 0
 Adds ts old new = (new.before ≡ old.before) × (new.tokens ≡ old.tokens ++ ts)
 

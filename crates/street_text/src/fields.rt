@@ -44,7 +44,8 @@ impl Field<'_> {
         matches!(self, Field::Optional(None))
     }
 
-    /// Writes its JSON value behind what `out` has; null for a number that is left out.
+    /// Writes the JSON value of the field behind what `out` has. For an optional number that is not there, which callers leave out,
+    /// it would be null.
     fn write(&self, out: &mut Writer) -> Result<(), AllocError>
         ensures { OnOk result (Adds (tokens_of (field_data self.now)) out.old out.new) }
     {

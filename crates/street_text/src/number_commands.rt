@@ -13,7 +13,7 @@ use street_base::Command;
 ///
 /// # Errors
 ///
-/// Those of `of_numbers`.
+/// Those of [`of_numbers`].
 fn size_of_vehicle<L: Lookup>(line: &L, sized: bool) -> Result<u64, LineFault>
     ensures { Gives result (or_fault LineFault.BadCommand (size_in sized (L.shows line.now))) }
 {
@@ -28,7 +28,7 @@ fn size_of_vehicle<L: Lookup>(line: &L, sized: bool) -> Result<u64, LineFault>
 ///
 /// # Errors
 ///
-/// Those of `of_numbers`.
+/// Those of [`of_numbers`].
 #[tactic(auto, unfolding(crate::specs::LineCommands::enter_in))]
 fn enter<L: Lookup>(alloc: Global, line: &L, sized: bool) -> Result<Command, LineFault>
     ensures { Gives result (or_fault LineFault.BadCommand (enter_in sized (L.shows line.now))) }
@@ -49,7 +49,7 @@ fn enter<L: Lookup>(alloc: Global, line: &L, sized: bool) -> Result<Command, Lin
 ///
 /// # Errors
 ///
-/// Those of `of_numbers`.
+/// Those of [`of_numbers`].
 #[tactic(auto, unfolding(crate::specs::LineCommands::advance_in))]
 fn advance<L: Lookup>(line: &L) -> Result<Command, LineFault>
     ensures { Gives result (or_fault LineFault.BadCommand (advance_in (L.shows line.now))) }
@@ -62,7 +62,7 @@ fn advance<L: Lookup>(line: &L) -> Result<Command, LineFault>
 ///
 /// # Errors
 ///
-/// Those of `of_numbers`.
+/// Those of [`of_numbers`].
 #[tactic(auto, unfolding(crate::specs::LineCommands::close_in))]
 fn close<L: Lookup>(line: &L) -> Result<Command, LineFault>
     ensures { Gives result (or_fault LineFault.BadCommand (close_in (L.shows line.now))) }
@@ -83,7 +83,7 @@ fn close<L: Lookup>(line: &L) -> Result<Command, LineFault>
 ///
 /// # Errors
 ///
-/// Those of `of_numbers`.
+/// Those of [`of_numbers`].
 #[tactic(auto, unfolding(crate::specs::LineCommands::reopen_in))]
 fn reopen<L: Lookup>(line: &L) -> Result<Command, LineFault>
     ensures { Gives result (or_fault LineFault.BadCommand (reopen_in (L.shows line.now))) }
@@ -104,7 +104,7 @@ fn reopen<L: Lookup>(line: &L) -> Result<Command, LineFault>
 ///
 /// # Errors
 ///
-/// Those of `of_numbers`.
+/// Those of [`of_numbers`].
 #[tactic(auto, unfolding(crate::specs::LineCommands::take_out_in))]
 fn take_out<L: Lookup>(line: &L) -> Result<Command, LineFault>
     ensures { Gives result (or_fault LineFault.BadCommand (take_out_in (L.shows line.now))) }
@@ -117,7 +117,7 @@ fn take_out<L: Lookup>(line: &L) -> Result<Command, LineFault>
 ///
 /// # Errors
 ///
-/// Those of `of_numbers`.
+/// Those of [`of_numbers`].
 #[tactic(auto, unfolding(crate::specs::LineCommands::place_meter_in))]
 fn place_meter<L: Lookup>(line: &L) -> Result<Command, LineFault>
     ensures { Gives result (or_fault LineFault.BadCommand (place_meter_in (L.shows line.now))) }
@@ -138,7 +138,7 @@ fn place_meter<L: Lookup>(line: &L) -> Result<Command, LineFault>
 ///
 /// # Errors
 ///
-/// Those of `of_numbers`.
+/// Those of [`of_numbers`].
 #[tactic(auto, unfolding(crate::specs::LineCommands::read_meter_in))]
 fn read_meter<L: Lookup>(line: &L) -> Result<Command, LineFault>
     ensures { Gives result (or_fault LineFault.BadCommand (read_meter_in (L.shows line.now))) }
@@ -151,7 +151,7 @@ fn read_meter<L: Lookup>(line: &L) -> Result<Command, LineFault>
 ///
 /// # Errors
 ///
-/// Those of `of_numbers`.
+/// Those of [`of_numbers`].
 #[tactic(auto, unfolding(crate::specs::LineCommands::vehicle_in))]
 fn vehicle<L: Lookup>(line: &L) -> Result<Command, LineFault>
     ensures { Gives result (or_fault LineFault.BadCommand (vehicle_in (L.shows line.now))) }
@@ -164,7 +164,7 @@ fn vehicle<L: Lookup>(line: &L) -> Result<Command, LineFault>
 ///
 /// # Errors
 ///
-/// Those of `of_numbers`.
+/// Those of [`of_numbers`].
 #[tactic(auto, unfolding(crate::specs::LineCommands::lane_in))]
 fn lane<L: Lookup>(line: &L) -> Result<Command, LineFault>
     ensures { Gives result (or_fault LineFault.BadCommand (lane_in (L.shows line.now))) }

@@ -9,7 +9,7 @@ use Rattle.street_tile.specs.Tiles.{TileView, StandsFor, SameTile}
 
 -- ---- what is done
 
--- the lane at a place changed by a rule, the others as they were
+-- the traffic with the lane at a place changed by a rule, and the other lanes as they were
 unfoldable pub at_place : Place → (LaneState → LaneState) → Traffic → Traffic
 at_place p rule m = record m { lanes = each_lane (λ q lane. if is_place q p then rule lane else lane) m.lanes }
 
@@ -23,7 +23,7 @@ planned node plan m = record m { signals = slice_set m.signals node (Some plan) 
 
 -- ---- a tile before and after
 
--- whatever the tile stood for, if P held of that, it then stands for f of it; nobody is on the way who was not
+-- whatever traffic the tile x stood for, if P held of that, the tile y stands for f of it; nobody is on the way who was not before
 pub record DoesIf (net : NetSpec) (P : Traffic → Type 0) (f : Traffic → Traffic) (x y : TileView) : Type 0 where
   pub same : SameTile x y
   pub handed : y.handed ≡ x.handed
@@ -32,7 +32,7 @@ pub record DoesIf (net : NetSpec) (P : Traffic → Type 0) (f : Traffic → Traf
   pub detectors : y.detectors ≡ x.detectors
   pub stands : (m : Traffic) → IsOn net m → P m → StandsFor x m → StandsFor y (f m)
 
--- so whatever the tile stood for
+-- whatever traffic the tile x stood for, the tile y stands for f of it; nobody is on the way who was not before
 abbrev pub Does : NetSpec → (Traffic → Traffic) → TileView → TileView → Type 0
 Does net f x y = DoesIf net (λ m. Unit {0}) f x y
 
@@ -46,11 +46,11 @@ KeepsAll x y = y ≡ record x { own = record x.own { room = y.own.room } }
 abbrev pub HaveNot : List Place → Traffic → ℕ → Type 0
 HaveNot ps m number = (k : ℕ) (p : Place) → slice_get ps k ≡ Some p → in_lane number (lane_at m p) ≡ 0
 
--- somebody of this number is on one of them
+-- a vehicle of this number is on one of these lanes
 abbrev pub Have : List Place → Traffic → ℕ → Type 0
 Have ps m number = (k : ℕ) × (p : Place) × (slice_get ps k ≡ Some p) × (0 < in_lane number (lane_at m p))
 
--- this vehicle is the one of this number on one of them
+-- this vehicle is the one of this number on one of these lanes
 abbrev pub Hold : List Place → Traffic → ℕ → Vehicle → Type 0
 Hold ps m number v = (k : ℕ) × (p : Place) × (slice_get ps k ≡ Some p) × (vehicle_on number (lane_at m p) ≡ Some v)
 
@@ -67,10 +67,10 @@ over ps f m = sum_by (λ p. f (lane_at m p)) ps
 abbrev pub HaveAtMostOne : List Place → Traffic → ℕ → Type 0
 HaveAtMostOne ps m number = over ps (in_lane number) m ≤ 1
 
--- of whatever traffic the tile stands for, with at most one vehicle of this number on its lanes, P holds
+-- P holds of whatever traffic the tile stands for, with at most one vehicle of this number on the tile's lanes
 abbrev pub WhereOnce : NetSpec → TileView → ℕ → (Traffic → Type 0) → Type 0
 WhereOnce net x number P = (m : Traffic) → IsOn net m → StandsFor x m → HaveAtMostOne x.own.places m number → P m
 
--- this is where that vehicle is on the tile's lane n
+-- `found` is where the vehicle of this number is on the tile's lane n, if it is there
 abbrev pub FindsAt : NetSpec → TileView → ℕ → ℕ → Option Whereabouts → Type 0
 FindsAt net x n number found = WhereOnce net x number (λ m. found ≡ seen_in net (place_at x.own n) number (lane_at m (place_at x.own n)))

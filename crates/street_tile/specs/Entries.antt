@@ -5,23 +5,17 @@ use Rattle.street_base.specs.Prelude.{Vehicle, is_free, Traffic, LaneState, with
 use Rattle.street_lanes.specs.Prelude.{LaneStands, Lanes, lane_of, LanesStand, LanesGo, AllFree}
 use Rattle.street_tile.specs.Halves.{Transfer, vehicle_in, placed_lane}
 
--- whatever lane n stood for, with cell 0 free for who comes, it then stands for that with them in it
+-- lane n stands for the lane that it stood for with the vehicle that comes in cell 0, where cell 0 was free if one comes
 abbrev pub PlacesAt : ℕ → Option Transfer → Lanes → Lanes → Type 0
 PlacesAt n coming old new = (s : LaneState) → LaneStands (lane_of old n) s → (IsSome coming → is_free s.track 0 ≡ true)
     → LaneStands (lane_of new n) (record s { track = with_entry (vehicle_in coming) s.track })
 
--- the same of all lanes
+-- each lane stands for the lane that it stood for with the vehicle that comes to it in cell 0, where cell 0 was free if one comes
 abbrev pub PlaceAll : List (Option Transfer) → Lanes → Lanes → Type 0
 PlaceAll coming old new =
     (m : Traffic) (entry : Place → Option Vehicle) → LanesStand old.places old.lanes m → map vehicle_in coming ≡ map entry old.places
     → AllFree old.places m entry → LanesGo (placed_lane entry) m new.places new.lanes
 
--- whatever each lane stood for, it then stands for that after departures
+-- each lane stands for the lane that it stood for after departures
 abbrev pub DepartAll : ℕ → Lanes → Lanes → Type 0
 DepartAll clock old new = (n : ℕ) (s : LaneState) → n < length old.places → LaneStands (lane_of old n) s → LaneStands (lane_of new n) (departed_lane clock s)
-
--- whatever all lanes stood for, they then stand for that with who comes in cells 0 and after departures
-abbrev pub EnterAll : ℕ → List (Option Transfer) → Lanes → Lanes → Type 0
-EnterAll clock coming old new =
-    (m : Traffic) (entry : Place → Option Vehicle) → LanesStand old.places old.lanes m → map vehicle_in coming ≡ map entry old.places
-    → AllFree old.places m entry → LanesGo (λ p s. departed_lane clock (placed_lane entry p s)) m new.places new.lanes

@@ -6,7 +6,7 @@ use Rattle.street_base.specs.Prelude.{Vehicle, is_place, link_at, Traffic, LaneS
 use Rattle.street_base.specs.declared.names.Place.{Place}
 use Rattle.street_node.specs.Prelude.{crossing as crosses}
 
--- a vehicle on its way into a lane
+-- a transfer: a vehicle on its way into a lane, and that lane
 pub record Transfer : Type 0 where
   pub to : Place
   pub vehicle : Vehicle
@@ -31,15 +31,15 @@ entries_to to entries = map (λ e. e.vehicle) (filter (λ e. is_place to e.to) e
 abbrev pub let_go_lane : Traffic → Place → LaneState → LaneState
 let_go_lane m place lane = record lane { queue = if gives m place then drop 1 lane.queue else lane.queue }
 
--- so of all lanes
+-- the first half of the releases, on all lanes: the buffers whose fronts go lose them
 unfoldable pub let_go : Traffic → Traffic
 let_go m = record m { lanes = each_lane (let_go_lane m) m.lanes }
 
--- the second half: who enters a lane stands in its cell 0
+-- a lane after the second half of the releases: the vehicle that enters it stands in cell 0
 abbrev pub placed_lane : (Place → Option Vehicle) → Place → LaneState → LaneState
 placed_lane entry place lane = record lane { track = with_entry (entry place) lane.track }
 
--- so of all lanes
+-- the second half of the releases, on all lanes: the vehicle that enters a lane stands in its cell 0
 unfoldable pub placed : (Place → Option Vehicle) → Traffic → Traffic
 placed entry m = record m { lanes = each_lane (placed_lane entry) m.lanes }
 

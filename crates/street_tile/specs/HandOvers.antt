@@ -4,7 +4,7 @@ use Rattle.street_base.specs.declared.names.Place.{Place}
 use Rattle.street_tile.specs.Halves.{Transfer, entry_in}
 use Rattle.street_tile.specs.Tiles.{TileView}
 
--- the hand-overs of all tiles, and their lanes, those of the last tile first: the order of moving them, backwards
+-- the hand-overs of all tiles, those of the last tile first: the opposite of the order in which they are moved
 abbrev pub all_handed : List TileView → List Transfer
 all_handed [] = []
 all_handed (x ∷ xs) = all_handed xs ++ x.handed
@@ -14,11 +14,11 @@ abbrev pub all_places : List TileView → List Place
 all_places [] = []
 all_places (x ∷ xs) = all_places xs ++ x.own.places
 
--- hand-overs moved to a tile: who comes to each of its lanes is the entry of that lane among all
+-- a tile to which hand-overs were moved: the vehicle that comes to each of its lanes is the entry of that lane among all of them
 abbrev pub received : List Transfer → TileView → TileView
 received entries x = record x { handed = []; coming = map (entry_in entries) x.own.places }
 
--- who comes to a tile are the entries of its lanes among these
+-- the vehicles that come to a tile are those of these entries that enter its lanes
 abbrev pub Awaits : List Transfer → TileView → Type 0
 Awaits entries x = x.coming ≡ map (entry_in entries) x.own.places
 
@@ -26,11 +26,11 @@ Awaits entries x = x.coming ≡ map (entry_in entries) x.own.places
 abbrev pub moved_at : ℕ → List Transfer → List Transfer → ℕ → TileView → TileView
 moved_at i left moved j x = record x { handed = if j == i then left else x.handed; coming = map (entry_in moved) x.own.places }
 
--- each tile is as it was but for the hand-overs of the tile at i, of which these are left and those were moved
+-- each tile is as it was but for the hand-overs of tile i, of which those in `left` are still there and those in `moved` came to the tiles of their lanes
 abbrev pub IsMoved : ℕ → List Transfer → List Transfer → List TileView → List TileView → Type 0
 IsMoved i left moved xs ys = (j : ℕ) (d : TileView) → j < length xs → slice_index_or ys j d ≡ moved_at i left moved j (slice_index_or xs j d)
 
--- where tiles await these, the last hand-over of the tile at i comes to them, and those before it are left
+-- the last hand-over of tile i is moved to the tile of its lane, and those before it are left
 abbrev pub MovesLast : ℕ → List TileView → List TileView → Type 0
 MovesLast i xs ys = (left : List Transfer) (e : Transfer) (es : List Transfer) (d : TileView)
     → (slice_index_or xs i d).handed ≡ left ++ e ∷ [] → All (Awaits es) xs → IsMoved i left (e ∷ es) xs ys

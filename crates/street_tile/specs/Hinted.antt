@@ -6,7 +6,7 @@ pub record Hinted : Type 0 where
   pub links : List ℕ
   pub room : ℕ
 
--- as many numbers, and as much room
+-- the hints have as many numbers as before, and as much room
 pub record KeepsHints (x y : Hinted) : Type 0 where
   pub given : length y.links ≡ length x.links
   pub room : y.room ≡ x.room

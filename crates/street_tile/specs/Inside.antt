@@ -21,8 +21,8 @@ seen t = record {
   detectors = t.detectors.items;
 }
 
--- a tile is wide enough: it has a plan or none for each of its nodes, a mouth and a number for each two lanes of a link, a place
--- for who comes to each of its lanes, and memory for a hand-over and an arrival of each, and for its row
+-- a tile is wide enough: it has an entry for the signal plan of each of its nodes; a mouth and a number for each of two lanes a link; an entry for who
+-- comes to each own lane; and memory for a hand-over, an arrival and a row of each own lane
 pub record IsWideEnough (t : Inside) : Type 0 where
   pub nodes : t.low + length t.signals.items ≡ t.high
   pub numbered : AreNumbers t.links t.own.places t.numbers.items
@@ -32,7 +32,7 @@ pub record IsWideEnough (t : Inside) : Type 0 where
   pub arrived : length t.own.places ≤ vec_capacity t.arrived
   pub left : length t.own.places ≤ vec_capacity t.left
 
--- the detectors of a tile have noted all steps so far; where it says that none was ever placed it has none
+-- the detectors of a tile have noted all steps so far; a tile that says that no detector was ever placed has none
 pub record HasNotedAll (t : Inside) : Type 0 where
   pub bare : t.has_meters ≡ false → AreBare t.detectors.items
   pub due : AreDue t.clock t.detectors.items

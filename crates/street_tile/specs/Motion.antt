@@ -24,8 +24,7 @@ HasPlanFor step p = is_own step.net.now step.low (step.low + length step.signals
 
 -- ---- one lane
 
--- lane n of these was driven: whatever it stood for in traffic of the step, it then stands for what motion makes of it, and who
--- arrived is told; the others are as they were
+-- lane n was driven: it stands for what motion makes of the lane that it stood for, in whatever traffic of the step, and the vehicle that arrived is told; the other lanes are as they were
 pub record DrivesLane (step : MotionStep) (n : ℕ) (old new : Lanes) (told : Option ArrivedCar) : Type 0 where
   pub same : Same old new
   pub others : Others n old new
@@ -34,7 +33,7 @@ pub record DrivesLane (step : MotionStep) (n : ℕ) (old new : Lanes) (told : Op
       → LaneStands (lane_of new n) (driven_lane m (place_at old n) (lane_at m (place_at old n)))
   pub arrived : (m : Traffic) → IsOfStep step m → LaneStands (lane_of old n) (lane_at m (place_at old n)) → told ≡ arrived_car (leaver_of m (place_at old n))
 
--- and the watches of its detectors have seen it, where any was placed
+-- the watches of the detectors of lane n have seen its motion, where a detector was ever placed in the tile
 pub record WatchesLane (step : MotionStep) (n : ℕ) (own : Lanes) (old new : Detectors) : Type 0 where
   pub meters : new ≡ record old { watches = new.watches }
   pub bare : step.has_meters ≡ false → new ≡ old
@@ -43,7 +42,7 @@ pub record WatchesLane (step : MotionStep) (n : ℕ) (own : Lanes) (old new : De
 
 -- ---- all lanes of a tile
 
--- these are lanes of the step's network, their links run to nodes whose plans it has, and these are their detectors
+-- the lanes may drive: they are lanes of the step's network, the step has the signal plans of the nodes to which their links run, and these are their detectors
 pub record MayDrive (step : MotionStep) (own : Lanes) (detectors : List Detectors) : Type 0 where
   pub of : IsOf step.net.now own
   pub roads : IsRoads step.net.now
@@ -60,7 +59,7 @@ pub record DrivesLanes (step : MotionStep) (old new : Lanes) (before after : Lis
   pub arrived : (m : Traffic) → IsOfStep step m → LanesStand old.places old.lanes m → after ≡ before ++ filter_map (λ p. arrival (leaver_of m p)) old.places
   pub rows : (m : Traffic) → IsOfStep step m → LanesStand old.places old.lanes m → rows_after ≡ rows_before ++ filter_map (arrival_at m) old.places
 
--- and the watches of their detectors have seen it, where any was placed
+-- the watches of the detectors of each lane have seen its motion, where a detector was ever placed in the tile
 pub record WatchLanes (step : MotionStep) (own : Lanes) (old new : List Detectors) : Type 0 where
   pub meters : KeepMeters old new
   pub bare : step.has_meters ≡ false → new ≡ old

@@ -1,6 +1,5 @@
 -- The phases of a step and its parts, as workers make them, by their numbers: 0 lane changes, 1 motion, 2 releases, 3 entries and
--- departures, any other detectors; but as a part 5 is lane changes and motion, 6 entries, departures and detectors. Shown are the mouths,
--- by which releases go.
+-- departures, any other detectors; but as a part 5 is lane changes and motion, 6 entries, departures and detectors. Shown are the mouths, by which releases go.
 use Rattle.std.specs.Prelude.{ℕ, ◌≡◌, ◌*◌, ◌<◌, ◌≤◌, List, Bool, [], length, All}
 use Rattle.std.specs.Fn.{Shared}
 use denote.Ref.{Bor, MutBor}
@@ -26,19 +25,19 @@ Runs net (suc (suc zero)) shown x y = ReleasePhase net shown x y
 Runs net (suc (suc (suc zero))) shown x y = EnterPhase net x y
 Runs net phase shown x y = MeterPhase net x y
 
--- what a part asks of a tile, and of what is shown
+-- what a worker's part of a step asks of a tile and of the mouths shown: part 5 is lane changes and motion, part 6 entries, departures and detectors, any other the phase of that number
 abbrev pub MayWork : NetSpec → ℕ → List Bool → TileView → Type 0
 MayWork net (suc (suc (suc (suc (suc zero))))) shown x = IsTileOf net x × (x.arrived ≡ []) × (x.clock < last_clock)
 MayWork net (suc (suc (suc (suc (suc (suc zero)))))) shown x = IsTileOf net x × IsPrepared x × (x.clock < last_clock)
 MayWork net phase shown x = MayRun net phase shown x
 
--- what a part does
+-- what a worker's part of a step makes of a tile: part 5 is lane changes and motion, part 6 entries, departures and detectors, any other the phase of that number
 abbrev pub DoesWork : NetSpec → ℕ → List Bool → TileView → TileView → Type 0
 DoesWork net (suc (suc (suc (suc (suc zero))))) shown x y = Then (LanePhase net) (MotionPhase net) x y
 DoesWork net (suc (suc (suc (suc (suc (suc zero)))))) shown x y = Then (EnterPhase net) (MeterPhase net) x y
 DoesWork net phase shown x y = Runs net phase shown x y
 
--- each call of f may be made of few tiles, and makes a part of a step of each of them
+-- the closure may be called on few enough tiles, and makes a part of a step of each of these
 pub record MakesParts {F : Type 0}
     (g : Shared F (Bor NetSpec × (ℕ × (Bor (List Bool) × (MutBor (List TileView) × Unit {0})))) (Unit {0} × (MutBor (List TileView) × Unit {0})))
     (f : F) : Type 0 where

@@ -9,7 +9,7 @@ use Rattle.street_record.specs.Rows.{arrival_at}
 use Rattle.street_tile.specs.Tiles.{TileView, StandsFor, SameTile, Shows, ShowsOwn, nobody}
 use Rattle.street_tile.specs.TileDetectors.{KeepMeters, HaveWatched, MetersStand, noted_by}
 
--- whatever the tile stood for, it then stands for f of that
+-- whatever traffic the tile x stood for, the tile y stands for f of that
 pub record GoesBy (net : NetSpec) (f : Traffic → Traffic) (x y : TileView) : Type 0 where
   pub same : SameTile x y
   pub handed : y.handed ≡ x.handed
@@ -17,7 +17,7 @@ pub record GoesBy (net : NetSpec) (f : Traffic → Traffic) (x y : TileView) : T
   pub room : x.own.room ≤ y.own.room
   pub stands : (m : Traffic) → IsOn net m → StandsFor x m → StandsFor y (f m)
 
--- whatever traffic of the network at the clock these lanes stood for, they then stand for what its lane changes make of it
+-- whatever traffic of the network at this clock the lanes stood for, they then stand for that traffic after lane changes
 abbrev pub ChangeLanes : NetSpec → ℕ → Lanes → Lanes → Type 0
 ChangeLanes net clock old new = (m : Traffic) → IsOn net m → m.clock ≡ clock
     → LanesStand old.places old.lanes m → LanesStand new.places new.lanes (changed m)
@@ -29,7 +29,7 @@ pub record LanePhase (net : NetSpec) (x y : TileView) : Type 0 where
   pub arrived : y.arrived ≡ x.arrived
   pub detectors : y.detectors ≡ x.detectors
 
--- motion: also the numbers and the rows of those who arrived, lane by lane; the watches have seen it; and the tile holds the mouths after it
+-- motion on a tile. The tile also holds the numbers and the rows of those who arrived, lane by lane, and its mouths after motion; and the watches have seen the motion
 pub record MotionPhase (net : NetSpec) (x y : TileView) : Type 0 where
   pub goes : GoesBy net driven x y
   pub arrived : (m : Traffic) → IsOn net m → StandsFor x m → y.arrived ≡ filter_map (λ p. arrival (leaver_of m p)) x.own.places

@@ -1,7 +1,7 @@
 -- The names that contracts and proofs cite most, passed on from one place. Declares nothing.
 pub use Rattle.street_tile.specs.Commands.{Does, DoesIf, Finds, FindsAt, Have, HaveAtMostOne, HaveNot, Hold, KeepsAll, WhereOnce, over}
 unfoldable pub use Rattle.street_tile.specs.Commands.{at_place, planned, without}
-pub use Rattle.street_tile.specs.Entries.{DepartAll, EnterAll, PlaceAll, PlacesAt}
+pub use Rattle.street_tile.specs.Entries.{DepartAll, PlaceAll, PlacesAt}
 pub use Rattle.street_tile.specs.Halves.{Transfer, crossing, entries_to, entry_in, entry_on, let_go_lane, placed_lane, vehicle_in}
 unfoldable pub use Rattle.street_tile.specs.Halves.{let_go, placed}
 pub use Rattle.street_tile.specs.HandOvers.{Awaits, IsMoved, MovesLast, all_handed, all_places, moved_at, received}

@@ -16,10 +16,10 @@ arrived_from slot car = record { car = car.number; slot = slot; spot = arrived_s
 abbrev pub step_rows : Traffic → Place → List RecordRow
 step_rows m p = map as_written (rows_at (changed m) (step m) p)
 
--- those of the lanes of a link
+-- the rows of the lanes of a link in the step from this state, as they are written
 abbrev pub link_rows : NetSpec → Traffic → ℕ → List RecordRow
 link_rows net m link = flat_map (λ k. step_rows m (record { link = link; lane = k })) (range_with_len 0 (link_at net link).lanes)
 
--- how many arrive from a lane in the step from this state: one or none
+-- how many vehicles arrive from a lane in the step from this state: one or none
 abbrev pub arrived_at : Traffic → Place → ℕ
 arrived_at m p = length (arrival_rows (slot_of p) (leaver_of (changed m) p))

@@ -14,8 +14,8 @@ pub record MayStep (net : NetSpec) (xs : List TileView) : Type 0 where
   pub prepared : All IsPrepared xs
   pub stand : (m : Traffic) × AllStand net xs m × (m.clock < last_clock)
 
--- whatever traffic the tiles stood for, they then stand for the next state, hold the numbers and the rows of those who arrived,
--- and their detectors have noted the step; they are tiles of the network, and nobody is on the way
+-- a step of all tiles: whatever traffic the tiles stood for, they then stand for the next state of the machine; they hold the numbers and the rows of
+-- those who arrived, by the state behind the lane changes; their detectors have noted the step; and nobody is on the way
 pub record Steps (net : NetSpec) (xs ys : List TileView) : Type 0 where
   pub machine : (m : Traffic) → AllStand net xs m → AllStand net ys (step m)
   pub arrived : (m : Traffic) → AllStand net xs m → Each (λ x y. y.arrived ≡ filter_map (λ p. arrival (leaver_of (changed m) p)) x.own.places) xs ys

@@ -52,7 +52,7 @@ detectors_on p ds = filter (λ d. is_place p d.place) ds
 abbrev pub MetersStand : TileView → Traffic → Type 0
 MetersStand x m = (k : ℕ) (p : Place) → slice_get x.own.places k ≡ Some p → MetersStandFor (detectors_at x.detectors k).meters (detectors_on p m.detectors)
 
--- so of each tile
+-- the detectors of each tile stand for those of the traffic at the tile's own lanes
 abbrev pub AllMetersStand : List TileView → Traffic → Type 0
 AllMetersStand xs m = All (λ x. MetersStand x m) xs
 

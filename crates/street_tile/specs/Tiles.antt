@@ -38,16 +38,15 @@ Shows net mouths m = (p : Place) → p.link < length net.links → p.lane < (lin
 
 -- ---- signals
 
--- these are the signal plans of the nodes from low up to high: each shows what the machine's shows
+-- these are the signal plans of the nodes from `low` on and below `high`: each shows what the machine's shows
 abbrev pub ShowSignals : ℕ → ℕ → List (Option SignalPlan) → Traffic → Type 0
 ShowSignals low high signals m = (node : ℕ) → low ≤ node → node < high
     → PlanStands (slice_index_or signals (node - low) None) (slice_index_or m.signals node None)
 
 -- ---- a tile
 
--- what contracts see of a tile: its nodes from low up to high, how many links the network has, its own lanes, the clock and
--- the signal plans of its nodes; what it holds of mouths, as a view has them; who was let go and not yet moved, who comes to
--- each of its lanes, and who arrived; the rows of those who arrived in the last step; and the detectors of each own lane
+-- what contracts see of a tile: its nodes from low up to high, how many links the network has, its own lanes, the clock and the signal plans of its nodes; what it holds of mouths, as a view has
+-- them; who was let go and not yet moved, who comes to each of its lanes, and who arrived; the rows of those who arrived in the last step; and the detectors of each own lane
 pub record TileView : Type 0 where
   pub low : ℕ
   pub high : ℕ
@@ -70,7 +69,7 @@ is_own net low high p = option_map_or (λ node. nat_le low node && nat_lt node h
 abbrev pub own_places : NetSpec → ℕ → ℕ → List Place
 own_places net low high = filter (is_own net low high) (places net)
 
--- how many cells each of these lanes has, by its detectors
+-- how many cells each lane has, as the record of its detectors says
 abbrev pub sizes_of : List Detectors → List ℕ
 sizes_of detectors = map (λ g. g.size) detectors
 
@@ -91,11 +90,11 @@ nth ps n = slice_index_or ps n no_place
 abbrev pub beside : Place → ℕ → Place
 beside p lane = record { link = p.link; lane = lane }
 
--- how many lanes its link has
+-- how many lanes the link of this lane has
 abbrev pub lanes_beside : NetSpec → Place → ℕ
 lanes_beside net p = (link_at net p.link).lanes
 
--- of these lanes lane 1 of a link comes right after lane 0
+-- among these lanes lane 1 of a link comes right behind lane 0 of that link
 pub record ArePairs (net : NetSpec) (ps : List Place) : Type 0 where
   pub first : 0 < length ps → (nth ps 0).lane ≡ 0
   pub next : (n : ℕ) → n < length ps → (nth ps n).lane ≡ 0 → lanes_beside net (nth ps n) ≡ 2 → (suc n < length ps) × (nth ps (suc n) ≡ beside (nth ps n) 1)
@@ -105,7 +104,7 @@ pub record ArePairs (net : NetSpec) (ps : List Place) : Type 0 where
 abbrev pub BeginsLink : Lanes → ℕ → Type 0
 BeginsLink own n = n < length own.places → (place_at own n).lane ≡ 0
 
--- the tile stands for the machine at its own lanes and nodes, and each vehicle in its arena is on one of its lanes
+-- a tile stands for the machine at its own lanes and nodes, and each vehicle in its arena is on one of its lanes
 pub record StandsFor (x : TileView) (m : Traffic) : Type 0 where
   pub clock : x.clock ≡ m.clock
   pub lanes : LanesStand x.own.places x.own.lanes m
@@ -133,11 +132,11 @@ IsBare g = (g.meters ≡ []) × (g.watches ≡ [])
 abbrev pub AreBare : List Detectors → Type 0
 AreBare detectors = All IsBare detectors
 
--- nobody is on the way to a tile
+-- for each own lane of a tile, that no vehicle comes to it
 abbrev pub nobody : TileView → List (Option Vehicle)
 nobody x = map (λ p. None) x.own.places
 
--- nobody is on the way from it or to it
+-- no vehicle is on the way from the tile or to it
 abbrev pub IsStill : TileView → Type 0
 IsStill x = (x.handed ≡ []) × (x.coming ≡ nobody x)
 
@@ -151,7 +150,7 @@ pub record IsIdle (x : TileView) : Type 0 where
 abbrev pub IsPrepared : TileView → Type 0
 IsPrepared x = length x.own.places ≤ x.own.room
 
--- no phase changes which tile it is
+-- y is the same tile as x: it has the same nodes, lanes and detectors, which no phase changes
 pub record SameTile (x y : TileView) : Type 0 where
   pub low : y.low ≡ x.low
   pub high : y.high ≡ x.high
@@ -161,7 +160,7 @@ pub record SameTile (x y : TileView) : Type 0 where
 
 -- ---- all tiles
 
--- at each place, R of the old and the new tile
+-- R holds of the old and the new tile at each position of the two lists
 abbrev pub Each : (TileView → TileView → Type 0) → List TileView → List TileView → Type 0
 Each R xs ys = (i : ℕ) (d : TileView) → i < length xs → R (slice_index_or xs i d) (slice_index_or ys i d)
 

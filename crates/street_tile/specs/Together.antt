@@ -13,24 +13,23 @@ pub record TilesView : Type 0 where
   pub network : NetSpec
   pub tiles : List TileView
 
--- these tiles of this network
+-- the view of these tiles of this network
 abbrev pub tiles_of : NetSpec → List TileView → TilesView
 tiles_of net xs = record { network = net; tiles = xs }
 
--- what is kept between calls: the tiles are the network's, at most one a worker, nobody is on the way between them, and there is a
--- view of its lanes
+-- what holds of all tiles between calls: they are the tiles of the network, at most one a worker; nobody is on the way between them; and there is a mouth in the view for each lane
 pub record AreKept (net : NetSpec) (xs : List TileView) (mouths : ℕ) : Type 0 where
   pub tiles : AreTiles net xs
   pub few : length xs ≤ most_workers
   pub still : All IsStill xs
   pub wide : mouths ≡ 2 * length net.links
 
--- they stand for the traffic, each at its own lanes and nodes, and so do their detectors
+-- the tiles stand for the traffic, each at its own lanes and nodes, and so do their detectors
 pub record TilesStandFor (x : TilesView) (m : Traffic) : Type 0 where
   pub lanes : AllStand x.network x.tiles m
   pub meters : AllMetersStand x.tiles m
 
--- they have made the step from this state: they stand for the next one, and hold the rows of those who arrived in the step
+-- the tiles have made the step from this state: they stand for the next state, and hold the rows of those who arrived in the step
 pub record HaveStepped (x : TilesView) (m : Traffic) : Type 0 where
   pub stand : TilesStandFor x (step m)
   pub left : All (λ t. t.left ≡ filter_map (arrival_at (changed m)) t.own.places) x.tiles
@@ -39,14 +38,14 @@ pub record HaveStepped (x : TilesView) (m : Traffic) : Type 0 where
 abbrev pub NobodyArrived : TilesView → Type 0
 NobodyArrived x = All (λ t. t.arrived ≡ []) x.tiles
 
--- whatever traffic they stood for, if P held of that, they then stand for f of it; nobody arrives by that
+-- whatever traffic the tiles x stood for, if P held of that, the tiles y stand for f of it; nobody arrives by that
 pub record TilesGo (P : Traffic → Type 0) (f : Traffic → Traffic) (x y : TilesView) : Type 0 where
   pub network : y.network ≡ x.network
   pub long : length y.tiles ≡ length x.tiles
   pub nobody : NobodyArrived x → NobodyArrived y
   pub goes : (m : Traffic) → P m → TilesStandFor x m → TilesStandFor y (f m)
 
--- they stand for what they stood for
+-- the tiles y stand for whatever traffic the tiles x stood for
 abbrev pub TilesKeep : TilesView → TilesView → Type 0
 TilesKeep x y = TilesGo (λ m. Unit {0}) (λ m. m) x y
 

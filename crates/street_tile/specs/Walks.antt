@@ -33,8 +33,8 @@ pub record HasFront (own : Lanes) (n : ℕ) (q : Queued) : Type 0 where
   pub stands : LaneStands (lane_of own n) lane
   pub first : slice_get lane.queue 0 ≡ Some q
 
--- a front that finds the mouth shut stays, and nothing changes; else buffer n loses it, it is handed over as it enters the lane, and
--- the mouth closes behind it
+-- the front of buffer n stays where it finds the mouth of its next lane shut, and nothing is changed. Else the buffer loses the front, which is handed
+-- over as it enters that lane, and the mouth closes behind it
 pub record ReleasesFront (net : NetSpec) (n : ℕ) (to : Place) (old new : Lanes) (open_old open_new : List Bool) (before after : List Transfer) : Type 0 where
   pub shut : mouth open_old to ≡ false → (new ≡ old) × (open_new ≡ open_old) × (after ≡ before)
   pub goes : mouth open_old to ≡ true → GoesAt n without_front old new

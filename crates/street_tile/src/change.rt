@@ -1,23 +1,14 @@
 //! Lane changes on a tile's own lanes. `step.rt` calls it.
-ghost use Rattle.std.specs.Prelude.{◌≡◌, ℕ, ◌<◌, ◌≤◌, length, IsTrue, ◌↔◌};
+ghost use Rattle.std.specs.Prelude.{ℕ, ◌<◌, ◌≤◌, length};
 ghost use Rattle.street_base.specs.declared.net.NetSpec.{NetSpec};
-ghost use Rattle.street_base.specs.Prelude.{link_at};
 ghost use Rattle.street_lanes.specs.Prelude.{Same, lane_of, HasNobodyInCells};
 ghost use Rattle.street_lanes.specs.Lanes.{IsOf};
 ghost use Rattle.street_tile.specs.Prelude.{IsTileOf, IsRoads, ArePairs, BeginsLink, ChangeLanes, LanePhase};
 
 use crate::Tile;
-use street_base::{Place, Step};
-use street_lanes::Lanes;
+use street_base::Step;
+use street_lanes::{Lanes, ListKind};
 use street_net::Network;
-
-/// Whether a lane is lane 0 of a link of two lanes. Among a tile's own lanes the next is then the link's other lane.
-fn begins_pair(net: &Network, at: Place) -> bool
-    requires { at.link < length net.now.links }
-    ensures { IsTrue result ↔ (at.lane ≡ 0) × ((link_at net.now at.link).lanes ≡ 2) }
-{
-    at.lane == 0 && net.lanes_of(at.link) == 2
-}
 
 /// The lane that begins the first link, from the one that begins at own lane `lane` on, on which somebody stands; the count of lanes
 /// where nobody stands on any.
@@ -30,7 +21,7 @@ fn next_link(own: &Lanes, lane: usize) -> usize
     ensures begins { BeginsLink own.now result }
     ensures passed { (k : ℕ) → lane ≤ k → k < result → HasNobodyInCells (lane_of own.now k) }
 {
-    let n = own.next_with_cells(lane);
+    let n = own.next_filled(ListKind::Cells, lane);
     if n < own.len() && own.at(n).lane != 0 {
         return n - 1;
     }
@@ -49,7 +40,8 @@ fn change_lanes(own: &mut Lanes, net: &Network, clock: Step)
     let mut n = next_link(own, 0);
     while n < own.len() {
         let mut after = n + 1;
-        if begins_pair(net, own.at(n)) {
+        if net.lanes_of(own.at(n).link) == 2 {
+            // The lane is lane 0 of its link, and the next one is the link's other lane.
             own.change(net, n, clock);
             after = n + 2;
         }

@@ -190,7 +190,7 @@ fn tables_of(alloc: Global, links: usize, nodes: usize, own: &[Place]) -> Result
 }
 
 /// The position of the tile, among `count`, that owns a node: the inverse of [`Tile::cut`].
-pub(crate) fn owner(net: &Network, count: usize, node: NodeIx) -> usize
+pub(crate) fn owner_of_node(net: &Network, count: usize, node: NodeIx) -> usize
     requires some { 0 < count }
     requires few { count ≤ length net.now.nodes }
     requires node { node < length net.now.nodes }

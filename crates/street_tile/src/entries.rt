@@ -1,15 +1,15 @@
 //! Entries and departures on a tile's own lanes. `step.rt` calls it.
 ghost use Rattle.std.specs.Prelude.{◌≡◌, ◌+◌, ◌<◌, ◌≤◌, length, None, Option, map};
 ghost use Rattle.street_lanes.specs.Prelude.{Same, Others};
-ghost use Rattle.street_tile.specs.Prelude.{PlacesAt, PlaceAll, DepartAll, EnterAll, EnterPhase, IsTileOf, IsPrepared};
+ghost use Rattle.street_tile.specs.Prelude.{PlacesAt, PlaceAll, DepartAll, EnterPhase, IsTileOf, IsPrepared};
 
 use crate::Tile;
 use crate::hand_over::{Comers, HandOver};
 use street_base::Step;
-use street_lanes::Lanes;
+use street_lanes::{Lanes, ListKind};
 use street_net::Network;
 
-/// Who comes to own lane `n` stands in its cell 0.
+/// The vehicle that comes to own lane `n`, if one does, is put in its cell 0.
 fn place_comer(own: &mut Lanes, n: usize, coming: Option<HandOver>)
     requires lane { n < length own.old.lanes }
     requires room { 1 ≤ own.old.room }
@@ -24,7 +24,7 @@ fn place_comer(own: &mut Lanes, n: usize, coming: Option<HandOver>)
     }
 }
 
-/// On each of these lanes who comes to it stands in cell 0. Nobody is coming any more then.
+/// The vehicle that comes to each of these lanes is put in the lane's cell 0. Nobody is coming afterwards.
 fn place_comers(own: &mut Lanes, coming: &mut Comers)
     requires even { length coming.old ≡ length own.old.places }
     requires room { length own.old.places ≤ own.old.room }
@@ -37,37 +37,27 @@ fn place_comers(own: &mut Lanes, coming: &mut Comers)
     }
 }
 
-/// On each of these lanes who waits first departs, if its depart has come and cell 0 is free.
+/// On each of these lanes the first of those who wait departs, where its time has come and cell 0 is free.
 fn depart_lanes(own: &mut Lanes, clock: Step)
     ensures same { Same own.old own.new }
     ensures lanes { DepartAll clock own.old own.new }
 {
-    let mut n = own.next_with_waiting(0);
+    let mut n = own.next_filled(ListKind::Waiting, 0);
     while n < own.len() {
         own.depart(n, clock);
-        n = own.next_with_waiting(n + 1);
+        n = own.next_filled(ListKind::Waiting, n + 1);
     }
 }
 
-/// On each of these lanes who comes to it stands in cell 0, and then who waits first may depart. Nobody is coming any more then.
-fn enter_lanes(own: &mut Lanes, coming: &mut Comers, clock: Step)
-    requires even { length coming.old ≡ length own.old.places }
-    requires room { length own.old.places ≤ own.old.room }
-    ensures same { Same own.old own.new }
-    ensures none { coming.new ≡ map (λ c. None) coming.old }
-    ensures lanes { EnterAll clock coming.old own.old own.new }
-{
-    place_comers(own, coming);
-    depart_lanes(own, clock);
-}
-
 impl Tile {
-    /// Who comes stands in cell 0, and then at most one vehicle departs on each own lane. Takes no memory.
+    /// The vehicle that comes to each own lane is put in its cell 0; then on each lane the first of those who wait departs, where its
+    /// time has come and cell 0 is free. Takes no memory.
     pub fn phase_enter(&mut self, net: &Network)
         requires tile { IsTileOf net.now self.old }
         requires prepared { IsPrepared self.old }
         ensures { EnterPhase net.now self.old self.new }
     {
-        enter_lanes(&mut self.own, &mut self.coming, self.clock);
+        place_comers(&mut self.own, &mut self.coming);
+        depart_lanes(&mut self.own, self.clock);
     }
 }

@@ -11,7 +11,7 @@ ghost use Rattle.street_lanes.specs.Prelude.{IsLane};
 ghost use Rattle.street_tile.specs.Prelude.{Transfer, entry_in, Awaits, IsMoved, MovesLast, all_handed, received};
 ghost use Rattle.street_tile.specs.Prelude.{KeepsHints, TileView, IsTileOf, Each, AreTiles, is_own, nobody};
 
-use crate::cut::{nones, owner};
+use crate::cut::{nones, owner_of_node};
 use crate::{LinkHints, Tile};
 use std::alloc::{AllocError, Global};
 use std::marker::Model;
@@ -134,8 +134,9 @@ impl Tile {
     }
 }
 
-/// The position of the tile that owns a lane: that of the node to which its link runs. Of one tile, without a look at the network.
-fn tile_of(net: &Network, tiles: &[Tile], to: Place) -> usize
+/// The position of the tile that owns a lane: that of the node to which its link runs. Where there is one tile it is 0, and the
+/// network is not looked at.
+fn owner_of_lane(net: &Network, tiles: &[Tile], to: Place) -> usize
     requires tiles { AreTiles net.now tiles.now }
     requires lane { IsLane net.now to }
     ensures inside { result < length tiles.now }
@@ -145,7 +146,7 @@ fn tile_of(net: &Network, tiles: &[Tile], to: Place) -> usize
     if tiles.len() == 1 {
         return 0;
     }
-    owner(net, tiles.len(), net.end_of(to.link))
+    owner_of_node(net, tiles.len(), net.end_of(to.link))
 }
 
 /// The last hand-over of tile `i`, if it has one, is moved to the tile that owns the lane it goes to, and the hints follow.
@@ -159,7 +160,7 @@ fn move_one(net: &Network, tiles: &mut [Tile], hints: &mut LinkHints, i: usize)
 {
     if let Some(hand_over) = tiles[i].next_hand_over() {
         let to = hand_over.to();
-        let j = tile_of(net, tiles, to);
+        let j = owner_of_lane(net, tiles, to);
         hints.follow(&hand_over);
         tiles[j].bring(net, hand_over);
     }
@@ -192,16 +193,4 @@ pub(crate) fn move_all(net: &Network, tiles: &mut [Tile], hints: &mut LinkHints)
     for i in 0..tiles.len() {
         move_from(net, tiles, hints, i);
     }
-}
-
-/// As [`move_all`], of a vector, of which the contract of a team's step speaks: no tile is lent.
-pub(crate) fn move_vec(net: &Network, tiles: &mut Vec<Tile>, hints: &mut LinkHints)
-    requires tiles { AreTiles net.now tiles.old.items }
-    requires nobody { All (λ x. x.coming ≡ nobody x) tiles.old.items }
-    requires lanes { All (λ x. All (λ e. IsLane net.now e.to) x.handed) tiles.old.items }
-    ensures len { length tiles.new.items ≡ length tiles.old.items }
-    ensures moved { Each (λ x y. y ≡ received (all_handed tiles.old.items) x) tiles.old.items tiles.new.items }
-    ensures hints { KeepsHints hints.old hints.new }
-{
-    move_all(net, tiles, hints);
 }

@@ -1,4 +1,4 @@
-//! Motion on a tile's own lanes. `step.rt` calls it.
+//! Motion on all lanes of a tile that have somebody, with the tile's mouths and the rows of who arrives. `step.rt` calls it.
 //!
 //! Source: that motion follows the lane changes is Rickert and others 1996.
 ghost use Rattle.std.specs.Prelude.{◌≡◌, ℕ, [], ◌+◌, ◌*◌, ◌<◌, ◌≤◌, length, false, vec_len, vec_capacity, Some, slice_get, not};
@@ -7,12 +7,11 @@ ghost use Rattle.street_net.specs.Prelude.{mouth};
 ghost use Rattle.street_node.specs.Prelude.{AtMostOnce};
 ghost use Rattle.street_lanes.specs.Lanes.{IsOf};
 ghost use Rattle.street_lanes.specs.Prelude.{lane_of, place_at, HasNobodyInCells};
-ghost use Rattle.street_tile.specs.Record.{arrived_from};
 ghost use Rattle.street_tile.specs.Prelude.{IsTileOf, IsRoads, IsBare, MotionPhase, HasPlanFor, DrivesLane, WatchesLane, MayDrive, DrivesLanes, WatchLanes, ShowLanes};
 
 use crate::Tile;
 use street_base::{CarNo, Place, RecordRow, Step};
-use street_lanes::{ArrivedCar, Detectors, Lanes};
+use street_lanes::{ArrivedCar, Detectors, Lanes, ListKind};
 use street_net::{Network, slot};
 use street_node::{Signal, SignalPlan};
 
@@ -66,7 +65,7 @@ fn next_to_move(own: &Lanes, step: &MotionStep<'_>, lane: usize) -> usize
     if step.has_meters {
         return lane;
     }
-    own.next_with_cells(lane)
+    own.next_filled(ListKind::Cells, lane)
 }
 
 /// Of each of these lanes `mouths` gets at its `slot` whether its cell 0 is not closed. Who is there is not looked at.
@@ -82,18 +81,6 @@ fn show_closed(own: &Lanes, net: &Network, mouths: &mut [bool])
     for n in 0..own.len() {
         let at = own.at(n);
         mouths[slot(at.link, at.lane)] = !own.is_first_closed(n);
-    }
-}
-
-/// The row of a vehicle that arrived from the lane of a slot.
-fn row_from(slot: u32, car: ArrivedCar) -> RecordRow
-    ensures { result ≡ arrived_from slot car }
-{
-    RecordRow {
-        car: car.number,
-        slot,
-        spot: u32::MAX,
-        speed: u32::from(car.speed),
     }
 }
 
@@ -125,7 +112,12 @@ fn move_lanes(
         let slot = slot(at.link, at.lane);
         if let Some(car) = move_lane(own, &mut detectors[n], step, n) {
             arrived.push_reserved(car.number);
-            left.push_reserved(row_from(slot as u32, car));
+            left.push_reserved(RecordRow {
+                car: car.number,
+                slot: slot as u32,
+                spot: u32::MAX,
+                speed: u32::from(car.speed),
+            });
         }
         mouths[slot] = own.is_open(n);
         n = next_to_move(own, step, n + 1);

@@ -78,7 +78,7 @@ impl Tiles {
         requires { link < length self.now.network.links }
         ensures { (m : Traffic) → HaveStepped self.now m → FoldsTo S.takes sink.old (link_rows self.now.network m link) sink.new }
     {
-        let i = self.owner_of(link);
+        let i = self.owner_of_link(link);
         for lane in 0..self.network.lanes_of(link) {
             self.tiles[i].record(&self.network, Place { link, lane }, sink);
         }

@@ -8,7 +8,7 @@ use crate::Tile;
 use crate::hand_over::HandOver;
 use crate::view::View;
 use street_base::{Place, Step};
-use street_lanes::Lanes;
+use street_lanes::{Lanes, ListKind};
 use street_net::{Network, slot};
 
 /// The lane that the front of buffer `n`, that of own lane `n`, would enter now, if it is ready and has a turn to its next link.
@@ -92,12 +92,12 @@ fn release_lanes(
     ensures handed { HandsOver net.now clock own.old mouths.old handed.old.items handed.new.items }
     ensures kept { vec_capacity handed.old ≤ vec_capacity handed.new }
 {
-    let mut n = own.next_with_buffer(0);
+    let mut n = own.next_filled(ListKind::Buffer, 0);
     while n < own.len() {
         if let Some(to) = lane_for_front(own, net, n, clock) {
             release_front(own, net, n, to, mouths, handed);
         }
-        n = own.next_with_buffer(n + 1);
+        n = own.next_filled(ListKind::Buffer, n + 1);
     }
 }
 
@@ -110,7 +110,7 @@ impl Tile {
         requires view { length view.now ≡ 2 * length net.now.links }
         ensures { ReleasePhase net.now view.now self.old self.new }
     {
-        self.release_by(net, view.mouths());
+        self.release_by(net, &view.mouths);
     }
 
     /// As [`phase_release`](Self::phase_release), by the mouths of a view, as a team shows them to its workers. Takes no memory.

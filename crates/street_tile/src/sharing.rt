@@ -55,11 +55,12 @@ impl Span {
 impl Tiles {
     /// How many vehicles are in cells, and how many of these in the tile that has most of them.
     pub fn in_cells(&self) -> (u64, u64) {
+        let all = self.whole().cells;
         let mut most = 0;
         for tile in &self.tiles {
             most = most.max(tile.own.totals().cells);
         }
-        (self.whole().cells, most)
+        (all, most)
     }
 
     /// All tiles, as one block.

@@ -9,9 +9,9 @@ ghost use Rattle.street_tile.specs.Prelude.{KeepsHints, MayStep, Steps, MayRun, 
 ghost use Rattle.street_tile.specs.Prelude.{TileView, IsPrepared, AreTiles, HaveStepped, TilesStandFor, TilesKeep};
 ghost use Rattle.street_tile.specs.Prelude.{NobodyArrived, PreparesOne, TakesArrival, TakesArrivalOf};
 
-use crate::hand_over::{move_all, move_vec};
+use crate::hand_over::move_all;
 use crate::tiles::Tiles;
-use crate::view::{publish, publish_vec};
+use crate::view::publish;
 use crate::{Gate, Lender, LinkHints, Tile, View, share};
 use std::thread::Threads;
 use street_base::{CarNo, Starved};
@@ -108,7 +108,7 @@ pub fn step_all<R: Threads + Sync, G: Gate + Sync>(
     share(rt, net, gate, threads, LANE_CHANGES, &[], tiles);
     share(rt, net, gate, threads, MOTION, &[], tiles);
     publish(net, tiles, view);
-    share(rt, net, gate, threads, RELEASES, view.mouths(), tiles);
+    share(rt, net, gate, threads, RELEASES, &view.mouths, tiles);
     move_all(net, tiles, hints);
     share(rt, net, gate, threads, ENTRIES, &[], tiles);
     share(rt, net, gate, threads, DETECTORS, &[], tiles);
@@ -133,9 +133,9 @@ pub fn step_by<L: Lender>(
     ensures hints { KeepsHints hints.old hints.new }
 {
     lender.lend(net, DRIVE, &[], tiles);
-    publish_vec(net, tiles, view);
-    lender.lend(net, RELEASES, view.mouths(), tiles);
-    move_vec(net, tiles, hints);
+    publish(net, tiles.as_slice(), view);
+    lender.lend(net, RELEASES, &view.mouths, tiles);
+    move_all(net, tiles.as_mut_slice(), hints);
     lender.lend(net, SETTLE, &[], tiles);
 }
 

@@ -10,7 +10,7 @@ ghost use Rattle.street_node.specs.Prelude.{ShowsAs};
 ghost use Rattle.street_lanes.specs.Prelude.{IsLane, HasShortPlan, waiting_of};
 ghost use Rattle.street_tile.specs.Prelude.{at_place, planned, detectors_on, TilesStandFor, TilesGo, TilesKeep, NobodyArrived, OwnsLink};
 
-use crate::cut::owner;
+use crate::cut::owner_of_node;
 use crate::{LinkHints, Tile, View};
 use std::alloc::Global;
 use std::marker::Model;
@@ -105,12 +105,12 @@ impl Tiles {
     }
 
     /// The position of the tile that owns the lanes of a link: the tile of the node to which the link runs.
-    pub(crate) fn owner_of(&self, link: LinkIx) -> usize
+    pub(crate) fn owner_of_link(&self, link: LinkIx) -> usize
         requires { link < length self.now.network.links }
         ensures inside { result < length self.now.tiles }
         ensures own { OwnsLink self.now result link }
     {
-        owner(&self.network, self.tiles.len(), self.network.end_of(link))
+        owner_of_node(&self.network, self.tiles.len(), self.network.end_of(link))
     }
 
     /// One more vehicle waits on the lane `at`: `car`, whose number is the next and nowhere on that lane.
@@ -125,7 +125,7 @@ impl Tiles {
         ensures starved { OnErr result (TilesKeep self.old self.new) }
     {
         let link = at.link;
-        let i = self.owner_of(link);
+        let i = self.owner_of_link(link);
         self.hints.reserve()?;
         self.tiles[i].admit(&self.network, at, car)?;
         self.hints.give(link);
@@ -138,7 +138,7 @@ impl Tiles {
         ensures { (other : PlanSeen) → ShowsAs plan other
             → TilesGo (λ m. node < length m.signals) (planned node other) self.old self.new }
     {
-        let i = owner(&self.network, self.tiles.len(), node);
+        let i = owner_of_node(&self.network, self.tiles.len(), node);
         self.tiles[i].set_signal(node, plan);
     }
 
@@ -161,7 +161,7 @@ impl Tiles {
             → count ≡ closed_after closed first last (lane_at m at)) }
         ensures starved { OnErr result (TilesKeep self.old self.new) }
     {
-        let i = self.owner_of(at.link);
+        let i = self.owner_of_link(at.link);
         self.tiles[i].set_closed(&self.network, at, first, last, closed)
     }
 
@@ -173,7 +173,7 @@ impl Tiles {
         requires { IsLane self.now.network at }
         ensures { IfOk result (λ reply. (m : Traffic) → TilesStandFor self.now m → reply ≡ shown_lane (lane_at m at)) }
     {
-        let i = self.owner_of(at.link);
+        let i = self.owner_of_link(at.link);
         self.tiles[i].lane(alloc, &self.network, at)
     }
 
@@ -199,7 +199,7 @@ impl Tiles {
             → number ≡ length (detectors_on at m.detectors)) }
         ensures starved { OnErr result (TilesKeep self.old self.new) }
     {
-        let i = self.owner_of(at.link);
+        let i = self.owner_of_link(at.link);
         self.tiles[i].place_meter(alloc, &self.network, at, cell, period)
     }
 
@@ -217,7 +217,7 @@ impl Tiles {
         ensures { IfOk result (λ found. (m : Traffic) → TilesStandFor self.now m
             → found ≡ option_map shown_rows (slice_get (detectors_on at m.detectors) number)) }
     {
-        let i = self.owner_of(at.link);
+        let i = self.owner_of_link(at.link);
         self.tiles[i].read_meter(alloc, &self.network, at, number)
     }
 

@@ -26,7 +26,7 @@ impl Tiles {
         ensures taken { result ≡ true → TilesGo IsWhole (without number) self.old self.new }
         ensures kept { result ≡ false → self.new ≡ self.old }
     {
-        let i = self.owner_of(at.link);
+        let i = self.owner_of_link(at.link);
         self.tiles[i]
             .take_out_on(&self.network, at, number)
             .is_some()
@@ -86,7 +86,7 @@ impl Tiles {
     {
         for lane in 0..self.lanes_of(link) {
             let at = Place { link, lane };
-            let i = self.owner_of(link);
+            let i = self.owner_of_link(link);
             if let Some(found) = self.tiles[i].find_on(alloc, &self.network, at, number)? {
                 return Ok(Some(found));
             }

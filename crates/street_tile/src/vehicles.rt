@@ -12,7 +12,7 @@ use street_net::Network;
 
 impl Tile {
     /// Takes a vehicle out of own lane `n` (its number among the own lanes), if it is there.
-    fn take_on_own(&mut self, net: &Network, n: usize, number: CarNo) -> Option<Car>
+    fn take_out_of_own(&mut self, net: &Network, n: usize, number: CarNo) -> Option<Car>
         requires tile { IsTileOf net.now self.old }
         requires lane { n < length self.old.own.places }
         ensures number { IfSome result (λ car. car.number ≡ number) }
@@ -38,7 +38,7 @@ impl Tile {
         ensures had_not { result ≡ None → WhereOnce net.now self.old number (λ m. in_lane number (lane_at m at) ≡ 0) }
     {
         let n = self.number(net, at);
-        self.take_on_own(net, n, number)
+        self.take_out_of_own(net, n, number)
     }
 
     /// Takes a vehicle out, wherever it is on the own lanes; nobody where it is on none of them. Takes no memory.
@@ -52,7 +52,7 @@ impl Tile {
         ensures had_not { result ≡ None → WhereOnce net.now self.old number (λ m. HaveNot self.old.own.places m number) }
     {
         for n in 0..self.own.len() {
-            if let Some(car) = self.take_on_own(net, n, number) {
+            if let Some(car) = self.take_out_of_own(net, n, number) {
                 return Some(car);
             }
         }

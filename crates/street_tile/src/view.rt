@@ -1,24 +1,25 @@
 //! Which lanes are open, as all tiles see it: what each tile found of its own lanes' mouths is copied into the view. `step.rt`
 //! calls it between motion and releases.
-ghost use Rattle.std.specs.Prelude.{◌≡◌, ℕ, ◌*◌, ◌<◌, length, false, slice_get, slice_set, Some, IsTrue, ◌↔◌, IfOk, All};
+ghost use Rattle.std.specs.Prelude.{◌≡◌, ℕ, ◌*◌, length, false, slice_get, Some, IsTrue, ◌↔◌, IfOk, All};
 ghost use Rattle.std.specs.List.{list_any};
 ghost use Rattle.street_base.specs.declared.names.Place.{Place};
 ghost use Rattle.street_base.specs.Prelude.{is_place, Traffic};
 ghost use Rattle.street_lanes.specs.Prelude.{IsLane, AllLanes};
-ghost use Rattle.street_net.specs.Prelude.{slot_of, mouth};
+ghost use Rattle.street_net.specs.Prelude.{mouth};
 ghost use Rattle.street_tile.specs.Prelude.{IsTileOf, IsRoads, AreTiles, AllStand, Shows, ShowsOwn};
 
 use crate::tile::Tile;
 use std::alloc::Global;
 use std::marker::Model;
-use street_base::{Place, Starved};
+use street_base::Starved;
 use street_lanes::Lanes;
 use street_net::{Network, slot};
 
 /// For each lane of a network whether its cell 0 is empty and not closed, by `street_net::slot`: two entries a link, of which a
 /// link of one lane uses the first. Contracts see the list.
 pub struct View {
-    mouths: Vec<bool>,
+    /// Of each lane, by slot, whether its mouth is open.
+    pub(crate) mouths: Vec<bool>,
 }
 
 impl Drop for View {
@@ -55,47 +56,24 @@ impl View {
     {
         self.mouths.len()
     }
-
-    /// Of each lane, by slot, whether its mouth is open.
-    pub(crate) fn mouths(&self) -> &[bool]
-        ensures { result.now ≡ self.now }
-    {
-        &self.mouths
-    }
-
-    /// Writes of each lane, by slot, whether its mouth is open.
-    pub(crate) fn copy(&mut self, mouths: &[bool])
-        requires { length mouths.now ≡ length self.old }
-        ensures { self.new ≡ mouths.now }
-    {
-        self.mouths.copy_from_slice(mouths);
-    }
-
-    /// Writes of one lane whether its mouth is open.
-    pub(crate) fn show(&mut self, at: Place, is_open: bool)
-        requires small { slot_of at < 65536 }
-        requires within { slot_of at < length self.old }
-        ensures { self.new ≡ slice_set self.old (slot_of at) is_open }
-    {
-        self.mouths[slot(at.link, at.lane)] = is_open;
-    }
 }
 
-/// Copies the mouth of each of these lanes from a list of mouths into the view.
-fn copy_lanes(own: &Lanes, net: &Network, mouths: &[bool], view: &mut View)
+/// Copies the mouth of each of these lanes from one list of mouths into another, of which the other lanes' stay.
+fn copy_lanes(own: &Lanes, net: &Network, mouths: &[bool], shown: &mut [bool])
     requires roads { IsRoads net.now }
     requires there { AllLanes net.now own.now.places }
     requires held { length mouths.now ≡ 2 * length net.now.links }
-    requires wide { length view.old ≡ 2 * length net.now.links }
+    requires wide { length shown.old ≡ 2 * length net.now.links }
     ensures own { (j : ℕ) → (p : Place) → slice_get own.now.places j ≡ Some p
-        → mouth view.new p ≡ mouth mouths.now p }
+        → mouth shown.new p ≡ mouth mouths.now p }
     ensures rest { (p : Place) → IsLane net.now p
-        → list_any (is_place p) own.now.places ≡ false → mouth view.new p ≡ mouth view.old p }
-    ensures wide { length view.new ≡ length view.old }
+        → list_any (is_place p) own.now.places ≡ false → mouth shown.new p ≡ mouth shown.old p }
+    ensures wide { length shown.new ≡ length shown.old }
 {
     for n in 0..own.len() {
         let at = own.at(n);
-        view.show(at, mouths[slot(at.link, at.lane)]);
+        let slot = slot(at.link, at.lane);
+        shown[slot] = mouths[slot];
     }
 }
 
@@ -119,9 +97,9 @@ impl Tile {
         ensures wide { length view.new ≡ length view.old }
     {
         if self.has_all_nodes(net) {
-            view.copy(&self.mouths);
+            view.mouths.copy_from_slice(&self.mouths);
         } else {
-            copy_lanes(&self.own, net, &self.mouths, view);
+            copy_lanes(&self.own, net, &self.mouths, &mut view.mouths);
         }
     }
 }
@@ -137,15 +115,4 @@ pub(crate) fn publish(net: &Network, tiles: &[Tile], view: &mut View)
     for i in 0..tiles.len() {
         tiles[i].mouths(net, view);
     }
-}
-
-/// As [`publish`], of a vector, of which the contract of a team's step speaks: no tile is lent.
-pub(crate) fn publish_vec(net: &Network, tiles: &Vec<Tile>, view: &mut View)
-    requires tiles { AreTiles net.now tiles.now.items }
-    requires shown { All ShowsOwn tiles.now.items }
-    requires view { length view.old ≡ 2 * length net.now.links }
-    ensures shows { (m : Traffic) → AllStand net.now tiles.now.items m → Shows net.now view.new m }
-    ensures wide { length view.new ≡ length view.old }
-{
-    publish(net, tiles, view);
 }

@@ -405,13 +405,14 @@ def move_files(source: str, target: FilePath, last: str, names: Collection[str] 
 
 ENDINGS = (signal.SIGTERM, signal.SIGINT, signal.SIGHUP)
 STATUSES = {128 + one: one.name for one in ENDINGS}  # of a tool that such a signal ended
+AGAIN = 0.2  # seconds until a signal's exception that got lost is raised again
 
 
 @contextlib.contextmanager
 def uninterrupted() -> Iterator[None]:
     """Holds back, while the block runs, the signals that end a tool (ENDINGS); they come after it. They are held back
     from this thread alone, and from processes begun in the block for good."""
-    before = signal.pthread_sigmask(signal.SIG_BLOCK, ENDINGS)
+    before = signal.pthread_sigmask(signal.SIG_BLOCK, (*ENDINGS, signal.SIGALRM))
     try:
         yield
     finally:
@@ -424,7 +425,18 @@ ASKED: list[int] = []  # the signals that asked for an end, where a library take
 def end_by_signal(number: int, _frame: FrameType | None) -> NoReturn:
     """Handles a signal: ends the tool by SystemExit, with status 128 + number, so that nothing half-written is left."""
     ASKED.append(number)
+    signal.setitimer(signal.ITIMER_REAL, AGAIN, AGAIN)
     sys.exit(128 + number)
+
+
+def end_again(_number: int, _frame: FrameType | None) -> None:
+    """Handles the timer that end_by_signal has set: raises its SystemExit again where that got lost, as Python drops
+    what is raised while it forgets an object; leaves it alone where it is on its way, through what cleans up."""
+    fault = sys.exc_info()[1]
+    while fault and not isinstance(fault, SystemExit):
+        fault = fault.__context__
+    if not fault:
+        sys.exit(128 + ASKED[0])
 
 
 def interrupt(number: int, _frame: FrameType | None) -> NoReturn:
@@ -453,6 +465,7 @@ def run_tool(main: Main) -> NoReturn:
     for number in (signal.SIGTERM, signal.SIGHUP):
         if signal.getsignal(number) is not signal.SIG_IGN:
             signal.signal(number, end_by_signal)
+    signal.signal(signal.SIGALRM, end_again)
     status = status_of(main)
     for number in ENDINGS:
         signal.signal(number, signal.SIG_IGN)
@@ -467,6 +480,7 @@ def status_of(main: Main) -> int:
         try:
             return main(sys.argv[1:])
         finally:
+            signal.setitimer(signal.ITIMER_REAL, 0)
             sys.stdout.flush()
     except KeyboardInterrupt:
         tell_ended("Ctrl-C")

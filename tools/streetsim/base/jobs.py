@@ -6,7 +6,7 @@ import signal
 from collections.abc import Callable, Iterable
 from typing import TYPE_CHECKING, Any, TypeVar
 
-from streetsim.base.files import Fault
+from streetsim.base.files import ENDINGS, Fault, uninterrupted
 
 if TYPE_CHECKING:  # what takes long to import, and one run does without
     from multiprocessing.connection import Connection
@@ -55,9 +55,10 @@ def start_process(work: Callable[[Item, Tell], object], index: int, item: Item, 
 
     pipe, end = multiprocessing.Pipe(duplex=False)
     process = multiprocessing.get_context("fork").Process(target=work_and_send, args=(work, item, end))
-    process.start()
+    with uninterrupted():  # else a signal would leave a process that nobody ends
+        process.start()
+        running[pipe] = index, process
     end.close()
-    running[pipe] = index, process
 
 
 def work_and_send(work: Callable[[Item, Tell], object], item: Item, pipe: Connection) -> None:
@@ -66,6 +67,7 @@ def work_and_send(work: Callable[[Item, Tell], object], item: Item, pipe: Connec
     signal.signal(signal.SIGINT, signal.SIG_IGN)
     for number in (signal.SIGTERM, signal.SIGHUP):
         signal.signal(number, signal.SIG_DFL)
+    signal.pthread_sigmask(signal.SIG_UNBLOCK, ENDINGS)  # which start_process held back
     try:
         pipe.send(("done", work(item, lambda value: pipe.send(("told", value)))))
     except Fault as fault:

@@ -50,24 +50,27 @@ class TerminalLine:
 
 
 class Meanwhile(TerminalLine):
-    """A line that says how much of some work is done, and how many minutes are left."""
+    """A line that says how much of some work is done, and how long it still takes."""
 
-    def __init__(self, what: str, total: int, stream: IO[str] | None = None) -> None:
-        """what: the parts of the work in the plural, as the line says it ("12 of 40 plans"); total: how many there are.
-        stream: of the line, None: standard error."""
+    def __init__(self, what: str, total: int, stream: IO[str] | None = None, abreast: int = 1) -> None:
+        """what: the parts of the work in the plural, as the line says it ("12 of 40 plans"); total: how many there
+        are. stream: of the line, None: standard error; abreast: how many are done side by side."""
         super().__init__(stream)
-        self.what, self.total = what, total
+        self.what, self.total, self.abreast = what, total, abreast
 
-    def show(self, done: int, more: str = "") -> None:
-        """Writes the line where it is due; done: parts done; more: what else there is to say."""
+    def show(self, done: int, more: str = "", left: float | None = None) -> None:
+        """Writes the line where it is due; done, more, left: as `line` has them."""
         if self.takes_turn(done >= self.total):
-            self.write_over(self.line(done, more, self.seconds()))
+            self.write_over(self.line(done, more, self.seconds(), left))
 
-    def line(self, done: int, more: str, seconds: float) -> str:
-        """The line's text; done: parts done; more: what else there is to say; seconds: since the begin of the work."""
-        left = seconds * max(0, self.total - done) / max(1, done) / 60
+    def line(self, done: int, more: str, seconds: float, left: float | None = None) -> str:
+        """The line's text; done: parts done; more: what else there is to say; seconds: since the begin of the work;
+        left: seconds that it still takes, None: as long for a part as so far."""
+        if left is None:
+            going = min(self.abreast, max(0, self.total - done)) / 2 if self.abreast > 1 else 0.0  # half done
+            left = seconds * max(0, self.total - done - going) / max(1, done + going)
         told = f"[{bar(done, self.total)}] {done:,} of {self.total:,} {self.what}"
-        return f"{told}{more and f', {more}'}, {left:.1f} min left"
+        return f"{told}{more and f', {more}'}, {time_told(left)} left"
 
 
 class UnderWay(TerminalLine):

@@ -1,5 +1,6 @@
 """The commands: each runs the main function of a tool's module. Those of an installation and those beside this package
 begin here."""
+import gc
 import os
 import signal
 import sys
@@ -12,6 +13,8 @@ if TYPE_CHECKING:
     from typing import NoReturn
 
 ENDINGS = (signal.SIGTERM, signal.SIGHUP)
+# New objects after which Python looks for those that hold each other: hardly any of the tools' do.
+BEFORE_A_LOOK = 50_000
 
 
 def end_at_once(number: int, _frame: "FrameType | None") -> None:
@@ -25,6 +28,7 @@ def end_at_once(number: int, _frame: "FrameType | None") -> None:
 def run_command(module: str, package: str = "cli") -> "NoReturn":
     """Imports a tool's module, by its name in a package, runs it, and ends the process with its status. A signal that
     comes before that ends the command as end_at_once says."""
+    gc.set_threshold(BEFORE_A_LOOK)
     # A command that a script has put into the background does not hear interrupts, and one of nohup no SIGHUP.
     hears = signal.getsignal(signal.SIGINT) is signal.default_int_handler
     for number in (*ENDINGS, *([signal.SIGINT] if hears else [])):

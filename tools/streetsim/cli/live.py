@@ -18,8 +18,8 @@ from streetsim.cli.words import add_departures, add_simulator
 from streetsim.control.settings import Settings
 from streetsim.live.bridge import HOST, Bridge
 from streetsim.live.joining import Joining
-from streetsim.live.kept import Kept
 from streetsim.live.session import PageSession
+from streetsim.live.session_files import SessionFiles
 from streetsim.model.mapping import Map
 from streetsim.model.replications import LISTED
 from streetsim.model.runs import Run, read_with_map
@@ -94,7 +94,7 @@ def main(arguments: list[str]) -> int:
     of, told = joining.page_run()
     print(*told, sep="\n", end="\n" if told else "", file=sys.stderr)
     page = joining.page(of)
-    kept = Kept(Path(words.keep), of.run, [getattr(words, name) for name in PAST]) if words.keep else None
+    kept = SessionFiles(Path(words.keep), of.run, [getattr(words, name) for name in PAST]) if words.keep else None
     session = PageSession(of, kept)
     try:
         with Bridge(session, page, words.port, None if kept else joining.join) as bridge:

@@ -26,9 +26,14 @@ from streetsim.report.picture_plots import draw_queues
 from streetsim.report.run_tables import Runs, read_folders, read_runs
 from streetsim.report.timing_sheets import clashes
 
-SEARCH = "(some minutes; Ctrl-C ends it with the best so far; where SUMO is installed --verify-sumo judges by it too)"
+SEARCH = (
+    "(some minutes; Ctrl-C ends it with the best so far; where vehicles that turn wait for gaps in oncoming traffic, "
+    'the plan is trusted only if SUMO judges it too: <span class="ids">--verify-sumo</span>)'
+)
 ONLY = "(the only lane of its street: who comes meanwhile waits, as ways round it are found by streetsim-route --close)"
 PLAYED = 600  # seconds that the page plays
+SHORT = 40  # letters of a word of a command that stays on one line
+ROUND = (3600, 1800, 900, 300, 60, 10, 1)  # seconds between the clock times that a command advises
 STYLE = "width: 100%; height: min(75vh, 600px); border: 1px solid #555"
 FRAME = f'<iframe title="The vehicles as they drive" style="{STYLE}" srcdoc="{{page}}"></iframe>'
 
@@ -90,8 +95,10 @@ def player_told(folder: Folder, begin: int) -> str:
 
 
 def command(*words: str) -> str:
-    """A command of the shell, as HTML."""
-    return f"<code>{escape(shlex.join(words))}</code>"
+    """A command of the shell, as HTML, of which no line ends within a short word."""
+    quoted = (escape(shlex.quote(word)) for word in words)
+    kept = (f'<span class="ids">{word}</span>' if len(word) <= SHORT else word for word in quoted)
+    return f"<code>{' '.join(kept)}</code>"
 
 
 def next_told(runs: Runs, run: str) -> str:
@@ -101,19 +108,24 @@ def next_told(runs: Runs, run: str) -> str:
     net = net_of(folder, name)
     lane, metres, is_only = lane_to_close(folder)
     works = f"{lane}:{int(metres / 2)}-{int(metres / 2 + min(metres / 4, 100))}:{closing(folder)}"
+    edge, seeds = lane.rpartition("_")[0], ("--seeds", "1-5", "--junctions", "900")
+    joint = () if is_only or len(folder.mapping.links_of[edge]) == 1 else ("--joint", edge)
     own = os.path.normpath(folder.path)
     questions = (
         (
             "Would another cycle, other greens or offsets be better?",
-            command("streetsim-signals", name, "--plans", net) + f"<br>{escape(SEARCH)}",
+            command("streetsim-signals", name, "--plans", net) + f"<br>{SEARCH}",
         ),
         (
             "What if a lane is closed?",
-            command("streetsim-run", name, "--close", works, "--junctions", "900", "--out", "works")
-            + "<br>" + command("streetsim-report", own, "works") + (f"<br>{escape(ONLY)}" if is_only else ""),
+            "<br>".join((
+                command("streetsim-run", name, *joint, *seeds, "--out", "before"),
+                command("streetsim-run", name, "--close", works, *seeds, "--out", "works"),
+                command("streetsim-report", "before", "works"), *([escape(ONLY)] if is_only else []),
+            )),  # fmt: skip
         ),
         ("Does it fit counts?", command("streetsim-compare", own, "--counts", "counts.csv")),
-        ("Is it chance? Five other days:", command("streetsim-run", name, "--seeds", "1-5", "--junctions", "900")),
+        ("Is it chance? Five other days:", command("streetsim-run", name, *seeds)),
         ("A report to hand in:", command("streetsim-report", own, "--title", "Title", "-o", "report.html")),
     )
     return facts(questions)
@@ -141,6 +153,11 @@ def lane_to_close(folder: Folder) -> tuple[str, float, bool]:
 
 
 def closing(folder: Folder) -> str:
-    """The middle half of a run, as --close takes it: seconds from and to."""
-    start, until = folder.made.get("start", 0), folder.made.get("until", 3600)
-    return f"{start + (until - start) // 4}-{until - (until - start) // 4}"
+    """About the middle half of the time in which vehicles depart, as --close takes it: round clock times, and of less
+    than four minutes round seconds."""
+    departs = [int(row["depart"]) for row in folder.trips()] or [folder.made.get("start", 0)]
+    start, until = min(departs), min(max(departs), folder.made.get("until", max(departs)))
+    quarter = max(1, (until - start) // 4)
+    step = next(step for step in ROUND if quarter >= step)
+    clocks = [step * round(second / step) for second in (start + quarter, max(until - quarter, start + 2 * quarter))]
+    return "-".join(f"{one // 3600:02d}:{one // 60 % 60:02d}" if step >= 60 else str(one) for one in clocks)

@@ -25,6 +25,7 @@ from streetsim.report.page_seal import COUNTS, NAMES, Seal, beside_of, write_bes
 from streetsim.report.page_sealing import seal_for
 from streetsim.report.page_summary import ranked_rows
 from streetsim.report.page_table import CHANGES, change_rows
+from streetsim.report.page_works import seen_in
 from streetsim.report.run_series import way_back
 from streetsim.report.run_tables import Runs, read_runs
 from streetsim.report.timing_sheets import Timings, changed, clashes, sheets
@@ -75,7 +76,7 @@ def parser() -> Parser:
     add_files(made, "--counts", "counts of edges and turns, beside the first plan, as of streetsim-compare")
     add_attribute(made)
     made.add_argument("--csv", metavar="FILE", help="also write all junctions and movements, before and after (.csv)")
-    add_clock(made, "--interval", "the interval shown, by its begin (default: the busiest)")
+    add_clock(made, "--interval", "the interval shown, by its begin (default: the busiest; of works, while they last)")
     add_names(made)
     made.add_argument("--corridor", default="", metavar="EDGES", help="a path to draw, of a run with --every 1 (to 5)")
     for name, default in PICTURE.items():
@@ -198,14 +199,15 @@ def sheets_told(plans: Sequence[Runs], timings: Sequence[Timings], asked: str) -
 
 
 def interval_of(all_runs: Sequence[Runs], words: argparse.Namespace) -> tuple[int, int]:
-    """The interval (begin, end), in seconds, that is shown and that all plans have: the one of --begin, else the
-    busiest of the first plan, else the first. Fault where there is none."""
+    """The interval (begin, end), in seconds, that is shown and that all plans have: the one of --interval, else the
+    busiest of the first plan, of those in which road works last where there are any. Fault where there is none."""
     common = set(all_runs[0].intervals()).intersection(*(runs.intervals() for runs in all_runs))
     if not common:
         raise Fault("the runs have no interval in common")
     if words.interval is None:
-        busiest = all_runs[0].busiest()
-        return busiest if busiest in common else min(common)
+        spans = [seen.span() for runs in all_runs for seen in seen_in(runs)]
+        works = {one for one in common if any(begin < one[1] and one[0] < end for begin, end in spans)}
+        return all_runs[0].busiest(works or common)
     if words.interval not in (found := dict(sorted(common))):
         raise Fault(f"--interval {words.interval}: no interval begins there, of {', '.join(map(str, found))}")
     return words.interval, found[words.interval]

@@ -4,10 +4,11 @@ import sys
 from collections.abc import Iterator, Sequence
 from contextlib import contextmanager
 from statistics import fmean, stdev
+from time import monotonic
 
 from streetsim.base import limits, program
 from streetsim.base.files import Fault, refuse_foreign, refuse_unwritable
-from streetsim.base.progress import Slow
+from streetsim.base.progress import Meanwhile, Slow
 from streetsim.base.seeds import seeds_for, seeds_of
 from streetsim.base.words import Parser, add_rounds, add_run, integer_within, names_in, paths_in
 from streetsim.cli.defaults import complete_outputs, complete_run, plan_files, stem_of
@@ -27,7 +28,7 @@ from streetsim.search.signal_formulas import streets_of
 from streetsim.search.signal_found import PlanFiles, before_after_rows, doubts_of, tell_found, write_found
 from streetsim.search.signal_in_sumo import PROGRAM_ID, sumo_for, verified
 from streetsim.search.signal_planning import (
-    CHANGES, CYCLES, DRAWN, ended_search, proposed_cycles, refuse_budget, tried_seeds,
+    CHANGES, CYCLES, DRAWN, TRIED, ended_search, proposed_cycles, refuse_budget, tried_seeds,
 )
 from streetsim.search.signal_plans import LEAST, plan_text
 from streetsim.search.signal_search import PlanSearch, search_plan
@@ -45,7 +46,8 @@ def parser() -> Parser:
             "streetsim-signals zero.jsonl --plans corridor.net.xml.gz --until 4500 --vary splits,cycle --budget 200",
         ),
         description="Finds signal plans by simulation: cycles, splits and offsets under which trips are shorter. "
-        "The order of phases, yellow and all-red stay. What is found is a proposal to be checked.",
+        "The order of phases, yellow and all-red stay. What is found is a proposal to be checked. A terminal shows how "
+        "far the search is; elsewhere each stage ends with a line on standard error.",
     )
     add_run(made)
     made.add_argument(
@@ -134,7 +136,7 @@ def main(arguments: list[str]) -> int:
     in_sumo = sumo_for(reading, town.mapping, town.run) if words.verify_sumo else None
     with runner_of(words, town, check) as runner:
         search, stopped = search_for_plan(words, runner, check)
-        before, after = (runner.outcomes(plan, check) for plan in (town.plan, search.best[1]))
+        before, after = runner.outcomes([town.plan, search.best[1]], check, words.jobs)
     texts = [plan_text(town.lights, plan, PROGRAM_ID) for plan in (town.plan, search.best[1])]
     sumo = verified(in_sumo, town, texts, check, words.jobs) if in_sumo else None
     rows, doubts = before_after_rows(town, before, after, sumo), list(doubts_of(town, before, after, sumo))
@@ -165,7 +167,7 @@ def find_bounds(words: argparse.Namespace, reading: Reading, town: SignalTown, c
         before, after = ([*bounded_outcomes(workers, [one], check)] for one in (ground.given, search.best[1]))
     with runner_of(words, town, check) as runner:
         fixed, _ = search_for_plan(words, runner, check)
-        beside = runner.outcomes(fixed.best[1], check)
+        [beside] = runner.outcomes([fixed.best[1]], check, words.jobs)
     texts = [bounds_text(town.mapping, one, PROGRAM_ID) for one in (ground.given, search.best[1])]
     sumo = verified(in_sumo, town, texts, check, words.jobs) if in_sumo else None
     found = FoundBounds(search, stopped, before, after, beside, sumo)
@@ -284,7 +286,11 @@ def search_seeds(words: argparse.Namespace, runner: Runner, check: Sequence[int]
     """The seeds of the search: those of --seeds, else of tried_seeds as many as the spread of runs of the given plan
     asks for. Makes these runs in both cases; prints how many seeds, and why. Fault where --budget is below them."""
     tried = tried_seeds(check)
-    means = list(runner.mean_trips([runner.town.plan], tried))
+    means, shown = [], Meanwhile("runs of the given plan", len(tried), abreast=words.jobs)
+    for mean in runner.mean_trips([runner.town.plan], tried):
+        means.append(mean)
+        shown.show(len(means))
+    shown.end()
     needed = seeds_for(means)
     seeds = given_seeds(words) or tried[:needed]
     differ = f"trips of the given plan differ by {100 * stdev(means) / fmean(means):.1f} % from seed to seed"
@@ -295,12 +301,20 @@ def search_seeds(words: argparse.Namespace, runner: Runner, check: Sequence[int]
 
 
 def search_for_plan(words: argparse.Namespace, runner: Runner, check: Sequence[int]) -> tuple[PlanSearch, bool]:
-    """Searches for a plan; gives (search when it has ended, whether the user ended it by Ctrl-C)."""
+    """Searches for a plan, and says what that came to; gives (search when it has ended, whether the user ended it by
+    Ctrl-C)."""
+    begin = monotonic()
     town, seeds, (changed, cycles) = runner.town, search_seeds(words, runner, check), changes_and_cycles(words)
+    judging = (monotonic() - begin) * 2 * len(check) / TRIED  # seconds: runs side by side too, by two plans
     streets = streets_of(town.run, town.mapping, town.lights)
 
     def search_from_given(search: PlanSearch) -> None:
         """Searches from the given plan."""
         search_plan(search, town.base, town.lights, streets, changed, proposed_cycles(cycles, town, streets))
 
-    return ended_search(lambda plans: runner.mean_trips(plans, seeds), words.budget, len(seeds), search_from_given)
+    search, stopped = ended_search(
+        lambda plans: runner.mean_trips(plans, seeds), words.budget, len(seeds), search_from_given, after=judging
+    )
+    told = f"the search has ended after {search.simulations} simulations"
+    print(f"{told}: plans are now run by {len(check)} other seeds", file=sys.stderr)
+    return search, stopped

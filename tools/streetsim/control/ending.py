@@ -29,7 +29,7 @@ def census_of(kernel: Kernel, now: Block) -> tuple[int, int, int]:
     """(vehicles that arrived, that were taken out, and that wished to depart by now, those entered anew among them) of
     a run whose last second is given."""
     early = kernel.entered - bisect_left(kernel.departs, kernel.clock)
-    return now.gone, len(kernel.vehicles.taken), kernel.vehicles.told - early
+    return now.arrived_count, len(kernel.vehicles.takeouts), kernel.vehicles.entered - early
 
 
 def all_ended(kernel: Kernel, now: Block) -> bool:

@@ -13,7 +13,7 @@ from streetsim.base.client import Lane, Vehicle, read_reply
 from streetsim.base.files import Fault
 from streetsim.kernel.plans import Plans
 from streetsim.kernel.program import LINES, Blocks, Program
-from streetsim.kernel.seconds import NOBODY, NOT_ANEW, READY, Block, Seconds, Taken, Vehicles, seconds_of
+from streetsim.kernel.seconds import NOBODY, NOT_ANEW, READY, Block, Seconds, Takeout, Vehicles, seconds_of
 from streetsim.model.mapping import Map, Place
 from streetsim.model.record import ROW
 from streetsim.model.rows import unbroken_stretches
@@ -82,7 +82,7 @@ class Kernel:
         self.most = max(1, min(LINES, NUMBERS // max(1, 2 * len(mapping.links))))  # seconds that are made at once
         self.seconds: Seconds | None = None  # that observers got last
         self.part: Blocks = NOBODY  # what was made last
-        self.last = Block(NOBODY)
+        self.last_second = Block(NOBODY)
 
     @cached_property
     def plans(self) -> Plans:
@@ -125,12 +125,13 @@ class Kernel:
         Controllers that are due now must have acted. Fault where a vehicle is refused."""
         target = self.clock + 1
         if until > target:
-            target = max(target, min(until, self.clock + self.most, *(one.next_clock() for one in self.controllers)))
+            due = min((controller.next_clock() for controller in self.controllers), default=until)
+            target = max(target, min(until, self.clock + self.most, due))
         self.enter_due(target)
         self.program.begin(target - self.clock)
         self.hand_over(ROWS)
         blocks = self.program.blocks()
-        self.clock, self.part, self.last = target, blocks, Block(blocks)
+        self.clock, self.part, self.last_second = target, blocks, Block(blocks)
         if self.observers:
             self.waiting.append(blocks)
             self.size += len(blocks[1])
@@ -143,19 +144,19 @@ class Kernel:
 
     def act_due(self, controllers: Iterable[Controller]) -> int:
         """Has those of some controllers act that are due; gives the clock."""
-        for one in controllers:
-            if one.next_clock() <= self.clock:
-                one.act(self.clock, self.last)
+        for controller in controllers:
+            if controller.next_clock() <= self.clock:
+                controller.act(self.clock, self.last_second)
         return self.clock
 
     def hand_over(self, rows: int) -> None:
         """Gives observers what waits, where it is so many rows, or seconds, at least."""
-        before = self.start if self.seconds is None else int(self.seconds.clocks[-1])
-        if self.waiting and (self.size >= rows * ROW or self.clock - before >= self.most):
-            self.seconds = seconds_of(self.waiting, self.seconds, before, self.vehicles)
+        last_clock = self.start if self.seconds is None else int(self.seconds.clocks[-1])
+        if self.waiting and (self.size >= rows * ROW or self.clock - last_clock >= self.most):
+            self.seconds = seconds_of(self.waiting, self.seconds, last_clock, self.vehicles)
             self.waiting, self.size = [], 0
-            for one in self.observers:
-                one.see(self.seconds)
+            for observer in self.observers:
+                observer.see(self.seconds)
 
     def send(self, commands: Iterable[Command]) -> None:
         """Sends commands of a controller before the next step. Fault where one is refused."""
@@ -166,8 +167,8 @@ class Kernel:
         where one is refused."""
         due: list[Line] = []
         for line in lines:
-            for one in self.controllers:
-                due += map(own_line, one.hear(self.clock, line.command))
+            for controller in self.controllers:
+                due += map(own_line, controller.hear(self.clock, line.command))
             due.append(line)
         self.send_now(due, True)
 
@@ -180,7 +181,7 @@ class Kernel:
 
     def send_lines(self, lines: Sequence[Line]) -> list[bytes]:
         """Sends lines and gives the replies; Fault where one is refused."""
-        replies = self.program.ask([line.text.encode() + b"\n" for line in lines])
+        replies = self.program.exchange([line.text.encode() + b"\n" for line in lines])
         for line, reply in zip(lines, replies, strict=True):
             if b'"error"' in reply or b'"starved"' in reply:
                 raise self.refusal(line, reply)
@@ -188,31 +189,32 @@ class Kernel:
 
     def refusal(self, line: Line, reply: bytes) -> Exception:
         """What is raised for a line that is refused, by the reply to it."""
-        where = f"line {line.number} ({line.command['cmd']})" if line.number > 0 else line.text
-        return Fault(f"{self.run.path}: {where} was refused: {read_reply(reply)}")
+        line_text = f"line {line.number} ({line.command['cmd']})" if line.number > 0 else line.text
+        return Fault(f"{self.run.path}: {line_text} was refused: {read_reply(reply)}")
 
     def enter_due(self, target: int) -> None:
         """Tells the program of the vehicles that depart before a clock, and of those before them in the file."""
-        first, run = self.entered, self.run
+        first_new, run = self.entered, self.run
         while self.entered < len(run.enters) and run.needed[self.entered] < target:
             self.entered += 1
-        if first < self.entered:
-            lines = run.enters[first : self.entered]
+        if first_new < self.entered:
+            lines = run.enters[first_new : self.entered]
             self.send_lines(lines)
-            self.vehicles.add(range(first, self.entered), [line.command.get("size", 1) for line in lines])
+            self.vehicles.add(range(first_new, self.entered), [line.command.get("size", 1) for line in lines])
 
     def reenter(self, car: int, command: Command) -> None:
         """Takes out a vehicle, by its number in the program, and enters it anew by a command. Fault if refused."""
-        self.take_out(car, self.vehicles.told)
+        self.take_out(car, self.vehicles.entered)
         self.enter(int(self.vehicles.owner[car]), command)
 
     def take_out(self, car: int, anew: int = NOT_ANEW) -> None:
         """Takes out a vehicle, by its number in the program. anew: the number with which it is to be entered next.
         Fault if refused."""
         self.send_lines([own_line({"cmd": "takeout", "car": car})])
-        rows = np.flatnonzero(self.last.car == car)
-        slot, on = (int(self.last.slot[rows[0]]), bool(self.last.cell[rows[0]] >= 0)) if len(rows) else (0, False)
-        self.vehicles.taken.append(Taken(self.clock, car, anew, slot, on))
+        block = self.last_second
+        rows = np.flatnonzero(block.car == car)
+        slot, on_lane = (int(block.slot[rows[0]]), bool(block.cell[rows[0]] >= 0)) if len(rows) else (0, False)
+        self.vehicles.takeouts.append(Takeout(self.clock, car, anew, slot, on_lane))
 
     def enter(self, owner: int, command: Command) -> None:
         """Enters a vehicle by a command; owner: its number in the file, or beyond those where it is not of the file.
@@ -223,28 +225,29 @@ class Kernel:
     def ask_vehicles(self, cars: Iterable[int]) -> list[Vehicle]:
         """The replies on vehicles, by their numbers in the program; Fault where one is refused."""
         lines = [Line(-1, f'{{"cmd":"vehicle","car":{car}}}', {"cmd": "vehicle"}) for car in cars]
-        found = [read_reply(reply) for reply in self.send_lines(lines)]
-        assert all(isinstance(one, Vehicle) for one in found)
-        return [one for one in found if isinstance(one, Vehicle)]
+        vehicles = [read_reply(reply) for reply in self.send_lines(lines)]
+        assert all(isinstance(vehicle, Vehicle) for vehicle in vehicles)
+        return [vehicle for vehicle in vehicles if isinstance(vehicle, Vehicle)]
 
-    def lane_now(self, place: Place) -> Lane | None:
+    def lane_now(self, link_lane: Place) -> Lane | None:
         """What the last second shows on a lane, without who waits to enter it; None where nothing is there."""
-        slot = 2 * place[0] + place[1]
-        rows, now, size = self.last.lane(slot), self.last, self.vehicles.size
-        found = list(zip(*(one[rows].tolist() for one in (now.car, now.cell, now.speed))))
+        slot = 2 * link_lane[0] + link_lane[1]
+        block, size = self.last_second, self.vehicles.size
+        rows = block.lane(slot)
+        vehicles = list(zip(*(column[rows].tolist() for column in (block.car, block.cell, block.speed))))
         closed = tuple(unbroken_stretches(self.closed.cells[slot])) if slot in self.closed.cells else ()
-        if not found and not closed:
+        if not vehicles and not closed:
             return None
         cells = tuple(
             (car, cell, speed) if size[car] == 1 else (car, cell, speed, int(size[car]))
-            for car, cell, speed in found
+            for car, cell, speed in vehicles
             if cell >= 0
         )
-        return Lane(cells, tuple((car, speed, cell & READY) for car, cell, speed in found if cell < 0), (), closed)
+        return Lane(cells, tuple((car, speed, cell & READY) for car, cell, speed in vehicles if cell < 0), (), closed)
 
-    def lanes_now(self, places: Iterable[Place]) -> dict[Place, Lane]:
+    def lanes_now(self, link_lanes: Iterable[Place]) -> dict[Place, Lane]:
         """By (link, lane) what `lane_now` gives, but for lanes where nothing is."""
-        return {place: lane for place in places if (lane := self.lane_now(place)) is not None}
+        return {link_lane: lane for link_lane in link_lanes if (lane := self.lane_now(link_lane)) is not None}
 
     def is_to_come(self, clock: int) -> bool:
         """Whether a vehicle of the file wishes to depart at a clock or later."""

@@ -25,40 +25,40 @@ class Program(Process):
     """One process of the program and the pipe of its record, which has no name in any folder. What was begun is taken
     by `blocks` before anything else is asked."""
 
-    def __init__(self, path: str, workers: int = 1, words: Sequence[str] = ()) -> None:
-        """Starts the program. path: of the program; workers: its threads; words: more of its words."""
+    def __init__(self, path: str, workers: int = 1, arguments: Sequence[str] = ()) -> None:
+        """Starts the program. path: of the program; workers: its threads; arguments: more of its words."""
         self.path = path
-        self.record, there = os.pipe()
+        self.record, writing_end = os.pipe()
         with contextlib.suppress(OSError):
             fcntl.fcntl(self.record, fcntl.F_SETPIPE_SZ, ROOM)
-        self.pipe = f"/dev/fd/{there}"
-        words = [path, "--record", self.pipe, *words, *(["--workers", str(workers)] if workers != 1 else [])]
-        super().__init__(words, 0, [there])
-        os.close(there)
+        self.pipe = f"/dev/fd/{writing_end}"
+        arguments = [path, "--record", self.pipe, *arguments, *(["--workers", str(workers)] if workers != 1 else [])]
+        super().__init__(arguments, 0, [writing_end])
+        os.close(writing_end)
         self.pipes.append(open(self.record, "rb", buffering=0))
         self.lines, self.replies = self.input.fileno(), self.output.fileno()
-        self.rest, self.begun, self.sent, self.recorded = b"", 0, 0, False
+        self.unread, self.begun_steps, self.sent, self.recorded = b"", 0, 0, False
 
-    def ask(self, lines: Sequence[bytes]) -> list[bytes]:
+    def exchange(self, lines: Sequence[bytes]) -> list[bytes]:
         """Sends lines, with their ends, none of them an advance; gives their replies, with refusals among them.
         ProgramEnded where the program ends before."""
-        found: list[bytes] = []
-        at = 0
-        while at < len(lines):
-            last, size = at, 0
-            while last < len(lines) and last - at < LINES and (size + len(lines[last]) <= BYTES or last == at):
-                size += len(lines[last])
-                last += 1
-            self.send(b"".join(lines[at:last]))
-            found += self.read_replies(last - at)
-            at = last
-        return found
+        replies: list[bytes] = []
+        begin = 0
+        while begin < len(lines):
+            end, size = begin, 0
+            while end < len(lines) and end - begin < LINES and (size + len(lines[end]) <= BYTES or end == begin):
+                size += len(lines[end])
+                end += 1
+            self.send(b"".join(lines[begin:end]))
+            replies += self.read_replies(end - begin)
+            begin = end
+        return replies
 
     def begin(self, steps: int) -> None:
         """Has the program make steps, LINES at most, and does not wait for them; `blocks` does."""
         lines = self.advance(steps)
         self.send(b"".join(lines))
-        self.begun, self.sent = steps, len(lines)
+        self.begun_steps, self.sent = steps, len(lines)
 
     def advance(self, steps: int) -> list[bytes]:
         """The lines by which steps are made."""
@@ -67,16 +67,16 @@ class Program(Process):
     def blocks(self) -> Blocks:
         """The blocks of the steps that were begun. ProgramEnded where the program ends before; Fault where a step is
         refused, or the program answers and records nothing."""
-        data, at, begins = bytearray(self.rest), 0, [0]
-        for _ in range(self.begun):
-            while len(data) < at + HEAD.size or len(data) < at + HEAD.size + ROW * rows_at(data, at):
+        data, position, begins = bytearray(self.unread), 0, [0]
+        for _ in range(self.begun_steps):
+            while len(data) < position + HEAD.size or len(data) < position + HEAD.size + ROW * rows_at(data, position):
                 data += self.more_of_record()
-            at += HEAD.size + ROW * rows_at(data, at)
-            begins.append(at)
-        self.rest = bytes(data[at:])
-        if wrong := next((one for one in self.read_replies(self.sent) if is_wrong(one)), None):
-            raise unmade(wrong)
-        return begins, bytes(data[:at])
+            position += HEAD.size + ROW * rows_at(data, position)
+            begins.append(position)
+        self.unread = bytes(data[position:])
+        if bad_reply := next((reply for reply in self.read_replies(self.sent) if is_refusal(reply)), None):
+            raise step_fault(bad_reply)
+        return begins, bytes(data[:position])
 
     def more_of_record(self) -> bytes:
         """The next bytes of the record. Fault where the reply to a line that makes all steps, or the very first reply,
@@ -85,11 +85,11 @@ class Program(Process):
             readable, _, _ = select.select([self.record, self.replies], [], [])
             if self.record not in readable and not select.select([self.record], [], [], 0)[0]:
                 [reply] = self.read_replies(1)
-                raise unmade(reply) if self.recorded else self.unrecorded()
+                raise step_fault(reply) if self.recorded else self.unrecorded()
         self.recorded = True
-        if not (more := os.read(self.record, AT_ONCE)):
+        if not (data := os.read(self.record, AT_ONCE)):
             raise self.early_end()
-        return more
+        return data
 
     def unrecorded(self) -> Fault:
         """What is raised where the program cannot write to the pipe of the record."""
@@ -97,10 +97,10 @@ class Program(Process):
 
     def send(self, data: bytes) -> None:
         """Writes bytes to the program; ProgramEnded where it has ended."""
-        left = memoryview(data)
+        unsent = memoryview(data)
         try:
-            while left:
-                left = left[os.write(self.lines, left) :]
+            while unsent:
+                unsent = unsent[os.write(self.lines, unsent) :]
         except BrokenPipeError:
             raise self.early_end() from None
 
@@ -109,10 +109,10 @@ class Program(Process):
         parts: list[bytes] = []
         ends = 0
         while ends < count:
-            if not (more := os.read(self.replies, 1 << 16)):
+            if not (data := os.read(self.replies, 1 << 16)):
                 raise self.early_end()
-            ends += more.count(b"\n")
-            parts.append(more)
+            ends += data.count(b"\n")
+            parts.append(data)
         replies = b"".join(parts).split(b"\n")
         if len(replies) != count + 1 or replies[-1]:
             raise NoReply(f"more replies than lines: {replies[-1][:80].decode(errors='replace')}")
@@ -120,23 +120,23 @@ class Program(Process):
 
     def early_end(self) -> ProgramEnded | Fault:
         """What is raised where the program has ended too early."""
-        status, told = self.end()
-        return self.unrecorded() if self.pipe in told else ProgramEnded(status, told)
+        status, messages = self.end()
+        return self.unrecorded() if self.pipe in messages else ProgramEnded(status, messages)
 
 
-def is_wrong(reply: bytes) -> bool:
+def is_refusal(reply: bytes) -> bool:
     """Whether a reply to an advance says that it was not, or not all, made."""
     return not reply.startswith(b'{"clock":') or b'"short"' in reply
 
 
-def unmade(reply: bytes) -> Fault:
+def step_fault(reply: bytes) -> Fault:
     """What is raised for such a reply."""
     return Fault(f"a step was not made: {reply.decode(errors='replace')}")
 
 
-def rows_at(data: bytearray, at: int) -> int:
+def rows_at(data: bytearray, position: int) -> int:
     """How many rows a block has by its head at some byte; BadRecord for more than there may be vehicles."""
-    _, rows, _, _ = HEAD.unpack_from(data, at)
+    _, rows, _, _ = HEAD.unpack_from(data, position)
     if rows > VEHICLES:
         raise BadRecord(f"a block promises {rows:,} rows")
     return rows

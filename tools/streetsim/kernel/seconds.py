@@ -1,4 +1,4 @@
-"""What the record shows: the last second, and some seconds on end, as columns."""
+"""The record of a run as columns: the last second (for controllers), and some hundred on end (for observers)."""
 from __future__ import annotations
 
 from collections.abc import Sequence
@@ -12,20 +12,20 @@ from streetsim.base.limits import VEHICLES
 from streetsim.kernel.program import Blocks
 from streetsim.model.record import ROW, BadRecord
 
-LEFT = -1  # as a number with sign the spot of one that arrived
+ARRIVED = -1  # as a number with sign the spot of one that arrived
 READY = (1 << 31) - 1  # the bits of a buffer's spot that say from which step on it may go on
 SLOTS = 1 << 14  # more than a network has lanes
 NOT_ANEW = -1  # the number of one that is not entered anew
 
 
-class Taken(NamedTuple):
+class Takeout(NamedTuple):
     """A vehicle that was taken out, and entered anew where `anew` is not NOT_ANEW."""
 
     clock: int
     car: int  # its number until then
     anew: int  # and from then on
     slot: int  # its lane: twice its link, and the lane
-    on: bool  # it was on the lane's cells, not in its buffer
+    on_lane: bool  # it was on the lane's cells, not in its buffer
 
 
 @dataclass
@@ -35,15 +35,15 @@ class Vehicles:
     owner: Array = field(default_factory=lambda: np.zeros(VEHICLES, np.int32))  # number in the file
     size: Array = field(default_factory=lambda: np.ones(VEHICLES, np.int32))  # cells
     car: dict[int, int] = field(default_factory=dict)  # by number in the file the last number in the program
-    told: int = 0  # of all
-    taken: list[Taken] = field(default_factory=list)
+    entered: int = 0  # all that were entered so far
+    takeouts: list[Takeout] = field(default_factory=list)
 
     def add(self, owners: Sequence[int], sizes: Sequence[int]) -> None:
         """Adds vehicles that were entered, by their numbers in the file, with the cells that they take."""
-        first, self.told = self.told, self.told + len(owners)
-        self.owner[first : self.told] = owners
-        self.size[first : self.told] = sizes
-        self.car.update(zip(owners, range(first, self.told)))
+        first_new, self.entered = self.entered, self.entered + len(owners)
+        self.owner[first_new : self.entered] = owners
+        self.size[first_new : self.entered] = sizes
+        self.car.update(zip(owners, range(first_new, self.entered)))
 
 
 class Arrivals(NamedTuple):
@@ -64,11 +64,12 @@ class Block:
         begins, data = blocks
         begin, end = begins[-2:]
         rows = np.frombuffer(data, "<i4", (end - begin) // 4, begin).reshape(-1, 4)
-        self.gone, rows = int(rows[0, 2]), rows[1:]  # gone: how many have arrived in all
-        over = rows[:, 2] == LEFT
-        some = np.count_nonzero(over) > 0
-        self.car, self.slot, self.cell, self.speed = (rows[~over] if some else rows).T  # cell: below 0 in the buffer
-        self.arrived = (rows[over, :3] if some else rows[:0, :3]).T  # who arrived: car, slot, LEFT
+        self.arrived_count, rows = int(rows[0, 2]), rows[1:]  # arrived_count: how many have arrived in all
+        is_arrival = rows[:, 2] == ARRIVED
+        has_arrivals = np.count_nonzero(is_arrival) > 0
+        # cell: below 0 in the buffer.
+        self.car, self.slot, self.cell, self.speed = (rows[~is_arrival] if has_arrivals else rows).T
+        self.arrived = (rows[is_arrival, :3] if has_arrivals else rows[:0, :3]).T  # who arrived: car, slot, ARRIVED
 
     def lane(self, slot: int) -> slice:
         """The rows of a lane."""
@@ -118,9 +119,9 @@ class Seconds:
         begin = int(self.first[1])
         return by_number(self.owner[begin:]) + begin
 
-    def at(self, wanted: Array) -> Array:
-        """By row whether it is of a second, not 0, that is wanted; wanted: by second."""
-        return np.repeat(np.append(False, wanted[1:]), np.diff(self.first))
+    def rows_in_seconds(self, is_wanted: Array) -> Array:
+        """By row whether it is of a second, not 0, that is wanted; is_wanted: by second."""
+        return np.repeat(np.append(False, is_wanted[1:]), np.diff(self.first))
 
     def joined_buffer(self, stay: Array) -> Array:
         """The rows of those who passed their stop line in their second: who joins in a step may go on `stay` steps
@@ -130,13 +131,13 @@ class Seconds:
         clock = self.clocks[self.second[rows]]
         return rows[(self.cell[rows] & READY) == clock - 1 + stay[self.slot[rows]]]
 
-    def last(self) -> slice:
+    def last_rows(self) -> slice:
         """The rows of the last second."""
         return slice(self.first[-2], self.first[-1])
 
 
-def seconds_of(parts: Sequence[Blocks], before: Seconds | None, clock: int, vehicles: Vehicles) -> Seconds:
-    """The seconds after a clock, from the blocks of them; before: the seconds before them, none at the run's begin.
+def seconds_of(parts: Sequence[Blocks], previous: Seconds | None, clock: int, vehicles: Vehicles) -> Seconds:
+    """The seconds after a clock, from the blocks of them; previous: the seconds before them, none at the run's begin.
     BadRecord where clocks do not follow one another, or a vehicle was not entered."""
     rows = np.frombuffer(b"".join([data for _, data in parts]), "<i4").reshape(-1, 4)
     sizes = np.concatenate([np.zeros(0, np.int64), *(np.diff(begins) for begins, _ in parts)]) // ROW
@@ -144,23 +145,24 @@ def seconds_of(parts: Sequence[Blocks], before: Seconds | None, clock: int, vehi
     clocks, heads = np.arange(clock, clock + len(edges)), edges[:-1]
     if not np.array_equal(rows[heads, 0], clocks[1:]):
         raise BadRecord(f"the record behind {clock:,} s has other clocks")
-    over = rows[:, 2] == LEFT
-    over[heads] = False
-    ended = np.flatnonzero(over)
-    over[heads] = True
-    there, arrived = rows[~over].T, rows[ended].T
+    is_arrival = rows[:, 2] == ARRIVED
+    is_arrival[heads] = False
+    ended = np.flatnonzero(is_arrival)
+    is_arrival[heads] = True
+    on_road, arrived = rows[~is_arrival].T, rows[ended].T
     second = np.searchsorted(edges, ended, "right")
     counts = sizes - 1 - np.bincount(second - 1, minlength=len(sizes))
-    old = np.zeros((4, 0), np.int32)
-    if before is not None:
-        old = np.array([one[before.last()] for one in (before.car, before.slot, before.cell, before.speed)])
-    first = np.cumsum([0, old.shape[1], *counts])
-    car, slot, cell, speed = np.concatenate([old, there], axis=1)
+    old_rows = np.zeros((4, 0), np.int32)
+    if previous is not None:
+        columns = previous.car, previous.slot, previous.cell, previous.speed
+        old_rows = np.array([column[previous.last_rows()] for column in columns])
+    first_rows = np.cumsum([0, old_rows.shape[1], *counts])
+    car, slot, cell, speed = np.concatenate([old_rows, on_road], axis=1)
     for cars, slots in ((car, slot), arrived[:2]):
-        if cars.size and (cars.max() >= vehicles.told or min(cars.min(), slots.min()) < 0):
+        if cars.size and (cars.max() >= vehicles.entered or min(cars.min(), slots.min()) < 0):
             raise BadRecord(f"the record behind {clock:,} s has a vehicle that was not entered, or no lane")
     arrivals = Arrivals(second, arrived[0], arrived[1], arrived[3])
-    return Seconds(clocks, first, car, slot, cell, speed, arrivals, vehicles)
+    return Seconds(clocks, first_rows, car, slot, cell, speed, arrivals, vehicles)
 
 
 def by_number(numbers: Array) -> Array:

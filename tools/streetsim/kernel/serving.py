@@ -5,8 +5,8 @@ from collections.abc import Iterator
 from streetsim.base.client import NoReply, ProgramEnded, Refused, Starved
 from streetsim.base.files import Fault, FilePath
 from streetsim.base.program import find_program
-from streetsim.kernel.kept import KeptProgram
 from streetsim.kernel.program import Program
+from streetsim.kernel.session_program import SessionProgram
 
 
 @contextlib.contextmanager
@@ -17,8 +17,8 @@ def serving_program(
     the file, for a Fault's words alone; workers: its threads; keep: a file in which its session is kept. Fault where
     the program cannot be found, ends too early or answers in other words than its own."""
     try:
-        found = find_program(program)
-        with Program(found, workers) if keep is None else KeptProgram(found, keep, workers) as made:
-            yield made
+        program_path = find_program(program)
+        with Program(program_path, workers) if keep is None else SessionProgram(program_path, keep, workers) as process:
+            yield process
     except (Refused, Starved, NoReply, ProgramEnded) as fault:
         raise Fault(f"{path}: {fault}") from None

@@ -17,7 +17,7 @@ from streetsim.base import limits
 from streetsim.base.client import ProgramEnded
 from streetsim.base.files import Fault, Json
 from streetsim.control.merging_links import CLOSING
-from streetsim.live.hand import DONE
+from streetsim.live.hand import HAND_COMMANDS
 from streetsim.live.session import PageSession
 from streetsim.live.world import PageRun
 
@@ -28,14 +28,14 @@ MOST_PASSED_OVER = 4 * MOST_BODY  # bytes of a refused body that are still read
 PASSED_OVER_FOR = 2.0  # seconds that the bridge waits for them
 Join = Callable[[Iterable[str]], tuple[bytes, PageRun]]  # the page and its run with some lanes joint
 # What a page sends of its session, by the verbs, which are methods of PageSession: what each is given.
-ASKED: dict[str, dict[str, Any]] = {
+REQUEST_FIELDS: dict[str, dict[str, Any]] = {
     "step": {"steps": int}, "change": {"text": str, "commands": list}, "works": {"asked": dict},
     "go_back": {"clock": int}, "undo": {"number": int}, "compare": {"wanted": (bool, type(None)), "shows_was": bool},
     "watch": {"node": int}, "ask": {"commands": list}, "text": {"which": int},
 }  # fmt: skip
-VERBS = ("begin", "stay", "take", "leave", "join", *ASKED)
+VERBS = ("begin", "stay", "take", "leave", "join", *REQUEST_FIELDS)
 SPAN = ("link", "lane", "first", "last")
-ASKING = ("vehicle", "lane", "count", "read")  # commands that change nothing
+QUESTIONS = ("vehicle", "lane", "count", "read")  # commands that change nothing
 POLICY = (
     "default-src 'none'; script-src 'unsafe-inline'; style-src 'unsafe-inline'; img-src data: blob:; connect-src 'self'"
 )
@@ -150,9 +150,9 @@ class Handler(BaseHTTPRequestHandler):
         connection ends may never read the answer. Of a body that is too long or too slow a part is passed over."""
         self.close_connection = True
         self.connection.settimeout(PASSED_OVER_FOR)
-        left = min(self.unread, MOST_PASSED_OVER)
-        while left and (passed := self.rfile.read(min(left, 1 << 16))):
-            left -= len(passed)
+        bytes_left = min(self.unread, MOST_PASSED_OVER)
+        while bytes_left and (passed := self.rfile.read(min(bytes_left, 1 << 16))):
+            bytes_left -= len(passed)
 
     def checked_path(self) -> list[str]:
         """The words of the path behind the token; Refusal where the host, the origin or the token is wrong."""
@@ -161,25 +161,25 @@ class Handler(BaseHTTPRequestHandler):
             raise Refusal(HTTPStatus.FORBIDDEN, f"the bridge serves {host} alone")
         if self.headers.get("Origin", f"http://{host}") != f"http://{host}":
             raise Refusal(HTTPStatus.FORBIDDEN, "the bridge serves its own page alone")
-        token, *words = self.path.removeprefix("/").split("/")
+        token, *path_parts = self.path.removeprefix("/").split("/")
         if not hmac.compare_digest(token.encode(), self.server.token.encode()):
             why = "the address lacks the bridge's token: take the address that streetsim-live printed"
             raise Refusal(HTTPStatus.FORBIDDEN, why)
-        return words
+        return path_parts
 
-    def get(self, words: list[str]) -> tuple[bytes, str]:
+    def get(self, path_parts: list[str]) -> tuple[bytes, str]:
         """(the page, its type); Refusal for any other path."""
-        if words != [""]:
+        if path_parts != [""]:
             raise Refusal(HTTPStatus.NOT_FOUND, "there is one page, at the address that streetsim-live printed")
         return self.server.page, "text/html; charset=utf-8"
 
-    def post(self, words: list[str]) -> tuple[bytes, str] | None:
+    def post(self, path_parts: list[str]) -> tuple[bytes, str] | None:
         """Does what the page's words ask, its name and a verb; gives (body, type), None where all was sent already.
         Refusal for other words, and where the page must be the one that is served."""
         body, server = self.body(), self.server
-        if len(words) != 2 or not words[0] or words[1] not in VERBS:
+        if len(path_parts) != 2 or not path_parts[0] or path_parts[1] not in VERBS:
             raise Refusal(HTTPStatus.NOT_FOUND, f"a page sends {', '.join(VERBS)}")
-        name, verb = words
+        name, verb = path_parts
         answer = b""
         if verb not in ("leave", "take", "begin"):
             server.check_owner(name)
@@ -196,7 +196,7 @@ class Handler(BaseHTTPRequestHandler):
             self.stay(name)
             return None
         else:
-            answer = getattr(server.session, verb)(**checked(verb, body, server.session.of))
+            answer = getattr(server.session, verb)(**read_request(verb, body, server.session.page_run))
         return answer, "application/octet-stream"
 
     def stay(self, name: str) -> None:
@@ -246,43 +246,46 @@ class Handler(BaseHTTPRequestHandler):
         """Writes nothing: requests are not logged."""
 
 
-def checked(verb: str, body: bytes, of: PageRun) -> Json:
-    """What a page sends with a verb of ASKED, by name; Refusal where it is of another form, or out of its bounds in the
-    run of the page (of). What the program refuses is left to it."""
+def read_request(verb: str, body: bytes, page_run: PageRun) -> Json:
+    """What a page sends with a verb of REQUEST_FIELDS, by name; Refusal where it is of another form, or out of its
+    bounds in the run of the page (page_run). What the program refuses is left to it."""
     try:
-        given = json.loads(body)
-        if given.keys() != ASKED[verb].keys() or not all(is_a(given[name], kind) for name, kind in ASKED[verb].items()):
+        arguments = json.loads(body)
+        kinds = REQUEST_FIELDS[verb]
+        if arguments.keys() != kinds.keys() or not all(is_a(arguments[name], kind) for name, kind in kinds.items()):
             raise ValueError("other names or kinds of values")
-        check_bounds(verb, given, of)
+        check_bounds(verb, arguments, page_run)
     except (ValueError, LookupError, TypeError, AttributeError, RecursionError) as fault:
         raise Refusal(HTTPStatus.BAD_REQUEST, f"{verb} is not of its form: {fault}") from None
-    return dict(given)
+    return dict(arguments)
 
 
-def check_bounds(verb: str, given: Json, of: PageRun) -> None:
-    """ValueError, or another of the errors of a wrong form, where what is given to a verb is out of its bounds."""
+def check_bounds(verb: str, arguments: Json, page_run: PageRun) -> None:
+    """ValueError, or another of the errors of a wrong form, where arguments of a verb are out of their bounds."""
     if verb == "works":
-        asked, link = given["asked"], of.mapping.links[given["asked"]["link"]]
-        numbers = [asked["link"], asked["begin"], asked["end"], asked["from"], *asked["lanes"]]
-        numbers += [] if asked["until"] is None else [asked["until"]]
-        right = all(is_a(one, int) and one >= 0 for one in numbers) and is_a(asked["text"], str)
-        right = right and asked["cmd"] in CLOSING and 0 <= max(asked["lanes"]) < len(link.lanes)
+        works, link = arguments["asked"], page_run.mapping.links[arguments["asked"]["link"]]
+        numbers = [works["link"], works["begin"], works["end"], works["from"], *works["lanes"]]
+        numbers += [] if works["until"] is None else [works["until"]]
+        is_within = all(is_a(number, int) and number >= 0 for number in numbers) and is_a(works["text"], str)
+        is_within = is_within and works["cmd"] in CLOSING and 0 <= max(works["lanes"]) < len(link.lanes)
     elif verb == "change":
-        right = bool(given["commands"]) and all(is_change(one) for one in given["commands"])
+        is_within = bool(arguments["commands"]) and all(map(is_change, arguments["commands"]))
     elif verb == "ask":
-        right = all(one["cmd"] in ASKING for one in given["commands"])
+        is_within = all(command["cmd"] in QUESTIONS for command in arguments["commands"])
     else:
-        most = {"steps": limits.STEPS, "clock": limits.CLOCK, "which": 1, "node": len(of.mapping.nodes) - 1}
-        right = all(0 <= value <= most.get(name, limits.CLOCK) for name, value in given.items() if is_a(value, int))
-    if not right:
+        most = {"steps": limits.STEPS, "clock": limits.CLOCK, "which": 1, "node": len(page_run.mapping.nodes) - 1}
+        numbers_by_name = {name: value for name, value in arguments.items() if is_a(value, int)}
+        is_within = all(0 <= value <= most.get(name, limits.CLOCK) for name, value in numbers_by_name.items())
+    if not is_within:
         raise ValueError("a value is out of its bounds")
 
 
-def is_change(one: Json) -> bool:
+def is_change(change: Json) -> bool:
     """Whether one of the commands of a change has its form: {clock, command}."""
-    command = one["command"]
-    whole = SPAN if command["cmd"] in CLOSING else ("node",) if command["cmd"] == "signal" else ()
-    return is_a(one["clock"], int) and command["cmd"] in DONE and all(is_a(command[name], int) for name in whole)
+    command = change["command"]
+    fields = SPAN if command["cmd"] in CLOSING else ("node",) if command["cmd"] == "signal" else ()
+    is_known = is_a(change["clock"], int) and command["cmd"] in HAND_COMMANDS
+    return is_known and all(is_a(command[name], int) for name in fields)
 
 
 def is_a(value: object, kind: Any) -> bool:

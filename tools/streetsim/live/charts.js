@@ -9,7 +9,8 @@ function drawComparison(canvas, { now, was, watched }) {
   Object.assign(canvas, { width: canvas.parentElement.clientWidth - 4, height: bands.length * BAND + 14 });
   const pen = canvas.getContext("2d"), own = colours(), wide = canvas.width;
   pen.fillStyle = own.ground; pen.fillRect(0, 0, wide, canvas.height);
-  if (now.points.length < 2) return;
+  pen.fillStyle = own.ink; pen.font = "12px sans-serif";
+  if (now.points.length < 2) { pen.fillText("Nothing yet: press Play.", 8, 20); return; }
   const side = ({ points }, colour, dashes, word) => ({ points, colour, dashes, word });
   const sides = was ? [side(was, own.was, [5, 3], "as it was"), side(now, own.now, [], "as it is")] : [side(now, own.now, [], "")];
   const span = [now.points[0][0], now.points.at(-1)[0]];

@@ -1,4 +1,5 @@
-"""What a page tells of a network beside its map, and when vehicles would end if nobody were in their way."""
+"""What a page needs beside the map: streets, outlines of junctions, and when vehicles would end if nobody were in their
+way."""
 import os
 
 from streetsim.base.files import Fault, FilePath, elements
@@ -19,11 +20,11 @@ def streets_and_areas(mapping: Map, map_path: FilePath) -> tuple[dict[str, str],
     path = os.path.join(os.path.dirname(os.path.realpath(map_path)), mapping.sources["net"])
     try:
         for element in elements(path, ["net"]):
-            own, name, shape = element.get("id", ""), element.get("name", ""), element.get("shape", "")
+            element_id, name, shape = element.get("id", ""), element.get("name", ""), element.get("shape", "")
             if element.tag == "edge" and name:
-                names.setdefault(own, name)
-            elif element.tag == "junction" and shape and not own.startswith(":"):
-                areas[own] = [[float(value) for value in text.split(",")[:2]] for text in shape.split()]
+                names.setdefault(element_id, name)
+            elif element.tag == "junction" and shape and not element_id.startswith(":"):
+                areas[element_id] = [[float(value) for value in text.split(",")[:2]] for text in shape.split()]
     except (Fault, ValueError):
         return names, {}
     return names, areas
@@ -31,18 +32,18 @@ def streets_and_areas(mapping: Map, map_path: FilePath) -> tuple[dict[str, str],
 
 def departures_and_ends(run: Run, mapping: Map) -> tuple[list[int], list[int]]:
     """(the seconds at which vehicles wish to depart, those at which they would end alone and at green), each sorted."""
-    alone, known = Alone(mapping, run.load.command.get("dawdle", 0) / 1000), {}
+    alone, trip_seconds = Alone(mapping, run.load.command.get("dawdle", 0) / 1000), {}
     departs, ends = [], []
     for line in run.enters:
         depart, plan = line.command["depart"], tuple(line.command["plan"])
-        if plan not in known:
-            known[plan] = alone.trip(plan)
+        if plan not in trip_seconds:
+            trip_seconds[plan] = alone.trip(plan)
         departs.append(depart)
-        ends.append(round(depart + known[plan]))
+        ends.append(round(depart + trip_seconds[plan]))
     return sorted(departs), sorted(ends)
 
 
 def nodes_giving_way(run: Run, mapping: Map) -> list[int]:
     """The nodes without a light at which the run has signal lines by which vehicles give way, sorted."""
-    lit, known = {node for _, node in mapping.signals}, {one.node for one in mapping.yields}
-    return sorted({command["node"] for _, command in run.signals()} & known - lit)
+    lit, yielding = {node for _, node in mapping.signals}, {yield_.node for yield_ in mapping.yields}
+    return sorted({command["node"] for _, command in run.signals()} & yielding - lit)

@@ -1,4 +1,4 @@
-"""What a user does to a run by hand: commands of now, and others as their clocks come."""
+"""The controller that sends a user's commands: those of the present second, and others as their clocks come."""
 from collections.abc import Iterable
 
 from streetsim.base.client import Refused, Starved, line_of, read_reply
@@ -11,7 +11,7 @@ from streetsim.kernel.seconds import Block
 from streetsim.model.runs import Command, Sent
 
 CHANGING = ("signal", *CLOSING, "takeout")  # commands that change what traffic does
-DONE = (*CHANGING, "meter")
+HAND_COMMANDS = (*CHANGING, "meter")
 
 
 class Hand(Controller):
@@ -22,7 +22,7 @@ class Hand(Controller):
         are sent."""
         self.merging, self.later = merging, sorted(later, key=lambda sent: sent[0])
         self.detectors: list[Command] = []  # that were placed, each with its number
-        self.taken: list[int] = []  # the clocks, rising, at which vehicles were taken out
+        self.takeout_clocks: list[int] = []  # the clocks, rising, at which vehicles were taken out
 
     def begin(self, kernel: Kernel) -> None:
         """Nothing was done yet."""
@@ -40,29 +40,30 @@ class Hand(Controller):
         """Sends what is due. Fault where a command is refused."""
         while self.next_clock() <= clock:
             _, command = self.later.pop(0)
-            if refused := self.tell(command):
+            if refused := self.send(command):
                 raise Fault(f"{command['cmd']} at {clock:,} s was {refused}")
 
-    def tell(self, command: Command) -> str:
-        """Sends a command, of DONE; gives in words why it was refused, and then nothing was changed; else nothing."""
+    def send(self, command: Command) -> str:
+        """Sends a command, of HAND_COMMANDS; gives in words why it was refused, and then nothing was changed; else an
+        empty text."""
         kernel, name = self.kernel, command["cmd"]
         if name in CLOSING:
             return self.close_or_reopen(command)
-        [text] = kernel.program.ask([line_of(command)])
+        [text] = kernel.program.exchange([line_of(command)])
         if refused := refusal_in(text):
             return refused
         if name == "signal":
-            for one in kernel.controllers:
-                one.hear(kernel.clock, command)
+            for controller in kernel.controllers:
+                controller.hear(kernel.clock, command)
             kernel.sent.append(loop.Sent(kernel.clock, own_line(command), True))
         elif name == "meter":
             self.detectors.append({**command, "number": read_reply(text)})
         else:
-            self.taken.append(kernel.clock)
+            self.takeout_clocks.append(kernel.clock)
         return ""
 
     def close_or_reopen(self, command: Command) -> str:
-        """As tell: cells of a lane that is there are closed or opened, and vehicles merge before them."""
+        """As send: cells of a lane that is there are closed or opened, and vehicles merge before them."""
         links, (link, lane) = self.kernel.map.links, (command["link"], command["lane"])
         if not 0 <= link < len(links) or not 0 <= lane < len(links[link].lanes):
             return "refused: the network has no such lane"
@@ -81,5 +82,5 @@ def refusal_in(text: bytes) -> str:
         return "not done: memory is wanting, and it may be tried again"
     if not isinstance(reply, Refused):
         return ""
-    name, place = type(reply).__name__, "" if reply.at is None else f" at {reply.at}"
-    return f"refused ({name}{place}): {reply.__doc__}"
+    name, cell_text = type(reply).__name__, "" if reply.at is None else f" at {reply.at}"
+    return f"refused ({name}{cell_text}): {reply.__doc__}"

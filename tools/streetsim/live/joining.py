@@ -21,7 +21,7 @@ class Joining:
     mapping: Map
     map_path: FilePath
     program: str  # which runs it, and makes the rounds
-    asked: Callable[[Run, Map], Settings]  # what is asked of a run
+    make_settings: Callable[[Run, Map], Settings]  # of a run
     proved: bool = False  # whether the program is the one that ./build made
     names: tuple[str, ...] = ()  # of the lanes and edges that are joint beside those of the import
     rounds: int = 0  # by which vehicles give way without a light
@@ -30,33 +30,33 @@ class Joining:
 
     def joint_run(self) -> tuple[Run, Map, list[str]]:
         """(the run with the lanes of names joint, its map, the texts to tell); Fault where that cannot be done."""
-        run, mapping, told = with_works(self.run, self.mapping, self.map_path, [], WorksOptions(self.names))
-        return run, replace(mapping, sources=self.mapping.sources), told
+        run, mapping, notes = with_works(self.run, self.mapping, self.map_path, [], WorksOptions(self.names))
+        return run, replace(mapping, sources=self.mapping.sources), notes
 
     def page_run(self) -> tuple[PageRun, list[str]]:
         """(the run as the page shows it, with signal lines by which vehicles give way without a light, where there are
         rounds; the texts to tell). Where the rounds find nobody who has to, the map's yields are empty. Fault as of
         joint_run, or where the rounds cannot be made."""
-        run, mapping, told = self.joint_run()
+        run, mapping, notes = self.joint_run()
         if self.departures == DRAWN:
             run, mapping = drawn(run, mapping)
-        settings = self.asked(run, mapping)
-        told += [*settings.lights.notes(), *settings.buses.notes()]
+        settings = self.make_settings(run, mapping)
+        notes += [*settings.lights.notes(), *settings.buses.notes()]
         if self.rounds and mapping.yields:
-            more = self.program, self.workers, settings.lights
-            run, yielding = giving_way_of_open_run(run, mapping, self.rounds, *more)
-            told += [yielding.told()] if yielding.lines else []
+            program_settings = self.program, self.workers, settings.lights
+            run, yielding = giving_way_of_open_run(run, mapping, self.rounds, *program_settings)
+            notes += [yielding.told()] if yielding.lines else []
             mapping = mapping if yielding.lines else replace(mapping, yields=[])
-        return PageRun(run, mapping, settings, self.program, self.workers), told
+        return PageRun(run, mapping, settings, self.program, self.workers), notes
 
-    def page(self, of: PageRun) -> bytes:
+    def page(self, page_run: PageRun) -> bytes:
         """The page of a run; Fault as of live_page."""
-        return live_page(of, self.map_path, self.proved)
+        return live_page(page_run, self.map_path, self.proved)
 
     def join(self, names: Iterable[str]) -> tuple[bytes, PageRun]:
         """(the page, its run) with further lanes or edges (names) joint; after a Fault all is as before."""
-        more = replace(self, names=tuple(dict.fromkeys([*self.names, *names])))
-        run, _ = more.page_run()
-        page = more.page(run)
-        self.names = more.names
+        joined = replace(self, names=tuple(dict.fromkeys([*self.names, *names])))
+        run, _ = joined.page_run()
+        page = joined.page(run)
+        self.names = joined.names
         return page, run

@@ -24,7 +24,7 @@ class Ledger(Observer):
     def begin(self, kernel: Kernel) -> None:
         """Nobody has lost anything."""
         self.ends = np.repeat([link.end for link in kernel.map.links], 2)
-        self.seen = np.zeros(len(kernel.run.enters), bool)  # by vehicle of the file
+        self.has_departed = np.zeros(len(kernel.run.enters), bool)  # by vehicle of the file
         self.points.append((kernel.start, 0.0, 0, None))
 
     def watch(self, node: int | None) -> None:
@@ -34,11 +34,11 @@ class Ledger(Observer):
 
     def see(self, seconds: Seconds) -> None:
         """Takes some seconds."""
-        self.seen[seconds.owner] = True
-        self.seen[seconds.vehicles.owner[seconds.arrivals.car]] = True
+        self.has_departed[seconds.owner] = True
+        self.has_departed[seconds.vehicles.owner[seconds.arrivals.car]] = True
         clocks, count = seconds.clocks[1:], len(seconds.clocks)
         arrived = self.arrived + np.cumsum(np.bincount(seconds.arrivals.second, minlength=count)[1:])
-        ended = arrived + np.searchsorted(self.hand.taken, clocks)
+        ended = arrived + np.searchsorted(self.hand.takeout_clocks, clocks)
         lost = self.lost + np.cumsum(np.searchsorted(self.free, clocks, "right") - ended)
         wished = np.maximum(1, np.searchsorted(self.departs, clocks, "right"))
         queue = self.standing(seconds)[1:].tolist() if self.node is not None else [None] * len(clocks)
@@ -47,14 +47,14 @@ class Ledger(Observer):
 
     def standing(self, seconds: Seconds) -> Array:
         """By second how many stand on links that lead to the junction, on cells or behind them."""
-        still = (self.ends[seconds.slot] == self.node) & ((seconds.speed == 0) | ~seconds.on)
-        return np.bincount(seconds.second[still], minlength=len(seconds.clocks))
+        is_queued = (self.ends[seconds.slot] == self.node) & ((seconds.speed == 0) | ~seconds.on)
+        return np.bincount(seconds.second[is_queued], minlength=len(seconds.clocks))
 
     def wished(self, clock: int) -> int:
         """How many have wished to depart by a clock."""
         return int(np.searchsorted(self.departs, clock, "right"))
 
-    def points_from(self, first: int) -> list[Point]:
+    def points_from(self, first_point: int) -> list[Point]:
         """The points from one on, by its place; thinned where they are more than a chart can have, the last kept."""
-        points = self.points[first:][::-1]
+        points = self.points[first_point:][::-1]
         return points[:: max(1, -(-len(points) // MOST_POINTS))][::-1]

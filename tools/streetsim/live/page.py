@@ -6,22 +6,22 @@ from pathlib import Path
 
 from streetsim.base.files import Fault, FilePath, Json
 from streetsim.live.facts import streets_and_areas
-from streetsim.live.words import claim_of
+from streetsim.live.page_texts import claim_of
 from streetsim.live.world import PageRun
 from streetsim.model.mapping import Map, MapTurn
 from streetsim.model.names import Names, wind
 from streetsim.model.runs import Run
 from streetsim.observe.junction_layout import turn_name
 
-PLACE = Path(__file__).parent
-PICTURES = PLACE.parent / "report"
+FOLDER = Path(__file__).parent
+PICTURES = FOLDER.parent / "report"
 # In the order in which they stand in the page.
 SCRIPT_NAMES = (
     "bridge", "movements", "bars", "colours", "elements", "world", "view", "plan_editor", "charts", "tables", "works",
     "chosen", "wave", "controls", "live",
 )
-SCRIPTS = (PICTURES / "drawing.js", PICTURES / "charts.js", *(PLACE / f"{name}.js" for name in SCRIPT_NAMES))
-KINDS = {"L": "left", "T": "straight", "R": "right", "U": "back"}  # by the names of junction tables
+SCRIPTS = (PICTURES / "drawing.js", PICTURES / "charts.js", *(FOLDER / f"{name}.js" for name in SCRIPT_NAMES))
+TURN_WORDS = {"L": "left", "T": "straight", "R": "right", "U": "back"}  # by the names of junction tables
 INNER = ("", "second", "third", "fourth", "fifth")
 MOST_BYTES = 100_000_000  # of the packed data; browsers are slow with more
 
@@ -31,12 +31,13 @@ def page_links(run: Run, mapping: Map, streets: dict[str, str]) -> list[Json]:
     (how many), words (which of its street's lanes each is), cells, metres, limit (cells a step), begin and end (nodes),
     points. streets: names by edge."""
     sent = run.load.command["links"]
-    most = {edge: max(max(mapping.links[at].lanes) for at in links) for edge, links in mapping.links_of.items()}
+    edges = mapping.links_of.items()
+    greatest_index = {edge: max(max(mapping.links[link].lanes) for link in links) for edge, links in edges}
     return [
         {
             "number": number, "name": link.edge, "street": streets.get(link.edge, ""),
             "from": wind(link.shape[-1], link.shape[-2]), "lanes": lanes,
-            "words": [lane_word(index, most[link.edge]) for index in link.lanes], "cells": cells,
+            "words": [lane_word(index, greatest_index[link.edge]) for index in link.lanes], "cells": cells,
             "metres": link.metres, "limit": limit, "begin": begin, "end": end, "points": link.shape,
         }
         for link, (number, begin, end, lanes, cells, limit) in zip(mapping.links, sent, strict=True)
@@ -71,46 +72,46 @@ def page_nodes(run: Run, mapping: Map, areas: dict[str, list]) -> list[Json]:
 
 
 def turn_kind(mapping: Map, turn: MapTurn) -> str:
-    """Which way a turn leads, of KINDS."""
-    return KINDS[turn_name(mapping.links[turn.link].shape, mapping.links[turn.next].shape)]
+    """Which way a turn leads, of TURN_WORDS."""
+    return TURN_WORDS[turn_name(mapping.links[turn.link].shape, mapping.links[turn.next].shape)]
 
 
-def page_data(of: PageRun, map_path: FilePath = "", proved: bool = False) -> Json:
+def page_data(page_run: PageRun, map_path: FilePath = "", proved: bool = False) -> Json:
     """What the page knows of a run beside what it is told: links, nodes, turns (a list each), cars (names), sizes
     (cells, by the numbers of vehicles with more than one), start, dawdle (0 to 1), signals (the commands of its own for
     lights), yields (how many), giving (nodes) and claim (a text). map_path: to find the imported network, empty: not
     looked for; proved: its program is the one that ./build made and proved."""
-    run, mapping = of.run, of.mapping
+    run, mapping = page_run.run, page_run.mapping
     streets, areas = streets_and_areas(mapping, map_path) if map_path else ({}, {})
     sizes = {number: line.command.get("size", 1) for number, line in enumerate(run.enters)}
     return {
         "links": page_links(run, mapping, streets), "nodes": page_nodes(run, mapping, areas),
         "turns": [
-            [one.link, one.lane, one.next, one.next_lane, one.light, one.index, turn_kind(mapping, one)]
-            for one in mapping.turns
+            [turn.link, turn.lane, turn.next, turn.next_lane, turn.light, turn.index, turn_kind(mapping, turn)]
+            for turn in mapping.turns
         ],
         "cars": mapping.cars, "sizes": {number: size for number, size in sizes.items() if size > 1},
         "start": run.start(), "dawdle": run.load.command.get("dawdle", 0) / 1000,
-        "signals": [command for _, command in run.signals() if command["node"] not in of.givers],
-        "yields": len(mapping.yields), "giving": sorted(of.givers), "claim": claim_of(of, proved),
+        "signals": [command for _, command in run.signals() if command["node"] not in page_run.givers],
+        "yields": len(mapping.yields), "giving": sorted(page_run.givers), "claim": claim_of(page_run, proved),
     }
 
 
-def packed(value: bytes) -> str:
+def pack_text(value: bytes) -> str:
     """Bytes as a page holds them: gzip in base 64; equal bytes give equal texts."""
     return base64.b64encode(gzip.compress(value, mtime=0)).decode()
 
 
-def live_page(of: PageRun, map_path: FilePath = "", proved: bool = False) -> bytes:
+def live_page(page_run: PageRun, map_path: FilePath = "", proved: bool = False) -> bytes:
     """The page as bytes, which asks the bridge; arguments as of page_data. Fault where it is larger than MOST_BYTES."""
-    known = json.dumps(page_data(of, map_path, proved), separators=(",", ":")).encode()
+    data = json.dumps(page_data(page_run, map_path, proved), separators=(",", ":")).encode()
     parts = {
-        "@DATA@": packed(known),
+        "@DATA@": pack_text(data),
         "/*SCRIPTS*/": "\n".join(path.read_text(encoding="utf-8") for path in SCRIPTS),
     }
-    text = (PLACE / "live.html").read_text(encoding="utf-8")
+    text = (FOLDER / "live.html").read_text(encoding="utf-8")
     for mark, part in parts.items():
         text = text.replace(mark, part)
     if len(text) > MOST_BYTES:
-        raise Fault(f"{of.run.path}: {len(text):,} bytes are too much for a page")
+        raise Fault(f"{page_run.run.path}: {len(text):,} bytes are too much for a page")
     return text.encode()

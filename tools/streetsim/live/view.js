@@ -48,7 +48,7 @@ class View {
     if (far) this.drawClosed();
     if (scene.scale > MARKS) for (const link of shown) this.drawMarks(link);
     if (scene.scale > DIRECTIONS) for (const link of shown) this.drawDirection(link);
-    scene.drawNames(shown);
+    scene.drawNames(shown, scene.drawJunctions(Array.from(junctions.values()).filter(node => node.light).map(({ name, x, y }) => [name, x, y])));
   }
 
   drawAreas() {

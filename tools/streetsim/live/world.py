@@ -1,4 +1,5 @@
-"""One traffic of a page: a run that goes on as the page asks, and what the page was told of it."""
+"""One traffic of a page: a run that goes on as the page asks, and what was sent to the page of it. A session has one,
+or two: with the user's changes and without."""
 from collections.abc import Collection, Iterable
 from dataclasses import dataclass
 from functools import cached_property
@@ -10,12 +11,12 @@ from streetsim.base.arrays import numpy as np
 from streetsim.base.files import Fault, FilePath, Json
 from streetsim.control.settings import Settings
 from streetsim.control.steering import Steering
-from streetsim.kernel.kept import COUNT
 from streetsim.kernel.loop import Kernel
+from streetsim.kernel.session_program import COUNT
 from streetsim.live.facts import departures_and_ends, nodes_giving_way
 from streetsim.live.hand import Hand
 from streetsim.live.ledger import Ledger
-from streetsim.live.noted import Noted
+from streetsim.live.logged_program import LoggedProgram
 from streetsim.model.mapping import Map
 from streetsim.model.runs import Command, Run, Sent
 
@@ -40,8 +41,8 @@ class PageRun:
     def wishes(self) -> tuple[Array, Array]:
         """By vehicle the clock at which it wishes to depart, and its lane: twice the link, and the lane."""
         commands = [line.command for line in self.run.enters]
-        slots = [2 * one["plan"][0] + one.get("lane", 0) for one in commands]
-        return np.array([one["depart"] for one in commands], np.int64), np.array(slots, np.int64)
+        slots = [2 * command["plan"][0] + command.get("lane", 0) for command in commands]
+        return np.array([command["depart"] for command in commands], np.int64), np.array(slots, np.int64)
 
     @cached_property
     def givers(self) -> Collection[int]:
@@ -52,16 +53,16 @@ class PageRun:
 class World:
     """One traffic of a page."""
 
-    def __init__(self, of: PageRun, later: Iterable[Sent] = (), node: int | None = None) -> None:
+    def __init__(self, page_run: PageRun, later: Iterable[Sent] = (), node: int | None = None) -> None:
         """later: what is done by hand, with its clocks; node: the junction before which those who stand are counted.
         Fault or ProgramEnded where it cannot be begun; nothing runs then."""
-        self.of, steering = of, Steering(of.run, of.mapping, of.settings)
-        self.hand = Hand(steering.merging if of.settings.merging else None, later)
-        self.ledger = Ledger(self.hand, *of.departs_and_ends, node)
-        self.program = Noted(of.program, of.workers)
+        self.page_run, steering = page_run, Steering(page_run.run, page_run.mapping, page_run.settings)
+        self.hand = Hand(steering.merging if page_run.settings.merging else None, later)
+        self.ledger = Ledger(self.hand, *page_run.departs_and_ends, node)
+        self.program = LoggedProgram(page_run.program, page_run.workers)
         controllers, observers = [*steering.controllers, self.hand], [self.ledger]
-        self.kernel = Kernel(self.program, of.run, of.mapping, controllers, observers)
-        self.forget_told()
+        self.kernel = Kernel(self.program, page_run.run, page_run.mapping, controllers, observers)
+        self.forget_sent()
         try:
             self.kernel.begin(limits.CLOCK)
         except BaseException:
@@ -84,50 +85,50 @@ class World:
     def keep_in(self, path: FilePath) -> None:
         """Has a program go on that keeps its session in a file, which has all that was done so far. Fault where it
         leads to another state."""
-        state = self.program.ask([COUNT])
-        self.program = self.kernel.program = self.program.kept_in(path, self.of.workers)
-        if self.program.ask([COUNT]) != state:
+        state = self.program.exchange([COUNT])
+        self.program = self.kernel.program = self.program.kept_in(path, self.page_run.workers)
+        if self.program.exchange([COUNT]) != state:
             raise Fault(f"{path}: it leads to another state than the page")
 
     # ---- what the page is told
 
-    def forget_told(self) -> None:
+    def forget_sent(self) -> None:
         """Has the next message tell all, as to a page that knows nothing."""
-        self.lines_told = self.cars_told = self.points_told = -1
+        self.lines_sent = self.cars_sent = self.points_sent = -1
 
     def message(self) -> Json:
         """What a page is to know of the last second beside its rows: all, or what is new since the last message."""
         kernel, ledger, clock = self.kernel, self.ledger, self.clock
-        whole = self.cars_told < 0
+        whole = self.cars_sent < 0
         plans, shown = self.signals()
-        cars, self.cars_told = max(0, self.cars_told), kernel.vehicles.told
-        points, self.points_told = max(0, self.points_told), len(ledger.points)
-        told: dict[str, Any] = {
-            "whole": whole, "first": points, "clock": clock, "arrived": kernel.last.gone,
-            "coming": int(np.count_nonzero(~ledger.seen)),
-            "owners": kernel.vehicles.owner[cars : self.cars_told].tolist(), "points": ledger.points_from(points),
+        cars, self.cars_sent = max(0, self.cars_sent), kernel.vehicles.entered
+        points, self.points_sent = max(0, self.points_sent), len(ledger.points)
+        page_message: dict[str, Any] = {
+            "whole": whole, "first": points, "clock": clock, "arrived": kernel.last_second.arrived_count,
+            "coming": int(np.count_nonzero(~ledger.has_departed)),
+            "owners": kernel.vehicles.owner[cars : self.cars_sent].tolist(), "points": ledger.points_from(points),
             "plans": plans, "shown": shown, "waiting": self.waiting(), "detectors": self.hand.detectors,
-            "closed": [[slot, *one] for slot, all_ in kernel.closed.stretches().items() for one in all_],
+            "closed": [[slot, *stretch] for slot, closed in kernel.closed.stretches().items() for stretch in closed],
         }  # fmt: skip
-        return told
+        return page_message
 
     def rows(self) -> bytes:
         """The vehicles of the last second, each car, slot, cell (below 0 in a buffer) and speed, of 4 bytes each."""
-        last = self.kernel.last
-        return np.stack([last.car, last.slot, last.cell, last.speed], axis=1).astype("<i4").tobytes()
+        block = self.kernel.last_second
+        return np.stack([block.car, block.slot, block.cell, block.speed], axis=1).astype("<i4").tobytes()
 
     def signals(self) -> tuple[list[Command], list[Command]]:
         """(the plans that the run or the page has set, what detectors have lights show) since the last message; the
         last of each node alone."""
-        kernel, first = self.kernel, self.lines_told < 0
-        sent = [(line, True) for line in kernel.run.first] if first else []
-        sent += [(one.line, one.passed_on) for one in kernel.sent[max(0, self.lines_told) :]]
-        self.lines_told = len(kernel.sent)
+        kernel, is_first = self.kernel, self.lines_sent < 0
+        sent = [(line, True) for line in kernel.run.first] if is_first else []
+        sent += [(line_sent.line, line_sent.passed_on) for line_sent in kernel.sent[max(0, self.lines_sent) :]]
+        self.lines_sent = len(kernel.sent)
         plans: dict[int, Command] = {}
         shown: dict[int, Command] = {}
         for line, is_plan in sent:
             command = line.command
-            if command["cmd"] == "signal" and command["node"] not in self.of.givers:
+            if command["cmd"] == "signal" and command["node"] not in self.page_run.givers:
                 (plans if is_plan else shown)[command["node"]] = command
                 if is_plan:
                     shown.pop(command["node"], None)
@@ -135,9 +136,10 @@ class World:
 
     def waiting(self) -> list[list[int]]:
         """[slot, how many] of the lanes that vehicles wait to enter, who wished to by now."""
-        departs, slots = self.of.wishes
-        late = slots[(departs <= self.clock) & ~self.ledger.seen]
-        return [list(one) for one in zip(*(part.tolist() for part in np.unique(late, return_counts=True)))]
+        departs, slots = self.page_run.wishes
+        late = slots[(departs <= self.clock) & ~self.ledger.has_departed]
+        late_slots, counts = np.unique(late, return_counts=True)
+        return list(map(list, zip(late_slots.tolist(), counts.tolist())))
 
     def text(self) -> bytes:
         """The session as lines, which streetsim does again."""

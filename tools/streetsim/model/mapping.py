@@ -24,7 +24,7 @@ Shape = Sequence[Sequence[float]]  # of (x, y)
 KEYS = ("nodes", "links", "turns", "signals", "cars", "options", "warnings")
 INVENTED = "invented."  # with which the names of vehicles begin that nobody counted
 TOLD_INVENTED = "The demand is invented: vehicles that nobody counted drive from border to border of the network"
-WHERE_ANY = ("rings", "programs", "names", "fixed", "end")  # keys that a map's file has where there are any
+WHERE_ANY = ("rings", "programs", "names", "fixed", "end", "timings")  # keys that a map's file has where there are any
 
 
 @dataclass(slots=True, frozen=True)
@@ -134,6 +134,7 @@ class Map:
     starts: SlowStarts | None = None  # at lights
     reserved: ReservedLanes | None = None  # of classes beside the first
     end: int = 0  # the clock at which SUMO's configuration ends a run, 0 where none does
+    timings: list[Json] = field(default_factory=list)  # the programs of lights at the road, as of model.timing
 
     def __post_init__(self) -> None:
         """Finds the links of each edge."""
@@ -213,7 +214,7 @@ def map_from(path: FilePath, value: Json) -> Map:
         more: Json = {key: value[key] for key in ("cars", "options", "warnings")}
         more["nodes"], more["signals"] = rows_of(MapNode, value["nodes"]), rows_of(MapSignal, value["signals"])
         more["links"], more["turns"] = rows_of(MapLink, value["links"]), rows_of(MapTurn, value["turns"])
-        more |= {name: value.get(name, []) for name in ("told", "actuated", "rings", "programs", "fixed")}
+        more |= {name: value.get(name, []) for name in ("told", "actuated", "rings", "programs", "fixed", "timings")}
         more |= {name: value.get(name, {}) for name in ("location", "names", "sources")}
         more |= {"kinds": value.get("vehicles", {}), "yields": giving_way_of(value.get("yields", ()))}
         more["full"] = fullness_of(value.get("full", {}))

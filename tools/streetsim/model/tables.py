@@ -4,6 +4,7 @@ import csv
 import re
 from collections.abc import Callable, Iterable, Iterator, Sequence
 from functools import lru_cache
+from itertools import chain, islice
 from math import isfinite
 from typing import Any
 
@@ -12,6 +13,7 @@ from streetsim.base.unpacking import lines_of
 
 Entry = tuple[Any, ...]  # a row of a table
 Write = Callable[[Iterable[Iterable[object]]], object]  # writes rows
+AT_ONCE = 4_000  # rows whose texts are looked at together
 # Texts that a spreadsheet may run: =, +, @, a tab or a line feed at the begin, or - before what is neither a number nor
 # plain names, as -12345#0 of OpenStreetMap; and those that would be taken for guarded ones.
 RUN = re.compile(r"'*(?:[=@\t\n]|\+(?![\d.]+$)|-(?![\w#.: -]*$))")
@@ -63,12 +65,23 @@ def open_table(path: FilePath, header: Sequence[str]) -> Iterator[Write]:
     with whole_file(path) as file:
         writer = csv.writer(file, lineterminator="\n")
         writer.writerow(header)
-        yield lambda rows: writer.writerows(map(guarded_row, rows))
+        yield lambda rows: writer.writerows(guarded_rows(rows))
+
+
+def guarded_rows(rows: Iterable[Iterable[object]]) -> Iterator[Iterable[object]]:
+    """Rows whose texts are guarded. Of many rows each text is looked at once, as hardly any needs it."""
+    left = (tuple(row) for row in rows)
+    while part := list(islice(left, AT_ONCE)):
+        texts = (cell for cell in set(chain.from_iterable(part)) if isinstance(cell, str))
+        if all(guarded(text) == text for text in texts):
+            yield from part
+        else:
+            yield from map(guarded_row, part)
 
 
 def guarded_row(row: Iterable[object]) -> list[object]:
     """A row whose texts are guarded."""
-    return [guarded(cell) if type(cell) is str else cell for cell in row]
+    return [guarded(cell) if isinstance(cell, str) else cell for cell in row]
 
 
 @lru_cache(1 << 14)

@@ -77,7 +77,7 @@ class Counts(Observer):
         """Notes samples, and who is on links as periods end."""
         sampled = self.samples.among(seconds.clocks)
         self.sampled.add(periods[sampled], np.zeros(np.count_nonzero(sampled), np.int64))
-        rows = np.flatnonzero(seconds.on & seconds.at(sampled))
+        rows = np.flatnonzero(seconds.on & seconds.rows_in_seconds(sampled))
         period, link = periods[seconds.second[rows]], seconds.slot[rows] // 2
         self.present.add(period, link)
         self.moved.add(period, link, seconds.speed[rows])
@@ -92,10 +92,10 @@ class Counts(Observer):
 
     def end(self, clock: int) -> None:
         """Notes who is on links at the end, and who was taken out of them."""
-        last = self.kernel.last
+        last = self.kernel.last_second
         self.note_standing(clock, last.slot[last.cell >= 0])
         self.clock, self.periods = clock, -(-(clock - self.start) // self.period)
-        own = [one for one in self.kernel.vehicles.taken if one.on]
+        own = [one for one in self.kernel.vehicles.takeouts if one.on_lane]
         clocks, slots = (np.array([getattr(one, name) for one in own], np.int64) for name in ("clock", "slot"))
         self.taken.add((clocks - self.start) // self.period, slots // 2)
         for sums in (self.passes, self.speeds, self.covered, self.sampled, self.present, self.moved, self.taken):

@@ -51,12 +51,12 @@ class PlanPlaces:
 
     def __init__(self, movements: Movements, plans: Plans) -> None:
         """plans: of the vehicles."""
-        self.movements, self.plans, count = movements, plans, len(plans.first)
+        self.movements, self.plans, count = movements, plans, len(plans.first_places)
         # By vehicle, then by edge: keys of both, places of plans, and how often each was passed, by the key's first.
         self.keys = np.zeros(len(plans.links), np.int64)
         self.places, self.passed = (np.zeros(len(plans.links), np.int32) for _ in range(2))
         for first, last in pairwise((*range(0, count, PART), count)):
-            own = slice(plans.first[first], plans.last[last - 1])
+            own = slice(plans.first_places[first], plans.end_places[last - 1])
             keys = plans.vehicles(first, last) * len(movements.edges) + movements.edge_of[plans.links[own]]
             order = np.argsort(keys, kind="stable")
             self.keys[own], self.places[own] = keys[order], order + own.start
@@ -86,15 +86,15 @@ class Crossings:
         plans, movements = planned.plans, planned.movements
         rows = np.flatnonzero(movements.edge_of[done["slot"] // 2] == movements.own[done["edge"]])
         at, there = planned.places_of(done["owner"][rows], done["edge"][rows])
-        going_on = there & (at + 1 < plans.last[done["owner"][rows]])
+        going_on = there & (at + 1 < plans.end_places[done["owner"][rows]])
         done, at = {name: values[rows[going_on]] for name, values in done.items()}, at[going_on]
-        first, floor = at.copy(), plans.first[done["owner"]]
+        first, floor = at.copy(), plans.first_places[done["owner"]]
         while (off := (plans.links[first] != done["first"]) & (first > floor)).any():
             first[off] -= 1
         first = np.where(plans.links[first] == done["first"], first, at)
         self.following = plans.links[at + 1]
         self.movement = movements.own[done["edge"]] * len(movements.edges) + movements.edge_of[self.following]
-        self.delay = done["end"] - done["begin"] - plans.alone(first, at) - done["dwell"]
+        self.delay = done["end"] - done["begin"] - plans.seconds_between(first, at) - done["dwell"]
         self.slot, self.end, self.line, self.before = (done[name] for name in ("slot", "end", "line", "before"))
         self.stops, self.stood, self.alone = (done[name] for name in ("stops", "stood", "alone"))
         found, which = np.unique(self.movement, return_inverse=True)

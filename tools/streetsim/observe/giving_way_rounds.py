@@ -13,8 +13,8 @@ from streetsim.control.settings import Settings
 from streetsim.control.steering import Steering
 from streetsim.kernel.loop import Kernel
 from streetsim.kernel.program import Program
+from streetsim.kernel.progress import ProgressReports, ReportProgress
 from streetsim.kernel.serving import serving_program
-from streetsim.kernel.telling import Tell, Telling
 from streetsim.model.mapping import Map
 from streetsim.model.runs import Line, Run
 from streetsim.observe.giving_way_crowded import crowded_edges
@@ -41,18 +41,18 @@ class Yielding:
 
 
 def made_round(
-    start_program: ProgramStart, run: Run, mapping: Map, settings: Settings, tell: Tell
+    start_program: ProgramStart, run: Run, mapping: Map, settings: Settings, tell: ReportProgress
 ) -> StopLinePassings:
     """When vehicles pass stop lines in a run that is made to see that; it ends when all vehicles have ended, or at its
     last clock. tell: gets the clock and a count. Fault where a line is refused."""
     passings, controllers = Passings(), Steering(run, mapping, settings, True).controllers
     with start_program() as program:
-        Kernel(program, run, mapping, controllers, [passings, Telling(tell)]).go(settings.until)
+        Kernel(program, run, mapping, controllers, [passings, ProgressReports(tell)]).go(settings.until)
     return passings.passed()
 
 
 def giving_way(
-    run: Run, mapping: Map, settings: Settings, rounds: int, start_program: ProgramStart, tell: Tell
+    run: Run, mapping: Map, settings: Settings, rounds: int, start_program: ProgramStart, tell: ReportProgress
 ) -> tuple[Run, Yielding]:
     """(the run with the signal lines of gaps_of, and how vehicles give way by them). Arguments and Fault as there."""
     lines, yielding = gaps_of(run, mapping, settings, rounds, start_program, tell)
@@ -60,7 +60,7 @@ def giving_way(
 
 
 def gaps_of(
-    run: Run, mapping: Map, settings: Settings, rounds: int, start_program: ProgramStart, tell: Tell
+    run: Run, mapping: Map, settings: Settings, rounds: int, start_program: ProgramStart, tell: ReportProgress
 ) -> tuple[list[tuple[int, Line]], Yielding]:
     """(the signal lines, (clock, line), by which the vehicles of a run give way without a light, found in so many
     rounds; how they give way by them); no lines where rounds is 0 or nobody in the map gives way. tell: gets the clock

@@ -24,21 +24,27 @@ def how_made_again(run: Run, words: Sequence[str], again: Sequence[str]) -> Json
 
 
 def write_lights(folder: str, mapping: Map, map_path: FilePath) -> None:
-    """Writes lights.json, the programs of the lights by the files that were imported, to a folder; map_path: from which
-    these are found. Writes nothing, and says nothing, where these are gone, changed or cannot be read, or there is no
-    light."""
+    """Writes lights.json, the programs of the lights, to a folder: those that the map has, or, where an import that did
+    not keep them made it, those that `timings_read` finds; map_path: of the map. Writes nothing where there is none."""
+    found, lit = mapping.timings or timings_read(mapping, map_path), {light for light, _ in mapping.signals}
+    if found and lit:
+        with whole_file(f"{folder}/{LIGHTS}") as file:
+            file.write(json.dumps([one for one in found if one["light"] in lit], separators=(",", ":")))
+
+
+def timings_read(mapping: Map, map_path: FilePath) -> list[Json]:
+    """The programs of the lights by the files that were imported, which are found from the map's path; none, and
+    nothing is said, where these are gone, changed or cannot be read, or there is no light."""
     if not mapping.sources or not mapping.signals:
-        return
+        return []
     from streetsim.sumo.timings import timings_of_files
 
     beside = os.path.dirname(os.path.realpath(map_path))
     paths = [os.path.join(beside, path) for path in (mapping.sources["net"], *mapping.sources.get("additional", ()))]
     try:
         if not all(map(os.path.isfile, paths)) or [*map(sum_of, paths)] != mapping.sources["sums"][: len(paths)]:
-            return
+            return []
         found = timings_of_files(paths[0], paths[1:], mapping.options.get("classes", ["passenger"]))
     except (Fault, OSError):
-        return
-    lit = {light for light, _ in mapping.signals}
-    with whole_file(f"{folder}/{LIGHTS}") as file:
-        file.write(json.dumps([one.written() for one in found if one.light in lit], separators=(",", ":")))
+        return []
+    return [one.written() for one in found]

@@ -50,7 +50,7 @@ class Passings(Observer):
         due = self.clock[rows - 1] + np.array(driving)[slot >> 1]
         begins, group = groups_of(self.owner)
         count = np.cumsum(self.is_coming)  # of links that vehicles came to
-        following = plans.links[plans.first[owner] + (count - count[begins][group] + 1)[rows]]
+        following = plans.links[plans.first_places[owner] + (count - count[begins][group] + 1)[rows]]
         order = by_number(slot)
         return dict(by_place(*(one[order] for one in (slot, self.clock[rows], following, due))))
 

@@ -6,7 +6,7 @@ import json
 import os
 from collections import defaultdict
 from collections.abc import Iterable, Iterator, Sequence
-from dataclasses import asdict, dataclass, field
+from dataclasses import asdict, dataclass, field, replace
 from functools import partial
 from heapq import merge
 from operator import itemgetter
@@ -23,8 +23,8 @@ from streetsim.control.steering import Steering
 from streetsim.control.works_crowding import crowded_works
 from streetsim.control.works_watched import doubts_of
 from streetsim.kernel.loop import Kernel, Observer, Sent
+from streetsim.kernel.progress import ProgressReports, ReportProgress
 from streetsim.kernel.serving import serving_program
-from streetsim.kernel.telling import Tell, Telling
 from streetsim.model import tables, trust
 from streetsim.model.folder import NAME, POLLS
 from streetsim.model.mapping import Map
@@ -156,7 +156,7 @@ class RunTables:
             write_named(f"{folder}/{tables.WORKS_FILE}", tables.WORKS, rows, names)
 
 
-def one_run(making: Making, run: Run, mapping: Map, settings: Settings, folder: str, tell: Tell) -> Figures:
+def one_run(making: Making, run: Run, mapping: Map, settings: Settings, folder: str, tell: ReportProgress) -> Figures:
     """Makes one run, after the rounds by which its vehicles give way, writes all that was asked for into a folder that
     is there, and gives its figures. tell: gets the clock and a count while it goes. Fault where the program refuses a
     command, or a file cannot be written."""
@@ -165,7 +165,7 @@ def one_run(making: Making, run: Run, mapping: Map, settings: Settings, folder: 
     steering = Steering(run, mapping, settings)
     made = RunTables(making, run, mapping, settings, steering)
     with contextlib.ExitStack() as files:
-        observers = [*made.observers(making, folder, files), Telling(tell)]
+        observers = [*made.observers(making, folder, files), ProgressReports(tell)]
         program = files.enter_context(start_program(keep=making.keep))
         kernel = Kernel(program, run, mapping, steering.controllers, observers)
         kernel.go(settings.until)
@@ -264,7 +264,7 @@ def write_setting(
     of.update(until=clock, rescue=settings.rescue, vehicles=len(given.enters))
     of.update(program=program_digest(making.program), **proof_note(making.program), **making.again)
     content = {
-        "map": made.mapping.written(),
+        "map": replace(made.mapping, timings=[]).written(),  # which lights.json has
         "signals": given.signals(),
         "dawdle": command["dawdle"],
         "every": made.every,

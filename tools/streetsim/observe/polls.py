@@ -106,7 +106,7 @@ class Polls(Observer):
     def see(self, seconds: Seconds) -> None:
         """Takes some seconds."""
         polled = seconds.clocks % self.every == 0
-        rows = np.flatnonzero(seconds.at(polled) & self.wanted[seconds.slot])
+        rows = np.flatnonzero(seconds.rows_in_seconds(polled) & self.wanted[seconds.slot])
         second, slot = seconds.second[rows], seconds.slot[rows]
         begins, _ = groups_of(second * SLOTS + slot)
         slots, lanes = slot[begins].tolist(), lane_texts(seconds, rows, begins)

@@ -33,7 +33,8 @@ class Queues(Observer):
         """Takes some seconds."""
         if not self.every:
             return
-        rows = np.flatnonzero(seconds.at(seconds.clocks % self.every == 0) & seconds.on & self.wanted[seconds.slot])
+        is_polled = seconds.rows_in_seconds(seconds.clocks % self.every == 0)
+        rows = np.flatnonzero(is_polled & seconds.on & self.wanted[seconds.slot])
         slot, second, size = seconds.slot[rows], seconds.second[rows], seconds.size[rows].astype(np.int64)
         begins, group = groups_of(second * SLOTS + slot)
         before = np.cumsum(size) - size
@@ -85,13 +86,13 @@ class Summary(Observer):
     def end(self, clock: int) -> None:
         """Counts who is there at the end."""
         if not self.found or self.found[-1][0] != clock:
-            cells = int(np.count_nonzero(self.kernel.last.cell >= 0))
-            self.found.append((clock, cells, len(self.kernel.last.cell) - cells))
+            cells = int(np.count_nonzero(self.kernel.last_second.cell >= 0))
+            self.found.append((clock, cells, len(self.kernel.last_second.cell) - cells))
 
     def censuses(self) -> Iterator[Census]:
         """The counts, without vehicles that wish to depart then or later."""
         arrival = np.sort(self.trips.arrival[self.trips.arrival > 0])
-        taken = np.sort([one.clock for one in self.kernel.vehicles.taken])
+        taken = np.sort([one.clock for one in self.kernel.vehicles.takeouts])
         departs = np.array(self.kernel.departs, np.int64)
         for clock, cells, buffers in self.found:
             arrived, out = int(np.searchsorted(arrival, clock, "right")), int(np.searchsorted(taken, clock))

@@ -70,9 +70,9 @@ class Segments(Observer):
     def note(self, owner: Array, clock: Array, edge: Array, until: int) -> None:
         """Notes ends of segments, as columns by clock, and those of vehicles that were taken out of a lane before a
         clock."""
-        taken = self.kernel.vehicles.taken
+        taken = self.kernel.vehicles.takeouts
         while self.taken < len(taken) and taken[self.taken].clock < until:
-            if (one := taken[self.taken]).on:
+            if (one := taken[self.taken]).on_lane:
                 own = self.kernel.vehicles.owner[one.car], one.clock, NO_LINE
                 owner, clock, edge = (np.append(those, value) for those, value in zip((owner, clock, edge), own))
             self.taken += 1

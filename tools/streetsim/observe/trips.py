@@ -31,7 +31,7 @@ class TripsTable(Observer):
 
     def end(self, clock: int) -> None:
         """Notes where those are who are on the road."""
-        last, owner = self.kernel.last, self.kernel.vehicles.owner
+        last, owner = self.kernel.last_second, self.kernel.vehicles.owner
         states = np.where(last.cell >= 0, "cell", "buffer").tolist()
         self.states = dict(zip(owner[last.car].tolist(), states, strict=True))
 

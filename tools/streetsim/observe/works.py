@@ -49,7 +49,7 @@ class WorksTable(Observer):
 
     def look(self, clock: int, lanes: LanesNow, due: Iterable[Watched], polled: Iterable[Watched]) -> None:
         """Notes what works show that are due at a clock, or polled."""
-        taken = self.kernel.vehicles.taken
+        taken = self.kernel.vehicles.takeouts
         while self.rescued < len(taken) and taken[self.rescued].clock < clock:
             for each in self.watched:
                 each.rescue(taken[self.rescued].car, taken[self.rescued].anew)

@@ -219,6 +219,21 @@ class Scene {
     pen.textAlign = "start";
   }
 
+  // Writes names of junctions, [name, x, y], beside them where they lie over no other; gives [left, base line, width] of each that is written.
+  drawJunctions(junctions) {
+    const { pen, canvas, colours } = this, taken = [], places = junctions.map(([name, x, y]) => [name, ...this.screen(x, y)]);
+    pen.font = "bold 12px sans-serif"; pen.lineWidth = 3; pen.strokeStyle = colours.ground; pen.fillStyle = colours.ink;
+    for (const [name, x, y] of places) {
+      const wide = pen.measureText(name).width, isFree = left => left > 0 && left + wide < canvas.width && y > 18 && y < canvas.height &&
+        !taken.some(([l, t, w]) => Math.abs(y - 6 - t) < 14 && left < l + w + 4 && l < left + wide + 4) &&
+        !places.some(([, px, py]) => px > left - 4 && px < left + wide + 4 && Math.abs(py - y + 10) < 20);
+      for (const left of [x + 6, x - 6 - wide].filter(isFree).slice(0, 1)) {
+        taken.push([left, y - 6, wide]); pen.strokeText(name, left, y - 6); pen.fillText(name, left, y - 6);
+      }
+    }
+    return taken;
+  }
+
   // A name beside a place.
   drawName(name, [px, py]) {
     const [x, y] = this.screen(px, py);

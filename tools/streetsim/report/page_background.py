@@ -38,14 +38,15 @@ def what_was_run(all_runs: Sequence[Runs]) -> str:
         places = f"{len(mapping.links_of):,} edges, {len(mapping.nodes):,} junctions"
         times = f"{time_of_day(made.get('start', 0))} to {time_of_day(made.get('until', 0))}"
         seeds = ", ".join(map(str, runs.folders))
-        departs = "drawn by each seed" if runs.is_drawn else "as listed"
+        departs, dawdle = "drawn by each seed" if runs.is_drawn else "as listed", runs.first.dawdle
+        slow = f"dawdle {dawdle} (in each second {dawdle / 10:g} % of drivers slow down by chance)"
         rows += [
             (f"<b>{escape(runs.name)}</b>", escape(made.get("run", ""))),
             ("files of the import", escape(", ".join(files)) or "not told by the map"),
             ("network", f"{places}, {len(mapping.signals):,} with signals"),
             ("demand", f"{runs.vehicles:,.0f} vehicles, departures {departs}"),
-            ("time", f"{times}, seeds {seeds}, dawdle {runs.first.dawdle}"),
-            ("program", f'<span class="sum">SHA-256 {escape(made.get("program") or "not told")}</span>'),
+            ("time", f"{times}, seeds {seeds}, {slow}"),
+            ("program", f"SHA-256 {escape(made.get('program') or 'not told')}"),
         ]
     return facts(rows)
 

@@ -6,6 +6,7 @@ from streetsim.base.colours import LESS, MORE, STREET
 from streetsim.model.mapping import Map, Shape
 from streetsim.model.service import COLOURS, WHITE_LETTERS, fills
 from streetsim.report.page_choice import LEAST
+from streetsim.report.page_labels import text_width
 from streetsim.report.page_map import WIDE, Stroke, line_key, street_map, works_key
 
 
@@ -99,20 +100,20 @@ def queue_picture(rows: Sequence[tuple[str, float, float, float, float]]) -> str
     """A bar (SVG) for each approach: the room of the edge, the 95 % queue in it, the 50 % queue, and a line at the
     greatest. rows: (name, 50 %, 95 %, greatest, room), in metres."""
     most = max((max(greatest, room) for _, _, _, greatest, room in rows), default=0.0) or 1.0
-    scale, parts = 480 / most, []
+    left = max(150.0, *(text_width(row[0]) for row in rows), 0.0)  # of the bars; names stand before them
+    scale, parts = (630 - left) / most, []
     for place, (name, half, usual, greatest, room) in enumerate(rows):
         y = 8 + 26 * place
         title = f"{name}: 50 % {half:.0f} m, 95 % {usual:.0f} m, greatest {greatest:.0f} m of {room:.0f} m"
         over = ", fills the edge" if greatest > 0 and fills(greatest, room) else ""
         parts.append(
-            f"<g><title>{escape(title)}</title>"
-            f'<text x="150" y="{y + 13}" text-anchor="end">{escape(name)}</text>'
-            f'<rect x="156" y="{y}" width="{room * scale:.1f}" height="18" fill="#fff" stroke="#666"/>'
-            f'<rect x="156" y="{y + 3}" width="{usual * scale:.1f}" height="12" fill="#9ecae1"/>'
-            f'<rect x="156" y="{y + 3}" width="{half * scale:.1f}" height="12" fill="#3182bd"/>'
-            f'<line x1="{156 + greatest * scale:.1f}" x2="{156 + greatest * scale:.1f}" y1="{y}" y2="{y + 18}" '
-            f'class="greatest"/><text x="646" y="{y + 13}">{half:.0f}, {usual:.0f}, {greatest:.0f} of {room:.0f} '
-            f'm{over}</text></g>'
+            f'<g><title>{escape(title)}</title><text x="{left:g}" y="{y + 13}" text-anchor="end">{escape(name)}</text>'
+            f'<g transform="translate({left + 6:g} {y})">'
+            f'<rect width="{room * scale:.1f}" height="18" fill="#fff" stroke="#666"/>'
+            f'<rect y="3" width="{usual * scale:.1f}" height="12" fill="#9ecae1"/>'
+            f'<rect y="3" width="{half * scale:.1f}" height="12" fill="#3182bd"/>'
+            f'<line x1="{greatest * scale:.1f}" x2="{greatest * scale:.1f}" y2="18" class="greatest"/></g>'
+            f'<text x="646" y="{y + 13}">{half:.0f}, {usual:.0f}, {greatest:.0f} of {room:.0f} m{over}</text></g>'
         )
-    tall = 12 + 26 * len(rows)
-    return f'<svg class="queues" viewBox="0 0 {WIDE} {tall}" role="img" aria-label="Queues">{"".join(parts)}</svg>'
+    shape = f'viewBox="0 0 {WIDE} {12 + 26 * len(rows)}" role="img" aria-label="Queues"'
+    return f'<svg class="queues" {shape}>{"".join(parts)}</svg>'

@@ -64,9 +64,9 @@ class Seal:
         rows.append(("words of the page", escape(" ".join(self.content["words"]) or "none")))
         for name, known in sorted(self.content["files"].items()):
             place = f" (in {self.beside})" if name in self.content["beside"] else ""
-            rows.append((escape(name), f'<span class="sum">SHA-256 {known}{escape(place)}</span>'))
-        rows.append(("tools", f'<span class="sum">SHA-256 {self.content["tools"]}</span>'))
-        rows.append(("all of this", f'<span class="sum">SHA-256 {sum_of(told.encode())}</span>'))
+            rows.append((escape(name), f"SHA-256 {known}{escape(place)}"))
+        rows.append(("tools", f"SHA-256 {self.content['tools']}"))
+        rows.append(("all of this", f"SHA-256 {sum_of(told.encode())}"))
         inert = told.replace("<", "\\u003c")
         packs = "\n".join(
             f'<script type="text/plain" class="sealed" title="{escape(name)}">{text}</script>'

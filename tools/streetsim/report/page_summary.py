@@ -48,9 +48,8 @@ def common_seeds(plans: Sequence[Runs]) -> int:
 def departures_told(plans: Sequence[Runs]) -> str:
     """How the vehicles of the runs depart, and of what days intervals are, in plain text."""
     drawn, seeds = are_drawn(plans), common_seeds(plans)
-    if seeds > 1:
-        return "; ".join(told_of_days(drawn, seeds))
-    return "departures drawn" if drawn else "departures as listed"
+    usual = "departures drawn" if drawn else "departures as listed"
+    return "; ".join(told_of_days(drawn, seeds)) if seeds > 1 else usual
 
 
 def question_html(question: str, plans: Sequence[Runs], shown: Interval) -> str:
@@ -98,29 +97,31 @@ def change_verdict(plans: Sequence[Runs], shown: Interval) -> str:
         first = f"With '{name}' a trip takes {means}: {change_in_words(trip)}."
     if not delay:
         return f"{first} No junction has vehicles with both plans."
-    rows = ranked_rows(plans, shown)
-    changed = changes_that_stand_out(rows).values()
-    less, more = (sum((change > 0) == up for change in changed) for up in (False, True))
-    fewer, all_, greater = count_in_words(less), counted_noun(len(rows), "junction"), count_in_words(more)
-    counts = f"at {fewer} of {all_} it is less {how_sure(drawn)}, at {greater} more"
     means = f"{delay.after:.1f} s, and {delay.before:.1f} s before"
-    return f"{first} A vehicle's mean delay at a junction is {means}: {change_in_words(delay)}; {counts}."
+    told = f"{first} A vehicle's mean delay at a junction is {means}: {change_in_words(delay)}"
+    if delay.half is None:
+        return f"{told}."
+    rows = ranked_rows(plans, shown)
+    changed = [change > 0 for change in changes_that_stand_out(rows).values()]
+    less, more = (count_in_words(changed.count(up)) if up in changed else "none" for up in (False, True))
+    return f"{told}; at {less} of {counted_noun(len(rows), 'junction')} it is less {how_sure(drawn)}, at {more} more."
 
 
 def state_verdict(runs: Runs, shown: Interval) -> str:
-    """How long trips and delays are with one plan, how many junctions are worse than D and which most, plain text."""
+    """How long trips and delays are with one plan, how many junctions are worse than D, and the worst, plain text."""
     delays = mean_delays(runs.rows["junctions", *shown].values())
     rows = ranked_rows([runs], shown)
-    bad = [one for one in rows if one.is_bad]
+    bad, worst = sum(one.is_bad for one in rows), max(rows, key=lambda one: (one.row.letter(), one.row.delay))
     trip = f"A trip takes {mean_told(runs.mean_trips().values(), runs.is_drawn)} s on average"
     first = f"{trip}, and a vehicle's delay at a junction is {mean_told(delays.values(), runs.is_drawn)} s"
     first += f" (±: {interval_name(runs.is_drawn)})." if len(runs.folders) > 1 else "."
+    letter, name = worst.row.letter(), runs.names.junction_told(worst.key[0])
+    if len(rows) == 1:
+        return f"{first} {name} has level of service {letter}."
     if not bad:
-        all_ = f"All {len(rows):,} junctions have" if len(rows) != 1 else "The one junction has"
-        return f"{first} {all_} level of service D or better."
-    worst = runs.names.junction_told(bad[0].key[0])
-    have = f"{'has' if len(bad) == 1 else 'have'} a level of service worse than D, most of all {worst}"
-    return f"{first} {count_in_words(len(bad)).capitalize()} of {counted_noun(len(rows), 'junction')} {have}."
+        return f"{first} Every junction has level of service {letter} or better; the worst is {name}."
+    have = f"{'has' if bad == 1 else 'have'} a level of service worse than D; the worst is {letter}, at {name}"
+    return f"{first} {count_in_words(bad).capitalize()} of {counted_noun(len(rows), 'junction')} {have}."
 
 
 def service_and_works_map(runs: Runs, shown: Interval, rows: Sequence[RowChange] = (), detailed: int = 0) -> str:
@@ -227,7 +228,7 @@ def groups_table(found: PlanCosts) -> str:
         [escape(group), f"{count:,}", f"{one.before:.1f}", f"{one.after:.1f}", change_told(one)]
         for group, (count, one) in ((group, found.groups[group]) for group in told)
     ]
-    left = f" (those that lose and that win most, of {len(ranked):,})" if len(told) < len(ranked) else ""
+    left = f" ({len(told)} of {len(ranked):,}: most lost, most won)" if len(told) < len(ranked) else ""
     return table([f"trips by flow{left}", "trips", "before, s", "after, s", "change, s"], rows)
 
 
@@ -245,9 +246,8 @@ def worst_movements(movements: Sequence[RowChange], runs: Runs) -> list[str]:
         return f"{names.movement(edge, to)} ({edge} to {to}) at {names.junction_told(junction)}"
 
     worst = max(busy, key=lambda one: one.row.delay)
-    level = f"level of service {worst.row.letter()}"
-    hourly = f"{worst.row.values['vehicles_per_hour']:.0f} vehicles an hour"
-    texts = [f"Longest delay: {called(worst)}, {worst.row.delay:.0f} s, {level}, {hourly}."]
+    level, hourly = worst.row.letter(), f"{worst.row.values['vehicles_per_hour']:.0f} vehicles an hour"
+    texts = [f"Longest delay: {called(worst)}, {worst.row.delay:.0f} s, level of service {level}, {hourly}."]
     losing = [(one.change, one) for one in busy if one.change and one.change.stands_out() and one.change.change > 0]
     if losing:
         change, most = max(losing, key=lambda pair: pair[0].change)
@@ -266,17 +266,15 @@ def doubted(plans: Sequence[Runs], more: Sequence[str] = ()) -> str:
         texts += [f"{runs.name} is not to be trusted: {doubt}" for doubt in doubts]
         if not doubts:
             texts.append(f"{runs.name}: nothing that a run checks of itself speaks against it.")
-    texts += more
-    texts += growth_doubts(plans)
+    texts += [*more, *growth_doubts(plans)]
     if (seeds := common_seeds(plans)) < 2:
         texts.append("One run says nothing of chance: streetsim-run --seeds 1-5 makes several.")
     elif not are_drawn(plans):
         texts += [f"{text.capitalize()}." for text in told_of_days(False, seeds)]
-    heavy = list(dict.fromkeys(row[1] for runs in plans for row in runs.first.mapping.told if row[0] == HEAVY))
-    if heavy:
+    if heavy := [*dict.fromkeys(row[1] for runs in plans for row in runs.first.mapping.told if row[0] == HEAVY)]:
         first = heavy[0] if len(heavy[0]) < LONG else heavy[0][: LONG - 3] + ".."
-        told = f"The import did {counted_noun(len(heavy), 'thing')} otherwise than SUMO that may change results"
-        texts.append(f"{told} (appendix); the first: {first}.")
+        told = f"The import told {counted_noun(len(heavy), 'thing')} that may change results"
+        texts.append(f"{told} (appendix){'; the first' if len(heavy) > 1 else ''}: {first}.")
     texts.append("These are numbers of a simulation: the street may do otherwise, and nobody here changes the way.")
     return bullets(texts) + (errors_told() if len(plans) == 2 else "")
 

@@ -155,7 +155,7 @@ def queues_picture(seen: SeenWorks) -> str:
         f'<text x="{WIDE - 10}" y="{HIGH - 8}" text-anchor="end">{time_of_day(times[-1])}</text>',
         f'<line x1="{LEFT}" x2="{WIDE - 10}" y1="{HIGH - 25}" y2="{HIGH - 25}" stroke="#666"/>',
         f'<text x="{WIDE / 2:.0f}" y="{HIGH - 8}" text-anchor="middle">queue before the works: mean of the runs, '
-        "and broken the greatest</text>",
+        "and with gaps the greatest</text>",
     ]
     shape = f'viewBox="0 0 {WIDE} {HIGH}" role="img" aria-label="Queue before the works over time"'
     return f'<svg class="bars" {shape}>{greatest}{means}{"".join(marks)}</svg>'

@@ -43,24 +43,9 @@ class Side {
     }
     scene.drawCars(cars);
     run.links.forEach((link, number) => { const green = this.isGreen(number, clock); if (green !== null) scene.drawStopLine(link, green); });
-    if (at("names").checked) scene.drawNames(run.links.filter(link => scene.isInView(link)), this.drawJunctions());
+    if (at("names").checked) scene.drawNames(run.links.filter(link => scene.isInView(link)), scene.drawJunctions(run.junctions));
     scene.drawScale();
     if (this.streetAt(pointed)) scene.drawName(this.streetAt(pointed), pointed);
-  }
-
-  // The names of junctions with signals; one that would lie over another is left out. Gives those that are written, [left, base
-  // line, width].
-  drawJunctions() {
-    const { pen, canvas } = this.scene, taken = [];
-    pen.font = "bold 12px sans-serif"; pen.lineWidth = 3; pen.strokeStyle = "#fff"; pen.fillStyle = "#222";
-    for (const [name, x, y] of this.run.junctions) {
-      const [left, top] = this.scene.screen(x, y), wide = pen.measureText(name).width;
-      if (left < 0 || top < 0 || left > canvas.width || top > canvas.height) continue;
-      if (taken.some(([l, t, w]) => Math.abs(top - t) < 14 && left < l + w + 4 && l < left + wide + 4)) continue;
-      taken.push([left, top, wide]);
-      pen.strokeText(name, left + 6, top - 6); pen.fillText(name, left + 6, top - 6);
-    }
-    return taken.map(([left, top, wide]) => [left + 6, top - 6, wide]);
   }
 }
 
@@ -93,8 +78,9 @@ function draw() {
   if (!playing) linking = setTimeout(link, 300);
 }
 
-// The page's address leads to what is shown.
+// The page's address leads to what is shown; a frame in another page has no address of its own, and no button for it.
 function link() {
+  if (at("copy").hidden) return;
   const { x, y, scale, moved } = sides[0].scene, place = moved ? [x, y, scale].map(value => `,${+value.toFixed(3)}`).join("") : "";
   history.replaceState(null, "", `#${clocks[step]}${place}`);
 }
@@ -179,6 +165,7 @@ unpack(at("data").textContent).then(answer => answer.json()).then(runs => {
   at("names").onchange = draw;
   at("charts").onchange = () => { resize(); draw(); };
   at("chart").onclick = goToChart;
+  at("copy").hidden = location.protocol === "about:";
   at("copy").onclick = () => { link(); navigator.clipboard?.writeText(location.href); };
   slider.oninput = () => { step = +slider.value; draw(); };
   onresize = () => { resize(); draw(); };

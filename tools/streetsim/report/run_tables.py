@@ -86,12 +86,12 @@ class Runs:
         """The (begin, end) of the junction tables, in seconds, rising; empty where they were not read."""
         return sorted({(begin, end) for _, begin, end in self.rows})
 
-    def busiest(self) -> tuple[int, int]:
+    def busiest(self, among: Collection[tuple[int, int]] | None = None) -> tuple[int, int]:
         """The interval (begin, end), in seconds, in which most vehicles an hour crossed junctions, the first of equal
-        ones; ValueError where no junction tables were read."""
+        ones; among: of these (None: of all). ValueError where no junction tables were read of any."""
         volumes: dict[tuple[int, int], float] = {}
         for (table, begin, end), rows in self.rows.items():
-            if table == "junctions":
+            if table == "junctions" and (among is None or (begin, end) in among):
                 volumes[begin, end] = sum(row.values["vehicles_per_hour"] for row in rows.values())
         return min(volumes, key=lambda interval: (-volumes[interval], interval))
 

@@ -12,7 +12,7 @@ from streetsim.report.run_tables import Runs
 OFF = "oO"  # the light is off, and vehicles drive by the right of way
 KINDS = ("yellow", YELLOW), ("green", MAIN + PERMISSIVE), ("off", OFF)  # of phases, by the first that one has
 COLOURS = ((MAIN, GREEN), (PERMISSIVE, "#a6dba0"), (YELLOW, "#fdd835"), ("s", "#d9f0d3"), ("uoO", "#fdae61"))
-LEFT, WIDE, ROW = 300, 900, 16  # pixels
+LEFT, WIDE, ROW = 340, 900, 16  # pixels
 MOST_PAIRS = 5  # of conflicting movements on a sheet
 LEGEND = (
     "Dark: green. Light: green, but gives way. Yellow: yellow. Grey: red. The seconds are those of the cycle, which "

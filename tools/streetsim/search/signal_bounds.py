@@ -148,12 +148,14 @@ def search_bounds(search: PlanSearch, given: Bounded, lowest: Mapping[tuple[str,
     """Searches from given bounds: those for all lights at once, then gaps, mosts and leasts light by light, by both of
     STEPS. Ends there, or where the search has ended; search.best then has (mean trip in seconds, the best bounds).
     lowest: as of lowest_greens."""
+    search.climbs = len(STEPS) * sum(len(one.gaps) + 2 * len(one.greens) for one in given.values())
     try:
         search.mean_trip("given", given)
         best = given
         for step, tried in bounds_for_all_lights(given, lowest):
             if search.mean_trip(step, tried) < search.mean_trip("best", best):
                 best = tried
+        search.climbed.append(search.simulations)
         for gap, most, least in STEPS:
             for name in given:
                 for at in range(len(given[name].gaps)):

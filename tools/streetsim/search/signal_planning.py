@@ -38,12 +38,13 @@ def refuse_budget(budget: int, seeds: Sequence[int]) -> None:
 
 def ended_search(
     trips: Callable[[Sequence[Any]], Iterator[float]], budget: int, seeds: int,
-    search_to_end: Callable[[PlanSearch], None], key: Callable[[Any], Any] = key_of,
+    search_to_end: Callable[[PlanSearch], None], key: Callable[[Any], Any] = key_of, after: float = 0.0,
 ) -> tuple[PlanSearch, bool]:
     """Makes a search, and shows on the terminal how far it is; gives (search when it has ended, whether the user ended
     it by Ctrl-C). trips: of plans, gives the mean trip (s) of each with each seed, plan by plan; budget, seeds, key: as
-    PlanSearch has them (key_of); search_to_end: searches until the search has ended."""
-    meanwhile = Meanwhile("simulations", budget)
+    PlanSearch has them (key_of); search_to_end: searches until the search has ended; after: seconds that what comes
+    after it takes."""
+    shown = SearchShown(budget, after)
 
     def values(plans: Sequence[Any]) -> Generator[float, None, None]:
         """The mean trip, in seconds, of each plan over the seeds, in the plans' order."""
@@ -55,13 +56,38 @@ def ended_search(
 
         def told(search: PlanSearch) -> bool:
             """Shows how far the search is; gives whether the user has asked for an end."""
-            meanwhile.show(search.simulations, best_line(search))
+            shown.show(search)
             return stopping.asked
 
         search = PlanSearch(values, budget, seeds, told, key_of=key)
         search_to_end(search)
-        meanwhile.end()
+        shown.line.end()
         return search, stopping.asked
+
+
+class SearchShown:
+    """The line on a terminal that says how far a search is. Plans that formulas propose are run side by side, and those
+    of climbs one after another: so the end goes by the first plan, which is alone, and by climbs."""
+
+    def __init__(self, budget: int, after: float) -> None:
+        """budget: simulations at most; after: as of ended_search."""
+        self.line, self.after = Meanwhile("simulations", budget), after
+        self.alone, self.last, self.begin = 0.0, 0.0, 0.0  # seconds: of the first plan, at the last, as climbs began
+
+    def show(self, search: PlanSearch) -> None:
+        """Writes the line where it is due, after a plan of a search."""
+        now = self.line.seconds()
+        self.alone = self.alone or now
+        if search.climbed and not self.begin:
+            self.begin = self.last
+        self.last, self.line.total = now, search.expected()
+        self.line.show(search.simulations, best_line(search), self.seconds_left(search))
+
+    def seconds_left(self, search: PlanSearch) -> float:
+        """The seconds until the end of a search and of what comes after it."""
+        plans = 1.0 + (search.simulations - search.climbed[0]) / search.seeds if search.climbed else 1.0
+        each = (self.alone + (self.last - self.begin if self.begin else 0.0)) / plans
+        return each * (search.expected() - search.simulations) / search.seeds + self.after
 
 
 def best_line(search: PlanSearch) -> str:

@@ -8,6 +8,7 @@ from __future__ import annotations
 import contextlib
 from collections.abc import Callable, Collection, Generator, Iterable, Mapping, Sequence
 from dataclasses import dataclass, field
+from math import comb
 from typing import Any, TypeVar
 
 from streetsim.search.signal_formulas import StreetFlows, proposals
@@ -19,6 +20,7 @@ Tried = TypeVar("Tried")  # a plan, or bounds of lights
 Values = Callable[[Sequence[Any]], Generator[float, None, None]]  # of plans, or of bounds: their values in order
 SHARES = (0.25, 0.12, 0.06, 0.03)  # of the cycle, by which offsets are moved
 SECONDS = (8, 4, 2, 1)  # of green that are moved between phases
+FEW = 5  # climbs that tell nothing of those to come
 
 
 class SearchEnded(Exception):
@@ -49,6 +51,8 @@ class PlanSearch:
     trials: list[PlanTrial] = field(default_factory=list)
     best: tuple[float, Any] = (float("inf"), None)  # value and plan; None before the first trial
     spent: bool = False  # the budget ended it
+    climbs: int = 0  # that it makes, where the budget reaches
+    climbed: list[int] = field(default_factory=list)  # simulations so far, at the begin of the first and each end
     # What names a plan: equal ones have equal keys.
     key_of: Callable[[Any], Any] = lambda plan: key_of(plan)
 
@@ -56,6 +60,13 @@ class PlanSearch:
     def simulations(self) -> int:
         """How many simulations were made so far."""
         return self.trials[-1].simulations if self.trials else 0
+
+    def expected(self) -> int:
+        """How many simulations it will have made in the end, as far as can be told: each climb that is to come takes as
+        many as those so far, or two plans; at most the budget."""
+        done = max(0, len(self.climbed) - 1)
+        each = (self.climbed[-1] - self.climbed[0]) / done if done > FEW else 2.0 * self.seeds
+        return min(self.budget, self.simulations + round(each * (self.climbs - done)))
 
     def mean_trips(self, steps: Sequence[tuple[str, Any]]) -> list[float]:
         """The values (s) of plans, in their order; steps: (what was tried, plan). Those that are new are run, noted and
@@ -101,6 +112,7 @@ def search_plan(
     """Searches from a given plan: the proposals by formula, then climb_all from the best of them. Ends there, or where
     the search has ended; search.best then has (mean trip in seconds, the best plan). changed: what may change, of
     planning.CHANGES; cycles: those that are proposed, in seconds."""
+    search.climbs = count_climbs(lights, streets, changed)
     try:
         search.mean_trip("given", plan)
         proposed = list(proposals(plan, lights, streets, changed, cycles))
@@ -116,6 +128,7 @@ def climb_all(
     """Climbs from a plan: each light alone, by the four steps of SHARES and SECONDS, then by the last three again,
     where the offset of a light is first moved together with all lights behind it in the tree. The best is then in
     search.best. changed: as of search_plan."""
+    search.climbed.append(search.simulations)
     steps = list(zip(SHARES, SECONDS, strict=True))
     passes = [*((*step, False) for step in steps), *((*step, True) for step in steps[1:])]
     for share, seconds, with_groups in passes:
@@ -123,6 +136,15 @@ def climb_all(
             plan = climb_offsets(search, plan, streets, share, with_groups)
         if "splits" in changed:
             plan = climb_splits(search, plan, lights, streets.order, seconds)
+
+
+def count_climbs(lights: Mapping[str, PlannedLight], streets: StreetFlows, changed: Collection[str]) -> int:
+    """How many climbs climb_all makes; arguments: as of it."""
+    groups = sum(len(streets.behind[light]) > 1 for light in streets.order)
+    pairs = sum(comb(len(lights[light].free), 2) for light in streets.order)
+    passes = 2 * len(SHARES) - 1
+    offsets = passes * len(streets.order) + (len(SHARES) - 1) * groups
+    return ("offsets" in changed) * offsets + ("splits" in changed) * passes * pairs
 
 
 def climb_offsets(search: PlanSearch, plan: Plan, streets: StreetFlows, share: float, with_groups: bool) -> Plan:
@@ -160,6 +182,7 @@ def climb(search: PlanSearch, plan: Tried, step: str, change: Callable[[Tried, i
             plan, best, went = tried, value, True
         if went:
             break
+    search.climbed.append(search.simulations)
     return plan
 
 

@@ -7,6 +7,7 @@ from types import MappingProxyType
 from typing import Any, NamedTuple
 
 from streetsim.base.files import Fault
+from streetsim.base.progress import Meanwhile
 from streetsim.base.report import first_few
 from streetsim.control.actuated_lights import ACTUATED, NEMA, driven_lights
 from streetsim.control.bus_planned import planned
@@ -182,9 +183,15 @@ class Runner:
         for seconds in self.ordered(seconds_of_run, plans, seeds, self.giving, CAREFUL):
             yield seconds / self.cars
 
-    def outcomes(self, plan: Plan, seeds: Sequence[int]) -> list[Outcome]:
-        """For each seed, what a plan gives by the session of the report, with gaps found under this plan."""
-        return list(self.ordered(outcome_giving_way, [plan], seeds))
+    def outcomes(self, plans: Sequence[Plan], seeds: Sequence[int], jobs: int) -> list[list[Outcome]]:
+        """For each plan and each seed, what the plan gives by the session of the report, with gaps found under it;
+        shows on the terminal how many of the runs, so many side by side (jobs), are done."""
+        shown, found = Meanwhile("runs by other seeds", len(plans) * len(seeds), abreast=jobs), []
+        for outcome in self.ordered(outcome_giving_way, plans, seeds):
+            found.append(outcome)
+            shown.show(len(found))
+        shown.end()
+        return [found[begin : begin + len(seeds)] for begin in range(0, len(found), len(seeds))]
 
     def gaps_by_seed(self, seeds: Sequence[int]) -> list[Any]:
         """For each seed (signal lines, (clock, line), by which vehicles give way without a light under the given plan;

@@ -17,9 +17,9 @@ class CallGroup(Generic[Simulated]):
 
     name = ""
 
-    def __init__(self, now: Callable[[], Simulated]) -> None:
-        """now: gives the simulation that is under way."""
-        self.now = now  # the simulation
+    def __init__(self, session: Callable[[], Simulated]) -> None:
+        """session: gives the simulation that is under way."""
+        self.session = session
 
     def __getattr__(self, call: str) -> Any:
         """NotHere for a call that is not here, AttributeError for Python's own names."""
@@ -40,11 +40,11 @@ class SimulationCalls(CallGroup[Simulated]):
     """Calls on the run itself."""
     def getTime(self) -> float:
         """The clock, in seconds."""
-        return float(self.now().clock)
+        return float(self.session().clock)
 
     def getMinExpectedNumber(self) -> int:
         """How many vehicles have not ended, those that will depart among them."""
-        return self.now().count_not_ended()
+        return self.session().count_not_ended()
 
 
 class VehicleCalls(CallGroup[Simulated]):
@@ -61,46 +61,46 @@ class VehicleCalls(CallGroup[Simulated]):
 
     def simulation_with(self, name: str) -> Simulated:
         """The simulation; a domain that knows its vehicles raises its own exception for an unknown one."""
-        return self.now()
+        return self.session()
 
     def getRoadID(self, name: str) -> str:
         """The name of its edge; in a junction ":" and the junction's name (in SUMO with "_" and a number behind)."""
-        where, mapping = self.on_road(name), self.now().map
-        if where is None:
+        position, mapping = self.on_road(name), self.session().map
+        if position is None:
             return ""
-        link = mapping.links[where.link]
-        return link.edge if where.cell is not None else f":{mapping.nodes[link.end][0]}"
+        link = mapping.links[position.link]
+        return link.edge if position.cell is not None else f":{mapping.nodes[link.end][0]}"
 
     def getLaneIndex(self, name: str) -> int:
         """SUMO's index of its lane, in a junction of the one from which it came."""
-        where = self.on_road_for_lane(name)
-        return int(NOWHERE) if where is None else self.now().map.links[where.link].lanes[where.lane]
+        position = self.on_road_for_lane(name)
+        return int(NOWHERE) if position is None else self.session().map.links[position.link].lanes[position.lane]
 
     def getLaneID(self, name: str) -> str:
         """SUMO's name of its lane; in a junction ":", the junction's name and "_0"."""
-        where = self.on_road_for_lane(name)
-        if where is None:
+        position = self.on_road_for_lane(name)
+        if position is None:
             return ""
-        if where.cell is None:
+        if position.cell is None:
             return f"{self.getRoadID(name)}_0"
-        return self.now().map.lane_name(where.link, where.lane)
+        return self.session().map.lane_name(position.link, position.lane)
 
     def getLanePosition(self, name: str) -> float:
         """Metres from the lane's begin to the vehicle's front; 0 in a junction."""
-        where = self.on_road_for_lane(name)
-        if where is None:
+        position = self.on_road_for_lane(name)
+        if position is None:
             return NOWHERE
-        return self.metres_to_front(where) if where.cell is not None else 0.0
+        return self.metres_to_front(position) if position.cell is not None else 0.0
 
-    def metres_to_front(self, where: OnRoad) -> float:
+    def metres_to_front(self, position: OnRoad) -> float:
         """Metres from the link's begin to the vehicle's front; in a junction the whole link."""
-        link = self.now().map.links[where.link]
-        return (where.cell + 1) * link.metres / link.cells if where.cell is not None else link.metres
+        link = self.session().map.links[position.link]
+        return (position.cell + 1) * link.metres / link.cells if position.cell is not None else link.metres
 
     def getSpeed(self, name: str) -> float:
         """Metres a second, in whole cells of its link."""
-        where = self.on_road(name)
-        return NOWHERE if where is None else where.metres_a_second(self.now().map.links)
+        position = self.on_road(name)
+        return NOWHERE if position is None else position.metres_a_second(self.session().map.links)
 
     def getLength(self, name: str) -> float:
         """Metres of its cells without the gap ahead: 5 for one cell, 12.5 for two."""
@@ -135,7 +135,7 @@ class TrafficCalls(CallGroup[Simulated]):
 
     def getLastStepVehicleIDs(self, name: str) -> tuple[str, ...]:
         """Names of the vehicles there, in the order of `numbers`."""
-        return self.now().names_of(self.numbers(name))
+        return self.session().names_of(self.numbers(name))
 
     def getLastStepVehicleNumber(self, name: str) -> int:
         """How many vehicles are there."""
@@ -160,13 +160,13 @@ class LaneCalls(StretchCalls[Simulated]):
 
     def getIDList(self) -> tuple[str, ...]:
         """The lanes that the import kept; lanes inside junctions are not among them."""
-        return tuple(self.now().lane_of)
+        return tuple(self.session().lane_of)
 
-    def places(self, name: str) -> list[Place]:
+    def link_lanes(self, name: str) -> list[Place]:
         """Its (link, lane), in a list; of an object of several lanes all. KeyError for an unknown name, or what
         check_known raises."""
-        self.check_known(name, self.now().lane_of)
-        return [self.now().lane_of[name]]
+        self.check_known(name, self.session().lane_of)
+        return [self.session().lane_of[name]]
 
     def getLastStepVehicleIDs(self, name: str) -> tuple[str, ...]:
         """The names of the vehicles on it, the rearmost first."""
@@ -174,22 +174,22 @@ class LaneCalls(StretchCalls[Simulated]):
 
     def getLength(self, name: str) -> float:
         """Its length in SUMO's file, metres."""
-        return self.now().map.links[self.places(name)[0][0]].metres
+        return self.session().map.links[self.link_lanes(name)[0][0]].metres
 
     def setDisallowed(self, name: str, classes: str | Sequence[str]) -> None:
         """Closes the lane, as `close`, where the classes have all of the import, or "all"; else does nothing."""
         named = {classes} if isinstance(classes, str) else set(classes)
-        for place in self.places(name):
-            if "all" in named or set(self.now().map.options["classes"]) <= named:
-                self.close(self.now().map.lane_name(*place))
+        for link_lane in self.link_lanes(name):
+            if "all" in named or set(self.session().map.options["classes"]) <= named:
+                self.close(self.session().map.lane_name(*link_lane))
 
     def close(self, lane: str) -> None:
         """Closes a whole lane, by SUMO's name, as close_lane does."""
-        self.now().close_lane(lane)
+        self.session().close_lane(lane)
 
     def setAllowed(self, name: str, classes: str | Sequence[str]) -> None:
         """Opens the lane again where the classes have one of the import, or "all", or are empty; else does nothing."""
         named = {classes} if isinstance(classes, str) else set(classes)
-        for place in self.places(name):
-            if not named or "all" in named or set(self.now().map.options["classes"]) & named:
-                self.now().reopen_lane(self.now().map.lane_name(*place))
+        for link_lane in self.link_lanes(name):
+            if not named or "all" in named or set(self.session().map.options["classes"]) & named:
+                self.session().reopen_lane(self.session().map.lane_name(*link_lane))

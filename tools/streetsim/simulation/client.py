@@ -2,8 +2,8 @@
 from collections.abc import Iterable, Iterator, Sequence
 
 from streetsim.base.client import Client, NoReply, read_reply
-from streetsim.kernel.kept import ASKING
 from streetsim.kernel.program import Program
+from streetsim.kernel.session_program import QUESTION_PREFIXES
 
 ADVANCE = b'{"cmd":"advance"'
 
@@ -21,9 +21,9 @@ class RunClient(Client):
 
     def send_soon(self, lines: Iterable[bytes]) -> None:
         """Sends lines ahead of the next ones, or before the next step."""
-        more = list(lines)
-        self.later += more
-        self.changes += more
+        new_lines = list(lines)
+        self.later += new_lines
+        self.changes += new_lines
 
     def exchange(self, lines: Iterable[bytes]) -> Iterator[bytes]:
         """As Client does. ValueError for steps; what a refusal of a line of `later` is, where one is refused."""
@@ -31,8 +31,8 @@ class RunClient(Client):
         if any(line.startswith(ADVANCE) for line in sent):
             raise ValueError("the steps of a run are made by simulationStep")
         ahead, self.later = self.later, []
-        self.changes += [line for line in sent if not line.startswith(ASKING)]
-        replies = Program.ask(self.program, [*ahead, *sent])
+        self.changes += [line for line in sent if not line.startswith(QUESTION_PREFIXES)]
+        replies = Program.exchange(self.program, [*ahead, *sent])
         for reply in replies[: len(ahead)]:
             if b'"error"' in reply or b'"starved"' in reply:
                 fault = read_reply(reply)
@@ -54,13 +54,13 @@ class OwnProgram(Program):
         super().__init__(path, workers)
         self.client = RunClient(self)
 
-    def ask(self, lines: Sequence[bytes]) -> list[bytes]:
+    def exchange(self, lines: Sequence[bytes]) -> list[bytes]:
         """As Program does."""
         return list(self.client.exchange(lines))
 
     def begin(self, steps: int) -> None:
         """As Program does."""
         if self.client.later:
-            self.ask([])
+            self.exchange([])
         self.client.changes.append(b'%s,"steps":%d}\n' % (ADVANCE, steps))
         super().begin(steps)

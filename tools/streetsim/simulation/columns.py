@@ -8,9 +8,9 @@ from streetsim.base import limits
 from streetsim.base.arrays import Array, numpy as np
 from streetsim.model.mapping import Map, Place
 from streetsim.simulation.fleet import Fleet
-from streetsim.simulation.places import VehiclePlaces
 from streetsim.simulation.street_facts import Facts
 from streetsim.simulation.tally import Tally
+from streetsim.simulation.vehicle_points import VehiclePoints
 from streetsim.simulation.view import View
 
 Column = Array | Sequence[object]  # of numbers or, by rows, of points (x, y); else texts and the like
@@ -29,35 +29,35 @@ class Streets:
     @cached_property
     def lane_names(self) -> list[str]:
         """By twice the slot SUMO's name of the lane; one further on that of a vehicle in the junction behind it."""
-        return self.by_place(lambda link, lane, edge: f"{edge}_0" if edge else self.map.lane_name(link, lane))
+        return self.names_by_key(lambda link, lane, edge: f"{edge}_0" if edge else self.map.lane_name(link, lane))
 
     @cached_property
     def road_names(self) -> list[str]:
         """By twice the slot SUMO's name of the edge; one further on ":" and the name of the junction behind it."""
-        return self.by_place(lambda link, _, edge: edge or self.map.links[link].edge)
+        return self.names_by_key(lambda link, _, edge: edge or self.map.links[link].edge)
 
     @cached_property
     def lane_indexes(self) -> Array:
         """By slot SUMO's index of the lane."""
         return np.array([(*link.lanes, 0)[lane] for link in self.map.links for lane in (0, 1)], np.int64)
 
-    def by_place(self, name: Callable[[int, int, str], str]) -> list[str]:
+    def names_by_key(self, name: Callable[[int, int, str], str]) -> list[str]:
         """By twice the slot, and one further on in the junction behind it, a name of (link, lane, what a junction's
         edge is called, empty on the lane)."""
-        found = []
+        names = []
         for number, link in enumerate(self.map.links):
             inside = f":{self.map.nodes[link.end][0]}"
             for lane in (0, 1):
-                found += [name(number, min(lane, len(link.lanes) - 1), edge) for edge in ("", inside)]
-        return found
+                names += [name(number, min(lane, len(link.lanes) - 1), edge) for edge in ("", inside)]
+        return names
 
 
 class VehicleColumns:
     """Of vehicles on the road, by their rows in the view."""
 
-    def __init__(self, view: View, tally: Tally, places: VehiclePlaces, streets: Streets) -> None:
+    def __init__(self, view: View, tally: Tally, vehicle_points: VehiclePoints, streets: Streets) -> None:
         """All of the same session."""
-        self.view, self.tally, self.places, self.streets = view, tally, places, streets
+        self.view, self.tally, self.vehicle_points, self.streets = view, tally, vehicle_points, streets
 
     def rows_of(self, numbers: Sequence[int]) -> Array:
         """The rows of vehicles on the road."""
@@ -75,25 +75,25 @@ class VehicleColumns:
 
     def position(self, rows: Array) -> Column:
         """Points (x, y), metres."""
-        return self.places.points(self.view.slot[rows] >> 1, self.view.cell[rows])
+        return self.vehicle_points.points(self.view.slot[rows] >> 1, self.view.cell[rows])
 
     def angle(self, rows: Array) -> Column:
         """Degrees clockwise from north."""
-        return self.places.angles(self.view.slot[rows] >> 1, self.view.cell[rows])
+        return self.vehicle_points.angles(self.view.slot[rows] >> 1, self.view.cell[rows])
 
-    def place(self, rows: Array) -> list[int]:
+    def road_keys(self, rows: Array) -> list[int]:
         """Twice the slot, and one more in the junction behind it."""
         return (2 * self.view.slot[rows] + (self.view.cell[rows] < 0)).tolist()
 
     def road_name(self, rows: Array) -> Column:
         """The edge, or the junction."""
         names = self.streets.road_names
-        return [names[at] for at in self.place(rows)]
+        return [names[index] for index in self.road_keys(rows)]
 
     def lane_name(self, rows: Array) -> Column:
         """The lane."""
         names = self.streets.lane_names
-        return [names[at] for at in self.place(rows)]
+        return [names[index] for index in self.road_keys(rows)]
 
     def lane_index(self, rows: Array) -> Column:
         """SUMO's index of the lane."""
@@ -135,13 +135,13 @@ class LaneColumns:
     def sums(self, values: Array, slots: Array) -> Array:
         """Values of the rows of the view, whole numbers, summed over the vehicles of each lane."""
         total = np.append(0, np.cumsum(values[: self.view.recorded]))
-        first, last = self.ends(slots)
-        return total[last] - total[first]
+        first_row, row_behind = self.ends(slots)
+        return total[row_behind] - total[first_row]
 
     def count(self, slots: Array) -> Array:
         """How many vehicles are on each."""
-        first, last = self.ends(slots)
-        return last - first
+        first_row, row_behind = self.ends(slots)
+        return row_behind - first_row
 
     def halting(self, slots: Array) -> Array:
         """How many vehicles stand on each."""
@@ -151,11 +151,11 @@ class LaneColumns:
         """By row the cells of its vehicle."""
         return self.fleet.sizes[self.view.number]
 
-    def taken(self, slots: Array) -> Array:
+    def occupied_cells(self, slots: Array) -> Array:
         """The cells that vehicles take on each."""
         return self.sums(self.sizes(), slots)
 
-    def queued(self, slots: Array) -> Array:
+    def queued_cells(self, slots: Array) -> Array:
         """The cells that standing vehicles take on each."""
         return self.sums(self.sizes() * (self.view.speed == 0), slots)
 
@@ -167,7 +167,7 @@ class LaneColumns:
 
     def occupancy(self, slots: Array) -> Array:
         """The share of its length that those cover whose front is there."""
-        metres = limits.CELL_METRES * self.taken(slots) - limits.GAP_METRES * self.count(slots)
+        metres = limits.CELL_METRES * self.occupied_cells(slots) - limits.GAP_METRES * self.count(slots)
         return metres / self.streets.metres[slots >> 1]
 
     def waiting(self, slots: Array) -> Array:
@@ -181,7 +181,7 @@ class LaneColumns:
     @cached_property
     def limits(self) -> Array:
         """By slot the limit of SUMO's file, metres a second."""
-        found = np.zeros(2 * len(self.streets.map.links))
+        limits_by_slot = np.zeros(2 * len(self.streets.map.links))
         for name, (link, lane) in self.lane_of.items():
-            found[2 * link + lane] = self.facts.lanes[name].speed
-        return found
+            limits_by_slot[2 * link + lane] = self.facts.lanes[name].speed
+        return limits_by_slot

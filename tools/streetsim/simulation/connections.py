@@ -16,10 +16,10 @@ class Connections:
     @cached_property
     def by_link(self) -> dict[int, list[MapTurn]]:
         """The turns from each link that has any, by the link's number."""
-        found: defaultdict[int, list[MapTurn]] = defaultdict(list)
+        turns: defaultdict[int, list[MapTurn]] = defaultdict(list)
         for turn in self.map.turns:
-            found[turn.link].append(turn)
-        return dict(found)
+            turns[turn.link].append(turn)
+        return dict(turns)
 
     def turns_to(self, link: int, following: int) -> list[MapTurn]:
         """The turns from a link to a next one, one for each lane that has one."""
@@ -32,8 +32,8 @@ class Connections:
         plans: dict[int, tuple[int, ...]]
         plans = {link: (link,) for link in self.map.links_of[edges[0]]} if edges else {}
         for edge in edges[1:]:
-            ways = [(plan, link) for link in self.map.links_of[edge] for plan in plans.values()]
-            plans = {link: (*plan, link) for plan, link in ways if self.turns_to(plan[-1], link)}
+            extended = [(plan, link) for link in self.map.links_of[edge] for plan in plans.values()]
+            plans = {link: (*plan, link) for plan, link in extended if self.turns_to(plan[-1], link)}
         if not plans:
             raise ValueError(f"no way along {' '.join(edges)}")
         return next(iter(plans.values()))
@@ -44,10 +44,10 @@ class Connections:
 
     def next_lane(self, link: int, lane: int | None, following: int) -> int:
         """The next link's lane to which a turn leads, from a lane, else (or lane None) from any; 0 where none does."""
-        found = self.turns_to(link, following)
-        return next((turn.next_lane for turn in found if turn.lane == lane), found[0].next_lane if found else 0)
+        turns = self.turns_to(link, following)
+        return next((turn.next_lane for turn in turns if turn.lane == lane), turns[0].next_lane if turns else 0)
 
     def turn_at_light(self, link: int, lane: int | None, following: int, lights: Collection[str]) -> MapTurn | None:
         """The turn to a next link at one of some lights, from a lane, else (or lane None) from any; else None."""
-        found = [turn for turn in self.turns_to(link, following) if turn.light in lights]
-        return next((turn for turn in found if turn.lane == lane), found[0] if found else None)
+        turns = [turn for turn in self.turns_to(link, following) if turn.light in lights]
+        return next((turn for turn in turns if turn.lane == lane), turns[0] if turns else None)

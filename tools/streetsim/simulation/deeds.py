@@ -1,10 +1,10 @@
-"""What a script does to a session, so that another one can do it again."""
+"""Notes what a script does to a session (@deed), so that a saved state can do it again."""
 from collections.abc import Callable
 from functools import wraps
 from typing import Concatenate, ParamSpec, TypeVar
 
-Words = ParamSpec("Words")
-Given = TypeVar("Given")
+Arguments = ParamSpec("Arguments")
+Result = TypeVar("Result")
 NAMES: set[str] = set()  # of the methods that are deeds
 
 
@@ -25,29 +25,31 @@ class Deeds:
 
     def __init__(self) -> None:
         """None is done."""
-        self.done: list[tuple[int, str, str, tuple]] = []
+        self.entries: list[tuple[int, str, str, tuple]] = []
         self.under_way = False
 
 
-Done = TypeVar("Done", bound=Doer)
+DoerKind = TypeVar("DoerKind", bound=Doer)
 
 
-def deed(method: Callable[Concatenate[Done, Words], Given]) -> Callable[Concatenate[Done, Words], Given]:
+def deed(
+    method: Callable[Concatenate[DoerKind, Arguments], Result],
+) -> Callable[Concatenate[DoerKind, Arguments], Result]:
     """A method by which a script changes a run: calls are noted that raise nothing and that no other deed makes."""
     NAMES.add(method.__name__)
 
     @wraps(method)
-    def noted(doer: Done, *words: Words.args, **more: Words.kwargs) -> Given:
+    def noted(doer: DoerKind, *args: Arguments.args, **kwargs: Arguments.kwargs) -> Result:
         """Calls the method."""
         deeds, clock = doer.deeds, doer.clock
         if deeds.under_way:
-            return method(doer, *words, **more)
+            return method(doer, *args, **kwargs)
         deeds.under_way = True
         try:
-            found = method(doer, *words, **more)
+            result = method(doer, *args, **kwargs)
         finally:
             deeds.under_way = False
-        deeds.done.append((clock, doer.part, method.__name__, words))
-        return found
+        deeds.entries.append((clock, doer.part, method.__name__, args))
+        return result
 
     return noted

@@ -1,4 +1,5 @@
-"""Ways round shut edges for the vehicles of a run under way, also for those on the road."""
+"""The controller that sends vehicles of a run under way round shut edges, also those on the road. A scenario has it;
+`search.route_underway` reckons the new plans."""
 from collections.abc import Sequence
 
 from streetsim.kernel.loop import NEVER, Controller, Kernel
@@ -29,23 +30,23 @@ class Detours(Controller):
         simulation, fleet = self.simulation, self.simulation.fleet
         simulation.open_held_lanes()
         cells = self.kernel.closed.cells
-        closed = {place: unbroken_stretches(cells[2 * place[0] + place[1]]) for place in simulation.lanes_on(edge)}
-        shut = impassable_edges(simulation.map, [edge], closed)
-        if not shut:
+        closed_cells = {lane: unbroken_stretches(cells[2 * lane[0] + lane[1]]) for lane in simulation.lanes_on(edge)}
+        impassable = impassable_edges(simulation.map, [edge], closed_cells)
+        if not impassable:
             return []
         self.kernel.enter_due(NEVER)
-        round_ = WaysRound(simulation.map, simulation.dawdle)
+        routes_round = WaysRound(simulation.map, simulation.dawdle)
         waiting, driving = self.waiting_and_driving()
         seed, signals = simulation.source.load.command.get("seed", 0), simulation.shown.in_force()
         vehicles = [*waiting.values(), *driving.values()]
-        ways = round_.new_plans(vehicles, signals, shut, (simulation.clock, until), seed)
-        for name, plan in ways.items():
+        plans = routes_round.new_plans(vehicles, signals, impassable, (simulation.clock, until), seed)
+        for name, plan in plans.items():
             number = fleet.numbers[name]
             if number in driving:
                 self.turn_later(number, plan)
             else:
                 self.enter_anew(number, fleet.begun(number), plan, max(simulation.clock, fleet.departs[number]))
-        return [name for name in fleet.names if name in ways]
+        return [name for name in fleet.names if name in plans]
 
     def plan_since_entry(self, number: int) -> tuple[int, ...]:
         """The links of a vehicle's plan as the program has it, from its last entering on."""
@@ -54,48 +55,48 @@ class Detours(Controller):
     def waiting_and_driving(self) -> tuple[dict[int, PlannedVehicle], dict[int, PlannedVehicle]]:
         """(vehicles that have not departed, or wait for room; vehicles on the road)."""
         simulation, waiting, driving = self.simulation, {}, {}
-        clock, fleet, there = simulation.clock, simulation.fleet, simulation.view.there
+        clock, fleet, positions = simulation.clock, simulation.fleet, simulation.view.positions
         for number, name in enumerate(fleet.names):
             plan = self.plan_since_entry(number)
-            if number in there:
-                own, link = self.turning.get(number), there[number].link
-                plan = own.ahead + own.rest if own and link in own.ahead else plan
+            if number in positions:
+                diversion, link = self.turning.get(number), positions[number].link
+                plan = diversion.ahead + diversion.rest if diversion and link in diversion.ahead else plan
                 driving[number] = PlannedVehicle(name, clock, plan[plan.index(link) :])
             elif not simulation.view.ended[number]:
                 waiting[number] = PlannedVehicle(name, max(clock, fleet.departs[number]), plan)
         return waiting, driving
 
-    def turn_later(self, number: int, way: tuple[int, ...]) -> None:
-        """Notes that a vehicle on the road leaves its plan for a way, which begins on its present link, in place of
-        what was noted before; nothing where that is its plan."""
+    def turn_later(self, number: int, new_plan: tuple[int, ...]) -> None:
+        """Notes that a vehicle on the road leaves its plan for a new one, which begins on its present link, in place
+        of what was noted before; nothing where that is its plan."""
         plan = self.plan_since_entry(number)
-        plan = plan[plan.index(self.simulation.view.there[number].link) :]
+        plan = plan[plan.index(self.simulation.view.positions[number].link) :]
         self.turning.pop(number, None)
-        if way != plan:
-            self.turning[number] = turning_to(plan, way, self.simulation.clock)
+        if new_plan != plan:
+            self.turning[number] = turning_to(plan, new_plan, self.simulation.clock)
 
     def next_clock(self) -> int:
         """The clock at which the next vehicle may be where its way begins."""
-        return min((one.due for one in self.turning.values()), default=NEVER)
+        return min((diversion.due for diversion in self.turning.values()), default=NEVER)
 
     def act(self, clock: int, _now: Block) -> None:
         """Has the vehicles that are where their other way begins enter its first link anew, and sets for the others
         when to look again; those that have ended, or left the links ahead, are forgotten."""
-        for number in [number for number, one in self.turning.items() if one.due <= clock]:
-            one, where = self.turning[number], self.simulation.view.there.get(number)
-            if where is None or where.link not in one.ahead:
+        for number in [number for number, diversion in self.turning.items() if diversion.due <= clock]:
+            diversion, position = self.turning[number], self.simulation.view.positions.get(number)
+            if position is None or position.link not in diversion.ahead:
                 del self.turning[number]
-            elif where.cell is not None or where.link != one.ahead[-1]:
-                one.due = clock + one.least_steps(self.simulation.map.links, where.link, where.cell)
+            elif position.cell is not None or position.link != diversion.ahead[-1]:
+                diversion.due = clock + diversion.least_steps(self.simulation.map.links, position.link, position.cell)
             else:
                 del self.turning[number]
                 fleet = self.simulation.fleet
-                driven = fleet.plans[number].index(where.link, fleet.begun(number)) + 1
-                self.enter_anew(number, driven, one.rest, clock)
+                driven = fleet.plans[number].index(position.link, fleet.begun(number)) + 1
+                self.enter_anew(number, driven, diversion.rest, clock)
 
-    def enter_anew(self, number: int, driven: int, rest: Sequence[int], depart: int) -> None:
-        """Takes a vehicle out, and enters it on other links (rest) at the clock depart. driven: how many links of its
+    def enter_anew(self, number: int, driven: int, links: Sequence[int], depart: int) -> None:
+        """Takes a vehicle out, and enters it on other links at the clock depart. driven: how many links of its
         plan stay before these."""
         plans = self.simulation.fleet.plans
-        plans[number] = (*plans[number][:driven], *rest)
-        self.simulation.enter_anew(number, rest, depart)
+        plans[number] = (*plans[number][:driven], *links)
+        self.simulation.enter_anew(number, links, depart)

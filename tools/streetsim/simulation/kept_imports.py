@@ -22,7 +22,7 @@ MARK = b"streetsim import 1\n"  # with which an entry begins; its number is that
 MOST, MOST_BYTES = 32, 256 << 20  # entries; bytes of all of them
 LARGEST = 64 << 20  # bytes of one
 SUM = 32  # bytes of a sum
-OTHERS = stat.S_IRWXG | stat.S_IRWXO
+GROUP_OR_OTHERS = stat.S_IRWXG | stat.S_IRWXO
 
 
 class KeptImport(NamedTuple):
@@ -30,7 +30,7 @@ class KeptImport(NamedTuple):
 
     run: str
     map: str
-    said: str
+    messages: str
 
 
 def kept_folder() -> Path | None:
@@ -43,38 +43,38 @@ def kept_folder() -> Path | None:
     folder = base / "streetsim/imports"
     with suppress(OSError):
         folder.mkdir(0o700, parents=True, exist_ok=True)
-        found = os.lstat(folder)
-        if stat.S_ISDIR(found.st_mode) and found.st_uid == os.geteuid() and not found.st_mode & OTHERS:
+        status = os.lstat(folder)
+        if stat.S_ISDIR(status.st_mode) and status.st_uid == os.geteuid() and not status.st_mode & GROUP_OR_OTHERS:
             return folder
     return None
 
 
-def key_of(words: Sequence[str], files: Iterable[str]) -> str | None:
+def key_of(arguments: Sequence[str], files: Iterable[str]) -> str | None:
     """What an import hangs on, as a sum in hex: its words, the bytes of the files that it reads, the tools' own files,
     Python, and the limits on what is read. None where one of the files is not a regular file that can be read."""
-    found = hashlib.sha256()
+    digest = hashlib.sha256()
     limits = os.environ.get(LIFT, "")
-    found.update(json.dumps([VERSION, sys.version, limits, os.getcwd(), *words, *tool_files()]).encode())
+    digest.update(json.dumps([VERSION, sys.version, limits, os.getcwd(), *arguments, *tool_files()]).encode())
     for path in files:
         try:
             if not os.path.isfile(path):
                 return None
             with open(path, "rb") as file:
-                own = hashlib.file_digest(file, "sha256").digest()
+                file_digest = hashlib.file_digest(file, "sha256").digest()
         except OSError:
             return None
-        found.update(os.path.realpath(path).encode(errors="surrogateescape") + b"\0" + own)
-    return found.hexdigest()
+        digest.update(os.path.realpath(path).encode(errors="surrogateescape") + b"\0" + file_digest)
+    return digest.hexdigest()
 
 
 def tool_files() -> Iterator[str]:
     """The tools' own files, each with its size and the time at which it was changed, in the order of their names."""
     top = Path(__file__).resolve().parents[1]
-    for folder in sorted([top, *(Path(one.path) for one in os.scandir(top) if one.is_dir())]):
-        for one in sorted(os.scandir(folder), key=lambda entry: entry.name):
-            if one.name.endswith(".py"):
-                found = one.stat()
-                yield f"{one.path} {found.st_size} {found.st_mtime_ns}"
+    for folder in sorted([top, *(Path(entry.path) for entry in os.scandir(top) if entry.is_dir())]):
+        for file in sorted(os.scandir(folder), key=lambda entry: entry.name):
+            if file.name.endswith(".py"):
+                status = file.stat()
+                yield f"{file.path} {status.st_size} {status.st_mtime_ns}"
 
 
 def read_kept(key: str) -> KeptImport | None:
@@ -85,8 +85,8 @@ def read_kept(key: str) -> KeptImport | None:
     with suppress(OSError, ValueError, TypeError):
         handle = os.open(folder / key, os.O_RDONLY | os.O_NOFOLLOW)
         with open(handle, "rb") as file:
-            found = os.fstat(handle)
-            if not stat.S_ISREG(found.st_mode) or found.st_uid != os.geteuid() or found.st_size > LARGEST:
+            status = os.fstat(handle)
+            if not stat.S_ISREG(status.st_mode) or status.st_uid != os.geteuid() or status.st_size > LARGEST:
                 return None
             data = file.read(LARGEST)
         head, body = data[: len(MARK) + SUM], data[len(MARK) + SUM :]
@@ -96,10 +96,10 @@ def read_kept(key: str) -> KeptImport | None:
     return None
 
 
-def keep(key: str, made: KeptImport) -> None:
+def write_kept(key: str, import_texts: KeptImport) -> None:
     """Keeps an import by its key, whole or not at all; then leaves out the entries that were taken longest ago, until
     those that are left are within MOST and MOST_BYTES. Does nothing where that cannot be done."""
-    body = body_of(made)
+    body = body_of(import_texts)
     if (folder := kept_folder()) is None or len(body) + len(MARK) + SUM > LARGEST:
         return
     half = folder / f"{key}.{os.getpid()}.half"
@@ -116,11 +116,11 @@ def keep(key: str, made: KeptImport) -> None:
 
 def leave_out(folder: Path) -> None:
     """Removes the entries of a folder that are too many or too large together, those taken longest ago first."""
-    found = [(one.stat(follow_symlinks=False), one.path) for one in os.scandir(folder)]
+    entries = [(entry.stat(follow_symlinks=False), entry.path) for entry in os.scandir(folder)]
     total = 0
-    for at, (entry, path) in enumerate(sorted(found, key=lambda pair: -pair[0].st_mtime_ns)):
-        total += entry.st_size
-        if (at >= MOST or total > MOST_BYTES) and stat.S_ISREG(entry.st_mode):
+    for index, (status, path) in enumerate(sorted(entries, key=lambda pair: -pair[0].st_mtime_ns)):
+        total += status.st_size
+        if (index >= MOST or total > MOST_BYTES) and stat.S_ISREG(status.st_mode):
             os.unlink(path)
 
 
@@ -129,17 +129,17 @@ def sum_of_entry(key: str, body: bytes) -> bytes:
     return hashlib.sha256(key.encode() + body).digest()
 
 
-def body_of(made: KeptImport) -> bytes:
+def body_of(import_texts: KeptImport) -> bytes:
     """The texts of an import behind each other, each with its length before it, 8 bytes."""
-    return b"".join(len(data).to_bytes(8, "big") + data for data in (text.encode() for text in made))
+    return b"".join(len(data).to_bytes(8, "big") + data for data in (text.encode() for text in import_texts))
 
 
 def parts_of(body: bytes) -> Iterator[bytes]:
     """The texts that body_of has put together, as bytes; ValueError where they are not."""
-    at = 0
-    while at < len(body):
-        size, at = int.from_bytes(body[at : at + 8], "big"), at + 8
-        if at + size > len(body):
+    position = 0
+    while position < len(body):
+        size, position = int.from_bytes(body[position : position + 8], "big"), position + 8
+        if position + size > len(body):
             raise ValueError("an entry is cut")
-        yield body[at : at + size]
-        at += size
+        yield body[position : position + size]
+        position += size

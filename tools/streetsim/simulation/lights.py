@@ -11,7 +11,7 @@ from streetsim.kernel.loop import NEVER, Controller, Kernel
 from streetsim.kernel.seconds import Block
 from streetsim.simulation.deeds import Deeds, Doer, deed
 from streetsim.simulation.errors import TraCIException
-from streetsim.simulation.shown import CONSTANT
+from streetsim.simulation.signals_in_force import CONSTANT
 from streetsim.simulation.simulation import Simulation
 from streetsim.sumo.crossing import PERMISSIVE
 
@@ -46,9 +46,9 @@ class LightShow:
     def phase_at(self, clock: float) -> tuple[int, float]:
         """(index of the phase in the step that ends at a clock, or begins there if that is `since`; seconds, at a
         clock, that are left of it, 0 where the next one begins)."""
-        elapsed, last = (clock - self.begin) % self.cycle(), len(self.phases) - 1
+        elapsed, last_index = (clock - self.begin) % self.cycle(), len(self.phases) - 1
         if elapsed == 0 and clock != self.since:
-            return last, 0.0
+            return last_index, 0.0
         for index, (duration, _) in enumerate(self.phases):
             if elapsed < duration or elapsed == duration and clock != self.since:
                 return index, duration - elapsed
@@ -121,13 +121,13 @@ class Control(Controller, Doer):
         if program == light.program:
             return
         phases, names = light.programs[program]
-        if program in light.scripted or (found := driver.controller_of(name, program)) is None:
+        if program in light.scripted or (controller := driver.controller_of(name, program)) is None:
             self.show_program(name, program, phases, names, self.begins.get((name, program), 0.0))
             return
         self.leave_program(name)
         self.simulation.shown.forget(name)
         driver.release(name, self.simulation.clock)
-        self.simulation.kernel.send(found.resumes(self.simulation.clock))
+        self.simulation.kernel.send(controller.resumes(self.simulation.clock))
         light.phases, light.program, light.names = phases, program, names
 
     def state(self, name: str) -> str:

@@ -10,10 +10,10 @@ from tempfile import TemporaryDirectory
 from streetsim.base.files import whole_file
 from streetsim.base.words import ROUNDS, names_in
 from streetsim.model.replications import DRAWN
-from streetsim.simulation.asked import ScriptSettings
 from streetsim.simulation.errors import FatalTraCIError
-from streetsim.simulation.kept_imports import KeptImport, keep, key_of, read_kept
-from streetsim.simulation.options import IMPORTED, LOGS, NO_FILE, options_of, warnings_of
+from streetsim.simulation.kept_imports import KeptImport, key_of, read_kept, write_kept
+from streetsim.simulation.options import IMPORTED, LOGS, NO_FILE, read_options, warnings_of
+from streetsim.simulation.script_settings import ScriptSettings
 from streetsim.simulation.session import TraciSession
 from streetsim.simulation.street_facts import Facts, read_facts
 from streetsim.simulation.writing import SERVED
@@ -22,15 +22,15 @@ Options = Mapping[str, str]
 PERIOD = 900  # seconds of the rows of edgeData without a period
 
 
-def open_session(words: Sequence[str]) -> TraciSession:
+def open_session(arguments: Sequence[str]) -> TraciSession:
     """A session, by the words of SUMO's command line without SUMO's name; tells on standard error what differs from
     SUMO. FatalTraCIError or Fault where it cannot be imported or started."""
-    options = options_of([*words])
+    options = read_options([*arguments])
     with TemporaryDirectory() as folder:
-        return imported_session(Path(folder), options)
+        return import_session(Path(folder), options)
 
 
-def imported_session(folder: Path, options: Options) -> TraciSession:
+def import_session(folder: Path, options: Options) -> TraciSession:
     """The session of some options (long names), imported into a folder; tells warnings as write_warnings does. Output
     files are written that are asked for, edgeData by its period in whole seconds, PERIOD where that is below 1.
     FatalTraCIError where they name no network, Fault where the import or the run cannot be made."""
@@ -38,19 +38,19 @@ def imported_session(folder: Path, options: Options) -> TraciSession:
     routes, additional = ([part.strip() for part in options.get(name, "").split(",") if part.strip()] for name in names)
     if not options.get("net-file"):
         raise FatalTraCIError("no network: give -n NET or -c CONFIGURATION")
-    words = [options["net-file"], *additional]
-    words += [word for name in sorted(IMPORTED & options.keys()) for word in (f"--{name}", options[name])]
-    words += ["--ignore-route-errors"] if is_on(options.get("ignore-route-errors", "false")) else []
+    arguments = [options["net-file"], *additional]
+    arguments += [argument for name in sorted(IMPORTED & options.keys()) for argument in (f"--{name}", options[name])]
+    arguments += ["--ignore-route-errors"] if is_on(options.get("ignore-route-errors", "false")) else []
     files = [options["net-file"], *additional, *routes, *filter(None, [options.get("drivers")])]
-    said = imported(folder, words, routes, files)
+    messages = import_or_take_kept(folder, arguments, routes, files)
     try:
         facts = read_facts(options["net-file"], additional, routes)
-        session = TraciSession(folder, facts, options, asked_by(options))
+        session = TraciSession(folder, facts, options, script_settings_of(options))
     except Exception:
-        write_warnings(said, options)
+        write_warnings(messages, options)
         raise
     try:
-        write_warnings(said + notes_of(session), options)
+        write_warnings(messages + notes_of(session), options)
         if paths := output_paths(options, facts):
             session.write(paths, int(facts.edgedata[0][1]) or PERIOD if facts.edgedata else PERIOD)
     except Exception:
@@ -59,38 +59,38 @@ def imported_session(folder: Path, options: Options) -> TraciSession:
     return session
 
 
-def imported(folder: Path, words: Sequence[str], routes: Sequence[str], files: Sequence[str]) -> str:
+def import_or_take_kept(folder: Path, arguments: Sequence[str], routes: Sequence[str], files: Sequence[str]) -> str:
     """Imports into a folder, as run.jsonl and map.json, or takes the import of equal words and files that is kept;
     gives what was said. files: all that the words and routes name. Fault where the import cannot be made."""
-    all_words = [str(folder.parent.resolve()), *words, "--routes", *routes]
+    all_words = [str(folder.parent.resolve()), *arguments, "--routes", *routes]
     run, mapping, key = folder / "run.jsonl", folder / "map.json", key_of(all_words, files)
     if key is not None and (kept := read_kept(key)) is not None:
         run.write_text(kept.run, encoding="utf-8", newline="")
         mapping.write_text(kept.map, encoding="utf-8", newline="")
-        return kept.said
-    with redirect_stderr(StringIO()) as said:
-        import_files([*words, "-o", str(run), "--map", str(mapping)], routes)
+        return kept.messages
+    with redirect_stderr(StringIO()) as messages:
+        import_files([*arguments, "-o", str(run), "--map", str(mapping)], routes)
     if key is not None and key == key_of(all_words, files):  # no file has changed meanwhile
         run_text, map_text = (path.read_text(encoding="utf-8") for path in (run, mapping))
-        keep(key, KeptImport(run_text, map_text, said.getvalue()))
-    return said.getvalue()
+        write_kept(key, KeptImport(run_text, map_text, messages.getvalue()))
+    return messages.getvalue()
 
 
-def import_files(words: Sequence[str], routes: Sequence[str]) -> None:
+def import_files(arguments: Sequence[str], routes: Sequence[str]) -> None:
     """Imports by the words of streetsim-import and the files of routes; trips, and vehicles and flows without a route,
     get ways, which is told on standard error. Fault where the import cannot be made."""
     from streetsim.cli import import_ as importing  # which a start with a kept import does not need
     from streetsim.sumo.demand import Unrouted
 
     try:
-        importing.main([*words, *(["--routes", *routes] if routes else [])])
+        importing.main([*arguments, *(["--routes", *routes] if routes else [])])
     except Unrouted:
         how = "shortest by free speed, signals and volumes, as of streetsim-import --trips"
         print(f"warning: trips have the ways that are {how} (better ways: streetsim-route)", file=sys.stderr)
-        importing.main([*words, "--trips", *routes])
+        importing.main([*arguments, "--trips", *routes])
 
 
-def asked_by(options: Options) -> ScriptSettings:
+def script_settings_of(options: Options) -> ScriptSettings:
     """What the words of streetsim-run among some options ask of a run."""
     return ScriptSettings(
         rounds=int(options.get("rounds", ROUNDS)),
@@ -107,16 +107,16 @@ def asked_by(options: Options) -> ScriptSettings:
 
 def notes_of(session: TraciSession) -> str:
     """Lines on who gives way without a light, and on what a session does otherwise than SUMO; empty without any."""
-    told = []
+    lines = []
     if session.yielding.lines:
         gaps = "in the gaps of the vehicles of the route files; those that the script adds are in no gaps"
-        told.append(f"{session.yielding.told()}, {gaps}")
+        lines.append(f"{session.yielding.told()}, {gaps}")
     if session.facts.unwritten:
         names = ", ".join(dict.fromkeys(session.facts.unwritten))
         instead = "streetsim-run --sumo-output e1,e2,edgedata writes such files"
-        told.append(f"warning: additional files ask for {names}, not written here: {instead}")
-    told += [*session.told, *(f"warning: {text}" for text in session.notes)]
-    return "".join(f"{line}\n" for line in told)
+        lines.append(f"warning: additional files ask for {names}, not written here: {instead}")
+    lines += [*session.works_notes, *(f"warning: {text}" for text in session.notes)]
+    return "".join(f"{line}\n" for line in lines)
 
 
 def output_paths(options: Options, facts: Facts) -> dict[str, str]:
@@ -136,12 +136,12 @@ def is_on(value: str) -> bool:
     return value.lower() in ("", "true", "1", "yes", "on", "t")
 
 
-def write_warnings(said: str, options: Options) -> None:
+def write_warnings(messages: str, options: Options) -> None:
     """Writes what the import said, and which options have no effect, to standard error (unless --no-warnings) and to
     the log files. Fault where one cannot be written."""
-    said = "".join(f"warning: {text}\n" for text in warnings_of(options)) + said
+    messages = "".join(f"warning: {text}\n" for text in warnings_of(options)) + messages
     if not is_on(options.get("no-warnings", "false")):
-        sys.stderr.write(said)
+        sys.stderr.write(messages)
     for path in {options[name] for name in LOGS if options.get(name)}:
         with whole_file(path) as file:
-            file.write(said)
+            file.write(messages)

@@ -49,10 +49,10 @@ CHANGES = {
     "default.speeddev": ": all vehicles wish the limit; --dawdle changes how they drive",
     "num-clients": "", "remote-port": "", "verbose": "", "no-step-log": "", "step-log.period": "",
 }
-TOLD = ("waiting-time-memory",)  # what scripts are told, and no run
-DONE = ("duration-log.statistics",)  # by streetsim-sumo
+WARNED_ALONE = ("waiting-time-memory",)  # what scripts are told, and no run
+DONE_BY_TOOL = ("duration-log.statistics",)  # by streetsim-sumo
 # SUMO's further options and their families.
-KNOWN = re.compile(
+WITHOUT_EFFECT = re.compile(
     r"weight.*|load-state\..*|junction-taz|(netstate-dump|save-state|[\w-]+-output)\..*|step-method\.ballistic"
     r"|extrapolate-departpos|lateral-resolution|no-internal-links|ignore-.*|collision\..*|max-.*|scale-suffix"
     r"|time-to-(teleport\..*|impatience)|startup-wait-threshold|(sloppy|eager|emergency)-insert|random-depart-offset"
@@ -85,19 +85,19 @@ VALUES: dict[str, tuple[Callable[[str], bool], str]] = {
 }
 
 
-def options_of(words: list[str]) -> dict[str, str]:
+def read_options(arguments: list[str]) -> dict[str, str]:
     """SUMO's options, {long name: text}, empty where a word has no value. A first word without "-" names the
     configuration; words count before those of a configuration. FatalTraCIError for what SUMO does not know either, what
     is refused here, and a configuration that cannot be read."""
-    options, at = {}, 0
-    if words and not str(words[0]).startswith("-"):
-        options["configuration-file"], at = str(words[0]), 1
-    while at < len(words):
-        word, _, value = str(words[at]).partition("=")
-        at += 1
-        if not value and at < len(words) and is_value(str(words[at])):
-            value, at = str(words[at]), at + 1
-        options[name_of(word)] = value
+    options, index = {}, 0
+    if arguments and not str(arguments[0]).startswith("-"):
+        options["configuration-file"], index = str(arguments[0]), 1
+    while index < len(arguments):
+        word, _, value = str(arguments[index]).partition("=")
+        index += 1
+        if not value and index < len(arguments) and is_value(str(arguments[index])):
+            value, index = str(arguments[index]), index + 1
+        options[long_name(word)] = value
     if "configuration-file" in options:
         try:
             options = {**read_configuration(options["configuration-file"]), **options}
@@ -108,39 +108,39 @@ def options_of(words: list[str]) -> dict[str, str]:
     return options
 
 
-def is_value(word: str) -> bool:
+def is_value(argument: str) -> bool:
     """Whether a word is the value of the option before it: it does not begin with "-", or is a number below 0."""
-    return not word.startswith("-") or re.match(r"-[\d.]", word) is not None
+    return not argument.startswith("-") or re.match(r"-[\d.]", argument) is not None
 
 
-def name_of(word: str) -> str:
+def long_name(argument: str) -> str:
     """The long name of an option, of a word as -n or --net-file; FatalTraCIError where it is no option, or an unknown
     short one. Unknown long ones are refused by check_option."""
-    if not word.startswith("-") or word in ("-", "--"):
-        raise FatalTraCIError(f"{word!r} is no option: options begin with '--'")
-    if not word.startswith("--"):
-        if word not in SHORT:
-            raise FatalTraCIError(f"No option with the name '{word.removeprefix('-')}' exists.")
-        return SHORT[word]
-    name = word.removeprefix("--")
+    if not argument.startswith("-") or argument in ("-", "--"):
+        raise FatalTraCIError(f"{argument!r} is no option: options begin with '--'")
+    if not argument.startswith("--"):
+        if argument not in SHORT:
+            raise FatalTraCIError(f"No option with the name '{argument.removeprefix('-')}' exists.")
+        return SHORT[argument]
+    name = argument.removeprefix("--")
     return SYNONYMS.get(name, name)
 
 
 def check_option(name: str, value: str) -> None:
     """FatalTraCIError for an option (long name, text of its value) that is unknown, has a wrong value, is one of
     REFUSED, or asks for an output that is not written here."""
-    on = value.lower() not in FALSE
+    is_on = value.lower() not in FALSE
     if name in VALUES and not VALUES[name][0](value):
         raise FatalTraCIError(f"--{name} {value}: {VALUES[name][1]}")
-    if name in REFUSED and on and not (name == "scale" and is_one(value)):
+    if name in REFUSED and is_on and not (name == "scale" and is_one(value)):
         raise FatalTraCIError(f"--{name} {value}: streetsim has nothing for it; {REFUSED[name]}")
-    if OUTPUT.fullmatch(name) and name not in SERVED and value not in NO_FILE and on:
-        told = f"not written here ({', '.join(f'--{served}' for served in SERVED)} are)"
-        raise FatalTraCIError(f"--{name} {value}: {told}; leave it out, or give --{name} /dev/null")
-    known = name in INPUTS or name in IMPORTED or name in REFUSED or name in LOGS
-    if not (known or OUTPUT.fullmatch(name) or SILENT.fullmatch(name) or KNOWN.fullmatch(name)):
-        near = get_close_matches(name, (*INPUTS, *IMPORTED, *REFUSED, *LOGS, *SERVED, *SHORT.values(), *CHANGES), 1)
-        nearest = f" The nearest is --{near[0]}." if near else ""
+    if OUTPUT.fullmatch(name) and name not in SERVED and value not in NO_FILE and is_on:
+        reason = f"not written here ({', '.join(f'--{served}' for served in SERVED)} are)"
+        raise FatalTraCIError(f"--{name} {value}: {reason}; leave it out, or give --{name} /dev/null")
+    is_known = name in INPUTS or name in IMPORTED or name in REFUSED or name in LOGS
+    if not (is_known or OUTPUT.fullmatch(name) or SILENT.fullmatch(name) or WITHOUT_EFFECT.fullmatch(name)):
+        matches = get_close_matches(name, (*INPUTS, *IMPORTED, *REFUSED, *LOGS, *SERVED, *SHORT.values(), *CHANGES), 1)
+        nearest = f" The nearest is --{matches[0]}." if matches else ""
         raise FatalTraCIError(f"No option with the name '{name}' exists.{nearest}")
 
 
@@ -148,13 +148,14 @@ def warnings_of(options: Mapping[str, str]) -> list[str]:
     """Texts on SUMO's options that were given and have no effect here, but for those that change no run in SUMO."""
     lacking = [
         name for name in options
-        if name in TOLD or KNOWN.fullmatch(name) and not SILENT.fullmatch(name) and not OUTPUT.fullmatch(name)
+        if name in WARNED_ALONE
+        or WITHOUT_EFFECT.fullmatch(name) and not SILENT.fullmatch(name) and not OUTPUT.fullmatch(name)
     ]
-    told = [
+    warnings = [
         f"--{name} {options[name]}".rstrip() + f" has no effect here{CHANGES.get(name, '')}" for name in lacking
-        if name not in IMPORTED and name not in DONE
+        if name not in IMPORTED and name not in DONE_BY_TOOL
     ]  # fmt: skip
     if not options.get("time-to-teleport", "-1").startswith("-") and options["time-to-teleport"] != "0":
         time = options["time-to-teleport"]
-        told.append(f"--time-to-teleport {time} has no effect here: nobody teleports; --rescue {time} rescues")
-    return told
+        warnings.append(f"--time-to-teleport {time} has no effect here: nobody teleports; --rescue {time} rescues")
+    return warnings

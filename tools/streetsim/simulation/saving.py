@@ -16,7 +16,7 @@ def save_state(session: TraciSession, path: str) -> None:
     """Writes to a file what restores a session: the clock, and what a script has done up to it. What merging holds
     closed is opened. Fault where the file cannot be written."""
     session.open_held_lanes()
-    state = {"format": FORMAT, "of": digests_of(session), "clock": session.clock, "done": session.deeds.done}
+    state = {"format": FORMAT, "of": digests_of(session), "clock": session.clock, "done": session.deeds.entries}
     with whole_file(path) as file:
         json.dump(state, file, separators=(",", ":"))
 
@@ -25,7 +25,7 @@ def digests_of(session: TraciSession) -> dict[str, str]:
     """By what a state of another session is known: {in words, what it is of if this differs: digest (SHA-256)}."""
     run, mapping = session.source, session.map
     timed = (line for _, line in run.timed)
-    driven = [f"{one.name} {one.light.program}" for one in session.driver.controllers]
+    driven = [f"{controller.name} {controller.light.program}" for controller in session.driver.controllers]
     parts = {
         "another --lights": driven,
         "another network, or of other words": [run.load.text],
@@ -51,19 +51,19 @@ def load_state(session: TraciSession, path: str) -> None:
     if session.writer is not None:
         raise TraCIException("simulation.loadState: output files are being written, which go on from second to second")
     try:
-        if other := [text for text, digest in digests_of(session).items() if state["of"].get(text) != digest]:
-            raise TraCIException(f"{path}: a state of {other[0]}")
-        clock, done = state["clock"], state["done"]
-        check_rising([session.source.start(), *(clock for clock, *_ in done), clock])
+        if differing := [text for text, digest in digests_of(session).items() if state["of"].get(text) != digest]:
+            raise TraCIException(f"{path}: a state of {differing[0]}")
+        clock, deeds = state["clock"], state["done"]
+        check_rising([session.source.start(), *(clock for clock, *_ in deeds), clock])
     except (AttributeError, LookupError, TypeError, ValueError) as fault:
-        raise changed(path, fault) from fault
+        raise changed_state_fault(path, fault) from fault
     try:
-        do_again(session, clock, done)
+        repeat_deeds(session, clock, deeds)
     except (AttributeError, LookupError, TypeError, ValueError, TraCIException) as fault:
-        raise changed(path, fault) from fault
+        raise changed_state_fault(path, fault) from fault
 
 
-def changed(path: str, fault: Exception) -> Fault:
+def changed_state_fault(path: str, fault: Exception) -> Fault:
     """What is raised for a state that cannot have been written so."""
     return Fault(f"{path}: was changed after saveState wrote it ({fault!r}): close the run")
 
@@ -74,11 +74,11 @@ def check_rising(clocks: Sequence[int]) -> None:
         raise ValueError("its clocks do not rise")
 
 
-def do_again(session: TraciSession, clock: int, done: Sequence[tuple[int, str, str, list]]) -> None:
+def repeat_deeds(session: TraciSession, clock: int, deeds: Sequence[tuple[int, str, str, list]]) -> None:
     """Starts the program anew and does some deeds again, up to a clock. LookupError for what is no deed."""
     session.restart()
-    for then, part, name, words in done:
-        session.go_to(then)
-        getattr({"session": session, "control": session.control}[part], name if name in NAMES else "")(*words)
+    for deed_clock, part, name, args in deeds:
+        session.go_to(deed_clock)
+        getattr({"session": session, "control": session.control}[part], name if name in NAMES else "")(*args)
     session.go_to(clock)
     session.forget_steps()

@@ -1,4 +1,5 @@
-"""A run under a script that asks what stands where after each step."""
+"""The session of streetsim.traci: a run whose script adds, removes and reroutes vehicles and sets lights. `opening`
+makes it of SUMO's files."""
 from collections.abc import Iterable, Mapping, Sequence
 from dataclasses import replace
 from pathlib import Path
@@ -13,20 +14,20 @@ from streetsim.model.mapping import read_map
 from streetsim.model.runs import Line, read_own_run
 from streetsim.model.stops import STANDING, Visit
 from streetsim.observe.sumo_writing import Outputs
-from streetsim.simulation.asked import ScriptSettings
 from streetsim.simulation.client import RunClient
 from streetsim.simulation.columns import LaneColumns, Streets, VehicleColumns
 from streetsim.simulation.deeds import Deeds, Doer, deed
 from streetsim.simulation.errors import FatalTraCIError, TraCIException
 from streetsim.simulation.inside import Inside
 from streetsim.simulation.lights import Control
-from streetsim.simulation.places import VehiclePlaces
+from streetsim.simulation.script_settings import ScriptSettings
+from streetsim.simulation.shortest_paths import ShortestPaths
 from streetsim.simulation.simulation import ScriptKernel, Simulation
 from streetsim.simulation.street_facts import Facts
 from streetsim.simulation.tally import LoopTally, Tally
 from streetsim.simulation.types import TypesByVehicle
-from streetsim.simulation.view import Looker
-from streetsim.simulation.ways import Ways
+from streetsim.simulation.vehicle_points import VehiclePoints
+from streetsim.simulation.view import SecondObserver
 from streetsim.simulation.writing import Files
 
 
@@ -43,17 +44,17 @@ class TraciSession(Simulation, Doer):
 
     kernel_of, part = SessionKernel, "session"
 
-    def __init__(self, folder: Path, facts: Facts, options: Mapping[str, str], asked: ScriptSettings) -> None:
+    def __init__(self, folder: Path, facts: Facts, options: Mapping[str, str], settings: ScriptSettings) -> None:
         """folder: has run.jsonl and map.json, as the import wrote them; facts: of SUMO's files; options: of SUMO's
         command line, with works as --close of streetsim-run has them. Fault where the run or the map cannot be read,
         the works cannot be made, the program not started, or a round fails."""
         run, mapping = read_own_run(folder / "run.jsonl"), read_map(folder / "map.json")
         works = all_works([options.get("close", "")], mapping, run.start(), None)
-        run, mapping, self.told = with_works(run, mapping, folder / "map.json", works)
+        run, mapping, self.works_notes = with_works(run, mapping, folder / "map.json", works)
         self.facts, self.options, self.inside = facts, options, Inside(mapping, facts)
-        self.detectors = {one.name: one for one in mapping.detectors}
+        self.detectors = {detector.name: detector for detector in mapping.detectors}
         self.writer: Outputs | None = None  # of SUMO's output files
-        super().__init__(run, mapping, asked)
+        super().__init__(run, mapping, settings)
 
     def start(self) -> None:
         """As Simulation.start; nothing is done by a script."""
@@ -62,9 +63,10 @@ class TraciSession(Simulation, Doer):
         self.pending: dict[int, tuple[int, Sequence[int]]] = {}  # by vehicle: a link, and other links after its end
         super().start()
         self.forget_steps()
-        self.ways, self.places = Ways(self, self.inside, self.view), VehiclePlaces(self.view, self.map)
+        self.paths = ShortestPaths(self, self.inside, self.view)
+        self.vehicle_points = VehiclePoints(self.view, self.map)
         streets = Streets(self.map)
-        self.vehicle_columns = VehicleColumns(self.view, self.tally, self.places, streets)
+        self.vehicle_columns = VehicleColumns(self.view, self.tally, self.vehicle_points, streets)
         self.lane_columns = LaneColumns(self.view, self.tally, self.fleet, streets, self.facts, self.lane_of)
 
     def restart(self) -> None:
@@ -81,22 +83,24 @@ class TraciSession(Simulation, Doer):
         self.began_stops: set[int] = set()
         self.ended_stops: set[int] = set()
 
-    def own_sooner(self) -> Iterable[Controller]:
+    def controllers_before_script(self) -> Iterable[Controller]:
         """What has vehicles turn off."""
         self.turning = TurningVehicles(self)
         return [self.turning]
 
-    def own_later(self) -> Iterable[Controller]:
+    def controllers_after_script(self) -> Iterable[Controller]:
         """What the script's lights show."""
-        found = self.facts.lights_at({light for light, _ in self.map.signals})
-        lights = {name: replace(one, programs=dict(one.programs), scripted=set()) for name, one in found.items()}
+        of_files = self.facts.lights_at({light for light, _ in self.map.signals})
+        lights = {
+            name: replace(light, programs=dict(light.programs), scripted=set()) for name, light in of_files.items()
+        }
         self.control = Control(self, lights, self.facts.offsets, self.deeds)
         return [self.control]
 
-    def own_lookers(self) -> Iterable[Looker]:
+    def observers_before_view(self) -> Iterable[SecondObserver]:
         """What counts standing and distances, and who passes induction loops."""
         self.tally = Tally(self.view, self.fleet, self.inside, self.dawdle)
-        self.loops = LoopTally([one for one in self.map.detectors if one.kind == "e1"])
+        self.loops = LoopTally([detector for detector in self.map.detectors if detector.kind == "e1"])
         return [self.tally, self.loops]
 
     @property
@@ -122,9 +126,9 @@ class TraciSession(Simulation, Doer):
 
     def step(self, time: float = 0) -> None:
         """As Simulation.step; then the lists of who was loaded, departed and arrived are of its steps alone."""
-        first, self.loaded, stood = self.kernel.entered, [], self.at_stops()
+        first_new, self.loaded, stood = self.kernel.entered, [], self.at_stops()
         super().step(time)
-        self.loaded += self.fleet.names[first : self.kernel.entered]
+        self.loaded += self.fleet.names[first_new : self.kernel.entered]
         stands = self.at_stops()
         self.began_stops, self.ended_stops = stands - stood, stood - stands
 
@@ -140,8 +144,8 @@ class TraciSession(Simulation, Doer):
 
     def waiting_to_depart(self) -> list[int]:
         """The vehicles that should have departed before now, and found no room."""
-        view, enters, known = self.view, self.fleet.enters, np.fromiter(self.kernel.vehicles.car, int)
-        waiting = known[~view.seen[known] & ~view.ended[known]].tolist()
+        view, enters, vehicles = self.view, self.fleet.enters, np.fromiter(self.kernel.vehicles.car, int)
+        waiting = vehicles[~view.has_departed[vehicles] & ~view.ended[vehicles]].tolist()
         return [number for number in waiting if enters[number]["depart"] < self.clock]
 
     # Stops of vehicles of the file
@@ -171,8 +175,8 @@ class TraciSession(Simulation, Doer):
         """Adds a vehicle of a script; gives whether it has the name of one that has ended. route, kind: names of its
         route and of a known type; depart: clock. TraCIException where its name is taken, also by one that is to come,
         and as of route_links."""
-        again = name in self.fleet.numbers
-        if again and not self.has_ended(name):
+        is_reused = name in self.fleet.numbers
+        if is_reused and not self.has_ended(name):
             raise TraCIException(f"Vehicle '{name}' exists already.")
         plan = self.route_links(route)
         self.enter(name, plan, self.connections.departure_lane(plan), depart, self.types.cells_of_type(kind))
@@ -180,7 +184,7 @@ class TraciSession(Simulation, Doer):
         self.loaded.append(name)
         if self.writer is not None:
             self.writer.expect_vehicle(self.fleet.numbers[name], name, depart, kind)
-        return again
+        return is_reused
 
     @deed
     def remove(self, name: str) -> None:
@@ -202,7 +206,7 @@ class TraciSession(Simulation, Doer):
     @deed
     def adapt(self, edge: str, seconds: float | None) -> None:
         """Sets the seconds with which an edge counts for ways; None: those of its traffic again."""
-        self.ways.set_edge_seconds(edge, seconds)
+        self.paths.set_edge_seconds(edge, seconds)
 
     @deed
     def close_lane(self, lane: str, begin: float = 0.0, end: float | None = None) -> None:
@@ -243,16 +247,16 @@ class TraciSession(Simulation, Doer):
         the road takes them from the node behind that link on; one that waits to depart enters anew at once."""
         number, plans = self.fleet.numbers[name], self.fleet.plans
         if self.fleet.car(name) is None:
-            self.wish(name, links)
-        elif (where := self.view.there.get(number)) is None:
+            self.replan_before_entry(name, links)
+        elif (position := self.view.positions.get(number)) is None:
             plans[number] = links
             self.enter_anew(number, links, max(self.clock, self.fleet.enters[number]["depart"]))
         else:
             plans[number] = (*plans[number][: self.tally.position(number) + 1], *links[1:])
-            self.pending[number] = where.link, links[1:]
-            self.turning.act(self.clock, self.kernel.last)
+            self.pending[number] = position.link, links[1:]
+            self.turning.act(self.clock, self.kernel.last_second)
 
-    def wish(self, name: str, links: Sequence[int]) -> None:
+    def replan_before_entry(self, name: str, links: Sequence[int]) -> None:
         """Has a vehicle that the program was not told of enter with another plan."""
         number, lane = self.fleet.numbers[name], self.connections.departure_lane(links)
         line = own_line({**self.fleet.enters[number], "plan": list(links), "lane": lane})
@@ -263,14 +267,14 @@ class TraciSession(Simulation, Doer):
     def turn_off(self, number: int, link: int, links: Sequence[int]) -> None:
         """Has a vehicle whose other links begin behind a link, where it has not come to their begin, wait for that;
         there it enters the first of them, or, where there are none, is taken out, and arrives in the next step."""
-        where = self.view.there.get(number)
-        if where is None or where.link != link:
+        position = self.view.positions.get(number)
+        if position is None or position.link != link:
             del self.pending[number]
-        elif where.cell is None:
+        elif position.cell is None:
             del self.pending[number]
             if links:
                 self.enter_anew(number, links, self.clock)
-                self.view.hold(number, 2 * where.link + where.lane)
+                self.view.hold(number, 2 * position.link + position.lane)
             else:
                 self.take_out(number)
                 self.view.leaving.append(number)

@@ -15,12 +15,12 @@ from streetsim.model.mapping import Map, Place
 from streetsim.model.replications import drawn
 from streetsim.model.runs import Command, Line, Run
 from streetsim.observe.giving_way_rounds import giving_way
-from streetsim.simulation.asked import ScriptSettings
 from streetsim.simulation.client import OwnProgram
 from streetsim.simulation.connections import Connections
 from streetsim.simulation.fleet import Fleet
-from streetsim.simulation.shown import SignalsInForce
-from streetsim.simulation.view import FleetSecond, Looker, View
+from streetsim.simulation.script_settings import ScriptSettings
+from streetsim.simulation.signals_in_force import SignalsInForce
+from streetsim.simulation.view import FleetSecond, SecondObserver, View
 
 
 class ScriptKernel(Kernel):
@@ -35,31 +35,33 @@ class ScriptKernel(Kernel):
 
     def refusal(self, line: Line, reply: bytes) -> Exception:
         """The reply itself as an exception."""
-        found = read_reply(reply)
-        assert isinstance(found, Exception)
-        return found
+        fault = read_reply(reply)
+        assert isinstance(fault, Exception)
+        return fault
 
 
 class Simulation:
     """A run of the program: its map, clock, vehicles, lanes and lights. At each clock at which a script stops it comes
-    before what controllers do there (later), but for merging and buses (sooner): these have acted."""
+    before what controllers do there (after_script), but for merging and buses (before_script): these have acted."""
 
     kernel_of: type[ScriptKernel] = ScriptKernel
 
     def __init__(
-        self, source: Run, mapping: Map, asked: ScriptSettings, program: str | None = None, workers: int = 1
+        self, source: Run, mapping: Map, script_settings: ScriptSettings, program: str | None = None, workers: int = 1
     ) -> None:
         """program: None: the usual one; workers: its threads. Fault where a round fails or there is no program, what
         the kernel's `refusal` gives where a first line is refused."""
-        if asked.drawn:
+        if script_settings.drawn:
             source, mapping = drawn(source, mapping)
-        self.settings, self.asked, self.map = asked.settings(source, mapping), asked, mapping
+        self.script_settings, self.map = script_settings, mapping
+        self.settings = script_settings.settings(source, mapping)
         rounds = partial(serving_program, program, source.path, workers)
-        self.source, self.yielding = giving_way(source, mapping, self.settings, asked.rounds, rounds, lambda *_: None)
+        with_rounds = giving_way(source, mapping, self.settings, script_settings.rounds, rounds, lambda *_: None)
+        self.source, self.yielding = with_rounds
         self.notes = [*self.settings.lights.notes(), *self.settings.buses.notes()]
         self.connections, self.edges = Connections(mapping), [link.edge for link in mapping.links]
         self.lane_of = {mapping.lane_name(link, lane): (link, lane) for link, lane in mapping.lanes()}
-        self.words = find_program(program), workers
+        self.program_and_workers = find_program(program), workers
         self.start()
 
     def start(self) -> None:
@@ -70,29 +72,31 @@ class Simulation:
         self.steering.timed.left_out = self.shown.forgotten
         self.routes: dict[str, Sequence[int]] = {}  # those that a script adds: links
         self.view = View(mapping)
-        self.program = OwnProgram(*self.words)
+        self.program = OwnProgram(*self.program_and_workers)
         self.kernel = self.kernel_of(self.program, self.source, mapping, [], [])
         self.fleet = Fleet(self.source, mapping, self.kernel.vehicles)
-        all_, at = self.steering.controllers, self.steering.controllers.index(self.steering.lights)
-        self.sooner = [*all_[:at], *self.own_sooner()]
-        self.later = [*self.own_later(), *all_[at:], self.shown, *self.asked.controllers]
-        self.kernel.controllers = [*self.sooner, *self.later]
-        self.kernel.observers, self.lookers = self.asked.observers, [*self.own_lookers(), self.view]
+        controllers, index = self.steering.controllers, self.steering.controllers.index(self.steering.lights)
+        self.before_script = [*controllers[:index], *self.controllers_before_script()]
+        of_script = self.script_settings.controllers
+        self.after_script = [*self.controllers_after_script(), *controllers[index:], self.shown, *of_script]
+        self.kernel.controllers = [*self.before_script, *self.after_script]
+        self.kernel.observers = self.script_settings.observers
+        self.second_observers = [*self.observers_before_view(), self.view]
         try:
             self.kernel.begin(NEVER)
         except BaseException:
             self.kill()
             raise
 
-    def own_sooner(self) -> Iterable[Controller]:
+    def controllers_before_script(self) -> Iterable[Controller]:
         """Further controllers that act before a script, behind merging and buses."""
         return ()
 
-    def own_later(self) -> Iterable[Controller]:
+    def controllers_after_script(self) -> Iterable[Controller]:
         """Further controllers that act behind a script, before lights."""
         return ()
 
-    def own_lookers(self) -> Iterable[Looker]:
+    def observers_before_view(self) -> Iterable[SecondObserver]:
         """What looks at each second before the view."""
         return ()
 
@@ -124,29 +128,29 @@ class Simulation:
     def go_to(self, target: int) -> None:
         """Makes the steps until the clock is at target."""
         while self.clock < target:
-            self.kernel.act_due(self.later)
+            self.kernel.act_due(self.after_script)
             self.kernel.make_steps(target)
-            self.look()
-            self.kernel.act_due(self.sooner)
+            self.observe_steps()
+            self.kernel.act_due(self.before_script)
 
-    def look(self) -> None:
+    def observe_steps(self) -> None:
         """Has all who look at each second do so for the last steps."""
         (begins, data), owner = self.kernel.part, self.kernel.vehicles.owner
         steps = len(begins) - 1
-        for at in range(steps):
-            block = self.kernel.last if at + 1 == steps else Block((begins[: at + 2], data))
-            gone, left, _ = block.arrived
-            clock = self.clock - steps + at + 1
-            now = FleetSecond(clock, owner[block.car], block.slot, block.cell, block.speed, owner[gone], left)
-            for one in self.lookers:
-                one.see(now)
+        for step in range(steps):
+            block = self.kernel.last_second if step + 1 == steps else Block((begins[: step + 2], data))
+            arrived, slots_left, _ = block.arrived
+            clock, vehicles = self.clock - steps + step + 1, owner[block.car]
+            second = FleetSecond(clock, vehicles, block.slot, block.cell, block.speed, owner[arrived], slots_left)
+            for observer in self.second_observers:
+                observer.note_second(second)
 
     def finish(self) -> None:
         """Ends the run; what is due at its last clock is done as at that of a run. ProgramEnded where the program
         failed."""
         try:
             self.kernel.until = self.clock
-            self.kernel.act_due(self.later)
+            self.kernel.act_due(self.after_script)
             self.kernel.end()
         finally:
             self.program.client.close()
@@ -162,10 +166,10 @@ class Simulation:
         """Shows a cycle of (seconds, state) at a light from the next step on; lines of the file for the light are no
         longer sent, and detectors drive it no more. offset: as in a tlLogic, seconds. Gives warnings. Fault as of
         SignalsInForce.program_lines, after which all is as before."""
-        lines, told = self.shown.program_lines(light, phases, offset, self.clock)
+        lines, warnings = self.shown.program_lines(light, phases, offset, self.clock)
         self.kernel.send_soon(lines)
         self.driver.release(light, self.clock)
-        return told
+        return warnings
 
     def show_constant(self, light: str, state: str, begin: float) -> None:
         """As show_program, but a state without permissive greens, from the clock begin on until another is shown."""
@@ -245,14 +249,14 @@ class Simulation:
         metre in which it ends, as streetsim-run --close allows; raises as close_lane does."""
         number, index = self.lane_of[lane]
         link = self.map.links[number]
-        last = link.metres if end is None else end
+        end_metres = link.metres if end is None else end
         if begin >= link.metres:
             raise ValueError(f"lane {lane!r} ends at {link.metres:g} m, before {begin:g} m")
-        if not 0 <= begin < last:
-            raise ValueError(f"lane {lane!r}: from {begin:g} m to {last:g} m there are no works")
-        if last > ceil(link.metres):
-            raise ValueError(f"lane {lane!r} ends at {link.metres:g} m, before {last:g} m")
-        cells = link.closed_between(begin, last)
+        if not 0 <= begin < end_metres:
+            raise ValueError(f"lane {lane!r}: from {begin:g} m to {end_metres:g} m there are no works")
+        if end_metres > ceil(link.metres):
+            raise ValueError(f"lane {lane!r} ends at {link.metres:g} m, before {end_metres:g} m")
+        cells = link.closed_between(begin, end_metres)
         return {"link": number, "lane": index, "first": cells[0], "last": cells[1]}
 
 

@@ -11,7 +11,7 @@ from streetsim.model.freeflow import Alone, FreeFlow
 from streetsim.simulation.session import TraciSession
 
 
-class Waited(NamedTuple):
+class WaitingCount(NamedTuple):
     """How many vehicles waited to enter at a clock."""
 
     clock: int
@@ -28,11 +28,11 @@ class Statistics:
     running: int
     waiting: int
 
-    def lines(self, all_: bool) -> Iterator[str]:
-        """SUMO's lines on vehicles and, with all_, its statistics."""
+    def lines(self, with_means: bool) -> Iterator[str]:
+        """SUMO's lines on vehicles and, where with_means, its statistics."""
         yield from ("Vehicles:", f" Inserted: {self.inserted}", f" Running: {self.running}")
         yield f" Waiting: {self.waiting}"
-        if all_ and self.means:
+        if with_means and self.means:
             yield f"Statistics (avg of {self.arrived}):"
             yield from (f" {name}: {mean:.2f}" for name, mean in self.means.items())
 
@@ -51,24 +51,24 @@ def statistics_of(session: TraciSession) -> Statistics:
         rows["RouteLength"].append(metres)
         rows["Speed"].append(metres / seconds)
         rows["Duration"].append(seconds)
-        rows["WaitingTime"].append(max(0, int(tally.waited[number]) - sum(one.stood for one in stops)))
-        rows["TimeLoss"].append(max(0.0, seconds - free - sum(one.seconds for one in stops)))
+        rows["WaitingTime"].append(max(0, int(tally.waited[number]) - sum(visit.stood for visit in stops)))
+        rows["TimeLoss"].append(max(0.0, seconds - free - sum(visit.seconds for visit in stops)))
         rows["DepartDelay"].append(depart - fleet.departs[number])
     means = {name: fmean(values) for name, values in rows.items()}
-    inserted = int(view.seen[: len(fleet.names)].sum())
+    inserted = int(view.has_departed[: len(fleet.names)].sum())
     return Statistics(len(numbers), means, inserted, len(view.numbers), len(session.waiting_to_depart()))
 
 
-def doubts_of(session: TraciSession, waited: Sequence[Waited]) -> list[str]:
-    """What speaks against a session at its clock, a text each; waited: of each minute."""
+def doubts_of(session: TraciSession, waiting_by_minute: Sequence[WaitingCount]) -> list[str]:
+    """What speaks against a session at its clock, a text each; waiting_by_minute: of each minute."""
     view, fleet, mapping = session.view, session.fleet, session.map
     free, rows = FreeFlow(mapping, session.dawdle), []
     for number, name in enumerate(fleet.names):
         arrival, depart = int(view.arrival[number]), fleet.departs[number]
         if arrival or not view.ended[number]:
-            done = (arrival, arrival - depart) if arrival else ("", "")
-            rows.append((name, depart, *done, free(fleet.plans[number])))
+            arrival_and_seconds = (arrival, arrival - depart) if arrival else ("", "")
+            rows.append((name, depart, *arrival_and_seconds, free(fleet.plans[number])))
     trips = trust.trips_at(session.clock, session.source.start(), rows)
     rescues, listed = session.steering.rescue.count.total(), session.settings.lights.listed_lights(mapping)
-    found = trust.doubts(trips, rescues, waited, session.source, mapping, listed)
-    return [*found, *trust.crowding_doubts(trips.vehicles, session.yielding.crowded)]
+    doubts = trust.doubts(trips, rescues, waiting_by_minute, session.source, mapping, listed)
+    return [*doubts, *trust.crowding_doubts(trips.vehicles, session.yielding.crowded)]

@@ -76,7 +76,7 @@ class Facts:
             if element.get("function") == INSIDE:
                 self.inside[name] = metres
                 continue
-            allowed, disallowed = (tuple((lane.get(word) or "").split()) for word in ("allow", "disallow"))
+            allowed, disallowed = (tuple((lane.get(name) or "").split()) for name in ("allow", "disallow"))
             speed, width = attribute(path, lane, "speed", number), optional(path, lane, "width", number, WIDTH)
             shape = optional(path, lane, "shape", points, ())
             self.lanes[name] = LaneFacts(speed, metres, width, allowed, disallowed, shape)
@@ -102,16 +102,18 @@ class Facts:
         """Notes a program of a light, as the import takes it (read_program); the last one of a light runs, the others
         can be chosen. One without phases gives the program of its name another offset."""
         name, program = attribute(path, element, "id"), element.get("programID", "0")
-        found, begin = list(element.iter("phase")), optional(path, element, "offset", seconds, 0.0)
-        if program == OFF or not found and (name, program) not in self.offsets:
+        phase_elements, begin = list(element.iter("phase")), optional(path, element, "offset", seconds, 0.0)
+        if program == OFF or not phase_elements and (name, program) not in self.offsets:
             return
         self.offsets[name, program] = begin
-        if not found:
+        if not phase_elements:
             if self.lights[name].program == program:
                 self.lights[name].begin = begin
             return
-        phases = [(attribute(path, one, "duration", seconds), attribute(path, one, "state")) for one in found]
-        names = [one.get("name") or "" for one in found]
+        phases = [
+            (attribute(path, phase, "duration", seconds), attribute(path, phase, "state")) for phase in phase_elements
+        ]
+        names = [phase.get("name") or "" for phase in phase_elements]
         light = LightShow(phases, begin, program, names=names)
         light.programs = {**(self.lights[name].programs if name in self.lights else {}), program: (phases, names)}
         self.lights[name] = light
@@ -121,8 +123,8 @@ class Facts:
         states have. All connections must have been read before."""
         links: dict[str, dict[int, tuple[str, str, str]]] = {}
         for lane, fact in self.lanes.items():
-            for one in fact.links:
-                links.setdefault(one.light, {})[one.index] = (lane, one.target, one.via)
+            for connection in fact.links:
+                links.setdefault(connection.light, {})[connection.index] = (lane, connection.target, connection.via)
         lights = {name: light for name, light in self.lights.items() if name in names}
         for name, light in lights.items():
             light.states = len(light.phases[0][1])
@@ -176,7 +178,7 @@ def read_element(facts: Facts, path: str, element: Element) -> None:
     elif element.tag in WRITING and element.get("file", NO_FILE[0]) not in NO_FILE:
         if element.tag == "edgeData" and not facts.edgedata:
             period = "period" if element.get("period") is not None else "freq"
-            asked = optional(path, element, period, at_least_zero(seconds), 0.0)
-            facts.edgedata.append((attribute(path, element, "file"), asked))
+            seconds_of_rows = optional(path, element, period, at_least_zero(seconds), 0.0)
+            facts.edgedata.append((attribute(path, element, "file"), seconds_of_rows))
         else:
             facts.unwritten.append(attribute(path, element, "file"))

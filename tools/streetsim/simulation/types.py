@@ -10,8 +10,8 @@ class TypesByVehicle:
     def __init__(self, mapping: Map) -> None:
         """mapping: has the types and routes of the file's vehicles."""
         self.of_file, self.sizes = mapping.kinds, mapping.options.get("sizes", True)
-        self.indexes = {name: at for at, name in enumerate(mapping.cars)}  # of the vehicles of the run file
-        self.kinds = {name: Kind(*rest) for name, *rest in self.of_file.get("types", ())} or {DEFAULT: Kind()}
+        self.indexes = {name: index for index, name in enumerate(mapping.cars)}  # of the vehicles of the run file
+        self.kinds = {name: Kind(*fields) for name, *fields in self.of_file.get("types", ())} or {DEFAULT: Kind()}
         self.kind_of: dict[str, str] = {}  # by name, of the vehicles that a script adds
         self.route_of: dict[str, str] = {}  # by name, of those and of the ones that it sends another way
 
@@ -19,8 +19,8 @@ class TypesByVehicle:
         """The name of a vehicle's type; DEFAULT_VEHTYPE where nobody tells one."""
         if vehicle in self.kind_of or vehicle not in self.indexes:
             return self.kind_of.get(vehicle, DEFAULT)
-        places, at = self.of_file.get("type", ()), self.indexes[vehicle]
-        return self.of_file["types"][places[at]][0] if at < len(places) else DEFAULT
+        type_indexes, index = self.of_file.get("type", ()), self.indexes[vehicle]
+        return self.of_file["types"][type_indexes[index]][0] if index < len(type_indexes) else DEFAULT
 
     def kind(self, vehicle: str) -> Kind:
         """A vehicle's type; SUMO's usual one where no file has it."""
@@ -35,5 +35,5 @@ class TypesByVehicle:
         """The name of a vehicle's route; "!" and the vehicle's name where it has none, or was changed."""
         if vehicle in self.route_of or vehicle not in self.indexes:
             return self.route_of.get(vehicle, f"!{vehicle}")
-        named, at = self.of_file.get("route") or (), self.indexes[vehicle]
-        return (named[at] if at < len(named) else "") or f"!{vehicle}"
+        names, index = self.of_file.get("route") or (), self.indexes[vehicle]
+        return (names[index] if index < len(names) else "") or f"!{vehicle}"

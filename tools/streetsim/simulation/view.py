@@ -1,4 +1,4 @@
-"""Who is where in a simulation, by the record of its run."""
+"""Where each vehicle of a simulation is, by the record of its run."""
 from functools import cached_property
 from typing import NamedTuple
 
@@ -9,9 +9,9 @@ from streetsim.model.mapping import Map, Place
 from streetsim.simulation.fleet import OnRoad
 
 IN_JUNCTION = -1  # in place of a cell
-FEW = 8  # vehicles that are looked for in one second, row by row
+MOST_SINGLE = 8  # vehicles that are looked for in one second, row by row
 # What a view has of its rows, once it was asked for.
-KNOWN = frozenset(("there", "there_before", "numbers", "bounds", "rows", "row_bounds", "speeds"))
+CACHED = frozenset(("positions", "positions_before", "numbers", "bounds", "rows", "row_bounds", "speeds"))
 
 
 class FleetSecond(NamedTuple):
@@ -22,19 +22,19 @@ class FleetSecond(NamedTuple):
     slot: Array  # twice the link, and the lane
     cell: Array  # of its front; below 0 in the junction behind the lane
     speed: Array  # cells a step
-    gone: Array  # vehicles that arrived
-    left: Array  # the slots that they left
+    arrived: Array  # vehicles
+    slots_left: Array  # by those that arrived
 
 
-class Looker:
-    """What looks at each second of a run, one after the other."""
+class SecondObserver:
+    """Gets each second of a run, one after the other."""
 
-    def see(self, now: FleetSecond) -> None:
+    def note_second(self, second: FleetSecond) -> None:
         """Takes the next second."""
         raise NotImplementedError
 
 
-class View(Looker):
+class View(SecondObserver):
     """The vehicles on the road at the clock as columns of rows, and what has changed since `clear`. Vehicles are by the
     numbers of the fleet. Rows are lane by lane, from the stop line, and behind each lane's those in the junction behind
     it, first who leaves first; then those that enter anew at a junction, and are in it until they are seen again."""
@@ -43,7 +43,7 @@ class View(Looker):
         """mapping: of the run."""
         self.slots = 2 * len(mapping.links)
         self.keys = np.arange(2 * self.slots + 1)
-        self.seen, self.ended = (np.zeros(limits.VEHICLES, bool) for _ in range(2))
+        self.has_departed, self.ended = (np.zeros(limits.VEHICLES, bool) for _ in range(2))
         self.arrival = np.zeros(limits.VEHICLES, np.int64)  # clock; 0: it has not arrived
         self.departure = np.zeros(limits.VEHICLES, np.int64)  # clock at the begin of the second in which it departed
         self.count = 0  # of those who have ended
@@ -51,43 +51,43 @@ class View(Looker):
         self.departed: list[int] = []
         self.arrived: list[int] = []
         self.leaving: list[int] = []  # taken out at the end of their way: they arrive in the step to come
-        self.look(*np.zeros((4, 0), int))
-        self.before = self.number, self.slot, self.cell, self.speed  # a second ago
+        self.set_recorded(*np.zeros((4, 0), int))
+        self.previous_rows = self.number, self.slot, self.cell, self.speed  # a second ago
 
     def clear(self) -> None:
         """Forgets who has departed and arrived."""
         self.departed, self.arrived = [], []
 
-    def see(self, now: FleetSecond) -> None:
+    def note_second(self, second: FleetSecond) -> None:
         """Takes the next second."""
-        if self.leaving or len(now.gone):
-            self.arrival[now.gone], self.ended[now.gone] = now.clock, True
-            self.count += len(now.gone)
-            self.arrived += [*self.leaving, *now.gone.tolist()]
+        if self.leaving or len(second.arrived):
+            self.arrival[second.arrived], self.ended[second.arrived] = second.clock, True
+            self.count += len(second.arrived)
+            self.arrived += [*self.leaving, *second.arrived.tolist()]
             self.leaving = []
-        new = now.number[~self.seen[now.number]]
-        if len(new):
-            self.departed += new.tolist()
-            self.seen[new], self.departure[new] = True, now.clock - 1
-        self.before = self.number, self.slot, self.cell, self.speed
-        self.look(now.number, now.slot, now.cell, now.speed)
+        first_seen = second.number[~self.has_departed[second.number]]
+        if len(first_seen):
+            self.departed += first_seen.tolist()
+            self.has_departed[first_seen], self.departure[first_seen] = True, second.clock - 1
+        self.previous_rows = self.number, self.slot, self.cell, self.speed
+        self.set_recorded(second.number, second.slot, second.cell, second.speed)
 
-    def look(self, number: Array, slot: Array, cell: Array, speed: Array) -> None:
+    def set_recorded(self, number: Array, slot: Array, cell: Array, speed: Array) -> None:
         """Shows the rows of a second of the record, and those who enter anew and are not seen there."""
         columns, self.recorded = (number, slot, np.maximum(cell, IN_JUNCTION), speed), len(number)
         if self.held:
-            there = set(number.tolist())
-            self.held = {one: lane for one, lane in self.held.items() if one not in there}
-            more = [[one, lane, IN_JUNCTION, 0] for one, lane in self.held.items()]
-            columns = np.append(np.array(columns), np.array(more, int).reshape(-1, 4).T, axis=1)
-        self.show(*columns)
+            recorded_numbers = set(number.tolist())
+            self.held = {vehicle: lane for vehicle, lane in self.held.items() if vehicle not in recorded_numbers}
+            held_rows = [[vehicle, lane, IN_JUNCTION, 0] for vehicle, lane in self.held.items()]
+            columns = np.append(np.array(columns), np.array(held_rows, int).reshape(-1, 4).T, axis=1)
+        self.set_rows(*columns)
 
-    def show(self, number: Array, slot: Array, cell: Array, speed: Array) -> None:
+    def set_rows(self, number: Array, slot: Array, cell: Array, speed: Array) -> None:
         """Sets the rows."""
         self.number, self.slot, self.cell, self.speed = number, slot, cell, speed
-        self.sought = 0  # vehicles that `where` has looked for
-        for known in self.__dict__.keys() & KNOWN:
-            del self.__dict__[known]
+        self.sought = 0  # vehicles that `position_of` has looked for
+        for name in self.__dict__.keys() & CACHED:
+            del self.__dict__[name]
 
     @cached_property
     def numbers(self) -> list[int]:
@@ -104,21 +104,21 @@ class View(Looker):
         """By row cells a step."""
         return self.speed.tolist()
 
-    def where(self, number: int) -> OnRoad | None:
+    def position_of(self, number: int) -> OnRoad | None:
         """Where a vehicle is; None where it is not on the road. Where many are looked for, all are."""
-        if self.sought >= FEW:
-            return self.there.get(number)
+        if self.sought >= MOST_SINGLE:
+            return self.positions.get(number)
         self.sought += 1
         rows = (self.number == number).nonzero()[0].tolist()
         if not rows:
             return None
-        slot, cell, speed = (int(one[rows[-1]]) for one in (self.slot, self.cell, self.speed))
+        slot, cell, speed = (int(column[rows[-1]]) for column in (self.slot, self.cell, self.speed))
         return OnRoad(slot >> 1, slot & 1, None if cell < 0 else cell, speed)
 
     @cached_property
-    def there(self) -> dict[int, OnRoad]:
+    def positions(self) -> dict[int, OnRoad]:
         """Where each vehicle on the road is, by rows."""
-        return places_of(self.number, self.slot, self.cell, self.speed)
+        return positions_by_number(self.number, self.slot, self.cell, self.speed)
 
     @cached_property
     def row_bounds(self) -> Array:
@@ -132,23 +132,23 @@ class View(Looker):
         return self.row_bounds.tolist()
 
     @cached_property
-    def there_before(self) -> dict[int, OnRoad]:
+    def positions_before(self) -> dict[int, OnRoad]:
         """Where each vehicle was that was on the road a second ago."""
-        return places_of(*self.before)
+        return positions_by_number(*self.previous_rows)
 
-    def on_lane(self, place: Place) -> list[int]:
+    def on_lane(self, link_lane: Place) -> list[int]:
         """The vehicles on the cells of a lane, from the stop line."""
-        key = 4 * place[0] + 2 * place[1]
+        key = 4 * link_lane[0] + 2 * link_lane[1]
         return self.numbers[self.bounds[key] : self.bounds[key + 1]]
 
-    def speeds_on(self, place: Place) -> list[int]:
+    def speeds_on(self, link_lane: Place) -> list[int]:
         """Cells a step of the vehicles of on_lane, in their order."""
-        key = 4 * place[0] + 2 * place[1]
+        key = 4 * link_lane[0] + 2 * link_lane[1]
         return self.speeds[self.bounds[key] : self.bounds[key + 1]]
 
-    def in_buffer(self, place: Place) -> list[int]:
+    def in_buffer(self, link_lane: Place) -> list[int]:
         """Those in the junction behind a lane, first who leaves first."""
-        key = 4 * place[0] + 2 * place[1] + 1
+        key = 4 * link_lane[0] + 2 * link_lane[1] + 1
         return self.numbers[self.bounds[key] : self.bounds[key + 1]]
 
     def remove(self, number: int) -> None:
@@ -161,17 +161,17 @@ class View(Looker):
         """Leaves out the row of a vehicle, where it has one."""
         keep = self.number != number
         self.recorded = int(np.count_nonzero(keep[: self.recorded]))
-        self.show(*(one[keep] for one in (self.number, self.slot, self.cell, self.speed)))
+        self.set_rows(*(column[keep] for column in (self.number, self.slot, self.cell, self.speed)))
 
     def hold(self, number: int, slot: int) -> None:
         """Notes that a vehicle in the junction behind a lane (slot) enters anew there."""
         self.held[number] = slot
         self.drop(number)
         recorded = slice(self.recorded)
-        self.look(*(one[recorded] for one in (self.number, self.slot, self.cell, self.speed)))
+        self.set_recorded(*(column[recorded] for column in (self.number, self.slot, self.cell, self.speed)))
 
 
-def places_of(number: Array, slot: Array, cell: Array, speed: Array) -> dict[int, OnRoad]:
+def positions_by_number(number: Array, slot: Array, cell: Array, speed: Array) -> dict[int, OnRoad]:
     """Where each vehicle is, by rows."""
-    columns = zip(*(one.tolist() for one in (number, slot >> 1, slot & 1, cell, speed)))
-    return {one: OnRoad(link, lane, None if cell < 0 else cell, speed) for one, link, lane, cell, speed in columns}
+    rows = zip(*(column.tolist() for column in (number, slot >> 1, slot & 1, cell, speed)))
+    return {vehicle: OnRoad(link, lane, None if cell < 0 else cell, speed) for vehicle, link, lane, cell, speed in rows}

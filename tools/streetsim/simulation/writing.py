@@ -1,4 +1,4 @@
-"""Writes SUMO's output files of a session."""
+"""The observer that writes SUMO's output files of a session."""
 from streetsim.control.buses import Buses
 from streetsim.kernel.loop import Kernel
 from streetsim.observe.sumo_files import SumoFiles

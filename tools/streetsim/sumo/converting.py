@@ -24,7 +24,7 @@ from streetsim.sumo.signals import AFTER, movements, signal_commands
 from streetsim.sumo.slowing import with_lower_limits
 from streetsim.sumo.reserved import reserved_lanes
 from streetsim.sumo.starting import slow_starts
-from streetsim.sumo.timings import warn_of_clashes
+from streetsim.sumo.timings import timings_of, warn_of_clashes
 from streetsim.sumo.types import Types
 from streetsim.sumo.wauts import day_lines, days_of, programs_shown
 from streetsim.sumo.yielding import equivalents
@@ -53,6 +53,7 @@ def converted(
     vehicles: in order of departure. What is left out or made otherwise than in SUMO is reported. Fault for what cannot
     be made, as a route without a connection. In net, programs may become those of the run's begin (wauts.days_of).
     doubted: whether what may mislead is looked for, as nearly full lanes and programs that clash."""
+    timings = [one.written() for one in timings_of(net)] if doubted else []
     if options.slow:
         net, vehicles = with_lower_limits(net, vehicles, options.slow, report)
     flows = hourly_flows(vehicles)
@@ -62,6 +63,7 @@ def converted(
     paces = Paces(vehicles, types.drivings, lambda name: types.class_kept(name, options.classes))
     network = Network(net, options, report, flows, paces)
     found = movements(net, {link.edge: link.limit for link in network.links}, flows)
+    network.timings = timings
     network.equivalents = equivalents(one for junction in found.values() for one in junction.values())
     entered, driven = enters(vehicles, net, network, types, report)
     network.kinds = kinds_of(driven, types)
@@ -134,6 +136,7 @@ def map_of(network: Network, lights: list[tuple[str, int]], names: list[str], re
         full=network.full,
         starts=network.starts,
         reserved=network.reserved,
+        timings=network.timings,
     )
 
 

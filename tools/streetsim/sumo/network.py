@@ -143,6 +143,7 @@ class Network:
         self.fixed: list[Json] = []  # programs of lights without detectors, that buses and others pass
         self.actuated: list[str] = []  # lights that SUMO times by detectors
         self.programs: list[Json] = []  # of these, as programs.kept_programs has them
+        self.timings: list[Json] = []  # of all lights, as timings.timings_of has them, written
         self.full = Fullness()  # lanes that are nearly full by the demand
         self.starts: SlowStarts | None = None  # at lights
         self.reserved: ReservedLanes | None = None  # of classes beside the first

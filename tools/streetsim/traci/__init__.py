@@ -28,7 +28,7 @@ __all__ = [
     "removeStepListener", "setOrder", "simulationStep", "start", "switch",
 ]
 
-_running: list[TraciSession] = []
+_sessions: list[TraciSession] = []
 _label = ["default"]
 _listeners = Listeners()
 
@@ -40,37 +40,37 @@ def start(
     """Starts a run, by the words of SUMO's command line (the first, SUMO's name, is passed over) and those of
     streetsim-import. label: what getLabel gives; other arguments have no effect. Warnings go to standard error. Gives
     what getVersion gives; FatalTraCIError where the run cannot start, TraCIException where one is under way."""
-    if _running:
+    if _sessions:
         raise TraCIException("a run is under way: close() it first; there is one at a time")
     try:
-        _running.append(open_session(list(cmd)[1:]))
+        _sessions.append(open_session(list(cmd)[1:]))
     except (Fault, Refused, ProgramEnded) as fault:
         raise FatalTraCIError(str(fault)) from None
     _label[0] = label
     return getVersion()
 
 
-def _now() -> TraciSession:
+def _current_session() -> TraciSession:
     """The session of the run; FatalTraCIError where none is under way."""
-    if not _running:
+    if not _sessions:
         raise FatalTraCIError("Not connected.")
-    return _running[0]
+    return _sessions[0]
 
 
 def simulationStep(step: float = 0) -> None:
     """Makes one step (step 0), or all until the clock is at step seconds; then calls the step listeners, once."""
-    _now().step(step)
+    _current_session().step(step)
     _listeners.call_all(step)
 
 
 def close(wait: bool = True) -> None:
     """Ends the run: output files get their names; subscriptions, parameters and listeners are forgotten. wait has no
     effect. FatalTraCIError where no run is under way; ProgramEnded (streetsim.client) where the program failed."""
-    session = _now()
+    session = _current_session()
     try:
         _listeners.clean_up()
     finally:
-        _running.clear()
+        _sessions.clear()
         for domain in _domains:
             domain.forget()
         session.close()
@@ -84,7 +84,7 @@ def load(args: Sequence[str]) -> None:
 
 def isLoaded() -> bool:
     """Whether a run is under way."""
-    return bool(_running)
+    return bool(_sessions)
 
 
 def getVersion() -> tuple[int, str]:
@@ -94,13 +94,13 @@ def getVersion() -> tuple[int, str]:
 
 def getLabel() -> str:
     """The label that the run was started with."""
-    _now()
+    _current_session()
     return _label[0]
 
 
 def switch(label: str) -> None:
     """TraCIException where no run of this label is under way; there is one at a time, so nothing is switched."""
-    if not _running or label != _label[0]:
+    if not _sessions or label != _label[0]:
         raise TraCIException(f"connection '{label}' is not known.")
 
 
@@ -113,13 +113,13 @@ def getConnection(label: str = "default") -> ModuleType:
 def addStepListener(listener: StepListener) -> int | None:
     """Has listener.step called with the argument of each simulationStep, as long as it gives True. Tells it its number,
     and gives it; None where it is no StepListener, which is then not called."""
-    _now()
+    _current_session()
     return _listeners.add(listener)
 
 
 def removeStepListener(listenerID: int) -> bool:
     """Takes off the listener of a number (listenerID), after its cleanUp; gives whether there was one."""
-    _now()
+    _current_session()
     return _listeners.remove(listenerID)
 
 
@@ -139,11 +139,12 @@ def isLibsumo() -> bool:
 
 isLibtraci = isLibsumo
 
-simulation, route = SimulationDomain(_now), RouteDomain(_now)
-vehicle, vehicletype = VehicleDomain(_now), VehicleTypeDomain(_now)
-lane, edge, junction, trafficlight = LaneDomain(_now), EdgeDomain(_now), JunctionDomain(_now), TrafficLightDomain(_now)
-inductionloop, lanearea = InductionLoopDomain(_now), LaneAreaDomain(_now)
-person = PersonDomain(_now)
+simulation, route = SimulationDomain(_current_session), RouteDomain(_current_session)
+vehicle, vehicletype = VehicleDomain(_current_session), VehicleTypeDomain(_current_session)
+lane, edge, junction = LaneDomain(_current_session), EdgeDomain(_current_session), JunctionDomain(_current_session)
+trafficlight = TrafficLightDomain(_current_session)
+inductionloop, lanearea = InductionLoopDomain(_current_session), LaneAreaDomain(_current_session)
+person = PersonDomain(_current_session)
 gui, poi, polygon = Quiet("gui", GUI), Quiet("poi", SHAPES), Quiet("polygon", SHAPES)
 _domains: tuple[Domain | Quiet, ...] = (
     simulation, vehicle, vehicletype, route, lane, edge, junction, trafficlight, inductionloop, lanearea, person,

@@ -1,4 +1,4 @@
-"""Which of a script's calls of TraCI are here: read of its text, without running it."""
+"""streetsim-sumo --check: which of a script's calls of TraCI are here, read from its text, without running it."""
 from __future__ import annotations
 
 import ast
@@ -17,7 +17,7 @@ MODULES = ("traci", "libsumo", "libtraci", "streetsim.traci")
 QUIET = ("gui", "poi", "polygon")
 # By which a call of what may be a domain is known.
 CALL = re.compile(r"(get|set|is|subscribe|unsubscribe|add|remove|change|reroute|slow|move|adapt|open|resume|highlight)")
-TOLD = ("VAR_", "LAST_STEP_", "TL_", "LANE_")  # begins of the names of variables
+VARIABLE_PREFIXES = ("VAR_", "LAST_STEP_", "TL_", "LANE_")  # begins of the names of variables
 # Calls that are done otherwise than in SUMO, and how.
 OTHERWISE = {
     "vehicle.setRoute": "a vehicle on the road takes it from the next junction on",
@@ -46,14 +46,14 @@ OTHERWISE = {
 }
 
 
-class Called(NamedTuple):
+class ScriptCall(NamedTuple):
     """A call in a script."""
 
     domain: str  # empty: of the module itself
     name: str
     line: int
 
-    def told(self) -> str:
+    def full_name(self) -> str:
         """As it is written behind traci."""
         return f"{self.domain}.{self.name}" if self.domain else self.name
 
@@ -67,34 +67,34 @@ class ScriptNames(ast.NodeVisitor):
         self.domains: dict[str, str] = {}
         self.sure: set[str] = set()  # the names of domains that are such for sure
         self.constants: set[str] = set()
-        self.calls: list[Called] = []
+        self.calls: list[ScriptCall] = []
         self.variables: list[tuple[str, int]] = []
 
     def visit_Import(self, node: ast.Import) -> None:
         """Notes modules by their names."""
-        for one in node.names:
-            base, _, last = one.name.rpartition(".")
-            if last == "constants" and base in MODULES and one.asname:
-                self.constants.add(one.asname)
-            elif one.name in MODULES or base in MODULES:
-                self.modules.add(one.asname or one.name.split(".")[0])
+        for alias in node.names:
+            package, _, module_name = alias.name.rpartition(".")
+            if module_name == "constants" and package in MODULES and alias.asname:
+                self.constants.add(alias.asname)
+            elif alias.name in MODULES or package in MODULES:
+                self.modules.add(alias.asname or alias.name.split(".")[0])
 
     def visit_ImportFrom(self, node: ast.ImportFrom) -> None:
         """Notes domains, constants and TraCI itself."""
-        for one in node.names:
-            own = one.asname or one.name
-            if node.module == "streetsim" and one.name == "traci":
-                self.modules.add(own)
-            elif node.module in MODULES and one.name == "constants":
-                self.constants.add(own)
-            elif node.module in MODULES and one.name in DOMAINS:
-                self.domains[own] = one.name
-                self.sure.add(own)
+        for alias in node.names:
+            bound_name = alias.asname or alias.name
+            if node.module == "streetsim" and alias.name == "traci":
+                self.modules.add(bound_name)
+            elif node.module in MODULES and alias.name == "constants":
+                self.constants.add(bound_name)
+            elif node.module in MODULES and alias.name in DOMAINS:
+                self.domains[bound_name] = alias.name
+                self.sure.add(bound_name)
 
     def visit_Assign(self, node: ast.Assign) -> None:
         """Notes names of connections and domains."""
         for target in node.targets:
-            name = written(target)
+            name = dotted_name(target)
             if name and self.is_module(node.value):
                 self.modules.add(name)
             elif name and (domain := self.domain_of(node.value)):
@@ -105,10 +105,11 @@ class ScriptNames(ast.NodeVisitor):
         """Notes the call of a domain or of the module, and a variable."""
         domain = self.domain_of(node.value)
         if domain and (self.is_sure(node.value) or CALL.match(node.attr)):
-            self.calls.append(Called(domain, node.attr, node.lineno))
+            self.calls.append(ScriptCall(domain, node.attr, node.lineno))
         elif self.is_module(node.value) and node.attr not in DOMAINS and node.attr[:1].islower():
-            self.calls.append(Called("", node.attr, node.lineno))
-        if node.attr.startswith(TOLD) and (written(node.value) in self.constants or self.is_constants(node.value)):
+            self.calls.append(ScriptCall("", node.attr, node.lineno))
+        of_constants = dotted_name(node.value) in self.constants or self.is_constants(node.value)
+        if node.attr.startswith(VARIABLE_PREFIXES) and of_constants:
             self.variables.append((node.attr, node.lineno))
         self.generic_visit(node)
 
@@ -116,7 +117,8 @@ class ScriptNames(ast.NodeVisitor):
         """Whether an expression is TraCI's module or a connection."""
         if isinstance(node, ast.Call):
             return isinstance(node.func, ast.Attribute) and node.func.attr in ("getConnection", "connect")
-        return written(node) in self.modules or written(node) in MODULES and written(node).split(".")[0] in self.modules
+        name = dotted_name(node)
+        return name in self.modules or name in MODULES and name.split(".")[0] in self.modules
 
     def is_constants(self, node: ast.expr) -> bool:
         """Whether an expression is the module of constants."""
@@ -127,69 +129,69 @@ class ScriptNames(ast.NodeVisitor):
         is none."""
         if isinstance(node, ast.Attribute) and node.attr in DOMAINS:
             return node.attr
-        return self.domains.get(written(node), "")
+        return self.domains.get(dotted_name(node), "")
 
     def is_sure(self, node: ast.expr) -> bool:
         """Whether an expression that may be a domain is one for sure."""
-        return not isinstance(node, ast.Attribute) and written(node) in self.sure or (
+        return not isinstance(node, ast.Attribute) and dotted_name(node) in self.sure or (
             isinstance(node, ast.Attribute) and self.is_module(node.value)
         )
 
 
-def written(node: ast.expr) -> str:
+def dotted_name(node: ast.expr) -> str:
     """A name, or names with dots between, as it is written; empty for another expression."""
     if isinstance(node, ast.Attribute):
-        before = written(node.value)
-        return f"{before}.{node.attr}" if before else ""
+        owner = dotted_name(node.value)
+        return f"{owner}.{node.attr}" if owner else ""
     return node.id if isinstance(node, ast.Name) else ""
 
 
-def checked(path: str) -> int:
+def check_script(path: str) -> int:
     """Prints which calls of a script are here; gives 1 where some are not, else 0. Fault where it cannot be read."""
     try:
         with open(path, encoding="utf-8") as file:
             tree = ast.parse(file.read())
     except (SyntaxError, ValueError) as fault:
         raise Fault(f"{path}: is no script of Python: {fault}") from None
-    found = ScriptNames()
+    script = ScriptNames()
     for node in ast.walk(tree):  # names first, as functions may stand before them
         if isinstance(node, (ast.Import, ast.ImportFrom)):
-            found.visit(node)
-    found.visit(tree)
+            script.visit(node)
+    script.visit(tree)
     kinds: dict[str, dict[str, list[int]]] = {kind: defaultdict(list) for kind in ("here", "otherwise", "not here")}
-    for call in found.calls:
-        kind, told = judged(call)
-        kinds[kind][told].append(call.line)
-    for told, line in variables_not_here(found):
-        kinds["not here"][told].append(line)
+    for call in script.calls:
+        kind, message = classify_call(call)
+        kinds[kind][message].append(call.line)
+    for message, line in variables_not_here(script):
+        kinds["not here"][message].append(line)
     for kind, calls in kinds.items():
         print(f"{len(calls)} {kind}{':' if calls else ''}")
-        for told, lines in sorted(calls.items()):
-            print(f"  {told} (line {', '.join(map(str, sorted(set(lines))))})")
+        for message, lines in sorted(calls.items()):
+            print(f"  {message} (line {', '.join(map(str, sorted(set(lines))))})")
     return int(bool(kinds["not here"]))
 
 
-def judged(call: Called) -> tuple[str, str]:
+def classify_call(call: ScriptCall) -> tuple[str, str]:
     """(whether a call is here, otherwise or not here; the call, and how else or what to do instead)."""
-    told = call.told()
+    call_name = call.full_name()
     if call.domain in QUIET:
-        own = getattr(traci, call.domain)
-        return ("otherwise", f"{told}: shows nothing") if call.name in own.calls else ("not here", advised(told))
+        is_quiet = call.name in getattr(traci, call.domain).calls
+        return ("otherwise", f"{call_name}: shows nothing") if is_quiet else ("not here", with_advice(call_name))
     owner = type(vars(traci)[call.domain]) if call.domain in vars(traci) else None
     if hasattr(owner, call.name) if call.domain else call.name in vars(traci):
-        how = OTHERWISE.get(told)
-        return ("otherwise", f"{told}: {how}") if how else ("here", told)
-    return "not here", advised(told)
+        how = OTHERWISE.get(call_name)
+        return ("otherwise", f"{call_name}: {how}") if how else ("here", call_name)
+    return "not here", with_advice(call_name)
 
 
-def advised(told: str) -> str:
+def with_advice(call_name: str) -> str:
     """A call, and what to do instead."""
-    return f"{told}: {advice_on(told)}"
+    return f"{call_name}: {advice_on(call_name)}"
 
 
-def variables_not_here(found: ScriptNames) -> Iterator[tuple[str, int]]:
+def variables_not_here(script: ScriptNames) -> Iterator[tuple[str, int]]:
     """(name of a variable that no domain tells, line)."""
     known = {variable for table in GETS.values() for variable in table}
-    for name, line in found.variables:
+    for name, line in script.variables:
         if getattr(tc, name, None) not in known:
             yield f"{name}: cannot be subscribed to", line

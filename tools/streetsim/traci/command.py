@@ -12,18 +12,18 @@ from streetsim.base.words import Parser
 from streetsim.model import trust
 from streetsim.simulation.errors import FatalTraCIError
 from streetsim.simulation.opening import is_on
-from streetsim.simulation.options import IMPORTED, options_of
+from streetsim.simulation.options import IMPORTED, read_options
 from streetsim.simulation.session import TraciSession
-from streetsim.simulation.statistics import Waited, doubts_of, statistics_of
-from streetsim.traci.checking import checked
+from streetsim.simulation.statistics import WaitingCount, doubts_of, statistics_of
+from streetsim.traci.checking import check_script
 from streetsim.traci.server import HOST, Server, listen, turn_away
 
 PORTS, CLIENTS, CHECK = "remote-port", "num-clients", "--check"
 MINUTE, MOST_CLIENTS = 60, 64
 ALL_LEFT = "All vehicles have left the simulation."
-RUN_WORDS = ("departures", "lights", "merge", "close", "stops", "priority", "seen")
+RUN_OPTIONS = ("departures", "lights", "merge", "close", "stops", "priority", "seen")
 # SUMO's words and those of the tools that are done, as --help, the manual page and the completion tell them.
-WORDS = (
+OPTION_HELP = (
     ("-c, --configuration-file FILE", "a configuration, whose options count behind those of the command line"),
     ("-n, --net-file FILE", "the network"),
     ("-r, --route-files FILES", "vehicles, flows and trips, with commas between"),
@@ -46,14 +46,14 @@ WORDS = (
     ("--rescue SECONDS", "rescues who stands so long, in place of --time-to-teleport"),
     ("--rounds NUMBER", "of runs before, by which vehicles give way without a light (2)"),
     *((f"--{name} ..", "as of streetsim-import") for name in sorted(IMPORTED - {"seed", "begin"})),
-    *((f"--{name} ..", "as of streetsim-run") for name in RUN_WORDS),
+    *((f"--{name} ..", "as of streetsim-run") for name in RUN_OPTIONS),
     ("--check SCRIPT.py", "reads a script for TraCI, and says which of its calls are here"),
 )
 
 
 def parser() -> argparse.ArgumentParser:
-    """The parser that tells the words; they are read by options_of, as SUMO reads them."""
-    made = Parser(
+    """The parser that tells the words; they are read by read_options, as SUMO reads them."""
+    options_parser = Parser(
         prog="streetsim-sumo",
         formatter_class=argparse.RawDescriptionHelpFormatter,
         examples=(
@@ -64,14 +64,14 @@ def parser() -> argparse.ArgumentParser:
         epilog="SUMO's other words have no effect, which a line tells, or are refused by name (tools/PYTHON.md).\n"
         "SUMO_BINARY=streetsim-sumo has scripts that ask sumolib.checkBinary('sumo') start it.",
     )
-    for names, told in WORDS:
+    for names, help_text in OPTION_HELP:
         flags = [word for word in names.replace(",", "").split() if word.startswith("-")]
         value = names.split()[-1]
         if value in flags:
-            made.add_argument(*flags, help=told, action="store_true")
+            options_parser.add_argument(*flags, help=help_text, action="store_true")
         else:
-            made.add_argument(*flags, help=told, metavar=value)
-    return made
+            options_parser.add_argument(*flags, help=help_text, metavar=value)
+    return options_parser
 
 
 def main(arguments: list[str]) -> int:
@@ -83,19 +83,19 @@ def main(arguments: list[str]) -> int:
     if {"-V", "--version"} & set(arguments):
         parser().parse_args(["--version"])
     if arguments[0].partition("=")[0] == CHECK:
-        words = parser().parse_args(arguments)
-        return checked(words.check)
+        args = parser().parse_args(arguments)
+        return check_script(args.check)
     try:
-        return run_by(arguments, options_of(arguments))
+        return run_with_options(arguments, read_options(arguments))
     except (FatalTraCIError, Refused, ProgramEnded) as fault:
         raise Fault(str(fault)) from None
 
 
-def run_by(arguments: Sequence[str], options: Mapping[str, str]) -> int:
+def run_with_options(arguments: Sequence[str], options: Mapping[str, str]) -> int:
     """Makes the run that SUMO's words ask for, which have these options, by clients or alone; gives the status."""
     count, port = number_in(options, CLIENTS, 1, 1, MOST_CLIENTS), number_in(options, PORTS, 0, 0, (1 << 16) - 1)
     listening = listen(port) if port else None
-    loud, began = "verbose" in options and is_on(options["verbose"]), time.monotonic()
+    is_verbose, started = "verbose" in options and is_on(options["verbose"]), time.monotonic()
     if listening is not None:
         print(f"streetsim-sumo listens at port {port} of {HOST} for {count} clients", flush=True)
     try:
@@ -104,22 +104,22 @@ def run_by(arguments: Sequence[str], options: Mapping[str, str]) -> int:
         if listening is not None:
             turn_away(listening)
         raise
-    session, first = traci.simulation.now(), traci.simulation.getTime()
-    if loud:
-        print(f"Loading done.\nSimulation version streetsim started with time: {first:.2f}.", flush=True)
-    lost, why, waited = 0, "TraCI requested termination.", list[Waited]()
+    session, start_clock = traci.simulation.session(), traci.simulation.getTime()
+    if is_verbose:
+        print(f"Loading done.\nSimulation version streetsim started with time: {start_clock:.2f}.", flush=True)
+    lost_clients, reason, waiting_by_minute = 0, "TraCI requested termination.", list[WaitingCount]()
     try:
         if listening is not None:
-            lost = Server(listening, count, lambda text: print(text, file=sys.stderr)).serve()
-            session = traci.simulation.now()
+            lost_clients = Server(listening, count, lambda text: print(text, file=sys.stderr)).serve()
+            session = traci.simulation.session()
         else:
-            why, waited = to_end(session, seconds(options["end"]) if "end" in options else inf)
+            reason, waiting_by_minute = run_to_end(session, seconds(options["end"]) if "end" in options else inf)
     except BaseException:
         session.kill()
         raise
-    tell_end(session, options, why, time.monotonic() - began, waited)
+    print_end(session, options, reason, time.monotonic() - started, waiting_by_minute)
     traci.close()
-    return int(lost > 0)
+    return int(lost_clients > 0)
 
 
 def number_in(options: Mapping[str, str], name: str, default: int, least: int, most: int) -> int:
@@ -130,26 +130,27 @@ def number_in(options: Mapping[str, str], name: str, default: int, least: int, m
     return int(text)
 
 
-def to_end(session: TraciSession, end: float) -> tuple[str, list[Waited]]:
+def run_to_end(session: TraciSession, end: float) -> tuple[str, list[WaitingCount]]:
     """Makes a run to its end: until no vehicle is left, or to a clock; gives (why it has ended, in SUMO's words; how
     many waited to enter at each minute)."""
-    waited, last = [], max((line.command["depart"] for line in session.source.enters), default=0)
+    waiting_by_minute, last_departure = [], max((line.command["depart"] for line in session.source.enters), default=0)
     while session.clock < end and session.count_not_ended() > 0:
         minute = session.clock - session.clock % MINUTE + MINUTE
-        session.step(min(minute, end) if session.clock < last else 0)
+        session.step(min(minute, end) if session.clock < last_departure else 0)
         if session.clock % MINUTE == 0:
-            waited.append(Waited(session.clock, len(session.waiting_to_depart())))
-    return "The final simulation step has been reached." if session.clock >= end else ALL_LEFT, waited
+            waiting_by_minute.append(WaitingCount(session.clock, len(session.waiting_to_depart())))
+    return "The final simulation step has been reached." if session.clock >= end else ALL_LEFT, waiting_by_minute
 
 
-def tell_end(
-    session: TraciSession, options: Mapping[str, str], why: str, spent: float, waited: Sequence[Waited]
-) -> None:
+def print_end(
+    session: TraciSession, options: Mapping[str, str], reason: str, wall_seconds: float,
+    waiting_by_minute: Sequence[WaitingCount],
+) -> None:  # fmt: skip
     """Prints SUMO's last lines, as far as the options ask for them, and that a run is not to be trusted, if so."""
-    means = is_on(options.get("duration-log.statistics", "false"))
-    if means or is_on(options.get("verbose", "false")):
-        print(f"Simulation ended at time: {session.clock:.2f}\nReason: {why}")
-        print(f"Performance:\n Duration: {spent:.2f}s")
-        print(*statistics_of(session).lines(means), sep="\n")
-    if found := doubts_of(session, waited):
-        print(trust.verdict(found), flush=True)
+    with_means = is_on(options.get("duration-log.statistics", "false"))
+    if with_means or is_on(options.get("verbose", "false")):
+        print(f"Simulation ended at time: {session.clock:.2f}\nReason: {reason}")
+        print(f"Performance:\n Duration: {wall_seconds:.2f}s")
+        print(*statistics_of(session).lines(with_means), sep="\n")
+    if doubts := doubts_of(session, waiting_by_minute):
+        print(trust.verdict(doubts), flush=True)

@@ -12,7 +12,7 @@ from streetsim.simulation.session import TraciSession
 from streetsim.traci import constants as tc
 from streetsim.traci.advice import advice_on
 from streetsim.traci.protocol import Value
-from streetsim.traci.table import told_by
+from streetsim.traci.table import calls_by_variable
 
 Values = dict[int, Value]  # what is told, by variable
 # Letters of the parameters that scripts keep in a domain, at most; as how many a parameter counts beside its own.
@@ -23,20 +23,20 @@ class Domain(CallGroup[TraciSession]):
     """A domain of calls on objects of one kind."""
 
     kind = "Object"
-    usual: tuple[int, ...] = ()  # that are subscribed to where none is told
+    default_variables: tuple[int, ...] = ()  # that are subscribed to where none is told
 
-    def __init__(self, now: Callable[[], TraciSession]) -> None:
-        """now: gives the session; FatalTraCIError where no run is under way."""
-        super().__init__(now)
+    def __init__(self, session: Callable[[], TraciSession]) -> None:
+        """session: gives the session; FatalTraCIError where no run is under way."""
+        super().__init__(session)
         self.subscribed: dict[str, tuple[int, ...]] = {}  # variables by object
-        self.around: dict[str, tuple[float, tuple[int, ...]]] = {}  # by object: metres, and variables of the vehicles
+        self.contexts: dict[str, tuple[float, tuple[int, ...]]] = {}  # by object: metres, and variables of the vehicles
         self.parameters: dict[tuple[str, str], str] = {}  # that scripts keep, by object and key
         self.letters = 0  # of their keys and texts, with OVERHEAD for each
 
     @cached_property
     def variables(self) -> dict[int, str]:
         """The calls that tell variables, by number."""
-        return told_by(self.name)
+        return calls_by_variable(self.name)
 
     def advice(self, called: str) -> str:
         """What is said of a call of this domain that is not here; called: "domain.call"."""
@@ -57,11 +57,11 @@ class Domain(CallGroup[TraciSession]):
         """Keeps a text under a key (param), for getParameter. TraCIException for an unknown object, and where the
         domain would keep more than MOST_LETTERS; NotHere for keys of SUMO's models."""
         self.check_key(objectID, param)
-        text, before = str(value), self.parameters.get((objectID, param))
-        more = len(text) - len(before) if before is not None else len(param) + len(text) + OVERHEAD
-        if self.letters + more > MOST_LETTERS:
+        text, previous = str(value), self.parameters.get((objectID, param))
+        added_letters = len(text) - len(previous) if previous is not None else len(param) + len(text) + OVERHEAD
+        if self.letters + added_letters > MOST_LETTERS:
             raise TraCIException(f"{self.name}: parameters of more than {MOST_LETTERS:,} letters are not kept")
-        self.letters += more
+        self.letters += added_letters
         self.parameters[objectID, param] = text
 
     def forget_parameters(self, name: str) -> None:
@@ -96,7 +96,7 @@ class Domain(CallGroup[TraciSession]):
 
     def note_subscription(self, name: str, numbers: Sequence[int] | None) -> None:
         """As subscribe, of an object whose name was checked."""
-        variables = tuple(self.usual if numbers is None else numbers)
+        variables = tuple(self.default_variables if numbers is None else numbers)
         self.check_variables(variables)
         self.subscribed[name] = variables
 
@@ -146,7 +146,7 @@ class Domain(CallGroup[TraciSession]):
         columns = map(plain, self.columns(variables, names))
         return {name: dict(zip(variables, row)) for name, row in zip(names, zip(*columns))} if variables else {}
 
-    def there(self, names: Iterable[str]) -> list[str]:
+    def existing(self, names: Iterable[str]) -> list[str]:
         """Of some objects those that are there, whose subscriptions are told."""
         return [name for name in names if self.is_subject(name)]
 
@@ -155,15 +155,15 @@ class Domain(CallGroup[TraciSession]):
         groups: defaultdict[tuple[int, ...], list[str]] = defaultdict(list)
         for name, variables in self.subscribed.items():
             groups[variables].append(name)
-        found: dict[str, Values] = {}
+        results: dict[str, Values] = {}
         for variables, names in groups.items():
-            found |= self.all_values(self.there(names), variables)
-        return found
+            results |= self.all_values(self.existing(names), variables)
+        return results
 
     def forget(self) -> None:
         """Forgets subscriptions and what scripts keep, at the end of a run."""
         self.subscribed.clear()
-        self.around.clear()
+        self.contexts.clear()
         self.parameters.clear()
         self.letters = 0
 
@@ -172,7 +172,7 @@ class Outlined(Domain):
     """Objects with an outline, around which vehicles can be looked for."""
 
     vehicles: Domain  # that are looked for; the package sets it
-    stands = True  # where it is
+    is_fixed = True  # where it is
 
     def outline(self, name: str) -> Line:
         """Points (x, y), one or a line, in metres, from which distances are measured; each class has its own."""
@@ -187,7 +187,7 @@ class Outlined(Domain):
         have no effect. TraCIException for an unknown object; NotHere for another domain or variable."""
         variables = tuple((tc.VAR_ROAD_ID, tc.VAR_LANEPOSITION) if varIDs is None else varIDs)
         self.check_context(objectID, domain, variables)
-        self.around[objectID] = float(dist), variables
+        self.contexts[objectID] = float(dist), variables
 
     def check_context(self, name: str, domain: int, variables: Sequence[int]) -> None:
         """Raises what subscribeContext does."""
@@ -198,33 +198,34 @@ class Outlined(Domain):
 
     def unsubscribeContext(self, objectID: str, domain: int, dist: float) -> None:
         """Ends the context subscription to an object; domain and dist have no effect."""
-        self.around.pop(objectID, None)
+        self.contexts.pop(objectID, None)
 
     def getContextSubscriptionResults(self, objectID: str) -> dict[str, Values]:
         """By vehicle near the object what was subscribed to, by number; empty where the object is gone."""
-        if objectID not in self.around or not self.is_subject(objectID):
+        if objectID not in self.contexts or not self.is_subject(objectID):
             return {}
-        metres, variables = self.around[objectID]
+        metres, variables = self.contexts[objectID]
         return self.vehicles.all_values(self.names_near(objectID, metres), variables)
 
     def names_near(self, name: str, metres: float) -> tuple[str, ...]:
         """The vehicles at most some metres from an object."""
-        rows, _ = self.now().places.rows_in(*self.stretches_near(name, metres))
-        return self.now().names_of(self.now().view.number[rows].tolist())
+        rows, _ = self.session().vehicle_points.rows_in(*self.stretches_near(name, metres))
+        return self.session().names_of(self.session().view.number[rows].tolist())
 
     def stretches_near(self, name: str, metres: float) -> tuple[Array, Array]:
         """The stretches of places, as Places has them, at most some metres from an object."""
         line = tuple((point[0], point[1]) for point in self.outline(name))
-        places = self.now().places
-        return places.stretches_of(line, metres) if self.stands else places.stretches(line, metres)
+        points = self.session().vehicle_points
+        return points.stretches_of(line, metres) if self.is_fixed else points.stretches(line, metres)
 
     def getAllContextSubscriptionResults(self) -> dict[str, dict[str, Values]]:
         """By object, of those that are there, what getContextSubscriptionResults gives."""
-        return {name: self.getContextSubscriptionResults(name) for name in self.around if self.is_subject(name)}
+        return {name: self.getContextSubscriptionResults(name) for name in self.contexts if self.is_subject(name)}
 
 
 def plain(column: Column) -> Sequence[object]:
     """A column as Python's own values: numbers, and points as tuples."""
     if isinstance(column, list):
         return column
-    return list(map(tuple, found)) if (found := np.asarray(column).tolist()) and isinstance(found[0], list) else found
+    values = np.asarray(column).tolist()
+    return list(map(tuple, values)) if values and isinstance(values[0], list) else values

@@ -24,22 +24,22 @@ class Listeners:
 
     def __init__(self) -> None:
         """None yet; numbers begin with 0, as in SUMO."""
-        self.made = 0
-        self.here: dict[int, StepListener] = {}
+        self.next_number = 0
+        self.by_number: dict[int, StepListener] = {}
 
     def add(self, listener: StepListener) -> int | None:
         """Adds a listener, and tells it its number (setID), which is given; None where it is no StepListener, which is
         not added."""
         if not isinstance(listener, StepListener):
             return None
-        number, self.made = self.made, self.made + 1
+        number, self.next_number = self.next_number, self.next_number + 1
         listener.setID(number)
-        self.here[number] = listener
+        self.by_number[number] = listener
         return number
 
     def remove(self, number: int) -> bool:
         """Takes off the listener of a number, after its cleanUp; gives whether there was one."""
-        listener = self.here.pop(number, None)
+        listener = self.by_number.pop(number, None)
         if listener is None:
             return False
         listener.cleanUp()
@@ -47,11 +47,11 @@ class Listeners:
 
     def call_all(self, time: float) -> None:
         """Calls all listeners, and then takes off those that gave False; time: the argument of simulationStep."""
-        for number in [number for number, listener in list(self.here.items()) if not listener.step(time)]:
+        for number in [number for number, listener in list(self.by_number.items()) if not listener.step(time)]:
             self.remove(number)
 
     def clean_up(self) -> None:
         """Forgets all listeners, and calls cleanUp of each."""
-        here, self.made, self.here = self.here, 0, {}
-        for listener in here.values():
+        listeners, self.next_number, self.by_number = self.by_number, 0, {}
+        for listener in listeners.values():
             listener.cleanUp()

@@ -10,7 +10,7 @@ YELLOW = (255, 255, 0, 255)  # SUMO's colour of a vehicle
 Colour = tuple[int, ...]  # red, green, blue, opacity; 0 to 255
 
 
-class Look(NamedTuple):
+class VehicleLook(NamedTuple):
     """How a vehicle of a class looks where its type tells nothing else, as SUMO has it."""
 
     width: float = 1.8  # metres
@@ -20,20 +20,22 @@ class Look(NamedTuple):
     persons: int = 4
 
 
-VAN = Look(2.16, 2.86, "HBEFA3/LDV", "delivery", 2)
+VAN = VehicleLook(2.16, 2.86, "HBEFA3/LDV", "delivery", 2)
 LOOKS = {
-    "emergency": VAN, "delivery": VAN, "taxi": Look(shape="taxi"), "bus": Look(2.5, 3.4, "HBEFA3/Bus", "bus", 85),
-    "coach": Look(2.6, 4.0, "HBEFA3/Coach", "bus/coach", 70), "truck": Look(2.4, 2.4, "HBEFA3/HDV", "truck", 2),
-    "trailer": Look(2.55, 4.0, "HBEFA3/HDV", "truck/trailer", 2),
-    "tram": Look(2.4, 3.2, "Zero/default", "rail/railcar", 120),
-    "motorcycle": Look(0.9, 1.5, "HBEFA3/LDV_G_EU6", "motorcycle", 1),
-    "moped": Look(0.78, 1.7, "HBEFA3/LDV_G_EU6", "moped", 1),
-    "bicycle": Look(0.65, 1.7, "Zero/default", "bicycle", 1),
-    "evehicle": Look(emission="Zero/default", shape="evehicle"),
+    "emergency": VAN, "delivery": VAN, "taxi": VehicleLook(shape="taxi"),
+    "bus": VehicleLook(2.5, 3.4, "HBEFA3/Bus", "bus", 85),
+    "coach": VehicleLook(2.6, 4.0, "HBEFA3/Coach", "bus/coach", 70),
+    "truck": VehicleLook(2.4, 2.4, "HBEFA3/HDV", "truck", 2),
+    "trailer": VehicleLook(2.55, 4.0, "HBEFA3/HDV", "truck/trailer", 2),
+    "tram": VehicleLook(2.4, 3.2, "Zero/default", "rail/railcar", 120),
+    "motorcycle": VehicleLook(0.9, 1.5, "HBEFA3/LDV_G_EU6", "motorcycle", 1),
+    "moped": VehicleLook(0.78, 1.7, "HBEFA3/LDV_G_EU6", "moped", 1),
+    "bicycle": VehicleLook(0.65, 1.7, "Zero/default", "bicycle", 1),
+    "evehicle": VehicleLook(emission="Zero/default", shape="evehicle"),
 }  # by class, of those that differ
 
 
-class Looking(Domain):
+class LookDomain(Domain):
     """Calls on the looks of types, or of the types of vehicles: metres, SUMO's names. TraCIException for an unknown
     name."""
 
@@ -41,35 +43,35 @@ class Looking(Domain):
         """(the type of an object, the attributes that its file has); each class below gives its own."""
         raise NotImplementedError
 
-    def look(self, name: str, attribute: str) -> tuple[str | None, Look]:
+    def attribute_and_look(self, name: str, attribute: str) -> tuple[str | None, VehicleLook]:
         """(what the file of a type has as an attribute, how its class looks)."""
-        kind, words = self.type_of(name)
-        return words.get(attribute), LOOKS.get(kind.vclass, Look())
+        kind, attributes = self.type_of(name)
+        return attributes.get(attribute), LOOKS.get(kind.vclass, VehicleLook())
 
     def getWidth(self, name: str) -> float:
         """Metres; vehicles fill their lane here."""
-        told, look = self.look(name, "width")
-        return look.width if told is None else number(told)
+        value, usual_look = self.attribute_and_look(name, "width")
+        return usual_look.width if value is None else number(value)
 
     def getHeight(self, name: str) -> float:
         """Metres."""
-        told, look = self.look(name, "height")
-        return look.height if told is None else number(told)
+        value, usual_look = self.attribute_and_look(name, "height")
+        return usual_look.height if value is None else number(value)
 
     def getEmissionClass(self, name: str) -> str:
         """The class of its emissions, which are not reckoned here."""
-        told, look = self.look(name, "emissionClass")
-        return told or look.emission
+        value, usual_look = self.attribute_and_look(name, "emissionClass")
+        return value or usual_look.emission
 
     def getShapeClass(self, name: str) -> str:
         """The name of the shape in which SUMO's window draws it."""
-        told, look = self.look(name, "guiShape")
-        return told or look.shape
+        value, usual_look = self.attribute_and_look(name, "guiShape")
+        return value or usual_look.shape
 
     def getPersonCapacity(self, name: str) -> int:
         """How many persons may ride; nobody does."""
-        told, look = self.look(name, "personCapacity")
-        return look.persons if told is None else int(told)
+        value, usual_look = self.attribute_and_look(name, "personCapacity")
+        return usual_look.persons if value is None else int(value)
 
     def getActionStepLength(self, name: str) -> float:
         """1.0: the seconds after which a driver acts."""
@@ -83,11 +85,11 @@ class Looking(Domain):
 
     def colour_of_type(self, name: str) -> Colour:
         """The colour of a type, where its file has it in numbers; else SUMO's yellow."""
-        told = self.type_of(name)[1].get("color", "")
+        colour_text = self.type_of(name)[1].get("color", "")
         try:
-            parts = [number(part) for part in told.split(",")]
+            parts = [number(part) for part in colour_text.split(",")]
         except ValueError:
             return YELLOW
         scale = 255 if all(part <= 1 for part in parts) else 1
-        found = tuple(round(part * scale) for part in parts)
-        return found if len(found) == 4 else (*found, 255) if len(found) == 3 else YELLOW
+        colour = tuple(round(part * scale) for part in parts)
+        return colour if len(colour) == 4 else (*colour, 255) if len(colour) == 3 else YELLOW

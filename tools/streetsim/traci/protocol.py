@@ -10,9 +10,9 @@ from typing import Any
 
 from streetsim.traci import constants as tc
 
-MOST = 1 << 24  # bytes of a message that are taken, at most
-DEEP = 8  # compounds within each other that are taken, at most
-SHORT = 255  # bytes of a command whose length is one byte, at most
+MOST_MESSAGE = 1 << 24  # bytes of a message that are taken, at most
+MOST_DEPTH = 8  # compounds within each other that are taken, at most
+SHORT_COMMAND = 255  # bytes of a command whose length is one byte, at most
 INT, DOUBLE, BYTE, UBYTE, POINT, SPACE, COLOUR = (
     struct.Struct(f"!{letters}") for letters in ("i", "d", "b", "B", "dd", "ddd", "4B")
 )
@@ -32,51 +32,51 @@ class BadMessage(Exception):
     """Bytes that are no value, command or message of the protocol."""
 
 
-class WordReader:
+class ValueReader:
     """Reads values from bytes, and nothing beyond their end: BadMessage there, and for what is no value."""
 
-    def __init__(self, data: bytes, at: int, end: int) -> None:
-        """at, end: of the bytes that are read."""
-        self.data, self.at, self.end = data, at, end
+    def __init__(self, data: bytes, position: int, end: int) -> None:
+        """position, end: of the bytes that are read."""
+        self.data, self.position, self.end = data, position, end
 
-    def take(self, layout: struct.Struct) -> tuple[Value, ...]:
+    def unpack(self, layout: struct.Struct) -> tuple[Value, ...]:
         """The next values of a layout."""
-        if self.at + layout.size > self.end:
+        if self.position + layout.size > self.end:
             raise BadMessage("a command ends before its values do")
-        found = layout.unpack_from(self.data, self.at)
-        self.at += layout.size
-        return found
+        values = layout.unpack_from(self.data, self.position)
+        self.position += layout.size
+        return values
 
     def count(self) -> int:
         """The next number of things, each of which takes at least a byte."""
-        (found,) = self.take(INT)
-        if not 0 <= found <= self.end - self.at:
-            raise BadMessage(f"{found:,} are announced, where {self.end - self.at:,} bytes are left")
-        return int(found)
+        (count,) = self.unpack(INT)
+        if not 0 <= count <= self.end - self.position:
+            raise BadMessage(f"{count:,} are announced, where {self.end - self.position:,} bytes are left")
+        return int(count)
 
     def text(self) -> str:
         """The next text."""
         size = self.count()
-        self.at += size
-        return self.data[self.at - size : self.at].decode("latin1")
+        self.position += size
+        return self.data[self.position - size : self.position].decode("latin1")
 
     def byte(self) -> int:
         """The next byte without sign."""
-        return int(self.take(UBYTE)[0])
+        return int(self.unpack(UBYTE)[0])
 
-    def typed(self, deep: int = 0) -> Typed:
-        """The next value by the mark of its type; deep: the compounds around it."""
+    def typed(self, depth: int = 0) -> Typed:
+        """The next value by the mark of its type; depth: the compounds around it."""
         letter = LETTERS.get(number := self.byte(), "")
         if letter == "t":
-            return "t", [self.typed(deep + 1) for _ in range(self.parts(deep))]
+            return "t", [self.typed(depth + 1) for _ in range(self.parts(depth))]
         if not letter:
             raise BadMessage(f"{number:#x} is no type of a value")
         return letter, self.value(letter)
 
-    def parts(self, deep: int) -> int:
+    def parts(self, depth: int) -> int:
         """How many parts the next compound has, which is within so many others."""
-        if deep >= DEEP:
-            raise BadMessage(f"more than {DEEP} compounds within each other")
+        if depth >= MOST_DEPTH:
+            raise BadMessage(f"more than {MOST_DEPTH} compounds within each other")
         return self.count()
 
     def value(self, letter: str) -> Value:
@@ -86,29 +86,29 @@ class WordReader:
         if letter == "l":
             return [self.text() for _ in range(self.count())]
         if letter == "f":
-            return [self.take(DOUBLE)[0] for _ in range(self.count())]
+            return [self.unpack(DOUBLE)[0] for _ in range(self.count())]
         if letter == "r":
-            return self.text(), *self.take(PLACE_END)
+            return self.text(), *self.unpack(PLACE_END)
         if letter == "p":
-            return [self.take(POINT) for _ in range(self.byte() or self.count())]
+            return [self.unpack(POINT) for _ in range(self.byte() or self.count())]
         layout = LAYOUTS[letter]
-        found = self.take(layout)
-        return found[0] if len(found) == 1 else found
+        values = self.unpack(layout)
+        return values[0] if len(values) == 1 else values
 
-    def given(self, letters: str) -> list[Value]:
+    def typed_values(self, letters: str) -> list[Value]:
         """The next values, of types by their letters; BadMessage where others come."""
-        found = []
+        values = []
         for letter in letters:
             if letter == "u":
-                found.append(self.byte())
+                values.append(self.byte())
                 continue
             if (number := self.byte()) != TYPES[letter]:
                 raise BadMessage(f"a value has the type {number:#x}, where {TYPES[letter]:#x} is awaited")
             if letter == "t":
                 self.count()
             else:
-                found.append(self.value(letter))
-        return found
+                values.append(self.value(letter))
+        return values
 
 
 LAYOUTS = {"i": INT, "d": DOUBLE, "b": BYTE, "B": UBYTE, "o": POINT, "O": SPACE, "c": COLOUR, "g": POINT}
@@ -145,7 +145,7 @@ known_text = lru_cache(1 << 16)(text)
 
 def strings(values: Iterable[str]) -> bytes:
     """Texts."""
-    parts = [known_text(one) for one in values]
+    parts = [known_text(value) for value in values]
     return TYPED_INT.pack(tc.TYPE_STRINGLIST, len(parts)) + b"".join(parts)
 
 
@@ -157,11 +157,12 @@ def point(value: Sequence[float]) -> bytes:
 def line(values: Sequence[Sequence[float]]) -> bytes:
     """A line of points."""
     size = len(values)
-    head = bytes((tc.TYPE_POLYGON, size)) if 0 < size <= SHORT else struct.pack("!BBi", tc.TYPE_POLYGON, 0, size)
-    return head + b"".join(POINT.pack(*one[:2]) for one in values)
+    is_short = 0 < size <= SHORT_COMMAND
+    head = bytes((tc.TYPE_POLYGON, size)) if is_short else struct.pack("!BBi", tc.TYPE_POLYGON, 0, size)
+    return head + b"".join(POINT.pack(*point_xy[:2]) for point_xy in values)
 
 
-def place(value: tuple[str, float, int]) -> bytes:
+def road_position(value: tuple[str, float, int]) -> bytes:
     """A place on a lane: (edge, metres from its begin, index of the lane)."""
     return bytes((tc.POSITION_ROADMAP,)) + text(value[0]) + PLACE_END.pack(*value[1:])
 
@@ -176,9 +177,9 @@ def compound(count: int, *parts: bytes) -> bytes:
     return TYPED_INT.pack(tc.TYPE_COMPOUND, count) + b"".join(parts)
 
 
-def counted(count: int, each: int, parts: Iterable[bytes]) -> bytes:
+def counted(count: int, parts_of_item: int, parts: Iterable[bytes]) -> bytes:
     """A compound of a number of things and, of each, so many parts."""
-    return compound(1 + each * count, integer(count), *parts)
+    return compound(1 + parts_of_item * count, integer(count), *parts)
 
 
 def neighbour(value: tuple[str, float] | None) -> bytes:
@@ -198,19 +199,23 @@ def stops(values: Sequence[Value]) -> bytes:
     return counted(len(values), 16, map(stop, values))
 
 
-def stop(one: Value) -> bytes:
+def stop_place(stop_data: Value) -> bytes:
+    """The first four parts of a stop: its lane, end, stopping place and flags."""
+    end = double(stop_data.endPos)
+    return string(stop_data.lane) + end + string(stop_data.stoppingPlaceID) + integer(stop_data.stopFlags)
+
+
+def stop(stop_data: Value) -> bytes:
     """The sixteen parts of a stop; of what is not told SUMO's value for "none"."""
-    begin = string(one.lane) + double(one.endPos) + string(one.stoppingPlaceID) + integer(one.stopFlags)
-    times = map(double, (one.duration, one.until, one.startPos, *3 * (tc.INVALID_DOUBLE_VALUE,)))
-    return begin + b"".join(times) + 5 * string("") + double(0.0)
+    times = map(double, (stop_data.duration, stop_data.until, stop_data.startPos, *3 * (tc.INVALID_DOUBLE_VALUE,)))
+    return stop_place(stop_data) + b"".join(times) + 5 * string("") + double(0.0)
 
 
 def stops_shortly(values: Sequence[Value]) -> bytes:
     """As `stops`, of each the six parts that vehicle.getNextStops gives."""
     parts = (
-        string(one.lane) + double(one.endPos) + string(one.stoppingPlaceID) + integer(one.stopFlags)
-        + double(one.duration) + double(one.until) for one in values
-    )  # fmt: skip
+        stop_place(stop_data) + double(stop_data.duration) + double(stop_data.until) for stop_data in values
+    )
     return counted(len(values), 6, parts)
 
 
@@ -219,17 +224,17 @@ def turns(values: Sequence[Sequence[Value]]) -> bytes:
     return counted(len(values), 8, map(turn, values))
 
 
-def turn(one: Sequence[Value]) -> bytes:
+def turn(connection: Sequence[Value]) -> bytes:
     """The eight parts of a connection of a lane."""
-    lane, first, green, foes, via, state, direction, metres = one
-    marks = ubyte(first) + ubyte(green) + ubyte(foes)
+    lane, has_priority, green, foes, via, state, direction, metres = connection
+    marks = ubyte(has_priority) + ubyte(green) + ubyte(foes)
     return string(lane) + string(via) + marks + string(state) + string(direction) + double(metres)
 
 
 def signals(values: Sequence[Sequence[tuple[str, str, str]]]) -> bytes:
     """What trafficlight.getControlledLinks gives."""
-    each = (integer(len(ways)) + b"".join(strings(one) for one in ways) for ways in values)
-    return compound(1 + len(values) + sum(map(len, values)), integer(len(values)), *each)
+    by_signal = (integer(len(connections)) + b"".join(map(strings, connections)) for connections in values)
+    return compound(1 + len(values) + sum(map(len, values)), integer(len(values)), *by_signal)
 
 
 def logics(values: Sequence[Value]) -> bytes:
@@ -237,26 +242,29 @@ def logics(values: Sequence[Value]) -> bytes:
     return compound(len(values), *map(logic, values))
 
 
-def logic(one: Value) -> bytes:
+def logic(program: Value) -> bytes:
     """A program of a light."""
-    phases = compound(len(one.phases), *map(phase, one.phases))
-    more = compound(len(one.subParameter), *map(strings, one.subParameter.items()))
-    head = string(one.programID) + integer(one.type) + integer(one.currentPhaseIndex)
-    return compound(5, head, phases, more)
+    phases = compound(len(program.phases), *map(phase, program.phases))
+    parameters = compound(len(program.subParameter), *map(strings, program.subParameter.items()))
+    head = string(program.programID) + integer(program.type) + integer(program.currentPhaseIndex)
+    return compound(5, head, phases, parameters)
 
 
-def phase(one: Value) -> bytes:
+def phase(phase_data: Value) -> bytes:
     """A phase of a program."""
-    shown = double(one.duration) + string(one.state) + double(one.minDur) + double(one.maxDur)
-    return compound(6, shown, compound(len(one.next), *map(integer, one.next)), string(one.name))
+    bounds = double(phase_data.minDur) + double(phase_data.maxDur)
+    shown = double(phase_data.duration) + string(phase_data.state) + bounds
+    return compound(6, shown, compound(len(phase_data.next), *map(integer, phase_data.next)), string(phase_data.name))
 
 
-def stage(one: Value) -> bytes:
+def stage(stage_data: Value) -> bytes:
     """What simulation.findRoute gives."""
-    who = integer(one.type) + b"".join(map(string, (one.vType, one.line, one.destStop))) + strings(one.edges)
-    how = b"".join(map(double, (one.travelTime, one.cost, one.length))) + string(one.intended)
-    where = b"".join(map(double, (one.depart, one.departPos, one.arrivalPos)))
-    return compound(13, who, how, where, string(one.description))
+    texts = map(string, (stage_data.vType, stage_data.line, stage_data.destStop))
+    names = integer(stage_data.type) + b"".join(texts) + strings(stage_data.edges)
+    costs = map(double, (stage_data.travelTime, stage_data.cost, stage_data.length))
+    figures = b"".join(costs) + string(stage_data.intended)
+    positions = b"".join(map(double, (stage_data.depart, stage_data.departPos, stage_data.arrivalPos)))
+    return compound(13, names, figures, positions, string(stage_data.description))
 
 
 def pair(value: tuple[str, str]) -> bytes:
@@ -270,13 +278,14 @@ def nothing_counted(_: object) -> bytes:
 
 
 ENCODERS: dict[str, Callable[[Value], bytes]] = {
-    "i": integer, "d": double, "B": ubyte, "s": string, "l": strings, "o": point, "p": line, "c": colour, "r": place,
-    "neighbour": neighbour, "lights": lights_ahead, "stops": stops, "next stops": stops_shortly, "turns": turns,
+    "i": integer, "d": double, "B": ubyte, "s": string, "l": strings, "o": point, "p": line, "c": colour,
+    "r": road_position, "neighbour": neighbour, "lights": lights_ahead, "stops": stops, "next stops": stops_shortly,
+    "turns": turns,
     "signals": signals, "logics": logics, "stage": stage, "pair": pair, "none": nothing_counted,
 }
 
 
-def told_command(code: int, body: bytes) -> bytes:
+def subscription_answer(code: int, body: bytes) -> bytes:
     """An answer to a subscription, whose length is a whole number however short it is."""
     return LONG_HEAD.pack(0, len(body) + 6, code) + body
 
@@ -284,7 +293,7 @@ def told_command(code: int, body: bytes) -> bytes:
 def command(code: int, body: bytes) -> bytes:
     """A command, or the answer to one, with its length before it."""
     size = len(body) + 2
-    return bytes((size, code)) + body if size <= SHORT else LONG_HEAD.pack(0, size + 4, code) + body
+    return bytes((size, code)) + body if size <= SHORT_COMMAND else LONG_HEAD.pack(0, size + 4, code) + body
 
 
 def state_of(code: int, result: int = tc.RTYPE_OK, why: str = "") -> bytes:

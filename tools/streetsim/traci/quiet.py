@@ -5,7 +5,7 @@ from collections.abc import Callable
 from streetsim.simulation.errors import NotHere
 from streetsim.traci.advice import WINDOW
 
-SHOWN = "shows nothing here: there is no window; streetsim-live and streetsim-plot show runs"
+NOTICE = "shows nothing here: there is no window; streetsim-live and streetsim-plot show runs"
 
 
 class Quiet:
@@ -13,7 +13,7 @@ class Quiet:
 
     def __init__(self, name: str, calls: tuple[str, ...]) -> None:
         """name: of the domain; calls: the names that do nothing."""
-        self.name, self.calls, self.told = name, calls, False
+        self.name, self.calls, self.has_warned = name, calls, False
 
     def __getattr__(self, call: str) -> Callable[..., None]:
         """A call that does nothing; NotHere for those of other names, AttributeError for Python's own."""
@@ -25,13 +25,13 @@ class Quiet:
 
     def nothing(self, *_: object, **__: object) -> None:
         """Does nothing; the first call in a run says so on standard error."""
-        if not self.told:
-            print(f"warning: traci.{self.name} {SHOWN}", file=sys.stderr)
-            self.told = True
+        if not self.has_warned:
+            print(f"warning: traci.{self.name} {NOTICE}", file=sys.stderr)
+            self.has_warned = True
 
     def forget(self) -> None:
         """Lets the next run say so again."""
-        self.told = False
+        self.has_warned = False
 
 
 GUI = (

@@ -18,23 +18,23 @@ from streetsim.traci.domain import Outlined
 class WithTraffic(Outlined, TrafficCalls[TraciSession]):
     """A domain of lanes, edges or detectors, by the vehicles that are there."""
 
-    usual = (tc.LAST_STEP_VEHICLE_NUMBER,)
+    default_variables = (tc.LAST_STEP_VEHICLE_NUMBER,)
 
     def speeds(self, name: str) -> list[float]:
         """Metres a second of the vehicles there, in the order of `numbers`."""
-        there, links = self.now().view.there, self.now().map.links
-        return [there[number].metres_a_second(links) for number in self.numbers(name)]
+        positions, links = self.session().view.positions, self.session().map.links
+        return [positions[number].metres_a_second(links) for number in self.numbers(name)]
 
     def lengths(self, name: str) -> list[float]:
         """The metres of each vehicle's cells without the gap ahead, in the order of `numbers`; not those of its
         type."""
-        size = self.now().fleet.size
+        size = self.session().fleet.size
         return [size(number) * METRES - GAP for number in self.numbers(name)]
 
     def getLastStepLength(self, name: str) -> float:
         """The mean length of the vehicles there, metres; 0 where there is nobody (in SUMO -1 on an induction loop)."""
-        there = self.lengths(name)
-        return sum(there) / len(there) if there else 0.0
+        lengths = self.lengths(name)
+        return sum(lengths) / len(lengths) if lengths else 0.0
 
 
 class Stretches(WithTraffic, StretchCalls[TraciSession]):
@@ -56,45 +56,48 @@ class LaneDomain(LaneCalls[TraciSession], Stretches):
 
     def outline(self, name: str) -> Line:
         """The points (x, y) of its link's line, in metres, which the lanes of a joint link share."""
-        return self.now().map.links[self.places(name)[0][0]].shape
+        return self.session().map.links[self.link_lanes(name)[0][0]].shape
 
     def subjects(self) -> Collection[str]:
         """The names of all."""
-        return self.now().lane_of.keys()
+        return self.session().lane_of.keys()
 
     def numbers(self, name: str) -> list[int]:
         """The numbers of the vehicles on its cells, from the stop line; of an edge, lane after lane."""
-        on_lane = self.now().view.on_lane
-        return [number for place in self.places(name) for number in on_lane(place)]
+        on_lane = self.session().view.on_lane
+        return [number for link_lane in self.link_lanes(name) for number in on_lane(link_lane)]
 
     def speeds(self, name: str) -> list[float]:
         """Metres a second of the vehicles there, in the order of `numbers`."""
-        view, links = self.now().view, self.now().map.links
-        return [speed * links[place[0]].cell_metres for place in self.places(name) for speed in view.speeds_on(place)]
+        view, links = self.session().view, self.session().map.links
+        return [
+            speed * links[link_lane[0]].cell_metres
+            for link_lane in self.link_lanes(name) for speed in view.speeds_on(link_lane)
+        ]
 
     def column(self, variable: int, names: Sequence[str]) -> Column:
         """As Domain does."""
         if variable not in COLUMNS:
             return super().column(variable, names)
-        columns = self.now().lane_columns
-        found: Column = getattr(columns, COLUMNS[variable])(columns.slots_of(tuple(names)))
-        return found
+        columns = self.session().lane_columns
+        values: Column = getattr(columns, COLUMNS[variable])(columns.slots_of(tuple(names)))
+        return values
 
     def getLastStepVehicleNumber(self, name: str) -> int:
         """How many vehicles are there."""
-        view = self.now().view
-        return sum(len(view.speeds_on(place)) for place in self.places(name))
+        view = self.session().view
+        return sum(len(view.speeds_on(link_lane)) for link_lane in self.link_lanes(name))
 
     def getLastStepHaltingNumber(self, name: str) -> int:
         """How many vehicles there stand."""
-        view = self.now().view
-        return sum(view.speeds_on(place).count(0) for place in self.places(name))
+        view = self.session().view
+        return sum(view.speeds_on(link_lane).count(0) for link_lane in self.link_lanes(name))
 
     def getLastStepMeanSpeed(self, name: str) -> float:
         """The mean speed of the vehicles there, metres a second; its limit where there are none, as in SUMO."""
-        [place] = self.places(name)
-        speeds = self.now().view.speeds_on(place)
-        metres = self.now().map.links[place[0]].cell_metres
+        [link_lane] = self.link_lanes(name)
+        speeds = self.session().view.speeds_on(link_lane)
+        metres = self.session().map.links[link_lane[0]].cell_metres
         return float(metres * sum(speeds) / len(speeds)) if speeds else self.speed_of_nobody(name)
 
     def speed_of_nobody(self, name: str) -> float:
@@ -103,12 +106,12 @@ class LaneDomain(LaneCalls[TraciSession], Stretches):
 
     def metres(self, name: str) -> float:
         """Metres of the lane; of an edge, of all its lanes together."""
-        links = self.now().map.links
-        return sum(links[link].metres for link, _ in self.places(name))
+        links = self.session().map.links
+        return sum(links[link].metres for link, _ in self.link_lanes(name))
 
     def getWaitingTime(self, name: str) -> float:
         """Seconds for which the vehicles on it have stood without a break, summed over them."""
-        return float(self.now().tally.waiting[self.numbers(name)].sum())
+        return float(self.session().tally.waiting[self.numbers(name)].sum())
 
     def getTraveltime(self, name: str) -> float:
         """Seconds for its length at the mean speed, 0.1 m/s at least (in SUMO 1,000,000 of a lane where all stand)."""
@@ -116,8 +119,8 @@ class LaneDomain(LaneCalls[TraciSession], Stretches):
 
     def lane_facts(self, name: str) -> LaneFacts:
         """What the network's file says of a lane; TraCIException where the import has no such lane."""
-        self.check_known(name, self.now().lane_of)
-        return self.now().facts.lanes[name]
+        self.check_known(name, self.session().lane_of)
+        return self.session().facts.lanes[name]
 
     def getMaxSpeed(self, name: str) -> float:
         """The limit of SUMO's file, metres a second."""
@@ -125,11 +128,11 @@ class LaneDomain(LaneCalls[TraciSession], Stretches):
 
     def getPendingVehicles(self, name: str) -> tuple[str, ...]:
         """The vehicles that should have departed on it before now and wait for room."""
-        session, places, found = self.now(), set(self.places(name)), []
+        session, link_lanes, waiting = self.session(), set(self.link_lanes(name)), []
         for number in session.waiting_to_depart():
             command = session.fleet.enters[number]
-            found += [number] if (command["plan"][0], command["lane"]) in places else []
-        return session.names_of(found)
+            waiting += [number] if (command["plan"][0], command["lane"]) in link_lanes else []
+        return session.names_of(waiting)
 
     def getShape(self, name: str) -> Sequence[Point]:
         """The points of its line in SUMO's file, metres."""
@@ -149,7 +152,7 @@ class LaneDomain(LaneCalls[TraciSession], Stretches):
 
     def getFriction(self, name: str) -> float:
         """1.0: all roads are dry."""
-        self.places(name)
+        self.link_lanes(name)
         return 1.0
 
     def getLinkNumber(self, name: str) -> int:
@@ -160,21 +163,22 @@ class LaneDomain(LaneCalls[TraciSession], Stretches):
         """For each connection of SUMO's from it: next lane, has it the right of way, has it green (False without a
         light), False (foes are not known); and extended: lane in the junction, SUMO's letters of the state now and of
         the direction, metres inside."""
-        control, inside = self.now().control, self.now().facts.inside
-        found: list[tuple[object, ...]] = []
-        for one in self.lane_facts(name).links:
-            state = control.state(one.light)[one.index] if one.light in control.lights else one.state
+        control, inside = self.session().control, self.session().facts.inside
+        connections: list[tuple[object, ...]] = []
+        for connection in self.lane_facts(name).links:
+            has_light, via = connection.light in control.lights, connection.via
+            state = control.state(connection.light)[connection.index] if has_light else connection.state
             marks = state in "GM", state in "Gg", False
-            found.append((one.target, *marks, one.via, state, one.direction, inside.get(one.via, 0.0)))
-        return found if extended else [entry[:4] for entry in found]
+            connections.append((connection.target, *marks, via, state, connection.direction, inside.get(via, 0.0)))
+        return connections if extended else [entry[:4] for entry in connections]
 
     def getEdgeID(self, name: str) -> str:
         """The name of its edge."""
-        return self.now().map.links[self.places(name)[0][0]].edge
+        return self.session().map.links[self.link_lanes(name)[0][0]].edge
 
     def close(self, lane: str) -> None:
         """Closes the whole lane; TraCIException where its vehicles could not change to the lane beside it."""
-        if why := why_parallel(self.now().map, lane):
+        if why := why_parallel(self.session().map, lane):
             raise TraCIException(f"{why}: traci.start([.., '--joint', {lane!r}])")
         super().close(lane)
 
@@ -192,28 +196,29 @@ class EdgeDomain(LaneDomain):
 
     def getIDList(self) -> tuple[str, ...]:
         """The edges that the import kept; those inside junctions are not among them."""
-        return tuple(self.now().map.links_of)
+        return tuple(self.session().map.links_of)
 
     def subjects(self) -> Collection[str]:
         """The names of all."""
-        return self.now().map.links_of.keys()
+        return self.session().map.links_of.keys()
 
-    def places(self, name: str) -> list[Place]:
+    def link_lanes(self, name: str) -> list[Place]:
         """All its lanes, (link, lane); TraCIException for an unknown edge."""
-        self.check_known(name, self.now().map.links_of)
-        return self.now().lanes_on(name)
+        self.check_known(name, self.session().map.links_of)
+        return self.session().lanes_on(name)
 
     def getLastStepVehicleIDs(self, name: str) -> tuple[str, ...]:
         """The names of the vehicles on it, lane after lane, and on each the rearmost first, as in SUMO."""
-        session, places = self.now(), self.places(name)
-        return session.names_of(number for place in places for number in reversed(session.view.on_lane(place)))
+        session, link_lanes = self.session(), self.link_lanes(name)
+        on_lane = session.view.on_lane
+        return session.names_of(number for link_lane in link_lanes for number in reversed(on_lane(link_lane)))
 
     def getLastStepMeanSpeed(self, name: str) -> float:
         """The mean speed of the vehicles on it, metres a second; each empty lane counts as one at its limit, as in
         SUMO."""
-        session, speeds = self.now(), self.speeds(name)
-        empty = [place for place in self.places(name) if not session.view.on_lane(place)]
-        speeds += [session.facts.lanes[session.map.lane_name(*place)].speed for place in empty]
+        session, speeds = self.session(), self.speeds(name)
+        empty = [link_lane for link_lane in self.link_lanes(name) if not session.view.on_lane(link_lane)]
+        speeds += [session.facts.lanes[session.map.lane_name(*link_lane)].speed for link_lane in empty]
         return sum(speeds) / len(speeds)
 
     def column(self, variable: int, names: Sequence[str]) -> Column:
@@ -222,35 +227,35 @@ class EdgeDomain(LaneDomain):
 
     def getLaneNumber(self, name: str) -> int:
         """How many of its lanes the import kept; their indexes need not begin at 0."""
-        return len(self.places(name))
+        return len(self.link_lanes(name))
 
     def getMaxSpeed(self, name: str) -> float:
         """The limit of the first lane that the import kept, in SUMO's file, metres a second."""
-        return self.now().facts.lanes[self.now().map.lane_name(*self.places(name)[0])].speed
+        return self.session().facts.lanes[self.session().map.lane_name(*self.link_lanes(name)[0])].speed
 
     def getStreetName(self, name: str) -> str:
         """The name of its street; empty where the network tells none."""
-        self.check_known(name, self.now().map.links_of)
-        return self.now().facts.streets.get(name, "")
+        self.check_known(name, self.session().map.links_of)
+        return self.session().facts.streets.get(name, "")
 
     def getLastStepPersonIDs(self, name: str) -> tuple[str, ...]:
         """Empty: there are no persons."""
-        self.check_known(name, self.now().map.links_of)
+        self.check_known(name, self.session().map.links_of)
         return ()
 
     def adaptTraveltime(
         self, name: str, time: float | None = None, begin: float | None = None, end: float | None = None
     ) -> None:
         """Sets the seconds with which the edge counts for ways; None: those of traffic. NotHere with begin or end."""
-        self.check_known(name, self.now().map.links_of)
+        self.check_known(name, self.session().map.links_of)
         if begin is not None or end is not None:
             raise NotHere("edge.adaptTraveltime: times of day are not here; set the seconds when they begin to count")
-        self.now().adapt(name, time)
+        self.session().adapt(name, time)
 
     def getAdaptedTraveltime(self, name: str, time: float) -> float:
         """The seconds that adaptTraveltime set; -1 where it set none. time has no effect."""
-        self.check_known(name, self.now().map.links_of)
-        return float(self.now().ways.adapted.get(name, -1.0))
+        self.check_known(name, self.session().map.links_of)
+        return float(self.session().paths.adapted.get(name, -1.0))
 
     def not_of_edges(self, name: str) -> NoReturn:
         """NotHere: SUMO tells this of lanes alone."""
@@ -262,7 +267,7 @@ class EdgeDomain(LaneDomain):
 
     def close(self, lane: str) -> None:
         """Closes a lane of the edge, by its name; none beside it need stay open, as setDisallowed closes all."""
-        self.now().close_lane(lane)
+        self.session().close_lane(lane)
 
 
 class DetectorDomain(WithTraffic):
@@ -272,42 +277,42 @@ class DetectorDomain(WithTraffic):
 
     def getIDList(self) -> tuple[str, ...]:
         """The names of the detectors of this sort."""
-        return tuple(name for name, one in self.now().detectors.items() if one.kind == self.sort)
+        return tuple(name for name, detector in self.session().detectors.items() if detector.kind == self.sort)
 
     def detector(self, name: str) -> Detector:
         """A detector of this sort by its name; TraCIException where there is none."""
-        one = self.now().detectors.get(name)
-        if one is None or one.kind != self.sort:
+        found_detector = self.session().detectors.get(name)
+        if found_detector is None or found_detector.kind != self.sort:
             raise TraCIException(f"{self.kind} '{name}' is not known.")
-        return one
+        return found_detector
 
     def is_subject(self, name: str) -> bool:
         """Whether a detector of this sort has a name."""
-        one = self.now().detectors.get(name)
-        return one is not None and one.kind == self.sort
+        detector = self.session().detectors.get(name)
+        return detector is not None and detector.kind == self.sort
 
     def getLaneID(self, name: str) -> str:
         """The name of the lane where it lies."""
-        one = self.detector(name)
-        return self.now().map.lane_name(one.link, one.lane)
+        detector = self.detector(name)
+        return self.session().map.lane_name(detector.link, detector.lane)
 
     def outline(self, name: str) -> Line:
         """A line of one point, where it begins, in metres."""
-        one = self.detector(name)
-        link = self.now().map.links[one.link]
-        return [point_along(link.shape, one.first / link.cells)]
+        detector = self.detector(name)
+        link = self.session().map.links[detector.link]
+        return [point_along(link.shape, detector.first / link.cells)]
 
     def getPosition(self, name: str) -> float:
         """Metres from the lane's begin to that of its first cell, which may be before the file's pos."""
-        one = self.detector(name)
-        link = self.now().map.links[one.link]
-        return one.first * link.metres / link.cells
+        detector = self.detector(name)
+        link = self.session().map.links[detector.link]
+        return detector.first * link.metres / link.cells
 
     def speeds(self, name: str) -> list[float]:
         """Metres a second of the vehicles that it saw, in the order of `numbers`; of those that have left, the last."""
-        seen = {**self.now().view.there_before, **self.now().view.there}
-        metres = self.now().map.links[self.detector(name).link].cell_metres
-        return [seen[one].speed * metres for one in self.numbers(name) if one in seen]
+        positions = {**self.session().view.positions_before, **self.session().view.positions}
+        metres = self.session().map.links[self.detector(name).link].cell_metres
+        return [positions[number].speed * metres for number in self.numbers(name) if number in positions]
 
 
 class InductionLoopDomain(DetectorDomain):
@@ -317,45 +322,46 @@ class InductionLoopDomain(DetectorDomain):
 
     def numbers(self, name: str) -> list[int]:
         """The numbers of the vehicles that stood on it or drove over it in the last step."""
-        return self.now().loops.passed(self.detector(name).name)
+        return self.session().loops.passed(self.detector(name).name)
 
     def getLastStepOccupancy(self, name: str) -> float:
         """The percentage of the last step in which a vehicle covered it: 100 where one stands there, else by the
         lengths and speeds of those who drove over it."""
-        one, there = self.detector(name), self.now().view.there
-        places = [there[number] for number in self.numbers(name) if number in there]
-        if any((where.link, where.lane, where.cell) == (one.link, one.lane, one.first) for where in places):
+        detector, positions = self.detector(name), self.session().view.positions
+        passing = [positions[number] for number in self.numbers(name) if number in positions]
+        detector_cell = detector.link, detector.lane, detector.first
+        if any((position.link, position.lane, position.cell) == detector_cell for position in passing):
             return 100.0
-        ways = zip(self.lengths(name), self.speeds(name))
-        return min(100.0, sum(100 * metres / max(METRES, speed) for metres, speed in ways))
+        lengths_and_speeds = zip(self.lengths(name), self.speeds(name))
+        return min(100.0, sum(100 * metres / max(METRES, speed) for metres, speed in lengths_and_speeds))
 
     getLastStepMeanLength = WithTraffic.getLastStepLength
 
     def getTimeSinceDetection(self, name: str) -> float:
         """Seconds since a vehicle was on it; the clock where none was."""
-        session = self.now()
-        if name not in session.loops.place:
+        session = self.session()
+        if name not in session.loops.index_of:
             self.detector(name)  # which says that it is not known
-        return float(session.clock - session.loops.last(name))
+        return float(session.clock - session.loops.last_clock(name))
 
 
 class LaneAreaDomain(Stretches, DetectorDomain):
     """As SUMO's traci.lanearea (e2): of the last step."""
 
     kind, name, sort = "Lane area detector", "lanearea", "e2"
-    usual = (tc.JAM_LENGTH_VEHICLE,)
+    default_variables = (tc.JAM_LENGTH_VEHICLE,)
 
     def numbers(self, name: str) -> list[int]:
         """The numbers of the vehicles whose front is in it, from the stop line."""
-        one, view = self.detector(name), self.now().view
-        there = view.on_lane((one.link, one.lane))
-        return [number for number in there if one.first <= view.there[number].front_cell <= one.last]
+        detector, view = self.detector(name), self.session().view
+        on_lane = view.on_lane((detector.link, detector.lane))
+        return [number for number in on_lane if detector.first <= view.positions[number].front_cell <= detector.last]
 
     def getLength(self, name: str) -> float:
         """Its length on whole cells, metres."""
-        one = self.detector(name)
-        link = self.now().map.links[one.link]
-        return (one.last - one.first + 1) * link.metres / link.cells
+        detector = self.detector(name)
+        link = self.session().map.links[detector.link]
+        return (detector.last - detector.first + 1) * link.metres / link.cells
 
     metres = getLength
 
@@ -366,14 +372,14 @@ class LaneAreaDomain(Stretches, DetectorDomain):
     def longest_jam(self, name: str) -> list[int]:
         """The numbers of the vehicles of the longest jam: they stand one behind the other without a gap, and one alone
         is a jam too; of equally many the one nearest to the stop line."""
-        fleet, there, rear = self.now().fleet, self.now().view.there, -1
+        fleet, positions, rear = self.session().fleet, self.session().view.positions, -1
         longest: list[int] = []
-        here: list[int] = []
+        jam: list[int] = []
         for number in self.numbers(name):
-            where = there[number]
-            here = [] if where.speed else [*here, number] if here and rear == where.front_cell + 1 else [number]
-            rear = where.front_cell - fleet.size(number) + 1
-            longest = max(longest, here, key=len)
+            position = positions[number]
+            jam = [] if position.speed else [*jam, number] if jam and rear == position.front_cell + 1 else [number]
+            rear = position.front_cell - fleet.size(number) + 1
+            longest = max(longest, jam, key=len)
         return longest
 
     def getJamLengthVehicle(self, name: str) -> int:
@@ -382,32 +388,32 @@ class LaneAreaDomain(Stretches, DetectorDomain):
 
     def getJamLengthMeters(self, name: str) -> float:
         """Metres of the vehicles of the longest jam, with the gaps ahead of them."""
-        return sum(self.now().fleet.size(number) * METRES for number in self.longest_jam(name))
+        return sum(self.session().fleet.size(number) * METRES for number in self.longest_jam(name))
 
 
 class JunctionDomain(Outlined):
     """As SUMO's traci.junction: names, points and shapes. TraCIException for an unknown junction."""
 
     kind, name = "Junction", "junction"
-    usual = (tc.VAR_POSITION,)
+    default_variables = (tc.VAR_POSITION,)
 
     def getIDList(self) -> tuple[str, ...]:
         """The junctions of the network, without the inner ones, where vehicles wait to turn."""
-        return tuple(self.now().facts.junctions)
+        return tuple(self.session().facts.junctions)
 
     def is_subject(self, name: str) -> bool:
         """Whether the network has a junction of a name."""
-        return name in self.now().facts.junctions
+        return name in self.session().facts.junctions
 
     def getPosition(self, name: str) -> Point:
         """Its point (x, y), metres."""
-        self.check_known(name, self.now().facts.junctions)
-        return self.now().facts.junctions[name].point
+        self.check_known(name, self.session().facts.junctions)
+        return self.session().facts.junctions[name].point
 
     def getShape(self, name: str) -> Sequence[Point]:
         """The points of its outline, metres; empty where the file has none."""
-        self.check_known(name, self.now().facts.junctions)
-        return self.now().facts.junctions[name].shape
+        self.check_known(name, self.session().facts.junctions)
+        return self.session().facts.junctions[name].shape
 
     def outline(self, name: str) -> Line:
         """The points of its shape, in metres, or its one point where it has no shape."""

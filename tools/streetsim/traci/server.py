@@ -9,25 +9,25 @@ from streetsim.base import limits
 from streetsim.base.files import Fault
 from streetsim.base.client import ProgramEnded, Refused
 from streetsim.simulation.errors import FatalTraCIError, NotHere, TraCIException
-from streetsim.simulation.options import options_of
+from streetsim.simulation.options import read_options
 from streetsim.traci import constants as tc
-from streetsim.traci.answering import GET_OF, OK, SET_OF, asked_change, asked_value, whole_message
-from streetsim.traci.protocol import DOUBLE, INT, MOST, BadMessage, WordReader, command, state_of, text
+from streetsim.traci.answering import GET_OF, OK_STATES, SET_OF, read_get_command, read_set_command, whole_message
+from streetsim.traci.protocol import DOUBLE, INT, MOST_MESSAGE, BadMessage, ValueReader, command, state_of, text
 from streetsim.traci.subscribing import CONTEXT_OF, SUBSCRIBE_OF, Subscriptions
 
 HOST = "127.0.0.1"
-MOST_TOLD = 1 << 27  # bytes of the answer to one message, at most
+MOST_ANSWER = 1 << 27  # bytes of the answer to one message, at most
 MOST_KNOWN, SHORT = 1 << 16, 256  # messages whose meaning is kept; bytes of one, at most
 LAST_CLOCK = limits.CLOCK  # to which a client may step
 WAIT = 3.0  # seconds for a client of a run that could not begin
-LAST = 1 << 30  # the place in the order of a client that told none
+LAST_IN_ORDER = 1 << 30  # the place in the order of a client that told none
 AT_ONCE = 1 << 16  # bytes that are read of a client at once, at most
-ENDS = (FatalTraCIError, Fault, ProgramEnded, Refused)  # after which the run cannot go on
+FATAL_ERRORS = (FatalTraCIError, Fault, ProgramEnded, Refused)  # after which the run cannot go on
 # After which the run goes on.
-HEARD = (BadMessage, TraCIException, KeyError, TypeError, ValueError, OverflowError, LookupError)
+CALL_ERRORS = (BadMessage, TraCIException, KeyError, TypeError, ValueError, OverflowError, LookupError)
 
 
-class Gone(Exception):
+class ClientGone(Exception):
     """A client went away, or was cut off."""
 
 
@@ -36,88 +36,88 @@ class TraciClient:
     """A client, what it has sent, and what it asked to be told after each step."""
 
     socket: socket.socket
-    order: int = LAST
+    order: int = LAST_IN_ORDER
     target: float = -1.0  # the clock at which it is answered
     steps: bool = False  # it waits for the answer to a step
     subscriptions: Subscriptions = field(default_factory=Subscriptions)
-    left: bytes = b""  # sent, and not read
-    rest: list[tuple[int, int]] = field(default_factory=list)  # commands of the last message, behind a step
+    unread: bytes = b""  # sent, and not read
+    pending: list[tuple[int, int]] = field(default_factory=list)  # commands of the last message, behind a step
     message: bytes = b""
     answer: bytearray = field(default_factory=bytearray)
 
     def next_message(self) -> None:
-        """Waits for the next message. Gone where the client goes away; BadMessage for a length that none has."""
+        """Waits for the next message. ClientGone where the client goes away; BadMessage for a length that none has."""
         (size,) = INT.unpack(self.exactly(INT.size))
-        if not INT.size + 2 <= size <= MOST:
-            raise BadMessage(f"a message of {size:,} bytes: {INT.size + 2} to {MOST:,} are taken")
+        if not INT.size + 2 <= size <= MOST_MESSAGE:
+            raise BadMessage(f"a message of {size:,} bytes: {INT.size + 2} to {MOST_MESSAGE:,} are taken")
         self.message, self.answer = self.exactly(size - INT.size), bytearray()
-        self.rest = commands_in(self.message)
+        self.pending = commands_in(self.message)
 
     def receive(self) -> None:
-        """Waits for bytes; Gone where the client goes away."""
+        """Waits for bytes; ClientGone where the client goes away."""
         try:
             part = self.socket.recv(AT_ONCE)
         except OSError:
             part = b""
         if not part:
-            raise Gone
-        self.left += part
+            raise ClientGone
+        self.unread += part
 
     def exactly(self, size: int) -> bytes:
-        """So many bytes of what the client sends; Gone where it goes away before."""
-        if len(self.left) < size:
-            parts, have = [self.left], len(self.left)
+        """So many bytes of what the client sends; ClientGone where it goes away before."""
+        if len(self.unread) < size:
+            parts, have = [self.unread], len(self.unread)
             while have < size:
-                self.left = b""
+                self.unread = b""
                 self.receive()
-                parts.append(self.left)
-                have += len(self.left)
-            self.left = b"".join(parts)
-        data, self.left = self.left[:size], self.left[size:]
+                parts.append(self.unread)
+                have += len(self.unread)
+            self.unread = b"".join(parts)
+        data, self.unread = self.unread[:size], self.unread[size:]
         return data
 
     def send(self, answer: bytes | bytearray) -> None:
-        """Sends the answer to its message; Gone where it does not take it."""
+        """Sends the answer to its message; ClientGone where it does not take it."""
         try:
             self.socket.sendall(whole_message(answer))
         except OSError:
-            raise Gone from None
+            raise ClientGone from None
 
     def refuse(self, why: str) -> None:
         """Answers that a message is none, as far as the client takes that."""
         try:
             self.send(state_of(self.message[1] if len(self.message) > 1 else 0, tc.RTYPE_ERR, why))
-        except Gone:
+        except ClientGone:
             pass
 
 
 def commands_in(message: bytes) -> list[tuple[int, int]]:
     """The first byte, from its code on, and the end of each command of a message, the last one first. BadMessage where
     their lengths are not its own."""
-    found, at = [], 0
-    while at < len(message):
-        size, head = message[at], 1
+    commands, position = [], 0
+    while position < len(message):
+        size, head = message[position], 1
         if not size:
-            if at + 1 + INT.size > len(message):
+            if position + 1 + INT.size > len(message):
                 raise BadMessage("a message ends in the length of a command")
-            (size,), head = INT.unpack_from(message, at + 1), 1 + INT.size
-        if size <= head or at + size > len(message):
-            raise BadMessage(f"a command of {size:,} bytes, where {len(message) - at:,} are left")
-        found.append((at + head, at + size))
-        at += size
-    return found[::-1]
+            (size,), head = INT.unpack_from(message, position + 1), 1 + INT.size
+        if size <= head or position + size > len(message):
+            raise BadMessage(f"a command of {size:,} bytes, where {len(message) - position:,} are left")
+        commands.append((position + head, position + size))
+        position += size
+    return commands[::-1]
 
 
 class Server:
     """Serves the run that streetsim.traci has under way to a number of clients, until all have closed."""
 
-    def __init__(self, listening: socket.socket, count: int, tell: Callable[[str], None]) -> None:
-        """listening: a socket that listens; count: of clients; tell: takes lines for the user."""
-        self.listening, self.count, self.tell = listening, count, tell
+    def __init__(self, listening: socket.socket, count: int, warn: Callable[[str], None]) -> None:
+        """listening: a socket that listens; count: of clients; warn: takes lines for the user."""
+        self.listening, self.count, self.warn = listening, count, warn
         self.clients: list[TraciClient] = []
         self.lost = 0  # clients that went away without closing
         # What messages ask for, by their bytes: the code of the command, and what makes the answer.
-        self.known: dict[bytes, tuple[int, Callable[[], bytes]]] = {}
+        self.known_messages: dict[bytes, tuple[int, Callable[[], bytes]]] = {}
 
     def serve(self) -> int:
         """Waits for all clients, and serves them until all have closed; gives how many went away without that."""
@@ -159,18 +159,18 @@ class Server:
         """Hears a client until it asks for a step, closes or, where ordering, tells its place."""
         try:
             heard = self.answer_step(client)
-            while heard and not (ordering and client.order != LAST):
+            while heard and not (ordering and client.order != LAST_IN_ORDER):
                 heard = self.hear(client)
-        except Gone:
+        except ClientGone:
             self.lost += 1
-            self.tell(f"warning: a client went away without closing; {len(self.clients) - 1} go on")
+            self.warn(f"warning: a client went away without closing; {len(self.clients) - 1} go on")
             self.drop(client)
         except BadMessage as fault:
             self.lost += 1
             client.refuse(str(fault))
-            self.tell(f"warning: a client was cut off: {fault}")
+            self.warn(f"warning: a client was cut off: {fault}")
             self.drop(client)
-        except ENDS as fault:
+        except FATAL_ERRORS as fault:
             client.refuse(str(fault))
             raise
 
@@ -184,140 +184,141 @@ class Server:
         if not client.steps:
             return True
         client.steps = False
-        client.answer += OK[tc.CMD_SIMSTEP] + client.subscriptions.told_after_step()
+        client.answer += OK_STATES[tc.CMD_SIMSTEP] + client.subscriptions.answers_after_step()
         return self.obey(client)
 
     def hear(self, client: TraciClient) -> bool:
         """Hears a client's messages that are known, and the next other one; gives whether it is to be heard further at
         this clock."""
-        if not client.left:
+        if not client.unread:
             self.answer_known(client)
-        before = client.left
+        unread = client.unread
         client.next_message()
-        self.learn(before, client)
+        self.learn(unread, client)
         return self.obey(client)
 
     def answer_known(self, client: TraciClient) -> None:
-        """Answers messages of a client that are known, as they come, until there is another one. Gone where it goes
-        away."""
-        receive, send, known = client.socket.recv, client.socket.sendall, self.known.get
+        """Answers messages of a client that are known, as they come, until there is another one. ClientGone where it
+        goes away."""
+        receive, send, message_of = client.socket.recv, client.socket.sendall, self.known_messages.get
         try:
-            while (asked := known(data := receive(AT_ONCE))) is not None:
-                code, answer = asked
+            while (known_message := message_of(data := receive(AT_ONCE))) is not None:
+                code, answer = known_message
                 try:
-                    told = answer()
-                except HEARD as fault:
-                    told = whole_message(state_after(code, fault))
-                send(told)
+                    answer_bytes = answer()
+                except CALL_ERRORS as fault:
+                    answer_bytes = whole_message(state_after(code, fault))
+                send(answer_bytes)
         except OSError:
             data = b""
         if not data:
-            raise Gone
-        client.left = data
+            raise ClientGone
+        client.unread = data
 
     def learn(self, data: bytes, client: TraciClient) -> None:
         """Keeps what a message asks for by its bytes (data), where these are of it alone, and it has one command that
         tells or changes something, whose words nobody changes."""
-        if client.left or len(client.rest) != 1 or len(data) != INT.size + len(client.message) or len(data) > SHORT:
+        size = INT.size + len(client.message)
+        if client.unread or len(client.pending) != 1 or len(data) != size or size > SHORT:
             return
-        (at, end), = client.rest
-        code = client.message[at]
-        asking = asked_value if code in GET_OF else asked_change if code in SET_OF else None
-        if asking is None:
+        (position, end), = client.pending
+        code = client.message[position]
+        read_command = read_get_command if code in GET_OF else read_set_command if code in SET_OF else None
+        if read_command is None:
             return
         try:
-            asked = asking(code, WordReader(client.message, at + 1, end))
-            if all(isinstance(word, (str, int, float)) for word in asked.words):
-                if len(self.known) >= MOST_KNOWN:
-                    self.known.clear()
-                self.known[data] = code, asked.message()
-        except HEARD:
+            call = read_command(code, ValueReader(client.message, position + 1, end))
+            if all(isinstance(argument, (str, int, float)) for argument in call.arguments):
+                if len(self.known_messages) >= MOST_KNOWN:
+                    self.known_messages.clear()
+                self.known_messages[data] = code, call.message()
+        except CALL_ERRORS:
             pass  # which is told when the command is done
 
     def obey(self, client: TraciClient) -> bool:
         """Does the rest of a client's message, and answers it where no step is asked for; gives as `hear` does."""
-        while client.rest:
-            at, end = client.rest.pop()
-            code = client.message[at]
-            words = WordReader(client.message, at + 1, end)
+        while client.pending:
+            position, end = client.pending.pop()
+            code = client.message[position]
+            reader = ValueReader(client.message, position + 1, end)
             if code == tc.CMD_SIMSTEP:
-                if self.asked_step(client, words):
+                if self.note_step(client, reader):
                     return False
                 continue
             if code == tc.CMD_CLOSE:
-                client.send(client.answer + OK[code])
+                client.send(client.answer + OK_STATES[code])
                 self.drop(client)
                 return False
-            client.answer += self.answered(client, code, words)
-            if len(client.answer) > MOST_TOLD:
-                raise BadMessage(f"the answer to one message would have more than {MOST_TOLD:,} bytes")
+            client.answer += self.answer_command(client, code, reader)
+            if len(client.answer) > MOST_ANSWER:
+                raise BadMessage(f"the answer to one message would have more than {MOST_ANSWER:,} bytes")
         client.send(client.answer)
         return not client.steps
 
-    def asked_step(self, client: TraciClient, words: WordReader) -> bool:
+    def note_step(self, client: TraciClient, reader: ValueReader) -> bool:
         """Notes until when a client steps; gives whether it does: not for a clock beyond the machine's."""
-        (until,) = words.take(DOUBLE)
+        (target,) = reader.unpack(DOUBLE)
         clock = traci.simulation.getTime()
-        if not until <= LAST_CLOCK:
-            client.answer += state_of(tc.CMD_SIMSTEP, tc.RTYPE_ERR, f"{until:g} s is beyond the last clock")
+        if not target <= LAST_CLOCK:
+            client.answer += state_of(tc.CMD_SIMSTEP, tc.RTYPE_ERR, f"{target:g} s is beyond the last clock")
             return False
-        client.target, client.steps = clock + 1 if until == 0 else max(until, clock), True
+        client.target, client.steps = clock + 1 if target == 0 else max(target, clock), True
         return True
 
-    def answered(self, client: TraciClient, code: int, words: WordReader) -> bytes:
+    def answer_command(self, client: TraciClient, code: int, reader: ValueReader) -> bytes:
         """The answer to a command: its state, and what it tells."""
         try:
-            return self.done(client, code, words)
-        except HEARD as fault:
+            return self.perform(client, code, reader)
+        except CALL_ERRORS as fault:
             return state_after(code, fault)
 
-    def done(self, client: TraciClient, code: int, words: WordReader) -> bytes:
-        """As `answered`; raises what a call raises, and BadMessage for wrong words."""
+    def perform(self, client: TraciClient, code: int, reader: ValueReader) -> bytes:
+        """As `answer_command`; raises what a call raises, and BadMessage for wrong values."""
         if code in GET_OF or code in SET_OF:
-            return (asked_value if code in GET_OF else asked_change)(code, words).answer()
+            return (read_get_command if code in GET_OF else read_set_command)(code, reader).answer()
         if code in SUBSCRIBE_OF:
-            return OK[code] + client.subscriptions.subscribe(code, words)
+            return OK_STATES[code] + client.subscriptions.subscribe(code, reader)
         if code in CONTEXT_OF:
-            return OK[code] + client.subscriptions.subscribe_context(code, words)
-        return self.base(client, code, words)
+            return OK_STATES[code] + client.subscriptions.subscribe_context(code, reader)
+        return self.answer_general(client, code, reader)
 
-    def base(self, client: TraciClient, code: int, words: WordReader) -> bytes:
+    def answer_general(self, client: TraciClient, code: int, reader: ValueReader) -> bytes:
         """The answer to a command that is of no domain; NotHere for an unknown one."""
         if code == tc.CMD_GETVERSION:
             number, name = traci.getVersion()
-            return OK[code] + command(code, INT.pack(number) + text(name))
+            return OK_STATES[code] + command(code, INT.pack(number) + text(name))
         if code == tc.CMD_SETORDER:
-            (order,) = words.take(INT)
-            if any(other.order == order for other in self.clients if other is not client):
+            (order,) = reader.unpack(INT)
+            if any(another.order == order for another in self.clients if another is not client):
                 raise TraCIException(f"another client has the place {order} in the order")
             client.order = order
-            return OK[code]
+            return OK_STATES[code]
         if code == tc.CMD_LOAD:
-            self.load(words)
-            return OK[code]
+            self.load(reader)
+            return OK_STATES[code]
         raise NotHere(f"command {code:#04x} is not here")
 
-    def load(self, words: WordReader) -> None:
+    def load(self, reader: ValueReader) -> None:
         """Begins the run anew, by other words. TraCIException where these are wrong, FatalTraCIError where it cannot
         begin."""
-        (given,) = words.given("l")
+        (arguments,) = reader.typed_values("l")
         try:
-            net = options_of(given).get("net-file", "")
+            net = read_options(arguments).get("net-file", "")
         except FatalTraCIError as fault:
             raise TraCIException(str(fault)) from None
         if not os.path.exists(net):
             raise TraCIException(f"load: no network {net!r}")
-        traci.load(given)
-        for one in self.clients:
-            one.subscriptions, one.target = Subscriptions(), -1.0
+        traci.load(arguments)
+        for client in self.clients:
+            client.subscriptions, client.target = Subscriptions(), -1.0
 
 
 def state_after(code: int, fault: Exception) -> bytes:
     """The state of a command that cannot be done."""
     if isinstance(fault, NotHere):
         return state_of(code, tc.RTYPE_NOTIMPLEMENTED, str(fault))
-    why = str(fault) if isinstance(fault, (BadMessage, TraCIException)) else repr(fault)
-    return state_of(code, tc.RTYPE_ERR, why)
+    reason = str(fault) if isinstance(fault, (BadMessage, TraCIException)) else repr(fault)
+    return state_of(code, tc.RTYPE_ERR, reason)
 
 
 def turn_away(listening: socket.socket) -> None:

@@ -38,7 +38,7 @@ class SimulationDomain(Domain, SimulationCalls[TraciSession]):
     """As SUMO's traci.simulation: seconds, metres; lists and counts are of the steps of the last simulationStep."""
 
     kind, name = "Simulation", "simulation"
-    usual = (tc.VAR_DEPARTED_VEHICLES_IDS,)
+    default_variables = (tc.VAR_DEPARTED_VEHICLES_IDS,)
 
     def subjects(self) -> tuple[str, ...]:
         """The empty name that the one simulation has."""
@@ -48,7 +48,7 @@ class SimulationDomain(Domain, SimulationCalls[TraciSession]):
 
     def getCurrentTime(self) -> int:
         """The clock in milliseconds."""
-        return self.now().clock * 1000
+        return self.session().clock * 1000
 
     def getDeltaT(self) -> float:
         """1.0: the seconds of a step."""
@@ -56,7 +56,7 @@ class SimulationDomain(Domain, SimulationCalls[TraciSession]):
 
     def getEndTime(self) -> float:
         """The end that the words or the configuration name, seconds, and which ends nothing here; -1 without one."""
-        return seconds(self.now().options.get("end", "-1"))
+        return seconds(self.session().options.get("end", "-1"))
 
     def getScale(self) -> float:
         """1.0: the demand is as in the files."""
@@ -64,53 +64,53 @@ class SimulationDomain(Domain, SimulationCalls[TraciSession]):
 
     def getOption(self, option: str) -> str:
         """The text of an option that was given, by its long name without "--"; TraCIException for those left out."""
-        if option not in self.now().options:
+        if option not in self.session().options:
             raise TraCIException(f"Option '{option}' was not given.")
-        return self.now().options[option]
+        return self.session().options[option]
 
     def getLoadedIDList(self) -> tuple[str, ...]:
         """The vehicles of the files that would depart in the last steps, and those that the script has added since."""
-        return tuple(self.now().loaded)
+        return tuple(self.session().loaded)
 
     def getLoadedNumber(self) -> int:
         """How many vehicles getLoadedIDList names."""
-        return len(self.now().loaded)
+        return len(self.session().loaded)
 
     def getDepartedIDList(self) -> tuple[str, ...]:
         """The vehicles that departed."""
-        return self.now().departed
+        return self.session().departed
 
     def getDepartedNumber(self) -> int:
         """How many vehicles getDepartedIDList names."""
-        return len(self.now().departed)
+        return len(self.session().departed)
 
     def getArrivedIDList(self) -> tuple[str, ...]:
         """The vehicles that arrived."""
-        return self.now().arrived
+        return self.session().arrived
 
     def getArrivedNumber(self) -> int:
         """How many vehicles getArrivedIDList names."""
-        return len(self.now().arrived)
+        return len(self.session().arrived)
 
     def getPendingVehicles(self) -> tuple[str, ...]:
         """The vehicles that should have departed before now and wait for room."""
-        return self.now().names_of(self.now().waiting_to_depart())
+        return self.session().names_of(self.session().waiting_to_depart())
 
     def getStopStartingVehiclesIDList(self) -> tuple[str, ...]:
         """The vehicles that came to stand at stops of theirs in the steps of the last simulationStep."""
-        return self.now().names_of(sorted(self.now().began_stops))
+        return self.session().names_of(sorted(self.session().began_stops))
 
     def getStopStartingVehiclesNumber(self) -> int:
         """How many vehicles getStopStartingVehiclesIDList names."""
-        return len(self.now().began_stops)
+        return len(self.session().began_stops)
 
     def getStopEndingVehiclesIDList(self) -> tuple[str, ...]:
         """The vehicles that left such stops in these steps."""
-        return self.now().names_of(sorted(self.now().ended_stops))
+        return self.session().names_of(sorted(self.session().ended_stops))
 
     def getStopEndingVehiclesNumber(self) -> int:
         """How many vehicles getStopEndingVehiclesIDList names."""
-        return len(self.now().ended_stops)
+        return len(self.session().ended_stops)
 
     def zero(self) -> int:
         """0, as nobody is moved away, collides, parks or walks under a script."""
@@ -131,7 +131,7 @@ class SimulationDomain(Domain, SimulationCalls[TraciSession]):
 
     def getNetBoundary(self) -> tuple[Point, Point]:
         """The lower left and the upper right corner of the network, (x, y) in metres."""
-        return self.now().facts.boundary
+        return self.session().facts.boundary
 
     def convert2D(self, edgeID: str, pos: float, laneIndex: int = 0, toGeo: bool = False) -> Point:
         """The point (x, y) in metres of a place on a lane; pos: metres from its begin. TraCIException where there is no
@@ -146,7 +146,7 @@ class SimulationDomain(Domain, SimulationCalls[TraciSession]):
         NotHere for degrees (isGeo); vClass has no effect."""
         if isGeo:
             raise NotHere("simulation.convertRoad: degrees are not here")
-        session = self.now()
+        session = self.session()
         shapes = {name: session.facts.lanes[name].shape for name in session.lane_of}
         lane = min(shapes, key=lambda name: nearest((x, y), shapes[name])[0])
         edge, _, index = lane.rpartition("_")
@@ -156,7 +156,7 @@ class SimulationDomain(Domain, SimulationCalls[TraciSession]):
     def lane_with(self, edge: str, pos: float, index: int = 0) -> LaneFacts:
         """What the network's file says of a lane, imported or not, of an edge that is imported; TraCIException for any
         other, or if pos (metres) is not on it."""
-        session, name = self.now(), f"{edge}_{index}"
+        session, name = self.session(), f"{edge}_{index}"
         if edge not in session.map.links_of or name not in session.facts.lanes:
             raise TraCIException(f"Lane '{name}' is not known.")
         lane = session.facts.lanes[name]
@@ -183,18 +183,18 @@ class SimulationDomain(Domain, SimulationCalls[TraciSession]):
         if not isDriving:
             return self.getDistance2D(*self.convert2D(edgeID1, pos1), *self.convert2D(edgeID2, pos2))
         self.lane_with(edgeID1, pos1)
-        last = self.lane_with(edgeID2, pos2)
+        last_lane = self.lane_with(edgeID2, pos2)
         if edgeID1 == edgeID2 and pos1 <= pos2:
             return float(pos2 - pos1)
-        return self.now().ways.shortest_metres(edgeID1, edgeID2) - pos1 - (last.metres - pos2)
+        return self.session().paths.shortest_metres(edgeID1, edgeID2) - pos1 - (last_lane.metres - pos2)
 
     def findRoute(
         self, fromEdge: str, toEdge: str, vType: str = "", depart: float = -1.0, routingMode: int = 0
     ) -> Stage:
         """The way between two edges that is quickest now, with the times of edge.adaptTraveltime; TraCIException where
         there is none (in SUMO an empty Stage). vType is only noted in it; depart and routingMode have no effect."""
-        session = self.now()
-        links, seconds = session.ways.quickest_path(fromEdge, toEdge)
+        session = self.session()
+        links, seconds = session.paths.quickest_path(fromEdge, toEdge)
         edges = session.edge_names(links)
         metres = sum(session.map.links[link].metres for link in links) + session.inside.metres_along(links)
         return Stage(tc.STAGE_DRIVING, vType, edges=edges, travelTime=seconds, cost=seconds, length=metres)
@@ -204,12 +204,12 @@ class SimulationDomain(Domain, SimulationCalls[TraciSession]):
     def saveState(self, fileName: str) -> None:
         """Writes the state to a file, without parameters, colours and subscriptions; Fault (streetsim.files) where that
         fails. Merging before works begins anew from here."""
-        save_state(self.now(), fileName)
+        save_state(self.session(), fileName)
 
     def loadState(self, fileName: str) -> None:
         """Brings the run to a state that saveState wrote in a run of the same files and words; TraCIException for other
         files, and while output files are being written; Fault (streetsim.files) for a file that was changed since."""
-        load_state(self.now(), fileName)
+        load_state(self.session(), fileName)
 
     def writeMessage(self, msg: str) -> None:
         """Prints a text on standard error."""
@@ -240,15 +240,15 @@ class RouteDomain(Domain):
     """As SUMO's traci.route: names and edges."""
 
     kind, name = "Route", "route"
-    usual = (tc.VAR_EDGES,)
+    default_variables = (tc.VAR_EDGES,)
 
     def getIDList(self) -> tuple[str, ...]:
         """The routes of the files that have a name, and those that route.add named."""
-        return tuple(dict.fromkeys((*self.now().facts.routes, *self.now().routes)))
+        return tuple(dict.fromkeys((*self.session().facts.routes, *self.session().routes)))
 
     def add(self, name: str, edges: Iterable[str]) -> None:
         """Names a route along edges; TraCIException where the name is taken, or they are unknown or not connected."""
-        session = self.now()
+        session = self.session()
         if name in session.routes or name in session.facts.routes:
             raise TraCIException(f"Route '{name}' exists already.")
         try:
@@ -259,7 +259,7 @@ class RouteDomain(Domain):
     def getEdges(self, name: str) -> tuple[str, ...]:
         """The edges of a route; TraCIException for an unknown name."""
         self.check_known(name, self.getIDList())
-        session = self.now()
+        session = self.session()
         if name in session.facts.routes:
             return session.facts.routes[name]
         return session.edge_names(session.routes[name])

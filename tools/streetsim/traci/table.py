@@ -40,12 +40,12 @@ DOMAINS = {
 
 Table = Mapping[int, Get]
 LISTED: Table = {tc.TRACI_ID_LIST: Get("getIDList", "l"), tc.ID_COUNT: Get("getIDCount", "i")}
-KEPT: Table = {
+WITH_PARAMETERS: Table = {
     **LISTED, tc.VAR_PARAMETER: Get("getParameter", "s", "s"),
     tc.VAR_PARAMETER_WITH_KEY: Get("getParameterWithKey", "pair", "s"),
 }
 TRAFFIC: Table = {
-    **KEPT, tc.LAST_STEP_VEHICLE_NUMBER: Get("getLastStepVehicleNumber", "i"),
+    **WITH_PARAMETERS, tc.LAST_STEP_VEHICLE_NUMBER: Get("getLastStepVehicleNumber", "i"),
     tc.LAST_STEP_MEAN_SPEED: Get("getLastStepMeanSpeed", "d"),
     tc.LAST_STEP_VEHICLE_ID_LIST: Get("getLastStepVehicleIDs", "l"),
     tc.LAST_STEP_OCCUPANCY: Get("getLastStepOccupancy", "d"), tc.LAST_STEP_LENGTH: Get("getLastStepLength", "d"),
@@ -69,7 +69,7 @@ LANE: Table = {
 }
 GETS: Mapping[str, Table] = {
     "vehicle": {
-        **KEPT, **TYPE, tc.VAR_SPEED: Get("getSpeed", "d"), tc.VAR_POSITION: Get("getPosition", "o"),
+        **WITH_PARAMETERS, **TYPE, tc.VAR_SPEED: Get("getSpeed", "d"), tc.VAR_POSITION: Get("getPosition", "o"),
         tc.VAR_ANGLE: Get("getAngle", "d"), tc.VAR_TYPE: Get("getTypeID", "s"), tc.VAR_ROAD_ID: Get("getRoadID", "s"),
         tc.VAR_LANE_ID: Get("getLaneID", "s"), tc.VAR_LANE_INDEX: Get("getLaneIndex", "i"),
         tc.VAR_ROUTE_ID: Get("getRouteID", "s"), tc.VAR_ROUTE_INDEX: Get("getRouteIndex", "i"),
@@ -87,7 +87,7 @@ GETS: Mapping[str, Table] = {
         tc.VAR_LANEPOSITION_LAT: Get("getLateralLanePosition", "d"), tc.VAR_SPEED_LAT: Get("getLateralSpeed", "d"),
         tc.VAR_ROUTING_MODE: Get("getRoutingMode", "i"),
     },
-    "vehicletype": {**KEPT, **TYPE},
+    "vehicletype": {**WITH_PARAMETERS, **TYPE},
     "lane": LANE,
     "edge": {
         **{variable: get for variable, get in LANE.items() if variable not in (
@@ -98,9 +98,9 @@ GETS: Mapping[str, Table] = {
         tc.LAST_STEP_PERSON_ID_LIST: Get("getLastStepPersonIDs", "l"), tc.VAR_FRICTION: Get("getMeanFriction", "d"),
         tc.VAR_EDGE_TRAVELTIME: Get("getAdaptedTraveltime", "d", "d"),
     },
-    "junction": {**KEPT, tc.VAR_POSITION: Get("getPosition", "o"), tc.VAR_SHAPE: Get("getShape", "p")},
+    "junction": {**WITH_PARAMETERS, tc.VAR_POSITION: Get("getPosition", "o"), tc.VAR_SHAPE: Get("getShape", "p")},
     "trafficlight": {
-        **KEPT, tc.TL_RED_YELLOW_GREEN_STATE: Get("getRedYellowGreenState", "s"),
+        **WITH_PARAMETERS, tc.TL_RED_YELLOW_GREEN_STATE: Get("getRedYellowGreenState", "s"),
         tc.TL_PHASE_DURATION: Get("getPhaseDuration", "d"), tc.TL_CONTROLLED_LANES: Get("getControlledLanes", "l"),
         tc.TL_CONTROLLED_LINKS: Get("getControlledLinks", "signals"), tc.TL_CURRENT_PHASE: Get("getPhase", "i"),
         tc.TL_CURRENT_PROGRAM: Get("getProgram", "s"), tc.TL_NEXT_SWITCH: Get("getNextSwitch", "d"),
@@ -117,7 +117,7 @@ GETS: Mapping[str, Table] = {
         tc.JAM_LENGTH_METERS: Get("getJamLengthMeters", "d"), tc.VAR_POSITION: Get("getPosition", "d"),
         tc.VAR_LENGTH: Get("getLength", "d"), tc.VAR_LANE_ID: Get("getLaneID", "s"),
     },
-    "route": {**KEPT, tc.VAR_EDGES: Get("getEdges", "l")},
+    "route": {**WITH_PARAMETERS, tc.VAR_EDGES: Get("getEdges", "l")},
     "person": {**LISTED, tc.VAR_TAXI_RESERVATIONS: Get("getTaxiReservations", "none", "i")},
     "simulation": {
         tc.VAR_TIME: Get("getTime", "d"), tc.VAR_TIME_STEP: Get("getCurrentTime", "i"),
@@ -172,10 +172,10 @@ SETS: Mapping[str, Mapping[int, tuple[str, str]]] = {
 }
 
 
-ALONE = ("getIDList", "getIDCount", "getAdaptedTraveltime")  # that cannot be subscribed to
+NOT_SUBSCRIBED = ("getIDList", "getIDCount", "getAdaptedTraveltime")  # that cannot be subscribed to
 
 
-def told_by(domain: str) -> dict[int, str]:
+def calls_by_variable(domain: str) -> dict[int, str]:
     """By variable the call of a domain that tells it, without words or with one that may be left out."""
     gets = GETS[domain].items()
-    return {variable: get.call for variable, get in gets if get.takes in ("", "d") and get.call not in ALONE}
+    return {variable: get.call for variable, get in gets if get.takes in ("", "d") and get.call not in NOT_SUBSCRIBED}

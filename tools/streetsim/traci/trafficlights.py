@@ -50,15 +50,15 @@ class TrafficLightDomain(Domain):
 
     kind, name = "Traffic light", "trafficlight"
     Phase, Logic = Phase, Logic
-    usual = (tc.TL_CURRENT_PHASE,)
+    default_variables = (tc.TL_CURRENT_PHASE,)
 
     def getIDList(self) -> tuple[str, ...]:
         """The names of the lights that the import kept, sorted."""
-        return tuple(sorted(self.now().control.lights))
+        return tuple(sorted(self.session().control.lights))
 
     def present_phase(self, name: str) -> tuple[LightShow, int, float]:
         """(the light, the index of its present phase, the seconds left of it by what is known now)."""
-        control = self.now().control
+        control = self.session().control
         light = control.light(name)
         if (driven := control.driven(name)) is not None:
             clock = control.clock
@@ -67,8 +67,8 @@ class TrafficLightDomain(Domain):
 
     def getRedYellowGreenState(self, name: str) -> str:
         """The light's state now, SUMO's letter for each signal; g also where it is held and shown as G."""
-        self.now().control.light(name)
-        return self.now().control.state(name)
+        self.session().control.light(name)
+        return self.session().control.state(name)
 
     def getPhase(self, name: str) -> int:
         """The index of the present phase in the program."""
@@ -82,67 +82,67 @@ class TrafficLightDomain(Domain):
 
     def getNextSwitch(self, name: str) -> float:
         """The clock at which the present phase ends, by what is known now; 600 s on at most where a state is held."""
-        return float(self.now().clock + self.present_phase(name)[2])
+        return float(self.session().clock + self.present_phase(name)[2])
 
     def getProgram(self, name: str) -> str:
         """The name of the program that runs; "online" while a state is held."""
-        return self.now().control.light(name).program
+        return self.session().control.light(name).program
 
     def getServedPersonCount(self, name: str, index: int) -> int:
         """0: there are no persons. index: of a phase, without effect."""
-        self.now().control.light(name)
+        self.session().control.light(name)
         return 0
 
     def getControlledLanes(self, name: str) -> tuple[str, ...]:
         """The lane of each signal, by its index; an empty text where a signal has no connection here."""
-        return tuple(link[0] if link else "" for link in self.now().control.light(name).links)
+        return tuple(link[0] if link else "" for link in self.session().control.light(name).links)
 
     def getControlledLinks(self, name: str) -> tuple[list[tuple[str, str, str]], ...]:
         """For each signal [(lane, next lane, lane inside the junction)]; [] where it has no connection here."""
-        return tuple([link] if link else [] for link in self.now().control.light(name).links)
+        return tuple([link] if link else [] for link in self.session().control.light(name).links)
 
     def getAllProgramLogics(self, name: str) -> tuple[Program, ...]:
         """The program that runs, and behind it the others of the files and the script, at their first phase."""
         light, index, _ = self.present_phase(name)
-        own = [one for one in self.now().map.programs if one["light"] == name]
-        kept = {one.get("program"): one for one in own if one.get("program") not in light.scripted}
-        now = logic_at_phase(light.program, light.phases, light.names, index, kept.get(light.program))
-        others = ((program, *rest) for program, rest in light.programs.items() if program != light.program)
-        return now, *(logic_at_phase(*other, 0, kept.get(other[0])) for other in others)
+        of_file = {entry.get("program"): entry for entry in self.session().map.programs if entry["light"] == name}
+        driven = {program: entry for program, entry in of_file.items() if program not in light.scripted}
+        running = logic_at_phase(light.program, light.phases, light.names, index, driven.get(light.program))
+        further = ((program, *parts) for program, parts in light.programs.items() if program != light.program)
+        return running, *(logic_at_phase(*parts, 0, driven.get(parts[0])) for parts in further)
 
     getCompleteRedYellowGreenDefinition = getAllProgramLogics
 
     def getPhaseName(self, name: str) -> str:
         """The name of the present phase; empty where it has none."""
         light, index, _ = self.present_phase(name)
-        if (driven := self.now().control.driven(name)) is not None and driven.logic.phase_name():
+        if (driven := self.session().control.driven(name)) is not None and driven.logic.phase_name():
             return driven.logic.phase_name()
         return light.names[index]
 
     def setPhaseName(self, name: str, text: str) -> None:
         """Names the present phase, for getPhaseName, which tells the own names of a light of type NEMA all the same."""
-        self.now().control.name_phase(name, self.present_phase(name)[1], str(text))
+        self.session().control.name_phase(name, self.present_phase(name)[1], str(text))
 
     def setPhase(self, name: str, index: int) -> None:
         """Shows the phase of an index for its seconds from now on; the program goes on from there. The present phase
         goes on so, with g as G until its end, but where detectors drive the light, which leave its end as it was.
         TraCIException for a wrong index, and where a program of type NEMA drives the light."""
-        self.now().control.go_to(name, index)
+        self.session().control.go_to(name, index)
 
     def setPhaseDuration(self, name: str, seconds: float) -> None:
         """Has the present phase end so many seconds from now (rounded); the next ones last as in the program. Until
         then g is shown as G, but where detectors drive the light.
         TraCIException below 0, for inf, and where a program of type NEMA drives the light."""
-        control = self.now().control
+        control = self.session().control
         control.light(name)
         if not 0 <= seconds < inf:
             raise TraCIException(f"Traffic light '{name}': a phase of {seconds} s")
-        control.end_phase(name, self.now().clock + round(seconds))
+        control.end_phase(name, self.session().clock + round(seconds))
 
     def setRedYellowGreenState(self, name: str, state: str) -> None:
         """Shows a state, a letter for each signal and g as G, until another call sets the light; detectors drive it no
         more. TraCIException for a state of another length or with other letters."""
-        self.now().control.hold(name, state)
+        self.session().control.hold(name, state)
 
     def setLinkState(self, name: str, index: int, state: str) -> None:
         """Holds the present state, as setRedYellowGreenState does, with another letter (state) for one signal.
@@ -150,15 +150,15 @@ class TrafficLightDomain(Domain):
         shown = self.getRedYellowGreenState(name)
         if not 0 <= index < len(shown):
             raise TraCIException(f"Traffic light '{name}' has no signal {index}")
-        self.now().control.hold(name, shown[:index] + state + shown[index + 1 :])
+        self.session().control.hold(name, shown[:index] + state + shown[index + 1 :])
 
     def setProgram(self, name: str, programID: str) -> None:
         """Runs a program of the files or of setProgramLogic, from where it has come to unseen, as in SUMO: by its
         seconds since the script left it, or by its detectors. Nothing where it runs already. TraCIException for an
         unknown one, NotHere for SUMO's "off"."""
-        if programID == OFF and programID not in self.now().control.light(name).programs:
+        if programID == OFF and programID not in self.session().control.light(name).programs:
             raise NotHere(f"trafficlight.setProgram: no light is off here; {SWITCHED}")
-        self.now().control.run_program(name, programID)
+        self.session().control.run_program(name, programID)
 
     def setProgramLogic(self, name: str, logic: Program) -> None:
         """Sets a program of fixed seconds (minDur, maxDur and next have no effect; detectors drive the light no more)
@@ -170,17 +170,20 @@ class TrafficLightDomain(Domain):
         if not phases:
             raise TraCIException(f"Traffic light '{name}': a program without phases")
         check_index(name, phases, logic.currentPhaseIndex)
-        begin = self.now().clock - seconds_of(phases[: logic.currentPhaseIndex])
+        begin = self.session().clock - seconds_of(phases[: logic.currentPhaseIndex])
         names = [phase.name for phase in logic.phases]
-        self.now().control.set_program(name, logic.programID, phases, names, begin)
+        self.session().control.set_program(name, logic.programID, phases, names, begin)
 
     setCompleteRedYellowGreenDefinition = setProgramLogic
 
 
-def logic_at_phase(program: str, phases: Phases, names: Sequence[str], index: int, kept: Json | None = None) -> Logic:
-    """A program as scripts read it, at the phase of an index; kept: what the map has of one that detectors drive, with
-    the bounds of its phases, else None: their bounds are their seconds."""
-    bounds = [phase_bounds(one) for one in kept["phases"]] if kept else [(duration, duration) for duration, _ in phases]
+def logic_at_phase(
+    program: str, phases: Phases, names: Sequence[str], index: int, driven_program: Json | None = None
+) -> Logic:
+    """A program as scripts read it, at the phase of an index; driven_program: what the map has of one that detectors
+    drive, with the bounds of its phases, else None: their bounds are their seconds."""
+    fixed_bounds = [(duration, duration) for duration, _ in phases]
+    bounds = list(map(phase_bounds, driven_program["phases"])) if driven_program else fixed_bounds
     parts = zip(phases, bounds, names, strict=True)
-    read = tuple(Phase(*phase, *own, (), name) for phase, own, name in parts)
-    return Logic(program, TYPES.get(kept["kind"], 0) if kept else 0, index, read)
+    read = tuple(Phase(*phase, *phase_bounds_s, (), name) for phase, phase_bounds_s, name in parts)
+    return Logic(program, TYPES.get(driven_program["kind"], 0) if driven_program else 0, index, read)

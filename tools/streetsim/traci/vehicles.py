@@ -12,12 +12,12 @@ from streetsim.simulation.calls import METRES, VehicleCalls
 from streetsim.simulation.columns import Column
 from streetsim.simulation.errors import TraCIException
 from streetsim.simulation.fleet import NOWHERE, OnRoad
-from streetsim.simulation.rerouting import other_way
+from streetsim.simulation.rerouting import send_along
 from streetsim.simulation.session import TraciSession
 from streetsim.sumo.types import DEFAULT, Kind
 from streetsim.traci import constants as tc
 from streetsim.traci.domain import Outlined
-from streetsim.traci.looks import Colour, Looking
+from streetsim.traci.looks import Colour, LookDomain
 
 COLUMNS = {
     tc.VAR_SPEED: "speed", tc.VAR_POSITION: "position", tc.VAR_ANGLE: "angle", tc.VAR_ROAD_ID: "road_name",
@@ -43,16 +43,16 @@ class StopData:
     until: float
 
 
-class VehicleDomain(VehicleCalls[TraciSession], Looking, Outlined):
+class VehicleDomain(VehicleCalls[TraciSession], LookDomain, Outlined):
     """As SUMO's traci.vehicle: metres, metres a second, seconds; before it departs places and speeds are SUMO's value
     for "nowhere" (-1073741824). TraCIException for a vehicle that is not known or has ended."""
 
     kind, name = "Vehicle", "vehicle"
-    usual, stands = (tc.VAR_ROAD_ID, tc.VAR_LANEPOSITION), False
+    default_variables, is_fixed = (tc.VAR_ROAD_ID, tc.VAR_LANEPOSITION), False
 
-    def __init__(self, now: Callable[[], TraciSession]) -> None:
-        """now: gives the session; FatalTraCIError where no run is under way."""
-        super().__init__(now)
+    def __init__(self, session: Callable[[], TraciSession]) -> None:
+        """session: gives the session; FatalTraCIError where no run is under way."""
+        super().__init__(session)
         self.colours: dict[str, tuple[int, ...]] = {}  # that scripts keep, by vehicle
 
     def forget(self) -> None:
@@ -63,45 +63,46 @@ class VehicleDomain(VehicleCalls[TraciSession], Looking, Outlined):
     def forget_one(self, name: str) -> None:
         """Forgets subscriptions to a vehicle that has ended and what scripts keep of it, as its name is used again."""
         self.unsubscribe(name)
-        self.around.pop(name, None)
+        self.contexts.pop(name, None)
         self.colours.pop(name, None)
         self.forget_parameters(name)
 
     def getIDList(self) -> tuple[str, ...]:
         """The vehicles on lanes and in junctions, in no certain order (in SUMO sorted by name)."""
-        return self.now().names_of(self.now().view.numbers)
+        return self.session().names_of(self.session().view.numbers)
 
     def subjects(self) -> Collection[str]:
         """The vehicles that have not ended, those that will depart among them."""
-        ended = self.now().view.ended
-        return [name for name, number in self.now().fleet.numbers.items() if not ended[number]]
+        ended = self.session().view.ended
+        return [name for name, number in self.session().fleet.numbers.items() if not ended[number]]
 
     def is_subject(self, name: str) -> bool:
         """Whether a vehicle is known and has not ended."""
-        return name in self.now().fleet.numbers and not self.now().has_ended(name)
+        return name in self.session().fleet.numbers and not self.session().has_ended(name)
 
-    def there(self, names: Iterable[str]) -> list[str]:
+    def existing(self, names: Iterable[str]) -> list[str]:
         """Of some vehicles those on the road, whose subscriptions are told."""
-        numbers, rows = self.now().fleet.numbers, self.now().view.rows
+        numbers, rows = self.session().fleet.numbers, self.session().view.rows
         return [name for name in names if numbers.get(name) in rows]
 
     def columns(self, variables: Sequence[int], names: Sequence[str]) -> list[Column]:
         """As Domain does, of vehicles on the road."""
-        columns, numbers = self.now().vehicle_columns, self.now().fleet.numbers
+        columns, numbers = self.session().vehicle_columns, self.session().fleet.numbers
         rows = columns.rows_of([numbers[name] for name in names])
         return [
-            getattr(columns, COLUMNS[one])(rows) if one in COLUMNS else self.column(one, names) for one in variables
+            getattr(columns, COLUMNS[variable])(rows) if variable in COLUMNS else self.column(variable, names)
+            for variable in variables
         ]
 
     def look_up(self, name: str) -> tuple[int, OnRoad | None]:
         """(number in the fleet, where it is) of a vehicle; None before it departs. TraCIException where it has ended or
         is not known."""
-        session = self.now()
+        session = self.session()
         number = session.fleet.numbers.get(name, -1)
-        where = session.view.where(number)
-        if where is None and (number < 0 or session.view.ended[number]):
+        position = session.view.position_of(number)
+        if position is None and (number < 0 or session.view.ended[number]):
             raise TraCIException(f"Vehicle '{name}' is not known.")
-        return number, where
+        return number, position
 
     def on_road(self, name: str) -> OnRoad | None:
         """Where a vehicle is; None before it departs. TraCIException where it is not known or has ended."""
@@ -110,7 +111,7 @@ class VehicleDomain(VehicleCalls[TraciSession], Looking, Outlined):
     def simulation_with(self, name: str) -> TraciSession:
         """The session, for a call on a vehicle; TraCIException where that is not known or has ended."""
         self.look_up(name)
-        return self.now()
+        return self.session()
 
     def outline(self, name: str) -> Line:
         """A line of one point, that of its front, in metres."""
@@ -124,42 +125,43 @@ class VehicleDomain(VehicleCalls[TraciSession], Looking, Outlined):
 
     def getAcceleration(self, name: str) -> float:
         """Metres a second squared in the last step, in whole cells; 0 in the step in which it departed."""
-        number, where = self.look_up(name)
-        if where is None:
+        number, position = self.look_up(name)
+        if position is None:
             return NOWHERE
-        return (where.speed - self.now().view.there_before.get(number, where).speed) * METRES
+        return (position.speed - self.session().view.positions_before.get(number, position).speed) * METRES
 
     def getPosition(self, name: str) -> tuple[float, float]:
         """The point (x, y) of its front on its link's line, which joint lanes share, or of its junction."""
-        where = self.on_road(name)
-        return (NOWHERE, NOWHERE) if where is None else self.now().places.point(where)
+        position = self.on_road(name)
+        return (NOWHERE, NOWHERE) if position is None else self.session().vehicle_points.point(position)
 
     def getAngle(self, name: str) -> float:
         """Degrees clockwise from north; in a junction those at the end of the street from which it came."""
-        where = self.on_road(name)
-        return NOWHERE if where is None else self.now().places.angle(where)
+        position = self.on_road(name)
+        return NOWHERE if position is None else self.session().vehicle_points.angle(position)
 
     def getDistance(self, name: str) -> float:
         """Metres driven since it departed."""
-        number, where = self.look_up(name)
-        if where is None:
+        number, position = self.look_up(name)
+        if position is None:
             return NOWHERE
-        first = self.now().map.links[self.now().fleet.plans[number][0]]
-        return float(self.now().tally.travelled[number]) + self.metres_to_front(where) - first.metres / first.cells
+        first_link = self.session().map.links[self.session().fleet.plans[number][0]]
+        travelled = float(self.session().tally.travelled[number])
+        return travelled + self.metres_to_front(position) - first_link.metres / first_link.cells
 
     # How long it stands, and what it lost
 
     def getWaitingTime(self, name: str) -> float:
         """Seconds for which it has stood without a break."""
-        return float(self.now().tally.waiting[self.look_up(name)[0]])
+        return float(self.session().tally.waiting[self.look_up(name)[0]])
 
     def getAccumulatedWaitingTime(self, name: str) -> float:
         """Seconds for which it has stood in all (in SUMO in the last 100 s)."""
-        return float(self.now().tally.waited[self.look_up(name)[0]])
+        return float(self.session().tally.waited[self.look_up(name)[0]])
 
     def getTimeLoss(self, name: str) -> float:
         """Seconds lost against free driving, 0 at least."""
-        return max(0.0, float(self.now().tally.lost[self.look_up(name)[0]]))
+        return max(0.0, float(self.session().tally.lost[self.look_up(name)[0]]))
 
     # Who it is
 
@@ -182,16 +184,16 @@ class VehicleDomain(VehicleCalls[TraciSession], Looking, Outlined):
     def getAllowedSpeed(self, name: str) -> float:
         """The limit of its lane (in SUMO times its speed factor), metres a second, or the greatest speed of its type
         where that is less; in a junction the latter alone, 55.6 at most."""
-        where = self.on_road(name)
-        if where is None:
+        position = self.on_road(name)
+        if position is None:
             return NOWHERE
-        limit = self.now().facts.lanes[self.getLaneID(name)].speed if where.cell is not None else FASTEST
+        limit = self.session().facts.lanes[self.getLaneID(name)].speed if position.cell is not None else FASTEST
         return min(limit, self.getMaxSpeed(name))
 
     def type_of(self, name: str) -> tuple[Kind, Mapping[str, str]]:
         """(its type, the attributes that the file of that has)."""
         kind = self.getTypeID(name)
-        return self.kind_of(name), self.now().facts.types.get(kind, {})
+        return self.kind_of(name), self.session().facts.types.get(kind, {})
 
     def getColor(self, name: str) -> Colour:
         """The colour (red, green, blue, opacity; 0 to 255) that a script set; else that of its type."""
@@ -201,7 +203,7 @@ class VehicleDomain(VehicleCalls[TraciSession], Looking, Outlined):
     def getLine(self, name: str) -> str:
         """The line of public transport that it is of; empty where it is of none."""
         number, _ = self.look_up(name)
-        lines = bus_lines_of(self.now().map.kinds, len(self.now().map.cars))
+        lines = bus_lines_of(self.session().map.kinds, len(self.session().map.cars))
         return lines[number] if number < len(lines) else ""
 
     def getVia(self, name: str) -> tuple[str, ...]:
@@ -244,8 +246,8 @@ class VehicleDomain(VehicleCalls[TraciSession], Looking, Outlined):
 
     def getRouteIndex(self, name: str) -> int:
         """The position in its route, from 0, of the edge where it is or, in a junction, was; -1073741824 if none."""
-        number, where = self.look_up(name)
-        return tc.INVALID_INT_VALUE if where is None else self.now().tally.position(number)
+        number, position = self.look_up(name)
+        return tc.INVALID_INT_VALUE if position is None else self.session().tally.position(number)
 
     def getRouteID(self, name: str) -> str:
         """The name of its route; '!' and the vehicle's name where the route has none, or was changed."""
@@ -259,29 +261,29 @@ class VehicleDomain(VehicleCalls[TraciSession], Looking, Outlined):
     def getNextTLS(self, name: str) -> tuple[tuple[str, int, float, str], ...]:
         """For each light ahead on its way (light, index of the signal, metres to the stop line, the signal's letter
         now), the nearest first; empty before it departs."""
-        where, session, found = self.on_road(name), self.now(), []
-        if where is None:
+        position, session, lights = self.on_road(name), self.session(), []
+        if position is None:
             return ()
-        metres = -self.metres_to_front(where)
-        lane: int | None = where.lane
-        for at, (link, following) in enumerate(pairwise(session.plan_ahead(name))):
+        metres = -self.metres_to_front(position)
+        lane: int | None = position.lane
+        for index, (link, following) in enumerate(pairwise(session.plan_ahead(name))):
             metres += session.map.links[link].metres
             turn = session.connections.turn_at_light(link, lane, following, session.control.lights)
-            if turn and turn.light and (at or where.cell is not None):
-                found.append((turn.light, turn.index, metres, session.control.state(turn.light)[turn.index]))
+            if turn and turn.light and (index or position.cell is not None):
+                lights.append((turn.light, turn.index, metres, session.control.state(turn.light)[turn.index]))
             metres, lane = metres + session.inside.metres(link, lane, following), None
-        return tuple(found)
+        return tuple(lights)
 
     def getDrivingDistance(self, name: str, edgeID: str, pos: float, laneIndex: int = 0) -> float:
         """Metres along its way to pos metres from an edge's begin; "nowhere" if that is not ahead, and before it
         departs. laneIndex has no effect. TraCIException for an unknown edge."""
-        where, session = self.on_road(name), self.now()
-        if where is None:
+        position, session = self.on_road(name), self.session()
+        if position is None:
             return NOWHERE
         if edgeID not in session.map.links_of:
             raise TraCIException(f"Edge '{edgeID}' is not known.")
-        metres, ahead = -self.metres_to_front(where), session.plan_ahead(name)
-        lane: int | None = where.lane
+        metres, ahead = -self.metres_to_front(position), session.plan_ahead(name)
+        lane: int | None = position.lane
         for link, following in zip(ahead, (*ahead[1:], None)):
             if session.map.links[link].edge == edgeID and metres + pos >= 0:
                 return metres + pos
@@ -296,62 +298,64 @@ class VehicleDomain(VehicleCalls[TraciSession], Looking, Outlined):
         """(vehicle, metres between the two, without the standing gap) of the next one ahead on its way: on its lane at
         any distance, further on within its braking distance or dist. None where there is nobody, before it departs, and
         where it is itself in a junction. One ahead in a junction counts as at its begin."""
-        where = self.on_road(name)
-        if where is None or where.cell is None:
+        position = self.on_road(name)
+        if position is None or position.cell is None:
             return None
-        ahead = [other for other, there in self.on_same_lane(where) if there.front_cell > where.cell]
+        ahead = [number for number, spot in self.on_same_lane(position) if spot.front_cell > position.cell]
         if ahead:
-            return self.now().fleet.names[ahead[-1]], self.metres_to_rear(ahead[-1], 0.0, self.metres_to_front(where))
-        reach = (where.speed * METRES) ** 2 / (2 * BRAKING) + where.speed * METRES
-        return self.leader_further_on(name, where, max(dist, reach))
+            metres = self.metres_to_rear(ahead[-1], 0.0, self.metres_to_front(position))
+            return self.session().fleet.names[ahead[-1]], metres
+        reach = (position.speed * METRES) ** 2 / (2 * BRAKING) + position.speed * METRES
+        return self.leader_further_on(name, position, max(dist, reach))
 
-    def on_same_lane(self, where: OnRoad) -> list[tuple[int, OnRoad]]:
-        """(number, where it is) of each vehicle on the lane of one (where), from the stop line."""
-        view = self.now().view
-        return [(number, view.there[number]) for number in view.on_lane((where.link, where.lane))]
+    def on_same_lane(self, position: OnRoad) -> list[tuple[int, OnRoad]]:
+        """(number, where it is) of each vehicle on the lane of one (position), from the stop line."""
+        view = self.session().view
+        return [(number, view.positions[number]) for number in view.on_lane((position.link, position.lane))]
 
-    def leader_further_on(self, name: str, where: OnRoad, reach: float) -> tuple[str, float] | None:
+    def leader_further_on(self, name: str, position: OnRoad, reach: float) -> tuple[str, float] | None:
         """(vehicle, metres between the two) of the next one ahead, on the links of its way behind the one where a
-        vehicle (name, where) is, within reach metres of its front; None where there is nobody."""
-        session, lane = self.now(), where.lane
-        metres = session.map.links[where.link].metres - self.metres_to_front(where)
+        vehicle (name, position) is, within reach metres of its front; None where there is nobody."""
+        session, lane = self.session(), position.lane
+        metres = session.map.links[position.link].metres - self.metres_to_front(position)
         for link, following in pairwise(session.plan_ahead(name)):
             if metres > reach:
                 return None
-            if there := session.view.in_buffer((link, lane)):
-                return session.fleet.names[there[-1]], metres
+            if vehicles := session.view.in_buffer((link, lane)):
+                return session.fleet.names[vehicles[-1]], metres
             metres += session.inside.metres(link, lane, following)
             lane = session.connections.next_lane(link, lane, following)
-            if there := session.view.on_lane((following, lane)):
-                return session.fleet.names[there[-1]], self.metres_to_rear(there[-1], metres, 0.0)
+            if vehicles := session.view.on_lane((following, lane)):
+                return session.fleet.names[vehicles[-1]], self.metres_to_rear(vehicles[-1], metres, 0.0)
             metres += session.map.links[following].metres
         return None
 
-    def metres_to_rear(self, other: int, metres: float, front: float) -> float:
-        """Metres, 0 at least, from a front, front metres along a link, to the rear of another vehicle (other: its
+    def metres_to_rear(self, number: int, metres: float, front: float) -> float:
+        """Metres, 0 at least, from a front, front metres along a link, to the rear of another vehicle (number: its
         number), whose link begins metres further on."""
-        where = self.now().view.there[other]
-        link = self.now().map.links[where.link]
-        rear = (where.front_cell + 1 - self.now().fleet.size(other)) * link.metres / link.cells
+        position = self.session().view.positions[number]
+        link = self.session().map.links[position.link]
+        rear = (position.front_cell + 1 - self.session().fleet.size(number)) * link.metres / link.cells
         return max(0.0, metres + rear - front)
 
     def getFollower(self, name: str, dist: float = 0.0) -> tuple[str, float]:
         """(vehicle, metres between the two, without the standing gap) of the next one behind it on its lane; ("", -1)
         where there is nobody, before it departs, and in a junction. dist has no effect."""
-        number, where = self.look_up(name)
-        if where is None or where.cell is None:
+        number, position = self.look_up(name)
+        if position is None or position.cell is None:
             return "", -1.0
-        behind = [(other, there) for other, there in self.on_same_lane(where) if there.front_cell < where.cell]
+        behind = [pair for pair in self.on_same_lane(position) if pair[1].front_cell < position.cell]
         if not behind:
             return "", -1.0
-        other, there = behind[0]
-        return self.now().fleet.names[other], self.metres_to_rear(number, 0.0, self.metres_to_front(there))
+        follower, follower_position = behind[0]
+        metres = self.metres_to_rear(number, 0.0, self.metres_to_front(follower_position))
+        return self.session().fleet.names[follower], metres
 
     # Stops of the files
 
     def isStopped(self, name: str) -> bool:
         """Whether it stands at a stop of its own."""
-        return self.now().stop_of(self.look_up(name)[0]) is not None
+        return self.session().stop_of(self.look_up(name)[0]) is not None
 
     def isAtBusStop(self, name: str) -> bool:
         """Whether it stands at a busStop or trainStop of its own."""
@@ -359,17 +363,17 @@ class VehicleDomain(VehicleCalls[TraciSession], Looking, Outlined):
 
     def getStopState(self, name: str) -> int:
         """SUMO's flags: 0 where it is at no stop of its own, 1 at a place of a lane, 17 at a busStop or trainStop."""
-        stop = self.now().stop_of(self.look_up(name)[0])
+        stop = self.session().stop_of(self.look_up(name)[0])
         return 0 if stop is None else STOPPED | self.place_flag(stop)
 
     def place_flag(self, stop: Visit) -> int:
         """SUMO's flag of a busStop or trainStop; 0 for a place of a lane."""
-        return 0 if stop.stop.startswith(f"{self.now().map.lane_name(stop.link, stop.lane)}:") else AT_BUS_STOP
+        return 0 if stop.stop.startswith(f"{self.session().map.lane_name(stop.link, stop.lane)}:") else AT_BUS_STOP
 
     def getStops(self, name: str, limit: int = 0) -> tuple[StopData, ...]:
         """Its stops to come, the one where it stands among them: so many (limit), 0: all. Empty for a limit below 0, by
         which SUMO tells those that are over."""
-        visits = self.now().stops_to_come(self.look_up(name)[0])
+        visits = self.session().stops_to_come(self.look_up(name)[0])
         return tuple(map(self.stop_told, visits[: limit or None] if limit >= 0 else ()))
 
     def getNextStops(self, name: str) -> tuple[StopData, ...]:
@@ -378,11 +382,12 @@ class VehicleDomain(VehicleCalls[TraciSession], Looking, Outlined):
 
     def stop_told(self, visit: Visit) -> StopData:
         """A stop as scripts read it; its place is of whole cells."""
-        link, flag = self.now().map.links[visit.link], self.place_flag(visit)
+        link, flag = self.session().map.links[visit.link], self.place_flag(visit)
         size = link.metres / link.cells
         until = tc.INVALID_DOUBLE_VALUE if visit.until is None else float(visit.until)
-        place = self.now().map.lane_name(visit.link, visit.lane), visit.first * size, (visit.last + 1) * size
-        return StopData(*place, visit.stop if flag else "", flag, float(visit.duration), until)
+        lane = self.session().map.lane_name(visit.link, visit.lane)
+        begin, end = visit.first * size, (visit.last + 1) * size
+        return StopData(lane, begin, end, visit.stop if flag else "", flag, float(visit.duration), until)
 
     def is_not(self, name: str) -> bool:
         """False: nobody parks, nor stands at a stop of another kind."""
@@ -401,11 +406,11 @@ class VehicleDomain(VehicleCalls[TraciSession], Looking, Outlined):
         None, "now", "triggered", -2 and -3: now, else seconds (rounded up; at once where that is over). Further
         arguments, as departLane or departPos, have no effect. TraCIException where its name is taken, also by one of
         the file that is to come, route or type is unknown, its edges have no connection, or as of clock_of."""
-        session = self.now()
+        session = self.session()
         if typeID not in session.types.kinds:
             raise TraCIException(f"Vehicle type '{typeID}' is not known.")
-        now = depart is None or depart in ("now", "triggered", -2, "-2", -3)
-        if session.add(vehID, routeID, typeID, session.clock if now else clock_of(vehID, depart)):
+        at_once = depart is None or depart in ("now", "triggered", -2, "-2", -3)
+        if session.add(vehID, routeID, typeID, session.clock if at_once else clock_of(vehID, depart)):
             self.forget_one(vehID)
 
     addFull = add
@@ -413,55 +418,55 @@ class VehicleDomain(VehicleCalls[TraciSession], Looking, Outlined):
     def remove(self, name: str, reason: object = None) -> None:
         """Takes a vehicle out; TraCIException before the program was told of it. reason has no effect."""
         self.look_up(name)
-        if self.now().fleet.car(name) is None:
+        if self.session().fleet.car(name) is None:
             raise TraCIException(f"Vehicle '{name}' has not departed yet.")
-        self.now().remove(name)
+        self.session().remove(name)
 
     def setRoute(self, name: str, edgeList: Sequence[str]) -> None:
         """Sets another route, from the edge on where the vehicle is or will depart. One on the road takes it from the
         next node on: there it is taken out and entered anew, with another number and other random draws. TraCIException
         where the route begins elsewhere, or its edges have no connection."""
-        other_way(self.now(), name, self.on_road(name), list(edgeList))
+        send_along(self.session(), name, self.on_road(name), list(edgeList))
 
     def setRouteID(self, name: str, routeID: str) -> None:
         """As setRoute, with a named route from the edge on where it is, in a junction the whole route."""
-        session = self.now()
+        session = self.session()
         edges = session.edge_names(session.route_links(routeID))
-        here = self.getRoadID(name)
-        ahead = edges[edges.index(here) :] if here in edges else edges
-        other_way(session, name, self.on_road(name), ahead)
+        edge = self.getRoadID(name)
+        ahead = edges[edges.index(edge) :] if edge in edges else edges
+        send_along(session, name, self.on_road(name), ahead)
         session.note_route(name, routeID)
 
     def changeTarget(self, name: str, edgeID: str) -> None:
         """As setRoute, with the way to another edge that is quickest now, as findRoute has it."""
-        session, where = self.now(), self.on_road(name)
+        session, position = self.session(), self.on_road(name)
         edges = self.getRoute(name)
-        here = edges[0] if where is None else session.map.links[where.link].edge
-        other_way(session, name, where, session.edge_names(session.ways.quickest_path(here, edgeID)[0]))
+        edge = edges[0] if position is None else session.map.links[position.link].edge
+        send_along(session, name, position, session.edge_names(session.paths.quickest_path(edge, edgeID)[0]))
 
     def rerouteTraveltime(self, name: str, currentTravelTimes: bool = True) -> None:
         """As changeTarget, to its last edge; currentTravelTimes has no effect."""
         self.changeTarget(name, self.getRoute(name)[-1])
 
 
-class VehicleTypeDomain(Looking):
+class VehicleTypeDomain(LookDomain):
     """As SUMO's traci.vehicletype, of the files' types: metres, metres a second. TraCIException for an unknown one."""
 
     kind, name = "Vehicle type", "vehicletype"
-    usual = (tc.VAR_MAXSPEED,)
+    default_variables = (tc.VAR_MAXSPEED,)
 
     def getIDList(self) -> tuple[str, ...]:
         """The names of the files' types, sorted, without those of SUMO's own that no file tells but DEFAULT_VEHTYPE."""
-        return tuple(sorted(self.now().types.kinds))
+        return tuple(sorted(self.session().types.kinds))
 
     def kind_named(self, name: str) -> Kind:
         """A type by its name; TraCIException where there is none."""
-        self.check_known(name, self.now().types.kinds)
-        return self.now().types.kinds[name]
+        self.check_known(name, self.session().types.kinds)
+        return self.session().types.kinds[name]
 
     def type_of(self, name: str) -> tuple[Kind, Mapping[str, str]]:
         """(the type, the attributes that its file has)."""
-        return self.kind_named(name), self.now().facts.types.get(name, {})
+        return self.kind_named(name), self.session().facts.types.get(name, {})
 
     def getColor(self, name: str) -> Colour:
         """Its colour in the file, where that has numbers; else SUMO's yellow."""

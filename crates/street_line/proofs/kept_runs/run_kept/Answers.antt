@@ -16,15 +16,15 @@ pub loop-preserved : goal.loop-preserved
 loop-preserved g c =
     let before = c.loop.invariant in
     let got : List ℕ = take c.in-Ok.count c.read_behind.new.buffer in
-    let passed = c.in-Ok-pass_more.ensures.passed (cut before.0).1 before.4 in (
+    let passed = c.in-Ok-serve_and_keep_more.ensures.passed (cut before.0).1 before.4 in (
       before.0 ++ got,
       Consumes-trans _ _ _ before.0 got before.1 c.in-Ok.ensures.bytes.0,
       passed_held g.S.Service.serves _ _ _ _ _ _ _ _ (passed_more g.S.Service.serves _ _ _ _ _ _ _ _ _ _ before.0 got before.2 passed),
       passed.stays,
-      open_more _ _ before.0 got (c.in-Ok-pass_more.ensures.open (cut before.0).1 before.4),
+      open_more _ _ before.0 got (c.in-Ok-serve_and_keep_more.ensures.open (cut before.0).1 before.4),
       omega (arith, c.in-Ok.ensures.calls, before.5),
-      (λ some. (prompt_again c.loop.reader.calls c.loop.reader.is_prompt c.loop.writer.is_flushed _ c.in-Ok.ensures.prompt (λ more. before.6 (omega (arith, before.5, more))), c.in-Ok-pass_more.ensures.flushed)),
-      λ failed. before.7 (c.in-Ok-pass_more.ensures.sound failed),
+      (λ some. (prompt_again c.loop.reader.calls c.loop.reader.is_prompt c.loop.writer.is_flushed _ c.in-Ok.ensures.prompt (λ more. before.6 (omega (arith, before.5, more))), c.in-Ok-serve_and_keep_more.ensures.flushed)),
+      λ failed. before.7 (c.in-Ok-serve_and_keep_more.ensures.sound failed),
     )
 
 pub returns-in-Err-clause-exact : goal.returns-in-Err-clause-exact
@@ -40,20 +40,20 @@ returns-clause-exact g c =
 pub returns-then-count-eq0-clause-whole : goal.returns-then-count-eq0-clause-whole
 returns-then-count-eq0-clause-whole g c =
     let before = c.loop.invariant in
-    on_ok c.pass_last.result _ _
+    on_ok c.serve_and_keep_last.result _ _
     (λ passed. record {
       text = before.0;
       read = consumes_end _ _ _ before.0 c.in-Ok.count c.read_behind.new.buffer c.if-count-eq0.true before.1 c.in-Ok.ensures.bytes.0;
       at_end = c.in-Ok.ensures.bytes.1 c.if-count-eq0.true (omega arith);
       passed = passed_last g.S.Service.serves _ _ _ _ _ _ _ _ _ _ before.0 before.2 passed;
     })
-    (c.pass_last.ensures.passed (cut before.0).1 before.4)
+    (c.serve_and_keep_last.ensures.passed (cut before.0).1 before.4)
 
 pub returns-then-count-eq0-clause-exact : goal.returns-then-count-eq0-clause-exact
 returns-then-count-eq0-clause-exact g c =
     let before = c.loop.invariant in
     let read = consumes_end _ _ _ before.0 c.in-Ok.count c.read_behind.new.buffer c.if-count-eq0.true before.1 c.in-Ok.ensures.bytes.0 in
-    IfErr-weaker c.pass_last.result _ _
+    IfErr-weaker c.serve_and_keep_last.result _ _
     (λ fault stops. record {
       seen = before.0;
       got = [];
@@ -66,10 +66,10 @@ returns-then-count-eq0-clause-exact g c =
       passed = before.2;
       stops = rw before.3 at stops;
     })
-    (c.pass_last.ensures.stops (cut before.0).1 before.4)
+    (c.serve_and_keep_last.ensures.stops (cut before.0).1 before.4)
 
-pub returns-in-Err-pass_more-clause-exact : goal.returns-in-Err-pass_more-clause-exact
-returns-in-Err-pass_more-clause-exact g c =
+pub returns-in-Err-serve_and_keep_more-clause-exact : goal.returns-in-Err-serve_and_keep_more-clause-exact
+returns-in-Err-serve_and_keep_more-clause-exact g c =
     let before = c.loop.invariant in
     let got : List ℕ = take c.in-Ok.count c.read_behind.new.buffer in
     record {
@@ -82,7 +82,7 @@ returns-in-Err-pass_more-clause-exact g c =
       read = Consumes-trans _ _ _ before.0 got before.1 c.in-Ok.ensures.bytes.0;
       is_last = inl refl;
       passed = before.2;
-      stops = rw before.3 at (c.in-Err-pass_more.ensures.stops (cut before.0).1 before.4);
+      stops = rw before.3 at (c.in-Err-serve_and_keep_more.ensures.stops (cut before.0).1 before.4);
     }
 
 pub returns-in-Err-clause-broken : goal.returns-in-Err-clause-broken
@@ -91,9 +91,9 @@ returns-in-Err-clause-broken g c = first_up_to g.S.Service.serves _ _ _ _ _ _ _ 
 pub returns-clause-broken : goal.returns-clause-broken
 returns-clause-broken g c = first_up_to g.S.Service.serves _ _ _ _ _ _ _ _ _ (returns-clause-exact g c)
 
-pub returns-in-Err-pass_more-clause-broken : goal.returns-in-Err-pass_more-clause-broken
-returns-in-Err-pass_more-clause-broken g c = first_up_to g.S.Service.serves _ _ _ _ _ _ _ _ _ (returns-in-Err-pass_more-clause-exact g c)
+pub returns-in-Err-serve_and_keep_more-clause-broken : goal.returns-in-Err-serve_and_keep_more-clause-broken
+returns-in-Err-serve_and_keep_more-clause-broken g c = first_up_to g.S.Service.serves _ _ _ _ _ _ _ _ _ (returns-in-Err-serve_and_keep_more-clause-exact g c)
 
 pub returns-then-count-eq0-clause-broken : goal.returns-then-count-eq0-clause-broken
 returns-then-count-eq0-clause-broken g c =
-    IfErr-weaker c.pass_last.result _ _ (λ fault exact. first_up_to g.S.Service.serves _ _ _ _ fault _ _ _ _ exact) (returns-then-count-eq0-clause-exact g c)
+    IfErr-weaker c.serve_and_keep_last.result _ _ (λ fault exact. first_up_to g.S.Service.serves _ _ _ _ fault _ _ _ _ exact) (returns-then-count-eq0-clause-exact g c)

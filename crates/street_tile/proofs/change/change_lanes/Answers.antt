@@ -1,4 +1,4 @@
-use Rattle.std.proofs.Common.{◌≡◌, ℕ, suc, ◌+◌, ◌<◌, ◌≤◌, ◌∙◌, length, true, refl, sym, ap, subst, arith}
+use Rattle.std.proofs.Common.{◌≡◌, ℕ, suc, ◌+◌, ◌<◌, ◌≤◌, ◌∙◌, length, refl, sym, ap, subst, arith}
 use Rattle.street_base.specs.declared.names.Place.{Place}
 use Rattle.street_base.specs.Prelude.{link_at, Traffic}
 use Rattle.street_lanes.specs.Prelude.{Same, IsOn, LanesStand, place_at}
@@ -7,7 +7,7 @@ use Rattle.street_tile.specs.Prelude.{IsRoads, ArePairs, BeginsLink}
 use Rattle.street_tile.proofs.SameLanes.{same-then, same-long, even-of, of-same, there-at}
 use Rattle.street_tile.proofs.TileChanges.{ChangedTo, begins-next, changed-start, changed-kept, changed-next, changed-over, changed-all}
 use Rattle.street_tile.proofs.change.change_lanes.Goals as goal
-use Rattle.street_tile.proofs.change.change_lanes.Goals.{then-begins_pair, else-begins_pair, Joined-begins_pair}
+use Rattle.street_tile.proofs.change.change_lanes.Goals.{then-lanes_of-eq2, else-lanes_of-eq2, Joined-lanes_of-eq2}
 
 pub loop-n-init : goal.loop-n-init
 loop-n-init c =
@@ -26,8 +26,8 @@ loop-n-init c =
 pub at-requires : goal.at-requires
 at-requires c = let e = same-long c.args.own.now c.loop-n.own c.loop-n.invariant.same in omega arith
 
-pub begins_pair-requires : goal.begins_pair-requires
-begins_pair-requires c =
+pub lanes_of-requires : goal.lanes_of-requires
+lanes_of-requires c =
     let of = of-same c.args.net.now c.args.own.now c.loop-n.own c.loop-n.invariant.same c.requires.of in
     let even = even-of c.args.net.now c.loop-n.own of in
     let e = same-long c.args.own.now c.loop-n.own c.loop-n.invariant.same in
@@ -41,7 +41,12 @@ module _ (c : goal.After-change-arg-1) where
   same_place n = rw c.loop-n.invariant.same.places refl
 
   pair : ((place_at c.loop-n.own c.loop-n.n).lane ≡ 0) × ((link_at c.args.net.now (place_at c.loop-n.own c.loop-n.n).link).lanes ≡ 2)
-  pair = subst (λ (p : Place). (p.lane ≡ 0) × ((link_at c.args.net.now p.link).lanes ≡ 2)) c.at.ensures (c.begins_pair.ensures.0 c.if-begins_pair.true)
+  pair =
+      let e = same-long c.args.own.now c.loop-n.own c.loop-n.invariant.same in
+      let places = ap length c.loop-n.invariant.same.places in
+      let is = c.lanes_of.ensures in
+      let two = c.if-lanes_of-eq2.true in
+      (rw (same_place c.loop-n.n) (c.loop-n.invariant.begins (omega (arith, e, places))), subst (λ (p : Place). (link_at c.args.net.now p.link).lanes ≡ 2) c.at.ensures (omega (arith, is, two)))
 
   next : (suc c.loop-n.n < length c.args.own.now.places) × (place_at c.args.own.now (suc c.loop-n.n) ≡ record { link = (place_at c.args.own.now c.loop-n.n).link; lane = 1 })
   next = let places = ap length c.loop-n.invariant.same.places in c.requires.pairs.next c.loop-n.n (omega (arith, places)) (rw (same_place c.loop-n.n) at pair.0) (rw (same_place c.loop-n.n) at pair.1)
@@ -58,28 +63,30 @@ change-requires-clause-link c =
     rw (same_place c (c.loop-n.n + 1), same_place c c.loop-n.n, more) (ap (λ (p : Place). p.link) (next c).1)
 
 -- what the loop keeps, once the lanes before `after` are done
-abbrev Kept : Joined-begins_pair → Type 0
+abbrev Kept : Joined-lanes_of-eq2 → Type 0
 Kept c = record {
-  more : c.loop-n.n < c.if-begins_pair.after;
-  within : c.if-begins_pair.after ≤ length c.args.own.now.places;
-  begins : BeginsLink c.args.own.now c.if-begins_pair.after;
-  same : Same c.args.own.now c.if-begins_pair.own;
-  room : c.args.own.now.room ≤ c.if-begins_pair.own.room;
+  more : c.loop-n.n < c.if-lanes_of-eq2.after;
+  within : c.if-lanes_of-eq2.after ≤ length c.args.own.now.places;
+  begins : BeginsLink c.args.own.now c.if-lanes_of-eq2.after;
+  same : Same c.args.own.now c.if-lanes_of-eq2.own;
+  room : c.args.own.now.room ≤ c.if-lanes_of-eq2.own.room;
   done : (m : Traffic) (on : IsOn c.args.net.now m) (roads : IsRoads c.args.net.now) (of : IsOf c.args.net.now c.args.own.now) (pairs : ArePairs c.args.net.now c.args.own.now.places) (even : length c.args.own.now.lanes ≡ length c.args.own.now.places) (stand : LanesStand c.args.own.now.places c.args.own.now.lanes m)
-      → m.clock ≡ c.args.clock → ChangedTo c.args.net.now m on roads c.args.own.now of pairs even stand c.if-begins_pair.after c.if-begins_pair.own;
+      → m.clock ≡ c.args.clock → ChangedTo c.args.net.now m on roads c.args.own.now of pairs even stand c.if-lanes_of-eq2.after c.if-lanes_of-eq2.own;
 }
 
-link-done : (c : Joined-begins_pair) → Kept c
+link-done : (c : Joined-lanes_of-eq2) → Kept c
 link-done c =
     let places = c.loop-n.invariant.same.places in
     let long = ap length places in
     let net = c.args.net.now in
     let old = c.args.own.now in
     let place : place_at c.loop-n.own c.loop-n.n ≡ place_at old c.loop-n.n = rw places refl in
-    elim c.if-begins_pair.branch [
-      | then-begins_pair w ↦ (
-          let pair = subst (λ (p : Place). (p.lane ≡ 0) × ((link_at net p.link).lanes ≡ 2)) (c.at.ensures ∙ place) (c.begins_pair.ensures.0 w.if-begins_pair.true) in
-          let next = c.requires.pairs.next c.loop-n.n (omega (arith, long)) pair.0 pair.1 in
+    elim c.if-lanes_of-eq2.branch [
+      | then-lanes_of-eq2 w ↦ (
+          let zero : (place_at old c.loop-n.n).lane ≡ 0 = c.loop-n.invariant.begins (omega (arith, long)) in
+          let pair : (link_at net (place_at old c.loop-n.n).link).lanes ≡ 2 =
+          subst (λ (p : Place). (link_at net p.link).lanes ≡ 2) (c.at.ensures ∙ place) (let is = c.lanes_of.ensures in let two = w.if-lanes_of-eq2.true in omega (arith, is, two)) in
+          let next = c.requires.pairs.next c.loop-n.n (omega (arith, long)) zero pair in
           let more : suc c.loop-n.n ≡ c.loop-n.n + 1 = omega arith in
           let second : (place_at old (c.loop-n.n + 1)).lane ≡ 1 = subst (λ (k : ℕ). (place_at old k).lane ≡ 1) more (ap (λ (p : Place). p.lane) next.1) in
           let no_pair : (place_at old (c.loop-n.n + 1)).lane ≡ 0 → (link_at net (place_at old (c.loop-n.n + 1)).link).lanes ≡ 2 → ⊥ = λ zero two. absurd (omega arith) in
@@ -93,14 +100,17 @@ link-done c =
             done = λ m on roads of pairs even stand in_time.
                 subst (λ (k : ℕ). ChangedTo net m on roads old of pairs even stand k w.change.new.self) two_more
                 (changed-kept net m on roads old of pairs even stand (c.loop-n.n + 1) w.change.new.self (omega (arith, next.0)) no_pair
-                (changed-next net m on roads old of pairs even stand c.loop-n.n c.loop-n.own w.change.new.self (omega (arith, long)) pair.0 pair.1 (c.loop-n.invariant.done m on roads of pairs even stand in_time) w.change.ensures.same
+                (changed-next net m on roads old of pairs even stand c.loop-n.n c.loop-n.own w.change.new.self (omega (arith, long)) zero pair (c.loop-n.invariant.done m on roads of pairs even stand in_time) w.change.ensures.same
                 (λ a b x y. rw place at (w.change.ensures.first m a b on.network in_time x y))
                 (λ a b x y. rw place at (w.change.ensures.second m a b on.network in_time x y))
                 (λ k p q. w.change.ensures.others k p q)));
           }))
-      | else-begins_pair w ↦ (
+      | else-lanes_of-eq2 w ↦ (
           let no_pair : (place_at old c.loop-n.n).lane ≡ 0 → (link_at net (place_at old c.loop-n.n).link).lanes ≡ 2 → ⊥ =
-          λ first two. let yes : c.begins_pair.result ≡ true = c.begins_pair.ensures.1 (subst (λ (p : Place). (p.lane ≡ 0) × ((link_at net p.link).lanes ≡ 2)) (sym (c.at.ensures ∙ place)) (first, two)) in let no = w.if-begins_pair.false in cc in
+          λ first two.
+          let yes : c.lanes_of.result ≡ 2 = c.lanes_of.ensures ∙ subst (λ (p : Place). (link_at net p.link).lanes ≡ 2) (sym (c.at.ensures ∙ place)) two in
+          let no = w.if-lanes_of-eq2.false in
+          absurd (omega (arith, yes, no)) in
           rw (w.own-is, w.after-is) (record {
             more = omega arith;
             within = omega (arith, long);
@@ -116,7 +126,7 @@ pub next_link-n-requires-in-loop-n-clause-lane : goal.next_link-n-requires-in-lo
 next_link-n-requires-in-loop-n-clause-lane c =
     let done = link-done c in
     let even = even-of c.args.net.now c.args.own.now c.requires.of in
-    let long = same-long c.args.own.now c.if-begins_pair.own done.same in
+    let long = same-long c.args.own.now c.if-lanes_of-eq2.own done.same in
     omega (arith, done.within, even, long)
 
 pub next_link-n-requires-in-loop-n-clause-begins : goal.next_link-n-requires-in-loop-n-clause-begins
@@ -130,7 +140,7 @@ loop-n-preserved c =
     let done = link-done c.before in
     let next = c.next_link-n-in-loop-n.ensures in
     let even = even-of c.args.net.now c.args.own.now c.requires.of in
-    let long = same-long c.args.own.now c.if-begins_pair.own done.same in
+    let long = same-long c.args.own.now c.if-lanes_of-eq2.own done.same in
     let within : c.next_link-n-in-loop-n.result ≤ length c.args.own.now.places = omega (arith, even, long, next.within) in
     let begins : BeginsLink c.args.own.now c.next_link-n-in-loop-n.result = rw done.same.places at next.begins in
     record {
@@ -139,7 +149,7 @@ loop-n-preserved c =
       same = done.same;
       room = done.room;
       done = λ m on roads of pairs even stand in_time.
-          changed-over c.args.net.now m on roads c.args.own.now of pairs even stand c.if-begins_pair.after c.next_link-n-in-loop-n.result c.if-begins_pair.own next.not_before within begins next.passed
+          changed-over c.args.net.now m on roads c.args.own.now of pairs even stand c.if-lanes_of-eq2.after c.next_link-n-in-loop-n.result c.if-lanes_of-eq2.own next.not_before within begins next.passed
           (done.done m on roads of pairs even stand in_time);
     }
 

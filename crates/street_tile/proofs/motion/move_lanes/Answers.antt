@@ -3,8 +3,7 @@ use Rattle.std.proofs.lemmas.List.{append-nil, length-set, set-get_or}
 use Rattle.std.proofs.lemmas.Bool.{cases_lt}
 use Rattle.std.proofs.lemmas.Option.{slice_get_within}
 use Rattle.street_base.specs.declared.names.Place.{Place}
-use Rattle.street_base.specs.Prelude.{Traffic, lane_at, driven, driven_lane, arrival, leaver_of}
-use Rattle.street_base.specs.declared.record.RecordRow.{RecordRow}
+use Rattle.street_base.specs.Prelude.{Traffic, lane_at, driven, driven_lane, arrival, leaver_of, arrived_spot}
 use Rattle.street_lanes.specs.declared.motion.ArrivedCar.{ArrivedCar}
 use Rattle.street_record.specs.Rows.{arrival_row, arrival_at}
 use Rattle.street_tile.specs.Record.{arrived_from}
@@ -95,7 +94,6 @@ lane-told c =
       | in-Some w ↦ (
           let e = w.push_reserved.ensures in
           let f = w.push_reserved-in-Some.ensures in
-          let row : w.row_from.result ≡ arrived_from (slot_of p) w.in-Some.car = w.row_from.ensures ∙ ap (λ (k : ℕ). arrived_from k w.in-Some.car) (slot-is c) in
           rw (w.arrived-is, w.left-is) (record {
             left = omega (arith, inside c, c.loop-n.invariant.left, e.len, e.capacity);
             capacity = omega (arith, c.loop-n.invariant.capacity, e.capacity);
@@ -105,7 +103,9 @@ lane-told c =
             rows_capacity = omega (arith, c.loop-n.invariant.rows_capacity, f.capacity);
             rows = λ m of stand.
                 arrivals-more (arrival_at m) ps c.loop-n.n p there c.args.left.now.items c.loop-n.left.items w.push_reserved-in-Some.new.self.items (Some (arrived_from (slot_of p) w.in-Some.car)) (c.loop-n.invariant.rows m of stand) (row_gone c m of stand (Some w.in-Some.car) w.in-Some.is)
-                (f.items ∙ ap (λ (r : RecordRow). c.loop-n.left.items ++ r ∷ []) row);
+                (f.items
+                ∙ ap (λ (s : ℕ). c.loop-n.left.items ++ record { car = w.in-Some.car.number; slot = c.slot-slot.result; spot = arrived_spot; speed = s } ∷ []) w.from.ensures
+                ∙ ap (λ (k : ℕ). c.loop-n.left.items ++ arrived_from k w.in-Some.car ∷ []) (slot-is c));
           }))
       | in_default w ↦ rw (w.arrived-is, w.left-is) (record {
         left = omega (arith, inside c, c.loop-n.invariant.left);

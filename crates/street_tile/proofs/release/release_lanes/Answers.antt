@@ -9,18 +9,18 @@ use Rattle.street_tile.proofs.SameLanes.{same-none, same-then, same-long}
 use Rattle.street_node.proofs.Crossings.{leads-of}
 use Rattle.street_tile.proofs.TileReleases.{IsReleased, released-start, released-here, released-none, released-shut, released-goes, released-over, released-lanes, released-handed}
 use Rattle.street_tile.proofs.release.release_lanes.Goals as goal
-use Rattle.street_tile.proofs.release.release_lanes.Goals.{in-Some, in_default, After-next_with_buffer-n-in-loop-n}
+use Rattle.street_tile.proofs.release.release_lanes.Goals.{in-Some, in_default, After-next_filled-n-in-loop-n}
 
 pub loop-n-init : goal.loop-n-init
 loop-n-init c = record {
-  within = c.next_with_buffer-n.ensures.within;
+  within = c.next_filled-n.ensures.within;
   same = same-none c.args.own.now;
   room = omega arith;
   left = omega (arith, c.requires.room);
   kept = omega arith;
   released = λ roads even m r.
-      let next = c.next_with_buffer-n.ensures in
-      released-over c.args.net.now roads c.args.clock c.args.own.now even c.args.mouths.now c.args.handed.now.items m r 0 c.next_with_buffer-n.result c.args.own.now c.args.mouths.now c.args.handed.now.items (omega arith) (omega (arith, next.within, even)) next.passed
+      let next = c.next_filled-n.ensures in
+      released-over c.args.net.now roads c.args.clock c.args.own.now even c.args.mouths.now c.args.handed.now.items m r 0 c.next_filled-n.result c.args.own.now c.args.mouths.now c.args.handed.now.items (omega arith) (omega (arith, next.within, even)) next.passed
       (released-start c.args.net.now roads c.args.clock c.args.own.now even c.args.mouths.now c.args.handed.now.items m r);
 }
 
@@ -30,7 +30,7 @@ lane_for_front-requires-clause-lane c = let e = same-long c.args.own.now c.loop-
 pub release_front-requires-clause-lane : goal.release_front-requires-clause-lane
 release_front-requires-clause-lane c = let e = same-long c.args.own.now c.loop-n.own c.loop-n.invariant.same in omega arith
 
-module _ (c : After-next_with_buffer-n-in-loop-n) (roads : IsRoads c.args.net.now) (even : length c.args.own.now.lanes ≡ length c.args.own.now.places) (m : Traffic) (r : IsReleasing c.args.net.now c.args.clock c.args.own.now c.args.mouths.now m) where
+module _ (c : After-next_filled-n-in-loop-n) (roads : IsRoads c.args.net.now) (even : length c.args.own.now.lanes ≡ length c.args.own.now.places) (m : Traffic) (r : IsReleasing c.args.net.now c.args.clock c.args.own.now c.args.mouths.now m) where
   within : c.loop-n.n < length c.args.own.now.places
   within = let e = same-long c.args.own.now c.loop-n.own c.loop-n.invariant.same in omega (arith, e, even)
 
@@ -53,7 +53,7 @@ module _ (c : After-next_with_buffer-n-in-loop-n) (roads : IsRoads c.args.net.no
   here_too = subst (λ (p : Place). LaneStands (lane_of c.loop-n.own c.loop-n.n) (lane_at m p)) (sym same_place) here
 
 -- what the loop keeps, once lane n is done
-abbrev Kept : After-next_with_buffer-n-in-loop-n → Type 0
+abbrev Kept : After-next_filled-n-in-loop-n → Type 0
 Kept c = record {
   same : Same c.args.own.now c.match-lane_for_front.own;
   room : c.args.own.now.room ≤ c.match-lane_for_front.own.room;
@@ -63,10 +63,10 @@ Kept c = record {
       → IsReleased c.args.net.now roads c.args.clock c.args.own.now even c.args.mouths.now c.args.handed.now.items m r (c.loop-n.n + 1) c.match-lane_for_front.own c.match-lane_for_front.mouths c.match-lane_for_front.handed.items;
 }
 
-inside : (c : After-next_with_buffer-n-in-loop-n) → c.loop-n.n < length c.args.own.now.places
+inside : (c : After-next_filled-n-in-loop-n) → c.loop-n.n < length c.args.own.now.places
 inside c = let places = ap length c.loop-n.invariant.same.places in omega (arith, places)
 
-lane-done : (c : After-next_with_buffer-n-in-loop-n) → Kept c
+lane-done : (c : After-next_filled-n-in-loop-n) → Kept c
 lane-done c =
     elim c.match-lane_for_front.branch [
       | in-Some w ↦ (
@@ -111,7 +111,7 @@ lane-done c =
 pub loop-n-preserved : goal.loop-n-preserved
 loop-n-preserved c =
     let done = lane-done c in
-    let next = c.next_with_buffer-n-in-loop-n.ensures in
+    let next = c.next_filled-n-in-loop-n.ensures in
     let long = same-long c.args.own.now c.match-lane_for_front.own done.same in
     record {
       within = omega (arith, next.within, long);
@@ -120,7 +120,7 @@ loop-n-preserved c =
       left = omega (arith, done.left, next.not_before);
       kept = done.kept;
       released = λ roads even m r.
-          released-over c.args.net.now roads c.args.clock c.args.own.now even c.args.mouths.now c.args.handed.now.items m r (c.loop-n.n + 1) c.next_with_buffer-n-in-loop-n.result c.match-lane_for_front.own c.match-lane_for_front.mouths c.match-lane_for_front.handed.items
+          released-over c.args.net.now roads c.args.clock c.args.own.now even c.args.mouths.now c.args.handed.now.items m r (c.loop-n.n + 1) c.next_filled-n-in-loop-n.result c.match-lane_for_front.own c.match-lane_for_front.mouths c.match-lane_for_front.handed.items
           next.not_before (omega (arith, next.within, long, even)) next.passed (done.released roads even m r);
     }
 

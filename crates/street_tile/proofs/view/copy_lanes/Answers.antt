@@ -1,4 +1,4 @@
-use Rattle.std.proofs.Common.{◌≡◌, ℕ, ◌+◌, ◌*◌, ◌<◌, false, length, get_or, ◌∙◌, ap, refl, sym, subst, arith, slice_set}
+use Rattle.std.proofs.Common.{◌≡◌, ◌*◌, ◌<◌, length, ◌∙◌, ap, refl, sym, subst, arith}
 use Rattle.std.proofs.lemmas.List.{length-set}
 use Rattle.std.proofs.lemmas.Option.{slice_get_within}
 use Rattle.street_base.specs.declared.names.Place.{Place}
@@ -9,29 +9,28 @@ use Rattle.street_tile.proofs.HeldMouths.{IsHeld, slot-inside, shown-start, show
 use Rattle.street_tile.proofs.view.copy_lanes.Goals as goal
 
 pub loop-n-init : goal.loop-n-init
-loop-n-init c = λ roads there. shown-start c.args.net.now roads c.args.own.now.places there (IsHeld c.args.mouths.now) c.args.view.now c.requires.wide
+loop-n-init c = λ roads there. shown-start c.args.net.now roads c.args.own.now.places there (IsHeld c.args.mouths.now) c.args.shown.now c.requires.wide
 
-pub slot-requires : goal.slot-requires
-slot-requires c =
+pub slot-slot-requires : goal.slot-slot-requires
+slot-slot-requires c =
     let small : slot_of c.at-at.result < 65536 = subst (λ (p : Place). slot_of p < 65536) (sym c.at-at.ensures) (slot-inside c.args.net.now c.requires.roads c.args.own.now c.requires.there c.loop-n.n (omega arith)).0 in
     omega arith
 
 pub bounds-mouths-slot : goal.bounds-mouths-slot
 bounds-mouths-slot c =
-    let inside : 2 * c.at-at.result.link + c.at-at.result.lane < 2 * length c.args.net.now.links =
+    let here : slot_of c.at-at.result < 2 * length c.args.net.now.links =
     subst (λ (p : Place). slot_of p < 2 * length c.args.net.now.links) (sym c.at-at.ensures) (slot-inside c.args.net.now c.requires.roads c.args.own.now c.requires.there c.loop-n.n (omega arith)).1 in
+    let is = c.slot-slot.ensures in
     let held = c.requires.held in
-    let is = c.slot.ensures in
     omega arith
 
-pub show-requires-clause-small : goal.show-requires-clause-small
-show-requires-clause-small c = subst (λ (p : Place). slot_of p < 65536) (sym c.at-at.ensures) (slot-inside c.args.net.now c.requires.roads c.args.own.now c.requires.there c.loop-n.n (omega arith)).0
-
-pub show-requires-clause-within : goal.show-requires-clause-within
-show-requires-clause-within c =
-    let inside = (slot-inside c.args.net.now c.requires.roads c.args.own.now c.requires.there c.loop-n.n (omega arith)).1 in
+pub bounds-shown-slot : goal.bounds-shown-slot
+bounds-shown-slot c =
+    let here : slot_of c.at-at.result < 2 * length c.args.net.now.links =
+    subst (λ (p : Place). slot_of p < 2 * length c.args.net.now.links) (sym c.at-at.ensures) (slot-inside c.args.net.now c.requires.roads c.args.own.now c.requires.there c.loop-n.n (omega arith)).1 in
+    let is = c.slot-slot.ensures in
     let wide = (c.loop-n.invariant c.requires.roads c.requires.there).wide in
-    subst (λ (p : Place). slot_of p < length c.loop-n.view) (sym c.at-at.ensures) (omega arith)
+    omega arith
 
 pub loop-n-preserved : goal.loop-n-preserved
 loop-n-preserved c = λ roads there.
@@ -41,12 +40,10 @@ loop-n-preserved c = λ roads there.
     let p = place_at own n in
     let before = c.loop-n.invariant roads there in
     let within : n < length own.places = omega arith in
-    let at : c.show.new.self ≡ slice_set c.loop-n.view (slot_of p) (mouth held p) = c.show.ensures
-    ∙ ap (λ (k : ℕ). slice_set c.loop-n.view (slot_of c.at-at.result) (get_or held k false)) c.slot.ensures
-    ∙ ap (λ (q : Place). slice_set c.loop-n.view (slot_of q) (mouth held q)) c.at-at.ensures in
-    rw at
-    (shown-next c.args.net.now roads own.places there (IsHeld held) c.args.view.now n c.loop-n.view p (mouth held p) before (place-is own n within) refl
-    (length-set c.loop-n.view (slot_of p) (mouth held p) ∙ before.wide))
+    let slot : c.slot-slot.result ≡ slot_of p = c.slot-slot.ensures ∙ ap (λ (q : Place). slot_of q) c.at-at.ensures in
+    rw slot
+    (shown-next c.args.net.now roads own.places there (IsHeld held) c.args.shown.now n c.loop-n.shown p (mouth held p) before (place-is own n within) refl
+    (length-set c.loop-n.shown (slot_of p) (mouth held p) ∙ before.wide))
 
 pub returns-clause-own : goal.returns-clause-own
 returns-clause-own c = λ j p at.

@@ -9,9 +9,9 @@ use Rattle.street_tile.proofs.tile.Tile.take_out.Goals as goal
 
 pub loop-n-preserved : goal.loop-n-preserved
 loop-n-preserved c = record {
-  same = c.take_on_own.ensures.none c.in_default.is ∙ c.loop-n.invariant.same;
+  same = c.take_out_of_own.ensures.none c.in_default.is ∙ c.loop-n.invariant.same;
   had_not = λ m on s few.
-      let none = subst (λ (t : TileView). WhereOnce c.args.net.now t c.args.number (λ m. in_lane c.args.number (lane_at m (place_at t.own c.loop-n.n)) ≡ 0)) c.loop-n.invariant.same (c.take_on_own.ensures.had_not c.in_default.is) in
+      let none = subst (λ (t : TileView). WhereOnce c.args.net.now t c.args.number (λ m. in_lane c.args.number (lane_at m (place_at t.own c.loop-n.n)) ≡ 0)) c.loop-n.invariant.same (c.take_out_of_own.ensures.had_not c.in_default.is) in
       not-more c.args.number c.args.self.now.own m c.loop-n.n (none m on s few) (c.loop-n.invariant.had_not m on s few);
 }
 

@@ -6,7 +6,7 @@ use Rattle.street_tile.specs.Prelude.{TileView, StandsFor, without, DoesIf, Have
 use Rattle.street_tile.proofs.SameLanes.{even-of}
 use Rattle.street_tile.proofs.SameTile.{at-view}
 use Rattle.street_tile.proofs.NumberOnce.{lane-seen, stands-here, few-here, some-does, some-had, none-had}
-use Rattle.street_tile.proofs.tile.Tile.take_on_own.Goals as goal
+use Rattle.street_tile.proofs.tile.Tile.take_out_of_own.Goals as goal
 
 pub take_out-requires : goal.take_out-requires
 take_out-requires c =

@@ -1,4 +1,4 @@
-"""Shortest ways in a simulation, by the travel times at its clock or by metres."""
+"""Shortest paths between edges in a session, by the travel times at its clock or by metres."""
 from functools import cached_property
 from math import inf
 from operator import itemgetter
@@ -14,7 +14,7 @@ from streetsim.sumo.way_graph import END, Graph
 SLOWEST = 0.1  # metres a second that an edge counts with where all stand
 
 
-class Ways:
+class ShortestPaths:
     """Shortest ways over the links of a simulation's map, by the turns that its run has; no turn is added. Where an
     edge has parallel links, a way may begin and end on any of them."""
 
@@ -27,7 +27,7 @@ class Ways:
     @cached_property
     def graph(self) -> Graph:
         """The map's links and turns."""
-        names = {str(at): (str(link.begin), str(link.end)) for at, link in enumerate(self.map.links)}
+        names = {str(number): (str(link.begin), str(link.end)) for number, link in enumerate(self.map.links)}
         return Graph(names, ((str(turn.link), str(turn.next)) for turn in self.map.turns), names)
 
     @cached_property
@@ -54,9 +54,9 @@ class Ways:
         if self.at_clock is None or self.at_clock[0] != clock:
             costs = {edge: self.edge_seconds(edge) for edge in links_of}
             of_link = [costs[link.edge] for link in self.map.links]
-            taken = flat_costs(self.graph, [of_link[link] for link, _ in self.graph.movements])
-            self.at_clock = clock, Router(self.graph, taken)
-        pairs = ((first, last) for last in links_of[target] for first in links_of[origin])
+            movement_seconds = flat_costs(self.graph, [of_link[link] for link, _ in self.graph.movements])
+            self.at_clock = clock, Router(self.graph, movement_seconds)
+        pairs = ((first_link, last_link) for last_link in links_of[target] for first_link in links_of[origin])
         path, least = min((self.at_clock[1].search(*pair, 0.0) for pair in pairs), key=itemgetter(1))
         if not path:
             raise TraCIException(f"No way from edge '{origin}' to edge '{target}'.")
@@ -68,12 +68,12 @@ class Ways:
         links_of, router = self.map.links_of, self.by_metres
         begins = [(0.0, link) for link in links_of[origin]]
         if origin == target:
-            begins = [(router.least[way], after) for _, link in begins for after, way in self.graph.out[link]]
-        ends = [(metres, router.search(link, last, 0.0)) for metres, link in begins for last in links_of[target]]
-        found = [metres + least for metres, (path, least) in ends if path]
-        if not found:
+            begins = [(router.least[movement], after) for _, link in begins for after, movement in self.graph.out[link]]
+        ends = [(metres, router.search(link, end, 0.0)) for metres, link in begins for end in links_of[target]]
+        metres_of_paths = [metres + least for metres, (path, least) in ends if path]
+        if not metres_of_paths:
             raise TraCIException(f"No way from edge '{origin}' to edge '{target}'.")
-        return min(found)
+        return min(metres_of_paths)
 
     def edge_seconds(self, edge: str) -> float:
         """The seconds of an edge: those that a script set, else by the mean speed of the vehicles on it, SLOWEST at
@@ -81,8 +81,8 @@ class Ways:
         if edge in self.adapted:
             return self.adapted[edge]
         view, lanes = self.view, self.simulation.lanes_on(edge)
-        there = [view.there[one] for lane in lanes for one in view.on_lane(lane)]
-        speeds = [one.metres_a_second(self.map.links) for one in there]
+        positions = [view.positions[number] for lane in lanes for number in view.on_lane(lane)]
+        speeds = [position.metres_a_second(self.map.links) for position in positions]
         limit = self.inside.facts.lanes[self.map.lane_name(*lanes[0])].speed
         mean = sum(speeds) / len(speeds) if speeds else limit
         return self.map.links[lanes[0][0]].metres / max(SLOWEST, mean)

@@ -1,5 +1,5 @@
 use Rattle.street_line.proofs.KeptLines.{stops_kept}
-use Rattle.street_line.proofs.kept_runs.pass_last.Goals as goal
+use Rattle.street_line.proofs.kept_runs.serve_and_keep_last.Goals as goal
 
 pub returns-clause-stops : goal.returns-clause-stops
 returns-clause-stops g c = λ line is.

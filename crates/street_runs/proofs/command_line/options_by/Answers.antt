@@ -4,7 +4,7 @@ use Rattle.clap.proofs.WalkLemmas.{IfOk-both}
 use Rattle.clap.specs.Words.{Row, app_of}
 use Rattle.street_runs.specs.Parser.{IsFit, IsFound}
 use Rattle.street_runs.proofs.Parser.{found, options_refused, refused, told_refused}
-use Rattle.street_runs.proofs.command_line.asked.Goals as goal
+use Rattle.street_runs.proofs.command_line.options_by.Goals as goal
 
 pub returns-in_err-matches-clause-refused : goal.returns-in_err-matches-clause-refused
 returns-in_err-matches-clause-refused c = λ is.

@@ -1,4 +1,4 @@
-"""What is shown at the nodes of lights: programs as one plan, and long ones phase by phase."""
+"""The signal plans in force at the nodes of lights: programs as one plan, and long ones phase by phase."""
 from collections.abc import Callable, Collection, Iterable, Iterator, Sequence
 
 from streetsim.base import limits
@@ -21,9 +21,9 @@ CONSTANT = 600  # seconds of a phase that is shown until the next is set
 class LongProgram:
     """The phases of a program that does not fit in one plan; each is sent at its clock."""
 
-    def __init__(self, own: LitNode, begin: int) -> None:
-        """own: the program at a node; begin: the clock from which on it is told."""
-        self.lines = phase_lines(own, begin)
+    def __init__(self, lit_node: LitNode, begin: int) -> None:
+        """lit_node: the program at a node; begin: the clock from which on it is told."""
+        self.lines = phase_lines(lit_node, begin)
         self.clock, self.command = next(self.lines)
 
     def commands_due(self, clock: int) -> Iterator[Command]:
@@ -33,17 +33,17 @@ class LongProgram:
             self.clock, self.command = next(self.lines, (limits.CLOCK + 1, NOTHING))
 
 
-MOST_MADE = 1 << 12  # programs whose commands are kept, and what is shown whose lines are
+MOST_PROGRAMS = 1 << 12  # programs whose commands are kept, and what is shown whose lines are
 
 
 class SignalsInForce(Controller):
     """The signals in force at the nodes of a map's lights, and those of long programs that are still to be sent, which
     it sends."""
 
-    def __init__(self, mapping: Map, first: Iterable[Command]) -> None:
-        """first: the first commands of the file, of which the signals are taken."""
+    def __init__(self, mapping: Map, first_commands: Iterable[Command]) -> None:
+        """first_commands: the first commands of the file, of which the signals are taken."""
         self.map = mapping
-        self.signals = {command["node"]: command for command in first if command["cmd"] == "signal"}  # by node
+        self.signals = {command["node"]: command for command in first_commands if command["cmd"] == "signal"}  # by node
         self.forgotten: set[int] = set()  # nodes for which lines of the file are no longer sent
         self.coming: dict[int, LongProgram] = {}  # by node, of the programs that are sent phase by phase
         self.nodes_of: dict[str, list[int]] = {}  # by light
@@ -52,7 +52,7 @@ class SignalsInForce(Controller):
         self.turns_by_node: dict[int, list[MapTurn]] = {}  # what turns_at gave
         # By light and phases the commands that show them and warnings, where they fit in one plan; by light, what it
         # shows and offset the lines of these.
-        self.made: dict[tuple[str, Shown], tuple[list[Command], tuple[str, ...]]] = {}
+        self.known_commands: dict[tuple[str, Shown], tuple[list[Command], tuple[str, ...]]] = {}
         self.lines: dict[tuple[str, Shown, int], list[Line]] = {}
 
     def begin(self, kernel: Kernel) -> None:
@@ -65,7 +65,7 @@ class SignalsInForce(Controller):
 
     def in_force(self) -> Collection[Command]:
         """The signal commands in force."""
-        sent = (one.line.command for one in self.kernel.sent if one.line.command["cmd"] == "signal")
+        sent = (line_sent.line.command for line_sent in self.kernel.sent if line_sent.line.command["cmd"] == "signal")
         return {**self.signals, **{command["node"]: command for command in sent}}.values()
 
     def nodes(self, light: str) -> list[int]:
@@ -84,36 +84,36 @@ class SignalsInForce(Controller):
         shown, as flows are not known here. Fault, before anything is forgotten, where a state is shorter than the
         light's signals, or the cycle rounds to 0 s or is longer than 200,000 s."""
         shown = tuple([(seconds, state) for seconds, state in phases])
-        if (made := self.made.get((light, shown))) is not None:
+        if (commands_known := self.known_commands.get((light, shown))) is not None:
             self.forget(light)
-            return self.lines_with_offset(light, shown, offset), list(made[1])
+            return self.lines_with_offset(light, shown, offset), list(commands_known[1])
         report, commands, coming = Report(), [], {}
         for node in self.nodes(light):
-            own = self.lit_node(light, node, phases, offset, report)
+            lit_node = self.lit_node(light, node, phases, offset, report)
             try:
-                commands.append(signal_command(own))
+                commands.append(signal_command(lit_node))
             except TooLong:
-                report.warn(f"light {light!r}: {cycle_told(own)}; its phases are sent one by one")
-                coming[node] = LongProgram(own, clock)
+                report.warn(f"light {light!r}: {cycle_told(lit_node)}; its phases are sent one by one")
+                coming[node] = LongProgram(lit_node, clock)
                 commands += coming[node].commands_due(clock)
         self.forget(light)
         self.coming |= coming
         if not coming:
-            if len(self.made) >= MOST_MADE:
-                self.made.clear()
-            self.made[light, shown] = commands, tuple(report.warnings)
+            if len(self.known_commands) >= MOST_PROGRAMS:
+                self.known_commands.clear()
+            self.known_commands[light, shown] = commands, tuple(report.warnings)
         return list(map(own_line, commands)), report.warnings
 
     def lines_with_offset(self, light: str, shown: Shown, offset: float) -> list[Line]:
         """The lines of a program of a light that was made before, with another offset, as in a tlLogic, seconds."""
-        commands, _ = self.made[light, shown]
+        commands, _ = self.known_commands[light, shown]
         cycle = sum(duration for duration, _ in commands[0]["phases"]) if commands else 1
         return self.lines_known((light, shown, round(-offset) % cycle), lambda: commands)
 
     def lines_known(self, key: tuple[str, Shown, int], make: Callable[[], list[Command]]) -> list[Line]:
         """The lines of a light, what it shows and the offset (key); make: gives the commands, whatever their offset."""
         if (lines := self.lines.get(key)) is None:
-            if len(self.lines) >= MOST_MADE:
+            if len(self.lines) >= MOST_PROGRAMS:
                 self.lines.clear()
             lines = self.lines[key] = [own_line({**command, "offset": key[2]}) for command in make()]
         return lines
@@ -144,10 +144,10 @@ class SignalsInForce(Controller):
 
     def forget(self, light: str) -> None:
         """Has nothing more sent of what the file, or a long program, has for a light."""
-        own = self.nodes(light)
-        self.forgotten.update(own)
+        nodes = self.nodes(light)
+        self.forgotten.update(nodes)
         if self.coming:
-            self.coming = {node: phases for node, phases in self.coming.items() if node not in own}
+            self.coming = {node: phases for node, phases in self.coming.items() if node not in nodes}
 
     def commands_due(self, clock: int) -> list[Command]:
         """The commands of the phases of long programs that have begun by a clock; each is given once."""

@@ -1,4 +1,6 @@
-"""A session that is kept in a file: the same run goes on there after tools, program or machine have ended."""
+"""The program that keeps its session in a file: the same run goes on there after tools, program or machine have ended.
+
+`serving` starts it where a run has --keep."""
 from __future__ import annotations
 
 from collections.abc import Sequence
@@ -9,10 +11,11 @@ from streetsim.kernel.program import Blocks, Program
 
 ADVANCE = b'{"cmd":"advance","steps":1}\n'
 COUNT = b'{"cmd":"count"}\n'
-ASKING = COUNT[:-2], b'{"cmd":"vehicle"', b'{"cmd":"lane"', b'{"cmd":"read"'  # begins of lines that change nothing
+# Begins of lines that change nothing.
+QUESTION_PREFIXES = COUNT[:-2], b'{"cmd":"vehicle"', b'{"cmd":"lane"', b'{"cmd":"read"'
 
 
-class KeptProgram(Program):
+class SessionProgram(Program):
     """The program with its record, which keeps its session in a file and has the file for itself. What the file has is
     done again by a second program, for its record; when the file's last line is done, the first one goes on. So the
     lines that are sent have to begin with those of the file."""
@@ -22,41 +25,41 @@ class KeptProgram(Program):
         no session's, ProgramEnded where another program has it."""
         check_kept(file)
         super().__init__(path, workers, ("--keep", str(file)))
-        self.file, self.number = file, 1
-        self.again: Program | None = None
+        self.file, self.line_number = file, 1
+        self.replay: Program | None = None
         try:
-            self.state = super().ask([COUNT])  # at the file's end
+            self.state = super().exchange([COUNT])  # at the file's end
             with reading(file):
-                self.kept = open(file, "rb")
+                self.session_file = open(file, "rb")
         except BaseException:
             self.process.kill()
             self.end()
             raise
-        self.pipes.append(self.kept)
-        self.next = self.kept.readline()  # of the file; empty: all of it is done again
-        if self.next:
-            self.again = Program(path, workers)
+        self.pipes.append(self.session_file)
+        self.next_line = self.session_file.readline()  # of the file; empty: all of it is done again
+        if self.next_line:
+            self.replay = Program(path, workers)
 
     def end(self) -> tuple[int, str]:
         """Ends both programs; gives (the status, the standard error) of the one that keeps."""
-        self.end_again()
+        self.end_replay()
         return super().end()
 
-    def ask(self, lines: Sequence[bytes]) -> list[bytes]:
+    def exchange(self, lines: Sequence[bytes]) -> list[bytes]:
         """As Program has it. Fault where a line is not the next one of the file."""
-        count = self.count_known(lines)
-        replies = self.again.ask(lines[:count]) if self.again else []
+        count = self.count_replayed(lines)
+        replies = self.replay.exchange(lines[:count]) if self.replay else []
         if count < len(lines):
             self.go_on()
-            replies += super().ask(lines[count:])
+            replies += super().exchange(lines[count:])
         return replies
 
     def begin(self, steps: int) -> None:
         """As Program has it. Fault where steps are not the next ones of the file."""
-        self.known = self.count_known(self.advance(steps))
-        self.begun = steps - self.known
-        if self.again and self.known:
-            self.again.begin(self.known)
+        self.replayed_steps = self.count_replayed(self.advance(steps))
+        self.begun_steps = steps - self.replayed_steps
+        if self.replay and self.replayed_steps:
+            self.replay.begin(self.replayed_steps)
         else:
             self.go_on()
             super().begin(steps)
@@ -67,39 +70,39 @@ class KeptProgram(Program):
 
     def blocks(self) -> Blocks:
         """As Program has it."""
-        if not (self.again and self.known):
+        if not (self.replay and self.replayed_steps):
             return super().blocks()
-        begins, data = self.again.blocks()
-        if self.begun:
+        begins, data = self.replay.blocks()
+        if self.begun_steps:
             self.go_on()
-            super().begin(self.begun)
-            later, more = super().blocks()
-            begins, data = begins + [len(data) + begin for begin in later[1:]], data + more
+            super().begin(self.begun_steps)
+            later_begins, later_data = super().blocks()
+            begins, data = begins + [len(data) + begin for begin in later_begins[1:]], data + later_data
         return begins, data
 
-    def count_known(self, lines: Sequence[bytes]) -> int:
+    def count_replayed(self, lines: Sequence[bytes]) -> int:
         """How many of the lines, from the first on, change nothing or come next in the file, from which these are then
         taken; none behind the file's end."""
         for count, line in enumerate(lines):
-            if not self.next:
+            if not self.next_line:
                 return count
-            if line == self.next:
-                self.next, self.number = self.kept.readline(), self.number + 1
-            elif not line.startswith(ASKING):
-                raise Fault(f"{self.file}: line {self.number} is not of this run: it has another session")
+            if line == self.next_line:
+                self.next_line, self.line_number = self.session_file.readline(), self.line_number + 1
+            elif not line.startswith(QUESTION_PREFIXES):
+                raise Fault(f"{self.file}: line {self.line_number} is not of this run: it has another session")
         return len(lines)
 
     def go_on(self) -> None:
         """Has the program that keeps go on, where the other one has come to the file's end. Fault where it has come to
         another state."""
-        if self.again:
-            if self.again.ask([COUNT]) != self.state:
+        if self.replay:
+            if self.replay.exchange([COUNT]) != self.state:
                 raise Fault(f"{self.file}: it leads to another state than this run")
-            self.end_again()
+            self.end_replay()
 
-    def end_again(self) -> None:
+    def end_replay(self) -> None:
         """Ends the program that does again what the file has."""
-        if self.again:
-            self.again.process.kill()
-            self.again.end()
-            self.again = None
+        if self.replay:
+            self.replay.process.kill()
+            self.replay.end()
+            self.replay = None

@@ -2,7 +2,7 @@ use Rattle.std.proofs.Common.{◌≡◌, ◌+◌, ◌-◌, ◌*◌, ◌/◌, ◌
 use Rattle.std.proofs.lemmas.Nat.{mul-le}
 use Rattle.street_tile.proofs.EmptyTile.{faultless-roads}
 use Rattle.street_tile.proofs.Rows.{share-of}
-use Rattle.street_tile.proofs.cut.owner.Goals as goal
+use Rattle.street_tile.proofs.cut.owner_of_node.Goals as goal
 
 module _ (c : goal.After-position) where
   nodes : length c.as_slice-nodes.result.now ≡ length c.args.net.now.nodes

@@ -1,4 +1,4 @@
-"""A page's session that is kept in a file, so that the page goes on after it, the bridge or the program has ended.
+"""The files of a page's session that is kept, so that the page goes on after it, the bridge or the program has ended.
 
 FILE has the lines that changed something, which the program keeps. FILE.page has what the page alone knows, its
 changes in words, one note a line, each written before the lines that it is of are sent. FILE.new is a session in the
@@ -19,11 +19,11 @@ from streetsim.model.runs import Run, texts_of
 PATIENCE = 10  # seconds for a program whose bridge was killed to end
 
 
-class Kept:
+class SessionFiles:
     """The files of a session that is kept."""
 
-    def __init__(self, file: Path, run: Run, words: Any) -> None:
-        """file: of the session; run: the one that it is of; words: what it is asked for. Locks FILE.page until close,
+    def __init__(self, file: Path, run: Run, settings: Any) -> None:
+        """file: of the session; run: the one that it is of; settings: those of that run. Locks FILE.page until close,
         deletes FILE.new, and waits up to PATIENCE seconds for a program that still has the file. Fault, after which the
         files are free, where the file is of another run, another bridge or program has it, or one cannot be read or
         written."""
@@ -32,7 +32,7 @@ class Kept:
         self.notes = self.lock_notes()
         try:
             self.await_end()
-            self.check_run(run, digest_of(run, words))
+            self.check_run(run, digest_of(run, settings))
         except BaseException:
             self.notes.close()
             raise
@@ -62,13 +62,13 @@ class Kept:
         FILE.new. Fault where the file is of another run, or of this one with other words."""
         self.notes.truncate(len(whole_lines(self.notes_path)))
         notes = read_notes(self.notes_path)
-        known = {note["run"] for note in notes if "run" in note}
+        digests = {note["run"] for note in notes if "run" in note}
         lines = lines_of_file(self.file)
         if lines[:1] not in ([], [run.load.text.encode() + b"\n"]):
             raise Fault(f"{self.file}: line 1 is not of this run: it has another session")
-        if (lines or known) and known != {digest}:
+        if (lines or digests) and digests != {digest}:
             raise Fault(f"{self.file}: it has the session of another run, or of this one with other words")
-        if not known:
+        if not digests:
             self.write_note("run", digest)
         self.changes = next((note["changes"] for note in reversed(notes) if "changes" in note), [])
         if notes and "next" in notes[-1] and not self.making.exists():
@@ -78,7 +78,7 @@ class Kept:
     def steps(self) -> int:
         """How many steps the session has made. Fault where the file cannot be read."""
         commands = map(json.loads, lines_of_file(self.file))
-        return sum(one["steps"] for one in commands if one["cmd"] == "advance")
+        return sum(command["steps"] for command in commands if command["cmd"] == "advance")
 
     def keep_changes(self, changes: list[Json]) -> None:
         """Keeps the changes of the page, before the lines that they make are sent."""
@@ -109,12 +109,12 @@ class Kept:
         self.notes.close()
 
 
-def digest_of(run: Run, words: Any) -> str:
-    """A sum by which the run of a session, and what it is asked for (words), are known again."""
-    found = hashlib.sha256(json.dumps(words).encode())
+def digest_of(run: Run, settings: Any) -> str:
+    """A sum by which the run of a session, and its settings, are known again."""
+    digest = hashlib.sha256(json.dumps(settings).encode())
     for text in texts_of(run):
-        found.update(text.encode() + b"\n")
-    return found.hexdigest()
+        digest.update(text.encode() + b"\n")
+    return digest.hexdigest()
 
 
 def is_locked(path: Path) -> bool:

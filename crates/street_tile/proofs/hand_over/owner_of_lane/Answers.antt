@@ -2,7 +2,7 @@ use Rattle.std.proofs.Common.{◌≡◌, length, refl, arith}
 use Rattle.street_tile.proofs.Rows.{roads-of, one-tile}
 use Rattle.street_tile.proofs.LaneOwners.{share-owns}
 use Rattle.street_tile.proofs.Sums.{all-own}
-use Rattle.street_tile.proofs.hand_over.tile_of.Goals as goal
+use Rattle.street_tile.proofs.hand_over.owner_of_lane.Goals as goal
 
 -- one tile has all lanes
 pub returns-then-tiles-eq1-clause-own : goal.returns-then-tiles-eq1-clause-own
@@ -14,4 +14,4 @@ returns-then-tiles-eq1-clause-own c = λ d.
     rw (all.0, all.1) (all-own net (roads-of net xs c.requires.tiles) c.args.to c.requires.lane)
 
 pub returns-clause-own : goal.returns-clause-own
-returns-clause-own c = λ d. share-owns c.args.net.now c.args.tiles.now c.requires.tiles (length c.args.tiles.now) c.owner.result c.end_of.result c.args.to refl c.owner.ensures.inside c.owner.ensures.low c.owner.ensures.high c.end_of.ensures.position d
+returns-clause-own c = λ d. share-owns c.args.net.now c.args.tiles.now c.requires.tiles (length c.args.tiles.now) c.owner_of_node.result c.end_of.result c.args.to refl c.owner_of_node.ensures.inside c.owner_of_node.ensures.low c.owner_of_node.ensures.high c.end_of.ensures.position d

@@ -1,9 +1,0 @@
-use Rattle.std.proofs.Common.{arith}
-use Rattle.street_lanes.proofs.NextLane.{lanes-counted, next-waiting}
-use Rattle.street_lanes.proofs.lanes.Lanes.next_with_waiting.Goals as goal
-
-pub next_filled-requires : goal.next_filled-requires
-next_filled-requires c = let counted = lanes-counted c.self.inside c.args.self.now c.self.view_is c.self.invariant in omega arith
-
-pub returns : goal.returns
-returns c = next-waiting c.self.inside c.args.self.now c.self.view_is c.self.invariant c.next_filled.ensures.whole c.args.lane c.next_filled.result c.next_filled.ensures.next
