@@ -184,7 +184,7 @@ class Definitions(unittest.TestCase):
         """Those of the page's table at a limit of 2, by headways; between its rows, and none beyond the last."""
         page = (TOOLS / "CALIBRATION.md").read_text(encoding="utf-8").partition("\n## Saturation\n")[2]
         rows = [line.split("|")[1:-1] for line in page.splitlines() if re.match(r"\| \d+ \|", line)][:11]
-        told = {int(cells[0]): int(cells[4].replace(",", "")) for cells in rows}
+        told = {int(cells[0]): int(cells[2].replace(",", "")) for cells in rows}
         self.assertEqual(told[170], 1786)
         self.assertEqual({dawdle: round(usual_flow(dawdle)) for dawdle in told}, told)
         self.assertTrue(told[200] < usual_flow(185) < told[170])
