@@ -39,11 +39,11 @@ def run_command(module: str, package: str = "cli") -> "NoReturn":
 
     main = import_module(f"streetsim.{package}.{module}").main
 
-    def begun(words: list[str]) -> int:
+    def begun(arguments: list[str]) -> int:
         """Takes Ctrl-C over, runs the tool, and says where it wrote what no word named; gives its status."""
         if hears:
             signal.signal(signal.SIGINT, interrupt)
-        status = main(words)
+        status = main(arguments)
         tell_completed()
         return status
 

@@ -58,8 +58,8 @@ def page_without_junctions(runs: Runs, run: str, why: str) -> str:
     notes = "".join(f'<p class="doubt">{escape(text)}</p>' for text in runs.first.notes)
     lead = f"{notes}<p>No junctions are shown: {escape(why)}</p>"
     doubts = Section("doubts", "What is doubted", doubted([runs]))
-    told = Section("run", "What was run", what_was_run([runs]))
-    return page(runs.name, lead, [*sections(runs, runs.first.made.get("start", 0), run), doubts], [told])
+    run_section = Section("run", "What was run", what_was_run([runs]))
+    return page(runs.name, lead, [*sections(runs, runs.first.made.get("start", 0), run), doubts], [run_section])
 
 
 def sections(runs: Runs, begin: int, run: str) -> Iterator[Section]:
@@ -78,27 +78,27 @@ def sections(runs: Runs, begin: int, run: str) -> Iterator[Section]:
 
 def queues_told(folder: Folder) -> str:
     """The picture of the queues of a run over time, as HTML. Fault where it cannot be drawn."""
-    with tempfile.TemporaryDirectory() as made:
-        save_picture(draw_queues(load_pyplot(), folder), f"{made}/queues.png")
-        packed = base64.b64encode(Path(made, "queues.png").read_bytes()).decode()
+    with tempfile.TemporaryDirectory() as temporary:
+        save_picture(draw_queues(load_pyplot(), folder), f"{temporary}/queues.png")
+        packed = base64.b64encode(Path(temporary, "queues.png").read_bytes()).decode()
     return f'<figure><img alt="Queues at the stop lines over time" src="data:image/png;base64,{packed}"></figure>'
 
 
 def player_told(folder: Folder, begin: int) -> str:
     """The player of PLAYED seconds of a run from a clock on, in a frame, as HTML. Fault where nothing can be played."""
-    with tempfile.TemporaryDirectory() as made, redirect_stdout(StringIO()):
-        out = f"{made}/player.html"
+    with tempfile.TemporaryDirectory() as temporary, redirect_stdout(StringIO()):
+        out = f"{temporary}/player.html"
         play([folder.path, "--first", str(begin), "--last", str(begin + PLAYED), "-o", out])
         text = Path(out).read_text(encoding="utf-8")
     whole = f'<p class="small">Ten minutes of it; all: {command("streetsim-play", folder.path)}.</p>'
     return FRAME.format(page=escape(text)) + whole
 
 
-def command(*words: str) -> str:
+def command(*arguments: str) -> str:
     """A command of the shell, as HTML, of which no line ends within a short word."""
-    quoted = (escape(shlex.quote(word)) for word in words)
-    kept = (f'<span class="ids">{word}</span>' if len(word) <= SHORT else word for word in quoted)
-    return f"<code>{' '.join(kept)}</code>"
+    quoted = (escape(shlex.quote(word)) for word in arguments)
+    shown_words = (f'<span class="ids">{word}</span>' if len(word) <= SHORT else word for word in quoted)
+    return f"<code>{' '.join(shown_words)}</code>"
 
 
 def next_told(runs: Runs, run: str) -> str:
@@ -110,7 +110,7 @@ def next_told(runs: Runs, run: str) -> str:
     works = f"{lane}:{int(metres / 2)}-{int(metres / 2 + min(metres / 4, 100))}:{closing(folder)}"
     edge, seeds = lane.rpartition("_")[0], ("--seeds", "1-5", "--junctions", "900")
     joint = () if is_only or len(folder.mapping.links_of[edge]) == 1 else ("--joint", edge)
-    own = os.path.normpath(folder.path)
+    folder_path = os.path.normpath(folder.path)
     questions = (
         (
             "Would another cycle, other greens or offsets be better?",
@@ -124,9 +124,9 @@ def next_told(runs: Runs, run: str) -> str:
                 command("streetsim-report", "before", "works"), *([escape(ONLY)] if is_only else []),
             )),  # fmt: skip
         ),
-        ("Does it fit counts?", command("streetsim-compare", own, "--counts", "counts.csv")),
+        ("Does it fit counts?", command("streetsim-compare", folder_path, "--counts", "counts.csv")),
         ("Is it chance? Five other days:", command("streetsim-run", name, *seeds)),
-        ("A report to hand in:", command("streetsim-report", own, "--title", "Title", "-o", "report.html")),
+        ("A report to hand in:", command("streetsim-report", folder_path, "--title", "Title", "-o", "report.html")),
     )
     return facts(questions)
 
@@ -148,7 +148,7 @@ def lane_to_close(folder: Folder) -> tuple[str, float, bool]:
     come = {(mapping.links[turn.next].edge, mapping.links[turn.link].begin) for turn in mapping.turns}
     led_to = {edge for edge, begin in come if begin != firsts[edge].end}
     whole = {edge for edge, links in mapping.links_of.items() if len(links) == 1}
-    edge = max(firsts, key=lambda one: (lanes[one] > 1, one in led_to, one in whole, firsts[one].metres))
+    edge = max(firsts, key=lambda name: (lanes[name] > 1, name in led_to, name in whole, firsts[name].metres))
     return f"{edge}_{min(firsts[edge].lanes)}", firsts[edge].metres, lanes[edge] == 1
 
 
@@ -160,4 +160,4 @@ def closing(folder: Folder) -> str:
     quarter = max(1, (until - start) // 4)
     step = next(step for step in ROUND if quarter >= step)
     clocks = [step * round(second / step) for second in (start + quarter, max(until - quarter, start + 2 * quarter))]
-    return "-".join(f"{one // 3600:02d}:{one // 60 % 60:02d}" if step >= 60 else str(one) for one in clocks)
+    return "-".join(f"{clock // 3600:02d}:{clock // 60 % 60:02d}" if step >= 60 else str(clock) for clock in clocks)
