@@ -22,26 +22,26 @@ def crowded_edges(mapping: Map, reds: Reds, passed: StopLinePassings, start: int
     """{edge: how many vehicles pass these lanes then}, of edges of which lanes that give way are used for a share FULL
     of their time or more, by LEAST vehicles or more, in some parts of PART seconds. reds: for each GivingWay a byte for
     each second from start, 1: red; passed: when vehicles passed."""
-    found: Counter[str] = Counter()
+    vehicles_of: Counter[str] = Counter()
     for (link, _), vehicles, share in used_shares(reds, passed, start):
         if share >= FULL and vehicles >= LEAST:
-            found[mapping.links[link].edge] += vehicles
-    return dict(found)
+            vehicles_of[mapping.links[link].edge] += vehicles
+    return dict(vehicles_of)
 
 
 def used_shares(reds: Reds, passed: StopLinePassings, start: int) -> Iterator[tuple[Place, int, float]]:
     """(lane, how many vehicles pass, the share of the lane's time that they take) for each lane that gives way and each
     part of PART seconds in which any pass; above 1: more than a queue could. Arguments: as of crowded_edges."""
     room: dict[TurnKey, list[float]] = {}
-    for one, red in reds:
-        room.update(dict.fromkeys(one.turns, list(could_pass(red))))
+    for yielding, red in reds:
+        room.update(dict.fromkeys(yielding.turns, list(could_pass(red))))
     lanes: defaultdict[tuple[Place, int], Counter[int]] = defaultdict(Counter)
-    for place in {(link, lane) for link, lane, _ in room} & passed.keys():
-        for second, following, _ in passed[place]:
-            lanes[place, int(second - start) // PART][following] += 1
-    for (place, part), counts in sorted(lanes.items()):
-        taken = (share_taken(count, room.get((*place, following)), part) for following, count in counts.items())
-        yield place, sum(counts.values()), sum(taken)
+    for lane_key in {(link, lane) for link, lane, _ in room} & passed.keys():
+        for second, following, _ in passed[lane_key]:
+            lanes[lane_key, int(second - start) // PART][following] += 1
+    for (lane_key, part), counts in sorted(lanes.items()):
+        shares = (share_taken(count, room.get((*lane_key, following)), part) for following, count in counts.items())
+        yield lane_key, sum(counts.values()), sum(shares)
 
 
 def share_taken(vehicles: int, room: Sequence[float] | None, part: int) -> float:

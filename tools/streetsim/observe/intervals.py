@@ -30,32 +30,32 @@ class Showed:
 
 
 def showed(
-    shown: ShownPlans, lanes: Mapping[int, Sequence[int]], places: Sequence[Place], begin: int, back: Array,
+    shown: ShownPlans, lanes: Mapping[int, Sequence[int]], lane_keys: Sequence[Place], begin: int, back: Array,
     stood: Array,
 ) -> Showed:
     """What lanes showed in some seconds behind a clock. lanes: by node those that lead to it, by their positions among
-    the places; back, stood: by second and place the queue, in metres, and who had stood."""
+    the keys; back, stood: by second and lane the queue, in metres, and who had stood."""
     back, stood, end = np.ascontiguousarray(back.T), np.ascontiguousarray(stood.T, COUNT), begin + len(back)
     spans = {node: shown.spans(node, begin, end) for node in lanes}
     alike: defaultdict[tuple[bytes, bytes], list[int]] = defaultdict(list)
-    for node, one in spans.items():
-        alike[one.begins.tobytes(), one.turns.tobytes()].append(node)
-    found: dict[int, tuple[Any, ...]] = {}
+    for node, node_spans in spans.items():
+        alike[node_spans.begins.tobytes(), node_spans.turns.tobytes()].append(node)
+    columns_by_node: dict[int, tuple[Any, ...]] = {}
     for nodes in alike.values():
-        own = [lane for node in nodes for lane in lanes[node]]
-        seconds, *columns = columns_of(spans[nodes[0]], back[own], stood[own])
-        last = 0
+        alike_lanes = [lane for node in nodes for lane in lanes[node]]
+        seconds, *alike_columns = columns_of(spans[nodes[0]], back[alike_lanes], stood[alike_lanes])
+        end_row = 0
         for node in nodes:
-            first, last = last, last + len(lanes[node])
-            found[node] = seconds, *(one[first:last].ravel() for one in columns)
+            begin_row, end_row = end_row, end_row + len(lanes[node])
+            columns_by_node[node] = seconds, *(column[begin_row:end_row].ravel() for column in alike_columns)
     for node in lanes:
         if not shown.has_one_plan(node):
-            greens = shown.greens(node, [places[lane] for lane in lanes[node]], spans[node].phases.tolist())
-            found[node] = *found[node][:4], *by_greens(spans[node], greens, back[lanes[node]])
-    counts = np.array([len(one.phases) for one in spans.values()])
-    phases = np.concatenate([one.phases for one in spans.values()]).astype(np.int32)
-    others = zip(*(found[node] for node in lanes), strict=True)
-    return Showed(begin, end, counts, phases, *(np.concatenate(those) for those in others))
+            greens = shown.greens(node, [lane_keys[lane] for lane in lanes[node]], spans[node].phases.tolist())
+            columns_by_node[node] = *columns_by_node[node][:4], *by_greens(spans[node], greens, back[lanes[node]])
+    counts = np.array([len(node_spans.phases) for node_spans in spans.values()])
+    phases = np.concatenate([node_spans.phases for node_spans in spans.values()]).astype(np.int32)
+    columns = zip(*(columns_by_node[node] for node in lanes), strict=True)
+    return Showed(begin, end, counts, phases, *(np.concatenate(parts) for parts in columns))
 
 
 def columns_of(spans: Spans, back: Array, stood: Array) -> tuple[Array, ...]:
@@ -72,8 +72,8 @@ def by_greens(
 ) -> tuple[list[int], Array]:
     """By lane how many cycles, and the longest queue in each, where a light has several plans, so that its cycles begin
     with the greens of each lane; greens: as `ShownPlans.greens` gives them; back: by lane and second."""
-    found = []
-    for own, metres in zip(greens, back, strict=True):
-        rises = [True, *(bool(now) and not before for before, now in zip(own, own[1:]))]
-        found.append(np.maximum.reduceat(metres, spans.begins[rises]))
-    return [len(one) for one in found], np.concatenate(found)
+    queues = []
+    for lane_greens, metres in zip(greens, back, strict=True):
+        rises = [True, *(bool(now) and not before for before, now in zip(lane_greens, lane_greens[1:]))]
+        queues.append(np.maximum.reduceat(metres, spans.begins[rises]))
+    return [len(cycles) for cycles in queues], np.concatenate(queues)

@@ -34,82 +34,85 @@ class Judge:
     def __init__(self, passages: Passages, shown: ShownPlans, crossed: Crossed, dawdle: float) -> None:
         """dawdle: of 1,000."""
         self.passages, self.shown, self.crossed = passages, shown, crossed
-        slots = {place: 2 * place[0] + place[1] for place in passages.places}
-        self.taken: dict[Place, set[int]] = {place: set() for place in slots}  # the links to which vehicles go from it
-        for slot, link in zip(*(one.tolist() for one in np.divmod(crossed.taken, SLOTS)), strict=True):
+        slots = {(link, lane): 2 * link + lane for link, lane in passages.places}
+        self.taken: dict[Place, set[int]] = {key: set() for key in slots}  # the links to which vehicles go from it
+        for slot, link in zip(*(column.tolist() for column in np.divmod(crossed.taken, SLOTS)), strict=True):
             self.taken[slot // 2, slot % 2].add(link)
         log = crossed.log.all_of(crossed.log.take(), len(crossed.log))
         order = by_number(log["slot"])
         bounds = np.searchsorted(log["slot"], np.arange(len(passages.cells) + 1), sorter=order).tolist()
-        parts = {place: order[bounds[slot] : bounds[slot + 1]] for place, slot in slots.items()}
-        self.discharged = {place: list(self.discharges(place, log, own)) for place, own in parts.items()}
-        everywhere = [one for those in self.discharged.values() for one in those]
+        rows_of = {key: order[bounds[slot] : bounds[slot + 1]] for key, slot in slots.items()}
+        self.discharged = {key: list(self.discharges(key, log, rows)) for key, rows in rows_of.items()}
+        everywhere = [discharge for discharges in self.discharged.values() for discharge in discharges]
         usual = Saturation(usual_flow(dawdle), USUAL_LOST)
         self.usual = mean_saturation(everywhere) if len(everywhere) >= QUEUES else usual
-        self.own = {place: mean_saturation(those) for place, those in self.discharged.items() if len(those) >= QUEUES}
-        self.lanes = np.array([lane for own in passages.lanes.values() for lane in own], np.int64)  # as Showed has them
+        enough = {key: discharges for key, discharges in self.discharged.items() if len(discharges) >= QUEUES}
+        self.own = {key: mean_saturation(discharges) for key, discharges in enough.items()}
+        self.lanes = np.array([lane for lanes in passages.lanes.values() for lane in lanes], np.int64)  # as of Showed
         self.places = [passages.places[lane] for lane in self.lanes.tolist()]
-        rates = [self.saturation_of(place) for place in self.places]
-        self.flow, self.lost = (np.array([getattr(one, name) for one in rates], float) for name in ("flow", "lost"))
+        rates = [self.saturation_of(key) for key in self.places]
+        self.flow = np.array([rate.flow for rate in rates], float)
+        self.lost = np.array([rate.lost for rate in rates], float)
         self.greens: dict[tuple[int, tuple[int, ...]], LaneGreens] = {}  # by node and phases
 
-    def saturation_of(self, place: Place) -> Saturation:
+    def saturation_of(self, lane_key: Place) -> Saturation:
         """How a lane passes queues: as it did where there were QUEUES discharges, else as all lanes of the run did
         where there were as many together, else as usual."""
-        return self.own.get(place, self.usual)
+        return self.own.get(lane_key, self.usual)
 
-    def discharges(self, place: Place, log: Columns, own: Array) -> Iterator[Discharge]:
+    def discharges(self, lane_key: Place, log: Columns, rows: Array) -> Iterator[Discharge]:
         """The discharges of a lane's queues of QUEUE vehicles and more; those of which one has not stood, or whose
-        green's begin is not known, are left out. log: as of Crossed; own: its rows of the lane."""
-        own = own[np.argsort(log["line"][own], kind="stable")]
-        lines, before, stood = (log[name][own] for name in ("line", "before", "stood"))
-        bounds = np.flatnonzero(np.concatenate([[True], np.diff(lines) > GROUP_GAP, [True]])) if len(own) else own
+        green's begin is not known, are left out. log: as of Crossed; rows: its rows of the lane."""
+        rows = rows[np.argsort(log["line"][rows], kind="stable")]
+        lines, before, stood = (log[name][rows] for name in ("line", "before", "stood"))
+        bounds = np.flatnonzero(np.concatenate([[True], np.diff(lines) > GROUP_GAP, [True]])) if len(rows) else rows
         for at in np.flatnonzero(np.diff(bounds) >= QUEUE).tolist():
             begin, end = bounds[at : at + 2].tolist()
             end = min(end, begin + int(before[begin]))
             if end - begin >= QUEUE and stood[begin:end].all():
                 first, fourth, last = (int(lines[at]) for at in (begin, begin + 3, end - 1))
-                if (green := self.shown.plans.begin_of(*place, first - 1)) is not None:
+                if (green := self.shown.plans.begin_of(*lane_key, first - 1)) is not None:
                     headway = (last - fourth) / (end - begin - 4)
                     yield Discharge(headway, fourth - green - 4 * headway)
 
     def judged(self, number: int, showed: Showed) -> Interval:
         """What vehicles lost whose passages ended in an interval, by its number from 0, and the queues and the use of
         lanes then."""
-        found = Interval(showed.begin, showed.end)
-        found.lost, found.lanes = self.crossed.losses_in(number)
+        interval = Interval(showed.begin, showed.end)
+        interval.lost, interval.lanes = self.crossed.losses_in(number)
         ends = np.cumsum(showed.cycles).tolist()
         queues = showed.queues.astype(np.float64).tolist()
-        found.queues = {place: queues[first:last] for place, first, last in zip(self.places, [0, *ends], ends)}
-        self.add_uses(found, number, showed)
-        return found
+        interval.queues = {place: queues[first:last] for place, first, last in zip(self.places, [0, *ends], ends)}
+        self.add_uses(interval, number, showed)
+        return interval
 
     def greens_of(self, node: int, phases: tuple[int, ...]) -> LaneGreens:
         """What some phases show to the lanes that lead to a node."""
         if (node, phases) not in self.greens:
-            places = [self.passages.places[lane] for lane in self.passages.lanes[node]]
-            shown = self.shown.greens(node, places, phases)
-            taken = [self.taken[place] for place in places]
+            lane_keys = [self.passages.places[lane] for lane in self.passages.lanes[node]]
+            used = [self.taken[place] for place in lane_keys]
+            lanes = list(zip(self.shown.greens(node, lane_keys, phases), used, strict=True))
             self.greens[node, phases] = LaneGreens(
-                np.array([[links is None or bool(links & to) for links in own] for own, to in zip(shown, taken)]),
-                np.array([all_have_same_green(own, to) for own, to in zip(shown, taken)]),
+                np.array([[shown is None or bool(shown & links) for shown in greens] for greens, links in lanes]),
+                np.array([all_have_same_green(greens, links) for greens, links in lanes]),
             )
         return self.greens[node, phases]
 
     def greens_in(self, showed: Showed) -> LaneGreens:
         """What the spans of an interval show to lanes."""
-        found, ends = [], np.cumsum(showed.spans).tolist()
+        parts, ends = [], np.cumsum(showed.spans).tolist()
         for node, first, last in zip(self.passages.lanes, [0, *ends], ends):
             phases = showed.phases[first:last].tolist()
-            known = {one: at for at, one in enumerate(sorted(set(phases)))}
-            greens = self.greens_of(node, tuple(known))
-            found.append((greens.open[:, [known[one] for one in phases]].ravel(), greens.same))
-        return LaneGreens(*(np.concatenate(those) for those in zip(*found, strict=True)))
+            column_of = {phase: at for at, phase in enumerate(sorted(set(phases)))}
+            greens = self.greens_of(node, tuple(column_of))
+            parts.append((greens.open[:, [column_of[phase] for phase in phases]].ravel(), greens.same))
+        return LaneGreens(*(np.concatenate(arrays) for arrays in zip(*parts, strict=True)))
 
-    def add_uses(self, found: Interval, number: int, showed: Showed) -> None:
+    def add_uses(self, interval: Interval, number: int, showed: Showed) -> None:
         """Adds the v/c of lanes, 0 where nobody passed or nothing was green. Those by whom a queue grew are in it."""
         greens = self.greens_in(showed)
-        node = np.repeat(np.arange(len(showed.spans)), [len(own) for own in self.passages.lanes.values()])  # by lane
+        counts = [len(lanes) for lanes in self.passages.lanes.values()]
+        node = np.repeat(np.arange(len(showed.spans)), counts)  # by lane
         spans = showed.spans[node]
         lasts = np.cumsum(spans)
         firsts = lasts - spans  # of each lane the first of its spans
@@ -119,12 +122,12 @@ class Judge:
         before[firsts] = False
         parts = greens.open * seconds, greens.open * showed.waiting, greens.open & ~before
         green, waiting, begins = (np.add.reduceat(part, firsts, dtype=np.int64) for part in parts)
-        count, alone = (one.of(number)[self.lanes] for one in (self.crossed.passed, self.crossed.alone))
+        count, alone = (sums.of(number)[self.lanes] for sums in (self.crossed.passed, self.crossed.alone))
         by_green = count / (self.flow * np.maximum(1.0, green - self.lost * begins) / 3600)
         ratio = np.where(greens.same, by_green, self.by_busy_seconds(alone, waiting, green))
         ratio *= 1 + grown(showed, greens.open, firsts, lasts) / np.maximum(1, count)
-        found.uses = dict(zip(self.places, np.where((count > 0) & (green > 0), ratio, 0.0).tolist(), strict=True))
-        found.flows = dict(zip(self.places, self.flow.tolist(), strict=True))
+        interval.uses = dict(zip(self.places, np.where((count > 0) & (green > 0), ratio, 0.0).tolist(), strict=True))
+        interval.flows = dict(zip(self.places, self.flow.tolist(), strict=True))
 
     def by_busy_seconds(self, alone: Array, waiting: Array, green: Array) -> Array:
         """v/c, 0 to 1, of lanes without a signal, or whose vehicles do not all have the same green: the share of green

@@ -49,11 +49,11 @@ class Junctions(Passages):
     def keep_interval(self) -> None:
         """Sums up the interval under way, which is over."""
         sent = self.kernel.sent[self.sent :]
-        self.shown.plans.add((one.clock, one.line.command) for one in sent if one.line.command["cmd"] == "signal")
+        self.shown.plans.add((clock, line.command) for clock, line, _ in sent if line.command["cmd"] == "signal")
         self.sent += len(sent)
         back, stood = (np.concatenate(parts) for parts in zip(*self.begun, strict=True))
-        found = showed(self.shown, self.lanes, self.places, self.clock, back, stood)
-        self.kept.append(zlib.compress(pickle.dumps(found), 1))
+        showed_lanes = showed(self.shown, self.lanes, self.places, self.clock, back, stood)
+        self.kept.append(zlib.compress(pickle.dumps(showed_lanes), 1))
         self.begun, self.clock, self.left = [], self.clock + len(back), self.interval
 
     def end(self, clock: int) -> None:
@@ -71,21 +71,22 @@ class Junctions(Passages):
         crossed = Crossed(self, kernel.plans, self.interval, dwells(stops))
         judge = Judge(self, self.shown, crossed, run.load.command["dawdle"])
         tables = JunctionTables(self.approaches, mapping.full.junctions())
-        intervals = (judge.judged(at, pickle.loads(zlib.decompress(one))) for at, one in enumerate(self.kept))
+        intervals = (judge.judged(at, pickle.loads(zlib.decompress(packed))) for at, packed in enumerate(self.kept))
         tables.write(folder, Names(mapping), intervals)
-        plans, told = [line.command["plan"] for line in run.enters], []
-        if found := junctions_with_facing_streets(mapping, plans, (self.until - start) / 3600):
-            told.append(f"junctions: delays are too small where minor streets wait for each other: {first_few(found)}")
+        plans, messages = [line.command["plan"] for line in run.enters], []
+        if facing := junctions_with_facing_streets(mapping, plans, (self.until - start) / 3600):
+            where = "where minor streets wait for each other"
+            messages.append(f"junctions: delays are too small {where}: {first_few(facing)}")
         cut = tables.filled.intersection(approaches_cut_short(mapping, self.approaches))
         beyond, doubts = told_of_queues_beyond(sorted(cut))
-        return told + beyond, doubts
+        return messages + beyond, doubts
 
 
 def told_of_queues_beyond(approaches: list[str]) -> tuple[list[str], list[str]]:
     """(a sentence for the terminal, a doubt), each in a list, on approaches beyond which queues went on, if any."""
     if not approaches:
         return [], []
-    small, found = "delays, letters and queues are too small", first_few(approaches)
+    small, names = "delays, letters and queues are too small", first_few(approaches)
     where = "where a queue fills an approach and goes on in the edge before it, which no table has"
-    doubt = f"junction tables: {small} at {found}, as queues go on in the edges before, which no table has"
-    return [f"junctions: {small} {where}: {found}"], [doubt]
+    doubt = f"junction tables: {small} at {names}, as queues go on in the edges before, which no table has"
+    return [f"junctions: {small} {where}: {names}"], [doubt]

@@ -19,16 +19,16 @@ class ClosedLanes:
     """The closed stretches of lanes at polls: those that controllers close at its clock, and lines of the file before
     it."""
 
-    def __init__(self, kernel: Kernel, wanted: Array) -> None:
-        """wanted: by slot whether its lane is polled."""
-        self.kernel, self.wanted, self.closed, self.place = kernel, wanted, ClosedCells(), 0
+    def __init__(self, kernel: Kernel, polled_slots: Array) -> None:
+        """polled_slots: by slot whether its lane is polled."""
+        self.kernel, self.wanted, self.closed, self.place = kernel, polled_slots, ClosedCells(), 0
         for line in kernel.run.first:
             self.closed.note(line.command)
         self.stretches = self.found()
 
     def found(self) -> Stretches:
         """Those that are closed now, of polled lanes."""
-        return {slot: found for slot, found in self.closed.stretches().items() if self.wanted[slot]}
+        return {slot: stretches for slot, stretches in self.closed.stretches().items() if self.wanted[slot]}
 
     def at(self, clock: int) -> Stretches:
         """By slot the stretches at a poll; clocks rise."""
@@ -65,7 +65,7 @@ class RowsWriter(Observer):
         lengths = np.diff(np.append(begins, len(rows)))
         stays = owner[begins], seconds.size[rows[begins]], second[begins] - 1, lengths
         columns = seconds.slot[rows], cells_told(seconds)[rows], seconds.speed[rows]
-        changes = [one for clock in seconds.clocks[1:].tolist() for one in self.changes(clock)]
+        changes = [change for clock in seconds.clocks[1:].tolist() for change in self.changes(clock)]
         closed = np.array(changes, np.int64).reshape(-1, len(CLOSED)).T
         clock, count = int(seconds.clocks[1]), len(seconds.clocks) - 1
         self.file.write(packed(clock, count, stays, columns, tuple(closed)))
@@ -73,12 +73,12 @@ class RowsWriter(Observer):
     def changes(self, clock: int) -> Iterator[tuple[int, int, int, int]]:
         """(clock, slot, first, last cell) of the closed stretches of each lane where these change at a clock; cells 1
         to 0 where there are none any more."""
-        before, now = self.before, self.closed.at(clock)
-        if now is not before:
-            for slot in sorted({*before, *now}):
-                if before.get(slot) != now.get(slot):
-                    yield from ((clock, slot, first, last) for first, last in now.get(slot, [(1, 0)]))
-        self.before = now
+        before, stretches = self.before, self.closed.at(clock)
+        if stretches is not before:
+            for slot in sorted({*before, *stretches}):
+                if before.get(slot) != stretches.get(slot):
+                    yield from ((clock, slot, first, last) for first, last in stretches.get(slot, [(1, 0)]))
+        self.before = stretches
 
 
 def cells_told(seconds: Seconds) -> Array:
@@ -113,17 +113,19 @@ class Polls(Observer):
         at = np.searchsorted(second[begins], np.arange(len(polled) + 1)).tolist()
         for number in np.flatnonzero(polled).tolist():
             if number:
-                clock, here = int(seconds.clocks[number]), slice(*at[number : number + 2])
+                clock, rows_of_clock = int(seconds.clocks[number]), slice(*at[number : number + 2])
                 closed = self.closed.at(clock)
-                shown = [f"{lane}[]]" for lane in lanes[here]]
+                shown = [f"{lane}[]]" for lane in lanes[rows_of_clock]]
                 if closed:
-                    shown = list(with_closed(dict(zip(slots[here], lanes[here], strict=True)), closed))
+                    texts = dict(zip(slots[rows_of_clock], lanes[rows_of_clock], strict=True))
+                    shown = list(with_closed(texts, closed))
                 self.file.write(f'{{"clock":{clock},"lanes":[{",".join(shown)}]}}\n')
 
 
 def lane_texts(seconds: Seconds, rows: Array, begins: Array) -> list[str]:
     """The text of each lane up to its closed stretches; rows: of the lanes, of which each begins at one of begins."""
-    car, cell, speed, size = (one[rows].tolist() for one in (seconds.owner, seconds.cell, seconds.speed, seconds.size))
+    columns = seconds.owner, seconds.cell, seconds.speed, seconds.size
+    car, cell, speed, size = (column[rows].tolist() for column in columns)
     texts = [
         str(c) if x < 0 else f"[{c},{x},{v}]" if n == 1 else f"[{c},{x},{v},{n}]"
         for c, x, v, n in zip(car, cell, speed, size, strict=True)

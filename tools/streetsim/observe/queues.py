@@ -54,7 +54,7 @@ class Queues(Observer):
         links = self.kernel.map.links
         known: dict[tuple[int, int], tuple[str, int, float]] = {}
         for part in self.log.parts:
-            for clock, slot, count, covered in zip(*(one.tolist() for one in part.values()), strict=True):
+            for clock, slot, count, covered in zip(*(column.tolist() for column in part.values()), strict=True):
                 if (slot, covered) not in known:
                     link = links[slot // 2]
                     known[slot, covered] = link.edge, link.lanes[slot % 2], round(covered * link.cell_metres, 1)
@@ -92,7 +92,7 @@ class Summary(Observer):
     def censuses(self) -> Iterator[Census]:
         """The counts, without vehicles that wish to depart then or later."""
         arrival = np.sort(self.trips.arrival[self.trips.arrival > 0])
-        taken = np.sort([one.clock for one in self.kernel.vehicles.takeouts])
+        taken = np.sort([takeout.clock for takeout in self.kernel.vehicles.takeouts])
         departs = np.array(self.kernel.departs, np.int64)
         for clock, cells, buffers in self.found:
             arrived, out = int(np.searchsorted(arrival, clock, "right")), int(np.searchsorted(taken, clock))
@@ -105,6 +105,6 @@ def wanted_slots(polled: Collection[Place] | None, slots: int) -> Array:
     """By slot whether its lane is polled; polled: as of Queues."""
     if polled is None:
         return np.ones(slots, bool)
-    wanted = np.zeros(slots, bool)
-    wanted[[2 * link + lane for link, lane in polled]] = True
-    return wanted
+    is_polled = np.zeros(slots, bool)
+    is_polled[[2 * link + lane for link, lane in polled]] = True
+    return is_polled

@@ -64,40 +64,40 @@ class Segments(Observer):
         """Notes where vehicles ended otherwise."""
         self.until, nobody = clock, np.zeros(0, np.int32)
         self.note(nobody, nobody, nobody, clock + 1)
-        there = np.flatnonzero(self.is_under_way & (self.departs < clock))
-        self.note(there, np.full(len(there), clock), np.full(len(there), NO_LINE), clock + 1)
+        under_way = np.flatnonzero(self.is_under_way & (self.departs < clock))
+        self.note(under_way, np.full(len(under_way), clock), np.full(len(under_way), NO_LINE), clock + 1)
 
     def note(self, owner: Array, clock: Array, edge: Array, until: int) -> None:
         """Notes ends of segments, as columns by clock, and those of vehicles that were taken out of a lane before a
         clock."""
-        taken = self.kernel.vehicles.takeouts
-        while self.taken < len(taken) and taken[self.taken].clock < until:
-            if (one := taken[self.taken]).on_lane:
-                own = self.kernel.vehicles.owner[one.car], one.clock, NO_LINE
-                owner, clock, edge = (np.append(those, value) for those, value in zip((owner, clock, edge), own))
+        takeouts = self.kernel.vehicles.takeouts
+        while self.taken < len(takeouts) and takeouts[self.taken].clock < until:
+            if (takeout := takeouts[self.taken]).on_lane:
+                columns = self.kernel.vehicles.owner[takeout.car], takeout.clock, NO_LINE
+                owner, clock, edge = (np.append(those, value) for those, value in zip((owner, clock, edge), columns))
             self.taken += 1
         order = np.lexsort((clock, owner))
         owner, clock, edge = owner[order], clock[order], edge[order]
         fresh = np.append(True, owner[1:] != owner[:-1])[: len(owner)]
         since, before = np.roll(clock, 1), np.roll(edge, 1)
         since[fresh], before[fresh] = self.since[owner[fresh]], self.before[owner[fresh]]
-        last = np.roll(fresh, -1)
-        self.since[owner[last]], self.before[owner[last]] = clock[last], edge[last]
+        last_rows = np.roll(fresh, -1)
+        self.since[owner[last_rows]], self.before[owner[last_rows]] = clock[last_rows], edge[last_rows]
         self.log.add({"clock": clock, "owner": owner, "edge": edge, "since": since, "before": before})
 
     def ends(self) -> SegmentEnds:
         """All that was noted."""
-        found = self.log.all_of(self.log.parts, len(self.log))
-        order = by_number(found["owner"])  # who passes lines does so in the order in which they were noted
-        return SegmentEnds(*(found[name][order] for name in ("owner", "clock", "edge", "since", "before")))
+        columns = self.log.all_of(self.log.parts, len(self.log))
+        order = by_number(columns["owner"])  # who passes lines does so in the order in which they were noted
+        return SegmentEnds(*(columns[name][order] for name in ("owner", "clock", "edge", "since", "before")))
 
     def segment_rows(self, period: int) -> Iterator[Entry]:
         """The rows of segments.csv, (begin, end, from, to, then what `told_of` gives), by periods of so many seconds in
         which segments end: from the stop line of an edge to that of the next; an empty name is that of NO_LINE."""
         names = ["", *self.edges]
-        for _, own in by_period(self.log.parts, self.kernel.start, period):
-            pairs = (own["before"].astype(np.int32) - NO_LINE) * len(names) + own["edge"] - NO_LINE
-            for begin, end, pair, told in self.grouped(own["clock"], pairs, own["clock"] - own["since"], period):
+        for _, rows in by_period(self.log.parts, self.kernel.start, period):
+            pairs = (rows["before"].astype(np.int32) - NO_LINE) * len(names) + rows["edge"] - NO_LINE
+            for begin, end, pair, told in self.grouped(rows["clock"], pairs, rows["clock"] - rows["since"], period):
                 yield begin, end, names[pair // len(names)], names[pair % len(names)], *told
 
     def route_rows(self, routes: Iterable[Sequence[str]], period: int) -> Iterator[Entry]:
@@ -106,12 +106,12 @@ class Segments(Observer):
         clock there. Who was rescued on the way there is left out."""
         ends = self.ends()
         for route in routes:
-            last = np.arange(len(route) - 1, len(ends.owner))
-            first = last - (len(route) - 1)
-            fits = ends.owner[first] == ends.owner[last]
+            last_rows = np.arange(len(route) - 1, len(ends.owner))
+            first_rows = last_rows - (len(route) - 1)
+            fits = ends.owner[first_rows] == ends.owner[last_rows]
             for step, edge in enumerate(route):
-                fits &= ends.edge[first + step] == self.edges.index(edge)
-            clocks, since = ends.clock[last[fits]], ends.clock[first[fits]]
+                fits &= ends.edge[first_rows + step] == self.edges.index(edge)
+            clocks, since = ends.clock[last_rows[fits]], ends.clock[first_rows[fits]]
             for begin, end, _, told in self.grouped(clocks, np.zeros_like(clocks), clocks - since, period):
                 yield begin, end, " ".join(route), *told
 
@@ -124,12 +124,12 @@ class Segments(Observer):
         numbers = (clocks - 1 - start) // period
         order = by_number(numbers)
         bounds = np.append(0, np.cumsum(np.bincount(numbers))).tolist()
-        for number, (first, last) in enumerate(pairwise(bounds)):
-            own = order[first:last]
-            own = own[np.lexsort((seconds[own], keys[own]))]
-            firsts, _ = groups_of(keys[own])
+        for number, (begin_row, end_row) in enumerate(pairwise(bounds)):
+            rows = order[begin_row:end_row]
+            rows = rows[np.lexsort((seconds[rows], keys[rows]))]
+            firsts, _ = groups_of(keys[rows])
             begin = start + number * period
-            for key, told in zip(keys[own[firsts]].tolist(), told_of(seconds[own], firsts), strict=True):
+            for key, told in zip(keys[rows[firsts]].tolist(), told_of(seconds[rows], firsts), strict=True):
                 yield begin, min(begin + period, self.until), key, told
 
 
@@ -142,9 +142,9 @@ def told_of(seconds: Array, firsts: Array) -> Iterator[Entry]:
     deviations = np.sqrt(np.add.reduceat(squares, firsts) / np.maximum(1, counts - 1)) if len(firsts) else counts
     shares = []
     for share in SHARES:
-        places = share * (counts - 1)
-        low = places.astype(np.int64)
+        positions = share * (counts - 1)
+        low = positions.astype(np.int64)
         least, more = seconds[firsts + low], seconds[firsts + np.minimum(low + 1, counts - 1)]
-        shares.append((least + (places - low) * (more - least)).tolist())
+        shares.append((least + (positions - low) * (more - least)).tolist())
     for count, mean, deviation, *parts in zip(counts.tolist(), means.tolist(), deviations.tolist(), *shares):
-        yield count, f"{mean:.1f}", f"{deviation:.1f}" if count > 1 else "", *(f"{one:.1f}" for one in parts)
+        yield count, f"{mean:.1f}", f"{deviation:.1f}" if count > 1 else "", *(f"{value:.1f}" for value in parts)

@@ -18,9 +18,9 @@ class XmlFile:
 
     root, schema = "", ""
 
-    def __init__(self, file: TextFile, places: LanePlaces) -> None:
-        """Writes the begin of the root element; places: where cells lie in metres."""
-        self.file, self.places = file, places
+    def __init__(self, file: TextFile, lane_places: LanePlaces) -> None:
+        """Writes the begin of the root element; lane_places: where cells lie in metres."""
+        self.file, self.places = file, lane_places
         self.file.write(
             '<?xml version="1.0" encoding="UTF-8"?>\n\n'
             f'<{self.root} xmlns:xsi="http://www.w3.org/2001/XMLSchema-instance" '
@@ -49,9 +49,9 @@ class Tripinfo(XmlFile):
 
     root, schema = "tripinfos", "tripinfo_file"
 
-    def __init__(self, file: TextFile, places: LanePlaces, dwells: Mapping[int, Sequence[Dwell]]) -> None:
+    def __init__(self, file: TextFile, lane_places: LanePlaces, dwells: Mapping[int, Sequence[Dwell]]) -> None:
         """dwells: by the vehicle's number in looks its stops; those of one that arrives are known by then."""
-        super().__init__(file, places)
+        super().__init__(file, lane_places)
         self.dwells = dwells
 
     def add_second(self, second: Second) -> None:
@@ -61,7 +61,7 @@ class Tripinfo(XmlFile):
 
     def attributes_of(self, trip: TripUnderWay, arrival: int, stops: Sequence[Dwell]) -> str:
         """The attributes of a trip that arrived at a clock, with its stops, in SUMO's order."""
-        names, duration, dwell = self.places.names, arrival - trip.depart, sum(one.seconds for one in stops)
+        names, duration, dwell = self.places.names, arrival - trip.depart, sum(stop.seconds for stop in stops)
         return attributes(
             id=trip.name,
             depart=float(trip.depart),
@@ -75,7 +75,7 @@ class Tripinfo(XmlFile):
             arrivalSpeed=self.places.metres_per_second(trip.last),
             duration=float(duration),
             routeLength=trip.metres,
-            waitingTime=float(max(0, trip.waiting - sum(one.stood for one in stops))),
+            waitingTime=float(max(0, trip.waiting - sum(stop.stood for stop in stops))),
             waitingCount=max(0, trip.stops - len(stops)),
             stopTime=float(dwell),
             timeLoss=max(0.0, duration - trip.free - dwell),
@@ -92,10 +92,10 @@ class SummaryOutput(XmlFile):
 
     root, schema = "summary", "summary_file"
 
-    def __init__(self, file: TextFile, places: LanePlaces, wished: Sequence[int], rescued: Sequence[int]) -> None:
+    def __init__(self, file: TextFile, lane_places: LanePlaces, wished: Sequence[int], rescued: Sequence[int]) -> None:
         """wished: the seconds, sorted, at which vehicles would depart, as far as they are known; rescued: the clocks,
         rising, of rescues, as looks at the lanes do not show those out of a junction."""
-        super().__init__(file, places)
+        super().__init__(file, lane_places)
         self.wished, self.rescued = wished, rescued
         self.loaded = self.inserted = self.arrived = self.delays = self.durations = self.teleports = 0
 
@@ -138,9 +138,9 @@ class Fcd(XmlFile):
 
     root, schema = "fcd-export", "fcd_file"
 
-    def __init__(self, file: TextFile, places: LanePlaces) -> None:
-        """places: where cells lie in metres."""
-        super().__init__(file, places)
+    def __init__(self, file: TextFile, lane_places: LanePlaces) -> None:
+        """lane_places: where cells lie in metres."""
+        super().__init__(file, lane_places)
         self.texts: dict[At, tuple[str, str]] = {}  # many vehicles come to each
         self.names: dict[int, tuple[str, str]] = {}  # of vehicles and their types, quoted
 
@@ -172,9 +172,9 @@ class QueueOutput(XmlFile):
 
     root, schema = "queue-export", "queue_file"
 
-    def __init__(self, file: TextFile, places: LanePlaces) -> None:
-        """places: where cells lie in metres."""
-        super().__init__(file, places)
+    def __init__(self, file: TextFile, lane_places: LanePlaces) -> None:
+        """lane_places: where cells lie in metres."""
+        super().__init__(file, lane_places)
         self.standing: dict[int, int] = {}  # car: seconds
 
     def add_second(self, second: Second) -> None:
@@ -184,14 +184,14 @@ class QueueOutput(XmlFile):
         lengths: dict[Place, float] = {}
         waits: dict[Place, int] = {}
         for car, at in cars:
-            place, link = (at.link, at.lane), self.places.mapping.links[at.link]
+            lane_key, link = (at.link, at.lane), self.places.mapping.links[at.link]
             length = link.metres - max(0, at.front + 1 - at.size) * self.places.cell_metres[at.link]
-            lengths[place] = max(length, lengths.get(place, 0.0))
-            waits[place] = max(self.standing[car], waits.get(place, 0))
+            lengths[lane_key] = max(length, lengths.get(lane_key, 0.0))
+            waits[lane_key] = max(self.standing[car], waits.get(lane_key, 0))
         self.file.write(f'    <data timestep="{second.time:.2f}">\n        <lanes>\n')
-        for place, length in sorted(lengths.items()):
-            own = {"id": self.places.names[place], "queueing_time": float(waits[place])}
-            row = attributes(**own, queueing_length=length, queueing_length_experimental=length)
+        for lane_key, length in sorted(lengths.items()):
+            texts = {"id": self.places.names[lane_key], "queueing_time": float(waits[lane_key])}
+            row = attributes(**texts, queueing_length=length, queueing_length_experimental=length)
             self.file.write(f"            <lane {row}/>\n")
         self.file.write("        </lanes>\n    </data>\n")
 
