@@ -256,7 +256,7 @@ def judged(frames, plans, signals=((0, SIGNAL),), dwells=None, end=10, parts=1):
     """What is known of the street up to a clock."""
     judge = judge_of(frames, plans, signals, dwells, parts, end)
     seen = judge.passages
-    return judge.judged(0, showed(judge.shown, seen.lanes, seen.places, 0, seen.back[:end], seen.stood[:end]))
+    return judge.interval_measures(0, showed(judge.shown, seen.lanes, seen.lane_keys, 0, seen.back[:end], seen.stood[:end]))
 
 
 class ByHand(unittest.TestCase):
@@ -267,7 +267,7 @@ class ByHand(unittest.TestCase):
         seen = passages_of(frames, plans, mapping)
         movements = Movements(seen)
         places, found = PlanPlaces(movements, seen.kernel.plans), []
-        for _, part in seen.done(interval, {}):
+        for _, part in seen.ended_passages(interval, {}):
             one = Crossings(places, part)
             found += zip(map(movements.name, one.movement.tolist()), one.end.tolist(), strict=True)
         return found
@@ -295,7 +295,7 @@ class ByHand(unittest.TestCase):
         """Each passage is judged by what follows there: the first goes on to b, the second ends on the edge."""
         on = [[[0, 0, [[0, 5, 2]], []]], [[0, 0, [], [0]]], [[1, 0, [[0, 2, 2]], []]]]
         frames = [*enumerate(on, 1), (4, [[0, 0, [[0, 3, 2]], []]]), (5, [[0, 0, [], [0]]])]
-        [(_, done)] = passages_of(frames, [[0, 1, 0]]).done(900, {})
+        [(_, done)] = passages_of(frames, [[0, 1, 0]]).ended_passages(900, {})
         self.assertEqual(len(done["end"]), 2)
         for interval in (900, 4, 1):
             self.assertEqual(self.crossings(frames, [[0, 1, 0]], interval=interval), [(("a", "b"), 3)])
@@ -320,7 +320,7 @@ class ByHand(unittest.TestCase):
             way += [[[0, 0, [], [0]]], *([[1, 0, [[0, cell, 2]], []]] for cell in (1, 3, 5, 7, 9)), [[1, 0, [], [0]]]]
             seen = passages_of([*enumerate([*way, [[2, 0, [[0, 1, 2]], []]]], 1)], [[0, 1, 2]], mapping)
             movements = Movements(seen)
-            [(_, done)] = seen.done(900, {})
+            [(_, done)] = seen.ended_passages(900, {})
             found += Crossings(PlanPlaces(movements, seen.kernel.plans), done).delay.tolist()
         self.assertAlmostEqual(found[0], 0, delta=1)
         self.assertAlmostEqual(found[1] - found[0], 4 + STOP_LOSS[0])
@@ -332,17 +332,17 @@ class ByHand(unittest.TestCase):
         self.assertEqual((lost.delay, lost.stood, lost.stops), ((2 + 4 + STOP_LOSS[0]) / 2, 1.0, 0.5))
         # One on another link, or of another passage, changes nothing.
         stops = {0: [Dwell(1, 4, 6, 3), Dwell(0, 90, 96, 6)]}
-        [(_, elsewhere)] = passages_of(FRAMES, self.plans).done(900, stops)
+        [(_, elsewhere)] = passages_of(FRAMES, self.plans).ended_passages(900, stops)
         self.assertEqual(elsewhere["dwell"].tolist(), [0, 0, 0])
         # Who stops at the bus stop and then in a queue has stopped once for the junction.
         speeds = enumerate((2, 0, 0, 1, 0, 0), 1)
         frames = [*((clock, [[0, 0, [[0, 5, speed]], []]]) for clock, speed in speeds), (7, [[0, 0, [], [0]]])]
-        [(_, both)] = passages_of(frames, [[0, 1]]).done(900, {0: [Dwell(0, 2, 2, 2)]})
+        [(_, both)] = passages_of(frames, [[0, 1]]).ended_passages(900, {0: [Dwell(0, 2, 2, 2)]})
         self.assertEqual((self.passage(frames)[0], both["stops"].tolist()), (2, [1]))
 
     def passage(self, frames):
         """(stops, seconds of standing) of the only passage."""
-        [(_, done)] = passages_of(frames, [[0, 1]]).done(900, {})
+        [(_, done)] = passages_of(frames, [[0, 1]]).ended_passages(900, {})
         [stops], [stood] = done["stops"].tolist(), done["stood"].tolist()
         return stops, stood
 

@@ -193,7 +193,7 @@ def report(figures: Figures, name: str) -> None:
     """Prints what a run gave, its notes on standard error; name: what each line begins with."""
     for note in figures.notes:
         print(f"{name}{note}", file=sys.stderr)
-    print(f"{name}{figures.told}")
+    print(f"{name}{figures.summary}")
     if figures.by_class:
         print(f"{name}{figures.by_class}")
     if figures.doubts:

@@ -55,7 +55,7 @@ class Counts(Observer):
         self.last_cell = np.repeat(np.array([link.cells - 1 for link in self.links], np.int32), 2)
         self.stay = np.repeat([kernel.map.nodes[link.end][3] for link in self.links], 2)
         self.passes, self.speeds, self.covered = (PeriodSums(2 * len(self.links)) for _ in range(3))
-        self.sampled, self.present, self.moved, self.taken = (PeriodSums(len(self.links)) for _ in range(4))
+        self.sampled, self.present, self.moved, self.taken_out = (PeriodSums(len(self.links)) for _ in range(4))
         self.standing = {self.start: np.zeros(len(self.links), np.int64)}  # by clock: vehicles on the cells of links
 
     def see(self, seconds: Seconds) -> None:
@@ -98,8 +98,8 @@ class Counts(Observer):
         takeouts = [takeout for takeout in self.kernel.vehicles.takeouts if takeout.on_lane]
         clocks = np.array([takeout.clock for takeout in takeouts], np.int64)
         slots = np.array([takeout.slot for takeout in takeouts], np.int64)
-        self.taken.add((clocks - self.start) // self.period, slots // 2)
-        for sums in (self.passes, self.speeds, self.covered, self.sampled, self.present, self.moved, self.taken):
+        self.taken_out.add((clocks - self.start) // self.period, slots // 2)
+        for sums in (self.passes, self.speeds, self.covered, self.sampled, self.present, self.moved, self.taken_out):
             sums.grow(self.periods)
 
     def row(self, lane_key: Place, at: int) -> Row:
@@ -131,10 +131,10 @@ class Counts(Observer):
         for at in range(self.periods):
             begin = self.start + at * self.period
             end = min(begin + self.period, self.clock)
-            change = self.standing[end] - self.standing[begin] + self.taken.table[at]
+            change = self.standing[end] - self.standing[begin] + self.taken_out.table[at]
             for edge, links in mapping.links_of.items():
                 exited = int(self.passes.table[at, slots[edge]].sum())
-                entered = exited + int(change[links].sum()) if self.samples.any else ""
+                entered = exited + int(change[links].sum()) if self.samples.has_samples else ""
                 texts = ("" if value is None else f"{value:.2f}" for value in self.seen_on(mapping, links, at))
                 yield begin, end, edge, entered, exited, *texts
 

@@ -30,7 +30,7 @@ class Movements:
         self.edges = list(dict.fromkeys(link.edge for link in mapping.links))
         numbers = {edge: number for number, edge in enumerate(self.edges)}
         self.edge_of = np.array([numbers[link.edge] for link in mapping.links])
-        self.own = np.array([numbers[edge] for edge in passages.edges], np.int64)  # by number of an approach
+        self.approach_edges = np.array([numbers[edge] for edge in passages.edges], np.int64)  # by number of an approach
         self.stopping = movements_that_stop(mapping)
         self.losses: dict[int, tuple[float, float]] = {}
 
@@ -54,18 +54,18 @@ class PlanPlaces:
         self.movements, self.plans, count = movements, plans, len(plans.first_places)
         # By vehicle, then by edge: keys of both, places of plans, and how often each was passed, by the key's first.
         self.keys = np.zeros(len(plans.links), np.int64)
-        self.places, self.passed = (np.zeros(len(plans.links), np.int32) for _ in range(2))
+        self.positions, self.passed = (np.zeros(len(plans.links), np.int32) for _ in range(2))
         for begin, end in pairwise((*range(0, count, PART), count)):
             part = slice(plans.first_places[begin], plans.end_places[end - 1])
             keys = plans.vehicles(begin, end) * len(movements.edges) + movements.edge_of[plans.links[part]]
             order = np.argsort(keys, kind="stable")
-            self.keys[part], self.places[part] = keys[order], order + part.start
+            self.keys[part], self.positions[part] = keys[order], order + part.start
 
     def places_of(self, owner: Array, edge: Array) -> tuple[Array, Array]:
         """(where the edge of each passage stands in its vehicle's plan, whether it stands there): as the edge may stand
         there more than once, the first passage is that of the first place, and so on; those beyond the last place are
         of this one. edge: by number of an approach. Passages are given once, in the order of their ends."""
-        wanted_keys = owner.astype(np.int64) * len(self.movements.edges) + self.movements.own[edge]
+        wanted_keys = owner.astype(np.int64) * len(self.movements.edges) + self.movements.approach_edges[edge]
         low, high = (np.searchsorted(self.keys, wanted_keys, side) for side in ("left", "right"))
         at, several = low.copy(), np.flatnonzero(high - low > 1)
         several = several[np.argsort(wanted_keys[several], kind="stable")]
@@ -73,7 +73,7 @@ class PlanPlaces:
         rank = self.passed[low[several]] + np.arange(len(several)) - begins[group]
         at[several] = np.minimum(low[several] + rank, high[several] - 1)
         np.add.at(self.passed, low[several], 1)
-        return self.places[np.minimum(at, len(self.places) - 1)], high > low
+        return self.positions[np.minimum(at, len(self.positions) - 1)], high > low
 
 
 class Crossings:
@@ -84,7 +84,7 @@ class Crossings:
     def __init__(self, planned: PlanPlaces, ended: Columns) -> None:
         """ended: as `Passages.done` gives them; they follow those of the Crossings before."""
         plans, movements = planned.plans, planned.movements
-        rows = np.flatnonzero(movements.edge_of[ended["slot"] // 2] == movements.own[ended["edge"]])
+        rows = np.flatnonzero(movements.edge_of[ended["slot"] // 2] == movements.approach_edges[ended["edge"]])
         at, is_planned = planned.places_of(ended["owner"][rows], ended["edge"][rows])
         going_on = is_planned & (at + 1 < plans.end_places[ended["owner"][rows]])
         ended, at = {name: values[rows[going_on]] for name, values in ended.items()}, at[going_on]
@@ -93,7 +93,8 @@ class Crossings:
             first_place[off] -= 1
         first_place = np.where(plans.links[first_place] == ended["first"], first_place, at)
         self.following = plans.links[at + 1]
-        self.movement = movements.own[ended["edge"]] * len(movements.edges) + movements.edge_of[self.following]
+        edge = movements.approach_edges[ended["edge"]]
+        self.movement = edge * len(movements.edges) + movements.edge_of[self.following]
         self.delay = ended["end"] - ended["begin"] - plans.seconds_between(first_place, at) - ended["dwell"]
         self.slot, self.end, self.line, self.before = (ended[name] for name in ("slot", "end", "line", "before"))
         self.stops, self.stood, self.alone = (ended[name] for name in ("stops", "stood", "alone"))
@@ -111,20 +112,20 @@ class Crossed:
         self, passages: Passages, plans: Plans, interval: int, stopped: Mapping[int, Sequence[Dwell]]
     ) -> None:
         """plans: of the vehicles; interval, stopped: as of `done` of the passages, which are let go."""
-        self.movements, lanes, start = Movements(passages), len(passages.places), passages.kernel.start
+        self.movements, lanes, start = Movements(passages), len(passages.lane_keys), passages.kernel.start
         self.lost: dict[int, tuple[Array, ...]] = {}  # by interval
         self.log = Log({"line": "i4", "slot": "u2", "before": "i2", "stood": "?"})
         self.passed, self.alone = PeriodSums(lanes), PeriodSums(lanes)  # by interval and lane
-        self.taken = np.zeros(0, np.int64)  # SLOTS times the lane, and the link to which they go, each pair once
+        self.lane_links = np.zeros(0, np.int64)  # SLOTS times the lane, and the link to which they go, each pair once
         planned = PlanPlaces(self.movements, plans)
-        for number, part in passages.done(interval, stopped):
+        for number, part in passages.ended_passages(interval, stopped):
             crossings = Crossings(planned, part)
             self.lost[number] = tuple(self.sums_of(crossings))
             lane, at = passages.column[crossings.slot], (crossings.line - 1 - start) // interval
             alone = (crossings.stood == 0) & (crossings.alone > 0)
             self.passed.add(at, lane)
             self.alone.add(at[alone], lane[alone])
-            self.taken = np.union1d(self.taken, crossings.slot.astype(np.int64) * SLOTS + crossings.following)
+            self.lane_links = np.union1d(self.lane_links, crossings.slot.astype(np.int64) * SLOTS + crossings.following)
             columns = {"line": crossings.line, "slot": crossings.slot, "before": crossings.before}
             self.log.add({**columns, "stood": crossings.stood > 0})
 

@@ -33,7 +33,7 @@ class Yielding:
     lines: int = 0  # signals that were sent
     crowded: dict[str, int] = field(default_factory=dict)  # by nearly full edge: vehicles that pass it then
 
-    def told(self) -> str:
+    def summary(self) -> str:
         """How many junctions give way by how many signal lines, for the user; empty where there are none."""
         if not self.lines:
             return ""

@@ -23,8 +23,8 @@ class Showed:
     phases: Array  # by span its number, as of Shown
     seconds: Array  # by span
     waiting: Array  # by lane and span the seconds in which anybody was there who had stood
-    last: Array  # by lane and span who had stood in its last second
-    first: Array  # by lane who had stood in the first second of all
+    stood_last: Array  # by lane and span who had stood in its last second
+    stood_first: Array  # by lane who had stood in the first second of all
     cycles: Array  # by lane how many
     queues: Array  # by lane and cycle the longest queue, metres
 

@@ -24,8 +24,8 @@ QUEUE = 8  # vehicles of a queue from which on its headways count
 class LaneGreens(NamedTuple):
     """What some phases show to the lanes that lead to a node."""
 
-    open: Array  # by lane and phase whether a link has green to which vehicles go from there
-    same: Array  # by lane whether all its vehicles have the same green
+    has_green: Array  # by lane and phase whether a link has green to which vehicles go from there
+    same_green: Array  # by lane whether all its vehicles have the same green
 
 
 class Judge:
@@ -34,11 +34,11 @@ class Judge:
     def __init__(self, passages: Passages, shown: ShownPlans, crossed: Crossed, dawdle: float) -> None:
         """dawdle: of 1,000."""
         self.passages, self.shown, self.crossed = passages, shown, crossed
-        slots = {(link, lane): 2 * link + lane for link, lane in passages.places}
-        self.taken: dict[Place, set[int]] = {key: set() for key in slots}  # the links to which vehicles go from it
-        for slot, link in zip(*(column.tolist() for column in np.divmod(crossed.taken, SLOTS)), strict=True):
-            self.taken[slot // 2, slot % 2].add(link)
-        log = crossed.log.all_of(crossed.log.take(), len(crossed.log))
+        slots = {(link, lane): 2 * link + lane for link, lane in passages.lane_keys}
+        self.used_links: dict[Place, set[int]] = {key: set() for key in slots}  # the links to which vehicles go from it
+        for slot, link in zip(*(column.tolist() for column in np.divmod(crossed.lane_links, SLOTS)), strict=True):
+            self.used_links[slot // 2, slot % 2].add(link)
+        log = crossed.log.all_of(crossed.log.take_parts(), len(crossed.log))
         order = by_number(log["slot"])
         bounds = np.searchsorted(log["slot"], np.arange(len(passages.cells) + 1), sorter=order).tolist()
         rows_of = {key: order[bounds[slot] : bounds[slot + 1]] for key, slot in slots.items()}
@@ -47,10 +47,10 @@ class Judge:
         usual = Saturation(usual_flow(dawdle), USUAL_LOST)
         self.usual = mean_saturation(everywhere) if len(everywhere) >= QUEUES else usual
         enough = {key: discharges for key, discharges in self.discharged.items() if len(discharges) >= QUEUES}
-        self.own = {key: mean_saturation(discharges) for key, discharges in enough.items()}
+        self.saturation_by_lane = {key: mean_saturation(discharges) for key, discharges in enough.items()}
         self.lanes = np.array([lane for lanes in passages.lanes.values() for lane in lanes], np.int64)  # as of Showed
-        self.places = [passages.places[lane] for lane in self.lanes.tolist()]
-        rates = [self.saturation_of(key) for key in self.places]
+        self.lane_keys = [passages.lane_keys[lane] for lane in self.lanes.tolist()]
+        rates = [self.saturation_of(key) for key in self.lane_keys]
         self.flow = np.array([rate.flow for rate in rates], float)
         self.lost = np.array([rate.lost for rate in rates], float)
         self.greens: dict[tuple[int, tuple[int, ...]], LaneGreens] = {}  # by node and phases
@@ -58,7 +58,7 @@ class Judge:
     def saturation_of(self, lane_key: Place) -> Saturation:
         """How a lane passes queues: as it did where there were QUEUES discharges, else as all lanes of the run did
         where there were as many together, else as usual."""
-        return self.own.get(lane_key, self.usual)
+        return self.saturation_by_lane.get(lane_key, self.usual)
 
     def discharges(self, lane_key: Place, log: Columns, rows: Array) -> Iterator[Discharge]:
         """The discharges of a lane's queues of QUEUE vehicles and more; those of which one has not stood, or whose
@@ -75,22 +75,22 @@ class Judge:
                     headway = (last - fourth) / (end - begin - 4)
                     yield Discharge(headway, fourth - green - 4 * headway)
 
-    def judged(self, number: int, showed: Showed) -> Interval:
+    def interval_measures(self, number: int, showed: Showed) -> Interval:
         """What vehicles lost whose passages ended in an interval, by its number from 0, and the queues and the use of
         lanes then."""
         interval = Interval(showed.begin, showed.end)
         interval.lost, interval.lanes = self.crossed.losses_in(number)
         ends = np.cumsum(showed.cycles).tolist()
         queues = showed.queues.astype(np.float64).tolist()
-        interval.queues = {place: queues[first:last] for place, first, last in zip(self.places, [0, *ends], ends)}
+        interval.queues = {place: queues[first:last] for place, first, last in zip(self.lane_keys, [0, *ends], ends)}
         self.add_uses(interval, number, showed)
         return interval
 
     def greens_of(self, node: int, phases: tuple[int, ...]) -> LaneGreens:
         """What some phases show to the lanes that lead to a node."""
         if (node, phases) not in self.greens:
-            lane_keys = [self.passages.places[lane] for lane in self.passages.lanes[node]]
-            used = [self.taken[place] for place in lane_keys]
+            lane_keys = [self.passages.lane_keys[lane] for lane in self.passages.lanes[node]]
+            used = [self.used_links[place] for place in lane_keys]
             lanes = list(zip(self.shown.greens(node, lane_keys, phases), used, strict=True))
             self.greens[node, phases] = LaneGreens(
                 np.array([[shown is None or bool(shown & links) for shown in greens] for greens, links in lanes]),
@@ -105,7 +105,7 @@ class Judge:
             phases = showed.phases[first:last].tolist()
             column_of = {phase: at for at, phase in enumerate(sorted(set(phases)))}
             greens = self.greens_of(node, tuple(column_of))
-            parts.append((greens.open[:, [column_of[phase] for phase in phases]].ravel(), greens.same))
+            parts.append((greens.has_green[:, [column_of[phase] for phase in phases]].ravel(), greens.same_green))
         return LaneGreens(*(np.concatenate(arrays) for arrays in zip(*parts, strict=True)))
 
     def add_uses(self, interval: Interval, number: int, showed: Showed) -> None:
@@ -118,16 +118,16 @@ class Judge:
         firsts = lasts - spans  # of each lane the first of its spans
         of_node = (np.cumsum(showed.spans) - showed.spans)[node]
         seconds = showed.seconds[np.arange(lasts[-1]) - np.repeat(firsts - of_node, spans)]
-        before = np.append(False, greens.open[:-1])
+        before = np.append(False, greens.has_green[:-1])
         before[firsts] = False
-        parts = greens.open * seconds, greens.open * showed.waiting, greens.open & ~before
+        parts = greens.has_green * seconds, greens.has_green * showed.waiting, greens.has_green & ~before
         green, waiting, begins = (np.add.reduceat(part, firsts, dtype=np.int64) for part in parts)
         count, alone = (sums.of(number)[self.lanes] for sums in (self.crossed.passed, self.crossed.alone))
         by_green = count / (self.flow * np.maximum(1.0, green - self.lost * begins) / 3600)
-        ratio = np.where(greens.same, by_green, self.by_busy_seconds(alone, waiting, green))
-        ratio *= 1 + grown(showed, greens.open, firsts, lasts) / np.maximum(1, count)
-        interval.uses = dict(zip(self.places, np.where((count > 0) & (green > 0), ratio, 0.0).tolist(), strict=True))
-        interval.flows = dict(zip(self.places, self.flow.tolist(), strict=True))
+        ratio = np.where(greens.same_green, by_green, self.by_busy_seconds(alone, waiting, green))
+        ratio *= 1 + grown(showed, greens.has_green, firsts, lasts) / np.maximum(1, count)
+        interval.uses = dict(zip(self.lane_keys, np.where((count > 0) & (green > 0), ratio, 0.0).tolist(), strict=True))
+        interval.flows = dict(zip(self.lane_keys, self.flow.tolist(), strict=True))
 
     def by_busy_seconds(self, alone: Array, waiting: Array, green: Array) -> Array:
         """v/c, 0 to 1, of lanes without a signal, or whose vehicles do not all have the same green: the share of green
@@ -144,6 +144,6 @@ def grown(showed: Showed, open_: Array, firsts: Array, lasts: Array) -> Array:
     following[lasts - 1] = True
     ends = np.append(np.flatnonzero(open_ & ~following), lasts[-1])
     low, high = np.searchsorted(ends, firsts), np.searchsorted(ends, lasts) - 1
-    first = np.where(low <= high, showed.last[np.minimum(ends[low], lasts - 1)], showed.first)
-    last = showed.last[np.where(low <= high, ends[high], lasts - 1)]
+    first = np.where(low <= high, showed.stood_last[np.minimum(ends[low], lasts - 1)], showed.stood_first)
+    last = showed.stood_last[np.where(low <= high, ends[high], lasts - 1)]
     return np.maximum(0, last.astype(np.int64) - first)

@@ -1,6 +1,7 @@
 """movements.csv, approaches.csv and junctions.csv: what passages lost, by intervals."""
 from __future__ import annotations
 
+import itertools
 import pickle
 import zlib
 from collections.abc import Iterable
@@ -32,18 +33,19 @@ class Junctions(Passages):
         """Nothing is kept."""
         super().begin(kernel)
         self.begun: list[tuple[Array, Array]] = []  # of the interval under way: queues, who had stood
-        self.kept: list[bytes] = []  # of each interval a packed Showed
-        self.clock, self.left = kernel.start, self.interval  # begin, and seconds to come, of the interval under way
+        self.packed_intervals: list[bytes] = []  # of each interval a packed Showed
+        # Begin, and seconds to come, of the interval under way.
+        self.clock, self.seconds_left = kernel.start, self.interval
         signals = [(kernel.start, line.command) for line in kernel.run.first if line.command["cmd"] == "signal"]
         self.shown, self.sent = ShownPlans(kernel.map, signals), 0  # sent: lines that are in it
 
     def log_lanes(self, seconds: Seconds, back: Array, stood: Array) -> None:
         """Takes what lanes showed in some seconds."""
-        while len(back) and self.places:
-            self.begun.append((back[: self.left], stood[: self.left].astype(COUNT)))
+        while len(back) and self.lane_keys:
+            self.begun.append((back[: self.seconds_left], stood[: self.seconds_left].astype(COUNT)))
             taken = len(self.begun[-1][0])
-            back, stood, self.left = back[taken:], stood[taken:], self.left - taken
-            if not self.left:
+            back, stood, self.seconds_left = back[taken:], stood[taken:], self.seconds_left - taken
+            if not self.seconds_left:
                 self.keep_interval()
 
     def keep_interval(self) -> None:
@@ -52,9 +54,9 @@ class Junctions(Passages):
         self.shown.plans.add((clock, line.command) for clock, line, _ in sent if line.command["cmd"] == "signal")
         self.sent += len(sent)
         back, stood = (np.concatenate(parts) for parts in zip(*self.begun, strict=True))
-        showed_lanes = showed(self.shown, self.lanes, self.places, self.clock, back, stood)
-        self.kept.append(zlib.compress(pickle.dumps(showed_lanes), 1))
-        self.begun, self.clock, self.left = [], self.clock + len(back), self.interval
+        showed_lanes = showed(self.shown, self.lanes, self.lane_keys, self.clock, back, stood)
+        self.packed_intervals.append(zlib.compress(pickle.dumps(showed_lanes), 1))
+        self.begun, self.clock, self.seconds_left = [], self.clock + len(back), self.interval
 
     def end(self, clock: int) -> None:
         """Sums up the last interval, which may be shorter."""
@@ -71,7 +73,8 @@ class Junctions(Passages):
         crossed = Crossed(self, kernel.plans, self.interval, dwells(stops))
         judge = Judge(self, self.shown, crossed, run.load.command["dawdle"])
         tables = JunctionTables(self.approaches, mapping.full.junctions())
-        intervals = (judge.judged(at, pickle.loads(zlib.decompress(packed))) for at, packed in enumerate(self.kept))
+        shown = map(pickle.loads, map(zlib.decompress, self.packed_intervals))
+        intervals = itertools.starmap(judge.interval_measures, enumerate(shown))
         tables.write(folder, Names(mapping), intervals)
         plans, messages = [line.command["plan"] for line in run.enters], []
         if facing := junctions_with_facing_streets(mapping, plans, (self.until - start) / 3600):

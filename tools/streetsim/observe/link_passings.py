@@ -35,7 +35,7 @@ class Passings(Observer):
         self.owner, self.clock, self.slot, self.is_coming = (column[order] for column in columns)
         self.parts = []
 
-    def came(self) -> list[list[int]]:
+    def link_arrivals(self) -> list[list[int]]:
         """By vehicle of the file the clocks at which it came to the links of its plan, from the first on."""
         owner, clock = self.owner[self.is_coming], self.clock[self.is_coming]
         ends = np.cumsum(np.bincount(owner, minlength=len(self.kernel.run.enters)))

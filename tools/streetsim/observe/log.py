@@ -21,7 +21,7 @@ class Log:
         """Adds a part, whose rows stand in any order."""
         self.parts.append({name: part[name].astype(kind) for name, kind in self.kinds.items()})
 
-    def take(self) -> Iterator[Columns]:
+    def take_parts(self) -> Iterator[Columns]:
         """The parts, each of which is let go where it is given."""
         parts, self.parts = self.parts[::-1], []
         while parts:

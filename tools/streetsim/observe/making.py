@@ -81,7 +81,7 @@ class Figures:
     mean_trip_s: float | None  # none where nobody arrived
     rescues: int
     notes: list[str]  # sentences for the terminal, on what is not as asked for or not in the tables
-    told: str  # what its last line says
+    summary: str  # what its last line says
     doubts: list[str]  # why it is not to be trusted
     by_class: str = ""  # of a run with stops or priority, the trips of each class of vehicles
 
@@ -201,13 +201,14 @@ def figures_of(
     ]
     given_run = with_lines(given_run, list(lit_lines(kernel.sent, mapping)))
     write_setting(making, given_run, run_tables, yielding, doubts, folder, clock)
+    parts = driven.told(), f"{rescues:,} rescues", yielding.summary(), steering.ending.ended
     return Figures(
         vehicles=driven.vehicles,
         arrived=len(driven.durations),
         mean_trip_s=fmean(driven.durations) if driven.durations else None,
         rescues=rescues,
         notes=notes,
-        told=", ".join(filter(None, (driven.told(), f"{rescues:,} rescues", yielding.told(), steering.ending.ended))),
+        summary=", ".join(filter(None, parts)),
         doubts=doubts,
         by_class=class_trips_told(trips, mapping) if settings.buses.visits or settings.buses.ahead else "",
     )

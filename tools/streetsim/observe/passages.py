@@ -39,9 +39,9 @@ class Passages(Observer):
         links = mapping.links
         self.approaches = approaches_of(mapping)
         self.edges = list(self.approaches)
-        self.places = [lane_key for approach in self.approaches.values() for lane_key in approach.lanes]
+        self.lane_keys = [lane_key for approach in self.approaches.values() for lane_key in approach.lanes]
         self.lanes: defaultdict[int, list[int]] = defaultdict(list)  # by node, of the places those that lead to it
-        for column, (number, _) in enumerate(self.places):
+        for column, (number, _) in enumerate(self.lane_keys):
             self.lanes[links[number].end].append(column)
         self.edge_of = np.full(len(links), NONE, np.int32)
         at_line = np.zeros(len(links), bool)
@@ -55,11 +55,11 @@ class Passages(Observer):
         self.slow = np.repeat(np.array([link.limit for link in links]) == 1, 2)
         self.stay = np.repeat(np.array([mapping.nodes[link.end][3] for link in links], np.int32), 2)
         self.column = np.full(2 * len(links), NONE, np.int32)
-        self.column[[2 * link + lane for link, lane in self.places]] = np.arange(len(self.places))
-        self.now = {name: np.zeros(len(kernel.run.enters), np.int32) for name in self.FIELDS}
-        self.now["edge"][:] = NONE
+        self.column[[2 * link + lane for link, lane in self.lane_keys]] = np.arange(len(self.lane_keys))
+        self.under_way = {name: np.zeros(len(kernel.run.enters), np.int32) for name in self.FIELDS}
+        self.under_way["edge"][:] = NONE
         self.log = Log(self.ENDED)
-        self.stood_last = np.zeros(len(self.places), np.int64)  # by lane of an approach: who had stood, a second ago
+        self.stood_last = np.zeros(len(self.lane_keys), np.int64)  # by lane of an approach: who had stood, a second ago
 
     def see(self, seconds: Seconds) -> None:
         """Takes some seconds."""
@@ -105,7 +105,7 @@ class Passages(Observer):
         tail = begins[some] + number[some] - 1
         second, slot = second[tail], slot[tail]
         metres = np.maximum(0.0, np.minimum(back[tail], self.metres[link[tail]]) - GAP)
-        metres_of = np.zeros((len(seconds.clocks), len(self.places)), np.float32)
+        metres_of = np.zeros((len(seconds.clocks), len(self.lane_keys)), np.float32)
         of_approach = self.column[slot] != NONE
         metres_of[second[of_approach], self.column[slot[of_approach]]] = metres[of_approach]
         if any(approach.before for approach in self.approaches.values()):
@@ -117,7 +117,7 @@ class Passages(Observer):
     def add_edges_before(self, queues: Array, queue: Array) -> None:
         """Adds to the queues of lanes of approaches, by second, what goes on before their edges; queue: by second and
         slot, of each lane alone."""
-        for column, (link, lane) in enumerate(self.places):
+        for column, (link, lane) in enumerate(self.lane_keys):
             reach, full = queue[:, 2 * link + lane], self.metres[link]
             for links in self.approaches[self.edges[self.edge_of[link]]].before:
                 fills = reach >= full - GAP - 0.1
@@ -130,7 +130,7 @@ class Passages(Observer):
 
     def end_passages(self, seconds: Seconds, runs: FoundPassages) -> None:
         """Keeps the passages that have ended, and what goes on."""
-        under_way, last_second, shown = self.now, len(seconds.clocks) - 1, runs.found
+        under_way, last_second, shown = self.under_way, len(seconds.clocks) - 1, runs.columns
         known = np.zeros(len(under_way["edge"]), bool)
         known[shown["owner"][runs.goes_on]] = True
         over = np.flatnonzero((under_way["edge"] != NONE) & ~known)
@@ -153,12 +153,12 @@ class Passages(Observer):
         part["line"] = np.where(part["line"] == 0, part["end"], part["line"])
         self.log.add(part)
 
-    def done(self, interval: int, stopped: Mapping[int, Sequence[Dwell]]) -> Iterator[tuple[int, Columns]]:
+    def ended_passages(self, interval: int, stopped: Mapping[int, Sequence[Dwell]]) -> Iterator[tuple[int, Columns]]:
         """(number from 0, passages that ended, in the order in which they did) of each interval of so many seconds that
         has any: ENDED, and `dwell`, seconds at stops of its own, which are in neither stops nor stood. Each is let go
         where it is given. stopped: by vehicle the stops that it left."""
         stopping = np.array(list(stopped), np.int64)
-        for number, ended in by_period(self.log.take(), self.kernel.start, interval):
+        for number, ended in by_period(self.log.take_parts(), self.kernel.start, interval):
             ended["dwell"] = np.zeros(len(ended["end"]), np.int32)
             for row in np.flatnonzero(np.isin(ended["owner"], stopping)).tolist() if stopped else ():
                 self.take_stops_off(ended, row, stopped[int(ended["owner"][row])])
@@ -187,72 +187,73 @@ class FoundPassages:
         owner, second, edge = self.owner, self.second, passages.edge[self.slot]
         fresh = np.ones(len(rows), bool)
         fresh[1:] = (owner[1:] != owner[:-1]) | (second[1:] != second[:-1] + 1) | (edge[1:] != edge[:-1])
-        first_rows = self.first = np.flatnonzero(fresh)
+        first_rows = self.first_rows = np.flatnonzero(fresh)
         lengths = np.diff(np.append(first_rows, len(rows)))
-        self.run, self.last = np.repeat(np.arange(len(first_rows), dtype=np.int32), lengths), first_rows + lengths - 1
-        self.end = second[self.last]
-        self.goes_on = (second[first_rows] == 1) & (passages.now["edge"][owner[first_rows]] == edge[first_rows])
-        self.found: Columns = {"owner": owner[first_rows], "edge": edge[first_rows]}
+        self.run = np.repeat(np.arange(len(first_rows), dtype=np.int32), lengths)
+        self.last_rows = first_rows + lengths - 1
+        self.end = second[self.last_rows]
+        self.goes_on = (second[first_rows] == 1) & (passages.under_way["edge"][owner[first_rows]] == edge[first_rows])
+        self.columns: Columns = {"owner": owner[first_rows], "edge": edge[first_rows]}
         begin, link = self.clocks[second[first_rows]], self.slot[first_rows] // 2
-        self.found.update(begin=self.kept("begin", begin), first=self.kept("first", link))
+        self.columns.update(begin=self.carried("begin", begin), first=self.carried("first", link))
         self.find_standing(standing)
         self.find_crossings()
         self.find_who_stood_on_lanes(len(seconds.clocks))
 
-    def kept(self, name: str, otherwise: Any) -> Array:
+    def carried(self, name: str, otherwise: Any) -> Array:
         """By run the value of the part before, or another where the passage begins."""
-        return np.where(self.goes_on, self.passages.now[name][self.owner[self.first]], otherwise)
+        return np.where(self.goes_on, self.passages.under_way[name][self.owner[self.first_rows]], otherwise)
 
     def find_standing(self, standing: Array) -> None:
         """Sets how long each has stood now, and the stops. Who departs stands then, which is no stop; the junction
         between two edges of an approach does not end a stand. standing: by row who stands."""
-        first_rows, on = self.first, self.on
+        first_rows, on = self.first_rows, self.on
         self.stands = standing.copy()
         self.stands[first_rows[~self.goes_on]] = False
         position = np.cumsum(on, dtype=np.int32) - 1
-        base = position[first_rows] + ~on[first_rows] - 1 - self.kept("still", 0)
+        base = position[first_rows] + ~on[first_rows] - 1 - self.carried("still", 0)
         since = position.copy()  # where a stand may begin: the place of the last row before it
         moved = on & ~self.stands
         since[first_rows] = np.where(moved[first_rows], position[first_rows], base)
         moved[first_rows] = True
         since = since[latest(moved)]
-        self.found["still"] = position[self.last] - since[self.last]
+        self.columns["still"] = position[self.last_rows] - since[self.last_rows]
         self.still = np.where(on, position - since, 0)
         halts = np.bincount(self.run[self.still == STILL], minlength=len(first_rows))
-        self.found["stops"] = self.kept("stops", 0) + halts.astype(np.int32)
+        self.columns["stops"] = self.carried("stops", 0) + halts.astype(np.int32)
 
     def find_crossings(self) -> None:
         """Sets when each passed the stop line, on which lane, and the seconds that it stood so far: those in which it
         stands; where vehicles move by a cell a step, from the one that makes it a stop on; and behind the line those
         for which it was there longer than one crosses."""
-        first_rows, run, slot, passages = self.first, self.run, self.slot, self.passages
+        first_rows, run, slot, passages = self.first_rows, self.run, self.slot, self.passages
         off = np.flatnonzero(~self.on)
         rows = off[passages.at_line[slot[off]]]
-        line = self.kept("line", 0)
-        self.new = np.zeros(len(first_rows), bool)
-        self.new[run[rows]] = True
-        self.new &= line == 0
+        line = self.carried("line", 0)
+        self.is_new = np.zeros(len(first_rows), bool)
+        self.is_new[run[rows]] = True
+        self.is_new &= line == 0
         row = np.full(len(first_rows), NONE)
         row[run[rows[::-1]]] = rows[::-1]  # of each run the first
-        self.crossed = row[self.new]
-        line[self.new] = self.clocks[self.second[self.crossed]]
+        self.crossed = row[self.is_new]
+        line[self.is_new] = self.clocks[self.second[self.crossed]]
         gained = self.stands.copy()
         slow = np.flatnonzero(gained & passages.slow[slot])
         gained[slow] = self.still[slow] >= STILL
         gained[rows] = self.clocks[self.second[rows]] - line[run[rows]] > passages.stay[slot[rows]]
         sums = np.cumsum(gained, dtype=np.int32)
-        self.stood = sums + (self.kept("stood", 0) - sums[first_rows] + gained[first_rows])[run]
+        self.stood = sums + (self.carried("stood", 0) - sums[first_rows] + gained[first_rows])[run]
         is_valid = np.ones(len(run), bool)
         is_valid[off], is_valid[rows] = False, True
-        valid = latest(is_valid)[self.last]
-        self.found.update(line=line, slot=np.where(valid >= first_rows, slot[valid], self.kept("slot", 0)))
-        self.found["stood"] = self.stood[self.last]
+        valid = latest(is_valid)[self.last_rows]
+        self.columns.update(line=line, slot=np.where(valid >= first_rows, slot[valid], self.carried("slot", 0)))
+        self.columns["stood"] = self.stood[self.last_rows]
 
     def find_who_stood_on_lanes(self, count: int) -> None:
         """Sets by second and lane of an approach how many there had stood (known; stood_on_lanes: but for second 0),
         and of those who passed the line what this was in the second before. count: seconds, with second 0."""
         passages, rows = self.passages, self.crossed
-        lanes = len(passages.places)
+        lanes = len(passages.lane_keys)
         some = np.flatnonzero(self.on & (self.stood > 0))
         column = passages.column[self.slot[some]]
         keys = self.second[some].astype(np.int64) * lanes + column
@@ -260,9 +261,9 @@ class FoundPassages:
         self.known[0] = passages.stood_last
         self.stood_on_lanes, passages.stood_last = self.known[1:], self.known[-1].copy()
         before = self.known[self.second[rows] - 1, passages.column[self.slot[rows]]]
-        alone, stood_before = self.kept("alone", 1), self.kept("before", 0)
-        alone[self.new], stood_before[self.new] = before <= (self.stood[rows] > 0), before
-        self.found.update(alone=alone, before=stood_before)
+        alone, stood_before = self.carried("alone", 1), self.carried("before", 0)
+        alone[self.is_new], stood_before[self.is_new] = before <= (self.stood[rows] > 0), before
+        self.columns.update(alone=alone, before=stood_before)
 
 
 def latest(holds: Array) -> Array:

@@ -21,23 +21,26 @@ class ClosedLanes:
 
     def __init__(self, kernel: Kernel, polled_slots: Array) -> None:
         """polled_slots: by slot whether its lane is polled."""
-        self.kernel, self.wanted, self.closed, self.place = kernel, polled_slots, ClosedCells(), 0
+        self.kernel, self.polled_slots, self.closed, self.next_sent = kernel, polled_slots, ClosedCells(), 0
         for line in kernel.run.first:
             self.closed.note(line.command)
-        self.stretches = self.found()
+        self.stretches = self.find_stretches()
 
-    def found(self) -> Stretches:
+    def find_stretches(self) -> Stretches:
         """Those that are closed now, of polled lanes."""
-        return {slot: stretches for slot, stretches in self.closed.stretches().items() if self.wanted[slot]}
+        return {slot: stretches for slot, stretches in self.closed.stretches().items() if self.polled_slots[slot]}
 
     def at(self, clock: int) -> Stretches:
         """By slot the stretches at a poll; clocks rise."""
-        sent, before = self.kernel.sent, self.place
-        while self.place < len(sent) and (sent[self.place].clock, sent[self.place].passed_on) <= (clock, False):
-            self.closed.note(sent[self.place].line.command)
-            self.place += 1
-        if self.place > before:
-            self.stretches = self.found()
+        sent, before = self.kernel.sent, self.next_sent
+        while self.next_sent < len(sent):
+            at, line, passed_on = sent[self.next_sent]
+            if (at, passed_on) > (clock, False):
+                break
+            self.closed.note(line.command)
+            self.next_sent += 1
+        if self.next_sent > before:
+            self.stretches = self.find_stretches()
         return self.stretches
 
 
@@ -50,15 +53,15 @@ class RowsWriter(Observer):
 
     def begin(self, kernel: Kernel) -> None:
         """Nothing is written."""
-        self.wanted = wanted_slots(self.polled, 2 * len(kernel.map.links))
-        self.closed = ClosedLanes(kernel, self.wanted)
+        self.polled_slots = wanted_slots(self.polled, 2 * len(kernel.map.links))
+        self.closed = ClosedLanes(kernel, self.polled_slots)
         self.before: Stretches = {}
 
     def see(self, seconds: Seconds) -> None:
         """Takes some seconds."""
         rows = seconds.by_owner
         if self.polled is not None:
-            rows = rows[self.wanted[seconds.slot[rows]]]
+            rows = rows[self.polled_slots[seconds.slot[rows]]]
         owner, second = seconds.owner[rows], seconds.second[rows]
         goes_on = (owner[1:] == owner[:-1]) & (second[1:] == second[:-1] + 1)
         begins = np.flatnonzero(np.append(True, ~goes_on)[: len(rows)])
@@ -100,13 +103,13 @@ class Polls(Observer):
 
     def begin(self, kernel: Kernel) -> None:
         """No poll has come."""
-        self.wanted = wanted_slots(self.polled, 2 * len(kernel.map.links))
-        self.closed = ClosedLanes(kernel, self.wanted)
+        self.polled_slots = wanted_slots(self.polled, 2 * len(kernel.map.links))
+        self.closed = ClosedLanes(kernel, self.polled_slots)
 
     def see(self, seconds: Seconds) -> None:
         """Takes some seconds."""
         polled = seconds.clocks % self.every == 0
-        rows = np.flatnonzero(seconds.rows_in_seconds(polled) & self.wanted[seconds.slot])
+        rows = np.flatnonzero(seconds.rows_in_seconds(polled) & self.polled_slots[seconds.slot])
         second, slot = seconds.second[rows], seconds.slot[rows]
         begins, _ = groups_of(second * SLOTS + slot)
         slots, lanes = slot[begins].tolist(), lane_texts(seconds, rows, begins)

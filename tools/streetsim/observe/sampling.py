@@ -40,7 +40,7 @@ class Samples:
         return is_sampled
 
     @property
-    def any(self) -> bool:
+    def has_samples(self) -> bool:
         """Whether lanes are sampled at all."""
         return bool(self.every or self.count)
 

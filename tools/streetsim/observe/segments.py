@@ -44,7 +44,7 @@ class Segments(Observer):
         self.edges = list(mapping.links_of)
         numbers = {edge: number for number, edge in enumerate(self.edges)}
         self.edge_of = np.array([numbers[link.edge] for link in mapping.links], EDGE)
-        self.log, self.taken = Log(self.COLUMNS), 0  # taken: who was taken out and is in it
+        self.log, self.noted_takeouts = Log(self.COLUMNS), 0  # taken: who was taken out and is in it
         enters = kernel.run.enters
         self.departs = np.fromiter((line.command["depart"] for line in enters), np.int32, len(enters))
         # By vehicle, where its last segment ended.
@@ -71,11 +71,11 @@ class Segments(Observer):
         """Notes ends of segments, as columns by clock, and those of vehicles that were taken out of a lane before a
         clock."""
         takeouts = self.kernel.vehicles.takeouts
-        while self.taken < len(takeouts) and takeouts[self.taken].clock < until:
-            if (takeout := takeouts[self.taken]).on_lane:
+        while self.noted_takeouts < len(takeouts) and takeouts[self.noted_takeouts].clock < until:
+            if (takeout := takeouts[self.noted_takeouts]).on_lane:
                 columns = self.kernel.vehicles.owner[takeout.car], takeout.clock, NO_LINE
                 owner, clock, edge = (np.append(those, value) for those, value in zip((owner, clock, edge), columns))
-            self.taken += 1
+            self.noted_takeouts += 1
         order = np.lexsort((clock, owner))
         owner, clock, edge = owner[order], clock[order], edge[order]
         fresh = np.append(True, owner[1:] != owner[:-1])[: len(owner)]

@@ -50,11 +50,11 @@ class Edgedata(XmlFile):
         if second.clock > self.begin + self.period:
             self.write_interval()
         self.clock = second.clock
-        for at in second.here.values():
+        for at in second.positions.values():
             if at.cell is not None:
                 self.add_vehicle(at)
         for car in second.departed:
-            self.sums_of(second.here[car].link).departed += 1
+            self.sums_of(second.positions[car].link).departed += 1
         for _, link in second.entered:
             self.sums_of(link).entered += 1
         for _, at in second.left:
@@ -62,13 +62,13 @@ class Edgedata(XmlFile):
         for at in second.teleported.values():
             self.sums_of(at.link).teleported += 1
         for _, trip in second.arrived:
-            self.sums_of(trip.last.link).arrived += 1
+            self.sums_of(trip.last_position.link).arrived += 1
 
     def add_vehicle(self, at: At) -> None:
         """Adds one vehicle in the cells of an edge for one second."""
         sums, link = self.sums_of(at.link), self.links[at.link]
         sums.seconds += 1
-        sums.metres += self.places.metres_per_second(at)
+        sums.metres += self.lane_places.metres_per_second(at)
         sums.waiting += not at.speed
         sums.loss += max(0.0, 1 - at.speed / link.limit)
         sums.covered += vehicle_metres(at)
@@ -77,7 +77,7 @@ class Edgedata(XmlFile):
         """Writes the interval that has ended, all edges of the map, and begins the next."""
         end = min(self.clock, self.begin + self.period)
         self.file.write(f'    <interval begin="{self.begin:.2f}" end="{end:.2f}" id="streetsim">\n')
-        for edge in self.places.mapping.links_of:
+        for edge in self.lane_places.mapping.links_of:
             row = self.attributes_of(edge, self.sums.get(edge, EdgeSums()), end - self.begin)
             self.file.write(f"        <edge {row}/>\n")
         self.file.write("    </interval>\n")
@@ -86,7 +86,7 @@ class Edgedata(XmlFile):
     def attributes_of(self, edge: str, sums: EdgeSums, seconds: int) -> str:
         """The attributes of an edge over an interval; seconds: its length. Where nobody was on it there are only
         the counts and sampledSeconds, and no travel time where nobody moved."""
-        links = [self.links[link] for link in self.places.mapping.links_of[edge]]
+        links = [self.links[link] for link in self.lane_places.mapping.links_of[edge]]
         lanes, metres = sum(len(link.lanes) for link in links), links[0].metres
         means = {}
         if sums.seconds:
@@ -145,7 +145,7 @@ class DetectorOutput(XmlFile):
                 self.write_interval(detector)
         self.clock = second.clock
         by_place: dict[Place, list[tuple[int, At]]] = {}
-        for car, at in second.here.items():
+        for car, at in second.positions.items():
             by_place.setdefault((at.link, at.lane), []).append((car, at))
         for detector in self.detectors:
             vehicles = by_place.get((detector.link, detector.lane), ())
@@ -195,14 +195,14 @@ class InductionLoopOutput(DetectorOutput):
         for car, previous in second.before.items():
             on_edge = previous.link == detector.link and car not in second.teleported
             if on_edge and previous.cell is not None and previous.cell <= detector.first:
-                self.note_pass(detector, sums, previous, second.here.get(car, replace(previous, cell=None)))
+                self.note_pass(detector, sums, previous, second.positions.get(car, replace(previous, cell=None)))
 
     def note_pass(self, detector: Detector, sums: LoopSums, previous: At, current: At) -> None:
-        """Adds to the sums of an e1 a vehicle that was on the loop or before it in the second before (previous), if it is
-        beyond it now: in the cells of its lane or, in the junction or as one that has arrived, without a cell."""
+        """Adds to the sums of an e1 a vehicle that was on the loop or before it in the second before (previous), if it
+        is beyond it now: in the cells of its lane or, in the junction or as one that has arrived, without a cell."""
         if current.lane == detector.lane and (current.cell is None or current.cell > detector.first):
             speed = previous.speed or 1.0 if current.cell is None else current.speed
-            sums.speeds.append(speed * self.places.cell_metres[detector.link])
+            sums.speeds.append(speed * self.lane_places.cell_metres[detector.link])
             sums.metres.append(vehicle_metres(previous))
 
     def attributes_of(self, detector: Detector, sums: LoopSums, seconds: int) -> str:
@@ -224,7 +224,7 @@ class AreaSums:
     """What an e2 saw in an interval; halts are by car."""
 
     inside: dict[int, At] = field(default_factory=dict)  # by car, of the last second
-    seen: set[int] = field(default_factory=set)
+    vehicles_seen: set[int] = field(default_factory=set)
     entered: int = 0
     left: int = 0
     seconds: int = 0
@@ -258,12 +258,12 @@ class LaneAreaOutput(DetectorOutput):
         inside = {car: at for car, at in vehicles if at.cell is not None and detector.first <= at.cell <= detector.last}
         sums.entered += len(inside.keys() - sums.inside.keys())
         sums.left += len(sums.inside.keys() - inside.keys())
-        sums.seen.update(inside)
+        sums.vehicles_seen.update(inside)
         sums.seconds += len(inside)
         sums.most = max(sums.most, len(inside))
-        sums.metres += sum(self.places.metres_per_second(at) for at in inside.values())
-        sums.loss += sum(max(0.0, 1 - at.speed / self.places.mapping.links[at.link].limit) for at in inside.values())
-        area = (detector.last - detector.first + 1) * self.places.cell_metres[detector.link]
+        sums.metres += sum(self.lane_places.metres_per_second(at) for at in inside.values())
+        sums.loss += sum(max(0.0, 1 - at.speed / self.lane_places.mapping.links[at.link].limit) for at in inside.values())
+        area = (detector.last - detector.first + 1) * self.lane_places.cell_metres[detector.link]
         sums.covered.append(min(1.0, sum(map(vehicle_metres, inside.values())) / area))
         ranked = sorted(inside.values(), key=lambda at: -at.front)
         sums.jams.append(longest_jam([(0, at.front, bool(at.speed), at.size) for at in ranked]))
@@ -282,10 +282,10 @@ class LaneAreaOutput(DetectorOutput):
 
     def attributes_of(self, detector: Detector, sums: AreaSums, seconds: int) -> str:
         """The attributes of an e2's interval; the mean speed and loss of nobody are -1, as SUMO writes."""
-        car_metres = self.places.cell_metres[detector.link]
+        car_metres = self.lane_places.cell_metres[detector.link]
         halts = [halt for halt, _ in sums.ended] + list(sums.halts.values())
         within = [halt for _, halt in sums.ended] + list(sums.interval_halts.values())
-        vehicles = len(sums.seen)
+        vehicles = len(sums.vehicles_seen)
         return attributes(
             sampledSeconds=float(sums.seconds),
             nVehEntered=sums.entered,

@@ -32,8 +32,8 @@ class TripUnderWay:
     name: str
     wished: int  # second at which it would depart
     depart: int  # the second in which it departed
-    first: At
-    last: At
+    first_position: At
+    last_position: At
     metres: float = 0.0  # of the links that it has been on
     free: float = 0.0  # seconds of these where nobody is in the way, without the last junction
     waiting: int = 0  # seconds of standing
@@ -49,7 +49,7 @@ class Second:
 
     clock: int
     trips: dict[int, TripUnderWay]  # by car, of those on their way
-    here: dict[int, At] = field(default_factory=dict)  # by car
+    positions: dict[int, At] = field(default_factory=dict)  # by car
     departed: list[int] = field(default_factory=list)  # cars
     entered: list[tuple[int, int]] = field(default_factory=list)  # (car, link): onto the cells of an edge from another
     left: list[tuple[int, At]] = field(default_factory=list)  # out of the cells of an edge into the junction behind it
@@ -86,16 +86,16 @@ class Follower:
         second = Second(clock, self.trips, before=self.before)
         for link, lane, cells, buffer, *_ in lanes:
             for entry in cells:
-                second.here[entry[0]] = At(link, lane, entry[1], entry[2], size_of(entry))
+                second.positions[entry[0]] = At(link, lane, entry[1], entry[2], size_of(entry))
             for car in buffer:
-                second.here[car] = self.follow_in_junction(car, link, lane, clock)
-        for car, at in second.here.items():
+                second.positions[car] = self.follow_in_junction(car, link, lane, clock)
+        for car, at in second.positions.items():
             self.follow_vehicle(second, car, at)
         arrived_cars = dict.fromkeys(arrived)
-        lost = ((car, at) for car, at in self.before.items() if car not in second.here and car not in arrived_cars)
+        lost = ((car, at) for car, at in self.before.items() if car not in second.positions and car not in arrived_cars)
         second.teleported.update((car, at) for car, at in lost if at.cell is not None)
         second.arrived = [(car, self.trips.pop(car)) for car in arrived_cars if car in self.trips]
-        self.before = second.here
+        self.before = second.positions
         return second
 
     def follow_in_junction(self, car: int, link: int, lane: int, clock: int) -> At:
@@ -125,7 +125,7 @@ class Follower:
         elif at.cell is None and previous.cell is not None:
             second.left.append((car, previous))
         note_standing(trip, at)
-        trip.last = at
+        trip.last_position = at
 
     def add_link(self, trip: TripUnderWay, link: int) -> None:
         """Adds to a trip the metres and free seconds of a link that it comes to. SUMO counts as lost what a vehicle

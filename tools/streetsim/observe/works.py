@@ -46,9 +46,9 @@ class WorksTable(Observer):
             if self.every == 0 or clock % self.every:
                 polled = []
             if due or polled:
-                self.look(clock, LanesNow(seconds, second), due, polled)
+                self.note_looks(clock, LanesNow(seconds, second), due, polled)
 
-    def look(self, clock: int, lanes: LanesNow, due: Iterable[Watched], polled: Iterable[Watched]) -> None:
+    def note_looks(self, clock: int, lanes: LanesNow, due: Iterable[Watched], polled: Iterable[Watched]) -> None:
         """Notes what works show that are due at a clock, or polled."""
         takeouts = self.kernel.vehicles.takeouts
         while self.rescued < len(takeouts) and takeouts[self.rescued].clock < clock:
