@@ -16,8 +16,8 @@ from streetsim.model.service import PRIORITY, ROUNDABOUT, SIGNALS, STOP_LOSS, le
 from streetsim.model.tables import APPROACHES, JUNCTIONS, MOVEMENTS, read_table
 from streetsim.model.waiting import Foe, Gap, GivingWay
 from streetsim.observe.crossings import Crossed, Crossings, Movements, PlanPlaces
-from streetsim.observe.intervals import showed
-from streetsim.observe.judging import Judge
+from streetsim.observe.intervals import make_shown_interval
+from streetsim.observe.judging import UtilisationCalculator
 from streetsim.observe.junction_capacity import usual_flow
 from streetsim.observe.junction_facing import junctions_with_facing_streets
 from streetsim.observe.junction_layout import Approach, Greens, approaches_of, movements_that_stop, turn_name
@@ -249,14 +249,15 @@ def judge_of(frames, plans, signals=((0, SIGNAL),), dwells=None, parts=1, interv
     dwells: by vehicle its stops."""
     seen = passages_of(frames, plans, parts=parts)
     crossed = Crossed(seen, seen.kernel.plans, interval, dwells or {})
-    return Judge(seen, ShownPlans(seen.kernel.map, signals), crossed, 0)
+    return UtilisationCalculator(seen, ShownPlans(seen.kernel.map, signals), crossed, 0)
 
 
 def judged(frames, plans, signals=((0, SIGNAL),), dwells=None, end=10, parts=1):
     """What is known of the street up to a clock."""
     judge = judge_of(frames, plans, signals, dwells, parts, end)
     seen = judge.passages
-    return judge.interval_measures(0, showed(judge.shown, seen.lanes, seen.lane_keys, 0, seen.back[:end], seen.stood[:end]))
+    back, stood = seen.back[:end], seen.stood[:end]
+    return judge.interval_measures(0, make_shown_interval(judge.shown, seen.lanes, seen.lane_keys, 0, back, stood))
 
 
 class ByHand(unittest.TestCase):

@@ -17,7 +17,7 @@ from streetsim.base.words import Parser, add_jobs, add_rounds, integer_within, n
 from streetsim.cli import demand as demanding
 from streetsim.cli.given import given_words
 from streetsim.cli.import_ import add_options, options_of
-from streetsim.cli.defaults import complete_outputs, name_of_network, words_and_options
+from streetsim.cli.defaults import complete_outputs, name_of_network, args_and_options
 from streetsim.cli.words import add_check, add_files, add_network, add_out
 from streetsim.demand.calibration_criteria import criteria_of
 from streetsim.demand.calibration_field import (
@@ -34,14 +34,14 @@ from streetsim.sumo.driver_words import street_class
 from streetsim.sumo.links import link_of
 from streetsim.sumo.net import SumoNet, read_net
 
-FREE = ("dawdle", "speed", "lost")
+FREE_VALUES = ("dawdle", "speed", "lost")
 # Words of the import, which go to streetsim-demand too.
-OWN = {
+OWN_WORDS = {
     "net", "additional", "counts", "times", "saturation", "queues", "routes", "validate", "free", "runs", "seeds",
     "check_seeds", "output", "out", "force", "jobs", "rounds", "program",
 }
 # All files of its folder.
-WRITTEN = {LAST, "segments.csv", "runs.csv", "report.html", f"{FITTED}.rou.xml", f"{OTHER}.rou.xml"}
+WRITTEN_FILES = {LAST, "segments.csv", "runs.csv", "report.html", f"{FITTED}.rou.xml", f"{OTHER}.rou.xml"}
 
 
 def parser() -> Parser:
@@ -77,7 +77,7 @@ def parser() -> Parser:
     tool_parser.add_argument(
         "--validate", nargs="+", default=[], metavar="FILE", help="of another day: its counts, times, and maybe queues"
     )
-    tool_parser.add_argument("--free", default=",".join(FREE), help="what may be fitted (default %(default)s)")
+    tool_parser.add_argument("--free", default=",".join(FREE_VALUES), help="what may be fitted (default %(default)s)")
     tool_parser.add_argument(
         "--runs", type=integer_within(2, 10_000), default=60, metavar="N",
         help="at most so many runs (default %(default)s)",
@@ -100,13 +100,13 @@ def parser() -> Parser:
 def main(arguments: list[str]) -> int:
     """Runs streetsim-calibrate; gives status 0 where all criteria hold on the other day, else 1."""
     tool_parser = parser()
-    args, _ = words_and_options(tool_parser, arguments, "", ("end",))
+    args, _ = args_and_options(tool_parser, arguments, "", ("end",))
     complete_outputs(args, out=f"{name_of_network(args)}-drivers")
     check_words(args)
     args.program = program.find_program(args.program)
     with tempfile.TemporaryDirectory() as folder:
-        calibration = calibrated(args, given_words(tool_parser, args, OWN), folder)
-        with whole_folder(args.out, LAST, WRITTEN) as out:
+        calibration = calibrated(args, given_words(tool_parser, args, OWN_WORDS), folder)
+        with whole_folder(args.out, LAST, WRITTEN_FILES) as out:
             for name in {FITTED, OTHER} & {day.name for day in calibration.days}:
                 if os.path.exists(path := f"{folder}/{name}.rou.xml"):
                     shutil.copy(path, out)
@@ -127,12 +127,12 @@ def check_words(args: argparse.Namespace) -> None:
         raise Fault("the demand: give --counts, of which it is made, or --routes")
     if args.validate and len(args.validate) not in (2, 3):
         raise Fault("--validate: the counts, the times, and maybe the queues of another day: two or three files")
-    if unknown := [name for name in names_in(args.free) if name not in FREE]:
-        raise Fault(f"--free: {unknown[0]!r} is none of {', '.join(FREE)}")
+    if unknown := [name for name in names_in(args.free) if name not in FREE_VALUES]:
+        raise Fault(f"--free: {unknown[0]!r} is none of {', '.join(FREE_VALUES)}")
     if {*seeds_of(args.seeds, "--seeds")} & {*seeds_of(args.check_seeds, "--check-seeds")}:
         raise Fault(f"--seeds {args.seeds} and --check-seeds {args.check_seeds} overlap")
     refuse_unwritable(args.out, {"-o": args.output}, inputs_of(args))
-    refuse_foreign(args.out, args.force, [args.output, *WRITTEN])
+    refuse_foreign(args.out, args.force, [args.output, *WRITTEN_FILES])
 
 
 def inputs_of(args: argparse.Namespace) -> list[str]:

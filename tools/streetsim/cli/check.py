@@ -18,7 +18,7 @@ from streetsim.cli import report as report_words
 from streetsim.cli.checking import folder_again, run_again, study_again, write_files
 from streetsim.cli.given import refuse_other_words
 from streetsim.cli.report import text_again
-from streetsim.cli.study import MADE
+from streetsim.cli.study import ORIGIN_FILE
 from streetsim.cli.words import add_simulator
 from streetsim.model.folder import LIGHTS
 from streetsim.model.sources import program_digest
@@ -27,8 +27,8 @@ from streetsim.report.page_elements import Mismatch, numbers_in, page_mismatches
 from streetsim.report.page_seal import COUNTS, NAMES, Seal, seal_of, sealed_files
 from streetsim.report.page_sealing import sealed_again, tools_sum
 
-MOST = 3  # differences that the line names
-MOST_PAGE = 1 << 28  # bytes of a page
+NAMED_AT_MOST = 3  # differences that the line names
+PAGE_BYTES_AT_MOST = 1 << 28  # bytes of a page
 
 
 def parser() -> Parser:
@@ -56,7 +56,7 @@ def main(arguments: list[str]) -> int:
     where one is not, and 2 where nobody reads the line. Fault where it could not be checked, whatever it was."""
     args = parser().parse_args(arguments)
     try:
-        status = checked(args)
+        status = check_target(args)
         sys.stdout.flush()
         return status
     except BrokenPipeError:
@@ -68,10 +68,10 @@ def main(arguments: list[str]) -> int:
         raise Fault(f"{args.target}: could not be checked: {type(fault).__name__}: {fault}") from None
 
 
-def checked(args: argparse.Namespace) -> int:
+def check_target(args: argparse.Namespace) -> int:
     """Checks what the words name, and prints the result; gives 0 where it is that of a run, else 1."""
     args.program = program.find_program(args.program)
-    study = os.path.exists(f"{args.target}/{MADE}")
+    study = os.path.exists(f"{args.target}/{ORIGIN_FILE}")
     if args.study and not study:
         raise Fault("--study is of a study's folder")
     if os.path.isdir(args.target):
@@ -106,12 +106,12 @@ def check_page(args: argparse.Namespace) -> int:
 
 
 def page_text(path: str) -> str:
-    """The text of a page, with all that is in its file; Fault where it cannot be read, has more than MOST_PAGE bytes or
-    is no UTF-8."""
+    """The text of a page, with all that is in its file; Fault where it cannot be read, has more than PAGE_BYTES_AT_MOST
+    bytes or is no UTF-8."""
     with reading(path), open(path, "rb") as file:
-        content = file.read(-1 if lifted() else MOST_PAGE + 1)
-        if len(content) > MOST_PAGE and not lifted():
-            raise TooMuch(f"has more than {MOST_PAGE:,} bytes")
+        content = file.read(-1 if lifted() else PAGE_BYTES_AT_MOST + 1)
+        if len(content) > PAGE_BYTES_AT_MOST and not lifted():
+            raise TooMuch(f"has more than {PAGE_BYTES_AT_MOST:,} bytes")
         return content.decode()
 
 
@@ -121,8 +121,8 @@ def tell_result(target: str, mismatches: Sequence[Mismatch], good: str, note: st
     if not mismatches:
         print(f"{target}: {good}{note}")
         return 0
-    named = "; ".join(mismatch.told() for mismatch in mismatches[:MOST])
-    more = f"; and {len(mismatches) - MOST:,} more" if len(mismatches) > MOST else ""
+    named = "; ".join(mismatch.told() for mismatch in mismatches[:NAMED_AT_MOST])
+    more = f"; and {len(mismatches) - NAMED_AT_MOST:,} more" if len(mismatches) > NAMED_AT_MOST else ""
     places = "1 place is" if len(mismatches) == 1 else f"{len(mismatches):,} places are"
     print(f"{target}: {places} not what the runs give: {named}{more}{note}")
     return 1

@@ -12,7 +12,7 @@ from streetsim.base.seeds import seeds_told
 from streetsim.cli import run as run_words, study as study_words
 from streetsim.cli.given import given_words, refuse_other_words
 from streetsim.cli.run import main as run
-from streetsim.cli.study import MADE, main as study
+from streetsim.cli.study import ORIGIN_FILE, main as study
 from streetsim.model.folder import NAME
 from streetsim.model.sources import sum_of
 from streetsim.report.page_sealing import sealed_plan
@@ -81,7 +81,7 @@ def study_again(args: argparse.Namespace, out: str) -> str:
     """Makes the study of the folder `words.target` again, into `out`, which it gives; Fault where --study does not name
     its file, as a check takes no path from a folder, or that has changed since, and where a run fails. Prints what
     streetsim-study does."""
-    origin = read_json(f"{args.target}/{MADE}", ("study", "sum", "words"))
+    origin = read_json(f"{args.target}/{ORIGIN_FILE}", ("study", "sum", "words"))
     if not args.study:
         hint = f"name the study that it was made of by --study FILE; the folder says {origin['study']}"
         raise Fault(f"{args.target}: {hint}")

@@ -12,7 +12,7 @@ from streetsim.base.words import FALSE, Parser
 from streetsim.sumo.configuration import DEFAULTS, files_named, read_configuration
 
 COMPLETED: list[str] = []  # words that were not given, with the paths that they got, of this process
-ENDINGS = re.compile(r"\.(jsonl|net\.xml|sumocfg|sumo\.cfg|rou\.xml|toml|xml)(\.gz)?$|/+$")
+FILE_ENDINGS = re.compile(r"\.(jsonl|net\.xml|sumocfg|sumo\.cfg|rou\.xml|toml|xml)(\.gz)?$|/+$")
 CONFIGURATION = re.compile(r"\.(sumocfg|sumo\.cfg)(\.gz)?$")
 
 
@@ -23,7 +23,7 @@ def is_configuration(path: str | None) -> bool:
 
 def stem_of(path: str) -> str:
     """The name of a file, without its folder and what ends it as its kind's do: zero of day/zero.jsonl.gz."""
-    return os.path.basename(ENDINGS.sub("", path)) or path
+    return os.path.basename(FILE_ENDINGS.sub("", path)) or path
 
 
 def map_beside(run: str) -> str:
@@ -53,7 +53,7 @@ def tell_completed() -> None:
         print(f"written: {', '.join(COMPLETED)}", file=sys.stderr)
 
 
-def words_and_options(
+def args_and_options(
     tool_parser: Parser, arguments: Sequence[str], routes: str, drops: tuple[str, ...] = ()
 ) -> tuple[argparse.Namespace, dict[str, str]]:
     """The words of a command with a network (net) and additional files, where no word is given completed by the

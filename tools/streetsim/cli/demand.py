@@ -9,7 +9,7 @@ from streetsim.base.files import Fault, refuse_foreign, refuse_unwritable
 from streetsim.base.progress import Slow, Stopping
 from streetsim.base.report import Report
 from streetsim.base.words import Parser, add_lost, add_rounds, integer_within, names_in, paths_in, share_of
-from streetsim.cli.defaults import complete_outputs, name_of_network, words_and_options
+from streetsim.cli.defaults import complete_outputs, name_of_network, args_and_options
 from streetsim.cli.import_ import add_options, options_of
 from streetsim.cli.words import add_attribute, add_files, add_made_run, add_network, add_out, refuse_half_run
 from streetsim.demand import demanding, making
@@ -90,9 +90,9 @@ def main(arguments: Sequence[str]) -> int:
     """Runs streetsim-demand: makes the demand, writes its files and prints how well it fits; gives its status, as
     `making.tell_result` says. Without --begin, or with 0, the demand begins with the first slice, which may lead in to
     counts."""
-    args, _ = words_and_options(parser(), arguments, "", ("end",))
+    args, _ = args_and_options(parser(), arguments, "", ("end",))
     complete_outputs(args, output=f"{name_of_network(args)}.fitted.rou.xml", out=f"{name_of_network(args)}-fitted")
-    inputs, outputs = asked_of(args), DemandOutputs(args.output, args.out, args.run, args.map)
+    inputs, outputs = inputs_of(args), DemandOutputs(args.output, args.out, args.run, args.map)
     additional = paths_in(args.additional)
     files = (inputs.counts, inputs.zones, inputs.matrices, inputs.flows, inputs.ratios, inputs.candidates)
     check_words(args, [args.net, *additional, *chain(*files)])
@@ -122,7 +122,7 @@ def main(arguments: Sequence[str]) -> int:
     return making.tell_result(demand)
 
 
-def asked_of(args: argparse.Namespace) -> DemandInputs:
+def inputs_of(args: argparse.Namespace) -> DemandInputs:
     """What the words ask for."""
     names = ("counts", "zones", "flows", "ratios", "candidates")
     files = {name: tuple(paths_in(getattr(args, name))) for name in names}

@@ -57,7 +57,7 @@ def copy_example(example: Path, folder: Path) -> int:
     return len(targets)
 
 
-def files_told(files: int) -> str:
+def count_of_files(files: int) -> str:
     """A number of files in words, such as '3 files'."""
     return f"{files} file{'' if files == 1 else 's'}"
 
@@ -68,11 +68,11 @@ def main(arguments: list[str]) -> int:
     args = parser().parse_args(arguments)
     known = examples()
     if args.name is None:
-        print(*(f"{name}: {files_told(len(example_files(path)))}" for name, path in known.items()), sep="\n")
+        print(*(f"{name}: {count_of_files(len(example_files(path)))}" for name, path in known.items()), sep="\n")
         return 0
     if args.name not in known:
         message = f"there is no example {args.name!r}, but {', '.join(known) or 'none'}"
         raise Fault(message + nearest(args.name, known))
     folder = Path(args.out or args.name)
-    print(f"{files_told(copy_example(known[args.name], folder))} in {folder}")
+    print(f"{count_of_files(copy_example(known[args.name], folder))} in {folder}")
     return 0

@@ -8,7 +8,7 @@ from streetsim.base.files import Fault, Json, refuse_unwritable
 from streetsim.base.progress import Slow
 from streetsim.base.report import COLUMNS, Report
 from streetsim.base.words import Parser, add_names, integer_within, names_in, paths_in
-from streetsim.cli.defaults import complete_outputs, end_of, map_beside, name_of_network, words_and_options
+from streetsim.cli.defaults import complete_outputs, end_of, map_beside, name_of_network, args_and_options
 from streetsim.cli.words import add_clock, add_files
 from streetsim.model.mapping import INVENTED, TOLD_INVENTED
 from streetsim.model.sources import Sources
@@ -177,10 +177,10 @@ def drivers_of(args: argparse.Namespace) -> Json:
     }  # fmt: skip
 
 
-def words_of(arguments: list[str]) -> tuple[argparse.Namespace, dict[str, str]]:
+def args_of(arguments: list[str]) -> tuple[argparse.Namespace, dict[str, str]]:
     """The words of a command, where no word is given completed by the configuration that they name, and outputs by
     the network's name; and the options of that configuration, empty where they name none."""
-    args, options = words_and_options(parser(), arguments, "routes")
+    args, options = args_and_options(parser(), arguments, "routes")
     if not args.net:
         raise Fault("no network: give NET.net.xml, or -c FILE.sumocfg (what may be given: streetsim-import --help)")
     output = args.output or f"{name_of_network(args)}.jsonl"
@@ -191,7 +191,7 @@ def words_of(arguments: list[str]) -> tuple[argparse.Namespace, dict[str, str]]:
 def main(arguments: list[str]) -> int:
     """Runs streetsim-import: writes the run, its map and the table of --warnings, and tells on standard error what is
     other than in SUMO; gives 1 where --strict is given and vehicles were skipped, else 0."""
-    args, configured = words_of(arguments)
+    args, configured = args_of(arguments)
     args.additional, args.routes, args.trips = map(paths_in, (args.additional, args.routes, args.trips))
     sources = Sources(args.net, args.additional, args.routes, args.trips)
     outputs = {"-o": args.output, "--map": args.map, "--warnings": args.warnings}

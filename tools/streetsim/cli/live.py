@@ -24,7 +24,8 @@ from streetsim.model.mapping import Map
 from streetsim.model.replications import LISTED
 from streetsim.model.runs import Run, read_with_map
 
-PAST = ("rescue", "merge", "stops", "lights", "priority", "seen", "rounds", "joint")  # words that a kept session is of
+# Words that a kept session is of.
+SESSION_WORDS = ("rescue", "merge", "stops", "lights", "priority", "seen", "rounds", "joint")
 
 
 def parser() -> Parser:
@@ -61,7 +62,7 @@ def parser() -> Parser:
     return tool_parser
 
 
-def asked_of(args: argparse.Namespace, run: Run, mapping: Map) -> Settings:
+def page_settings(args: argparse.Namespace, run: Run, mapping: Map) -> Settings:
     """What the words ask of the run of a page, which has no end."""
     settings = Settings(limits.CLOCK, 0, rescue=args.rescue, merging=args.merge == "turns")
     return with_lights_and_buses(args, run, mapping, settings)
@@ -88,13 +89,13 @@ def main(arguments: list[str]) -> int:
     proved = Path(program).resolve() == TOP / BUILT
     names, rounds = tuple(names_in(args.joint)), args.rounds if mapping.yields else 0
     joining = Joining(
-        run, mapping, args.map, program, partial(asked_of, args), proved, names, rounds, args.workers,
+        run, mapping, args.map, program, partial(page_settings, args), proved, names, rounds, args.workers,
         args.departures or LISTED,
     )
     page_run, messages = joining.page_run()
     print(*messages, sep="\n", end="\n" if messages else "", file=sys.stderr)
     page = joining.page(page_run)
-    past = [getattr(args, name) for name in PAST]
+    past = [getattr(args, name) for name in SESSION_WORDS]
     session_files = SessionFiles(Path(args.keep), page_run.run, past) if args.keep else None
     session = PageSession(page_run, session_files)
     try:

@@ -30,10 +30,12 @@ SEARCH = (
     "(some minutes; Ctrl-C ends it with the best so far; where vehicles that turn wait for gaps in oncoming traffic, "
     'the plan is trusted only if SUMO judges it too: <span class="ids">--verify-sumo</span>)'
 )
-ONLY = "(the only lane of its street: who comes meanwhile waits, as ways round it are found by streetsim-route --close)"
-PLAYED = 600  # seconds that the page plays
-SHORT = 40  # letters of a word of a command that stays on one line
-ROUND = (3600, 1800, 900, 300, 60, 10, 1)  # seconds between the clock times that a command advises
+ONLY_LANE = (
+    "(the only lane of its street: who comes meanwhile waits, as ways round it are found by streetsim-route --close)"
+)
+PLAYED_SECONDS = 600  # seconds that the page plays
+SHORT_WORD = 40  # letters of a word of a command that stays on one line
+ROUND_SECONDS = (3600, 1800, 900, 300, 60, 10, 1)  # seconds between the clock times that a command advises
 STYLE = "width: 100%; height: min(75vh, 600px); border: 1px solid #555"
 FRAME = f'<iframe title="The vehicles as they drive" style="{STYLE}" srcdoc="{{page}}"></iframe>'
 
@@ -66,9 +68,9 @@ def sections(runs: Runs, begin: int, run: str) -> Iterator[Section]:
     """What the page has beside a report: queues, the player from a clock on, and what next; what cannot be drawn is
     told there."""
     for name, title, content in (
-        ("queues", "Queues over time", lambda: queues_told(runs.first)),
-        ("player", "The vehicles as they drive", lambda: player_told(runs.first, begin)),
-        ("next", "What next", lambda: next_told(runs, run)),
+        ("queues", "Queues over time", lambda: queues_html(runs.first)),
+        ("player", "The vehicles as they drive", lambda: player_html(runs.first, begin)),
+        ("next", "What next", lambda: next_steps_html(runs, run)),
     ):
         try:
             yield Section(name, title, content())
@@ -76,7 +78,7 @@ def sections(runs: Runs, begin: int, run: str) -> Iterator[Section]:
             yield Section(name, title, f"<p>{escape(str(fault))}</p>")
 
 
-def queues_told(folder: Folder) -> str:
+def queues_html(folder: Folder) -> str:
     """The picture of the queues of a run over time, as HTML. Fault where it cannot be drawn."""
     with tempfile.TemporaryDirectory() as temporary:
         save_picture(draw_queues(load_pyplot(), folder), f"{temporary}/queues.png")
@@ -84,11 +86,11 @@ def queues_told(folder: Folder) -> str:
     return f'<figure><img alt="Queues at the stop lines over time" src="data:image/png;base64,{packed}"></figure>'
 
 
-def player_told(folder: Folder, begin: int) -> str:
-    """The player of PLAYED seconds of a run from a clock on, in a frame, as HTML. Fault where nothing can be played."""
+def player_html(folder: Folder, begin: int) -> str:
+    """The player of PLAYED_SECONDS of a run from a clock on, in a frame, as HTML. Fault where nothing can be played."""
     with tempfile.TemporaryDirectory() as temporary, redirect_stdout(StringIO()):
         out = f"{temporary}/player.html"
-        play([folder.path, "--first", str(begin), "--last", str(begin + PLAYED), "-o", out])
+        play([folder.path, "--first", str(begin), "--last", str(begin + PLAYED_SECONDS), "-o", out])
         text = Path(out).read_text(encoding="utf-8")
     whole = f'<p class="small">Ten minutes of it; all: {command("streetsim-play", folder.path)}.</p>'
     return FRAME.format(page=escape(text)) + whole
@@ -97,11 +99,11 @@ def player_told(folder: Folder, begin: int) -> str:
 def command(*arguments: str) -> str:
     """A command of the shell, as HTML, of which no line ends within a short word."""
     quoted = (escape(shlex.quote(word)) for word in arguments)
-    shown_words = (f'<span class="ids">{word}</span>' if len(word) <= SHORT else word for word in quoted)
+    shown_words = (f'<span class="ids">{word}</span>' if len(word) <= SHORT_WORD else word for word in quoted)
     return f"<code>{' '.join(shown_words)}</code>"
 
 
-def next_told(runs: Runs, run: str) -> str:
+def next_steps_html(runs: Runs, run: str) -> str:
     """Five questions, each with the command that answers it, as HTML; run: path of the run file, or none."""
     folder = runs.first
     name = run or folder.made.get("run", "RUN.jsonl")
@@ -121,7 +123,7 @@ def next_told(runs: Runs, run: str) -> str:
             "<br>".join((
                 command("streetsim-run", name, *joint, *seeds, "--out", "before"),
                 command("streetsim-run", name, "--close", works, *seeds, "--out", "works"),
-                command("streetsim-report", "before", "works"), *([escape(ONLY)] if is_only else []),
+                command("streetsim-report", "before", "works"), *([escape(ONLY_LANE)] if is_only else []),
             )),  # fmt: skip
         ),
         ("Does it fit counts?", command("streetsim-compare", folder_path, "--counts", "counts.csv")),
@@ -158,6 +160,6 @@ def closing(folder: Folder) -> str:
     departs = [int(row["depart"]) for row in folder.trips()] or [folder.made.get("start", 0)]
     start, until = min(departs), min(max(departs), folder.made.get("until", max(departs)))
     quarter = max(1, (until - start) // 4)
-    step = next(step for step in ROUND if quarter >= step)
+    step = next(step for step in ROUND_SECONDS if quarter >= step)
     clocks = [step * round(second / step) for second in (start + quarter, max(until - quarter, start + 2 * quarter))]
     return "-".join(f"{clock // 3600:02d}:{clock // 60 % 60:02d}" if step >= 60 else str(clock) for clock in clocks)

@@ -16,7 +16,7 @@ from streetsim.report.picture_plots import (
 from streetsim.report.picture_works import draw_works
 from streetsim.report.run_tables import read_folders
 
-OLD = {  # words of earlier versions by kind, and what they are now
+OLD_WORDS = {  # words of earlier versions by kind, and what they are now
     "map": {"--begin": "--interval"}, "greens": {"--lights": "--shown"}, "fundamental": {"--counts": "--stop-lines"},
 }
 
@@ -42,7 +42,7 @@ def parser() -> Parser:
         ("arrivals", "departures and arrivals over time"),
     ):
         kind_parser = kinds.add_parser(kind, help=kind_help, description=kind_help)
-        kind_parser.old = OLD.get(kind, {})
+        kind_parser.old = OLD_WORDS.get(kind, {})
         often = "?" if kind == "fundamental" else None
         # argparse takes None too, which is its default.
         argument_help = "what streetsim-run wrote"

@@ -30,11 +30,11 @@ from streetsim.report.run_series import way_back
 from streetsim.report.run_tables import Runs, read_runs
 from streetsim.report.timing_sheets import Timings, changed, clashes, sheets
 
-ALL = "all"  # --sheets without a value
+ALL_LIGHTS = "all"  # --sheets without a value
 # Words that say where a page is and what it is of; plans' names, --names and --counts are sealed beside the words.
 ELSEWHERE = ("runs", "output", "csv", "names", "plan_names", "sealed", "counts")
 DETAIL = 8  # junctions told with all movements
-PICTURE = {"first": 0, "last": 600}  # seconds of the corridor's picture
+PICTURE_SECONDS = {"first": 0, "last": 600}  # seconds of the corridor's picture
 
 
 def parser() -> Parser:
@@ -69,7 +69,7 @@ def parser() -> Parser:
         help="put into the page what made it, so that streetsim-check can run it again and compare each number",
     )
     tool_parser.add_argument(
-        "--sheets", nargs="?", const=ALL, default="", metavar="LIGHTS",
+        "--sheets", nargs="?", const=ALL_LIGHTS, default="", metavar="LIGHTS",
         help="a signal timing sheet for each of these lights, with commas between (default: all that plans change, or "
         "all of one plan)",
     )
@@ -84,7 +84,7 @@ def parser() -> Parser:
     tool_parser.add_argument(
         "--corridor", default="", metavar="EDGES", help="a path to draw, of a run with --every 1 (to 5)"
     )
-    for name, default in PICTURE.items():
+    for name, default in PICTURE_SECONDS.items():
         add_clock(tool_parser, f"--{name}", f"the {name} second shown, of the corridor's picture (default {default})")
     return tool_parser
 
@@ -139,7 +139,7 @@ def refuse_clashing_words(args: argparse.Namespace) -> None:
     for name in ("corridor", "sheets", "counts", "detail"):
         if args.short and getattr(args, name) not in (None, "", []):
             raise Fault(f"--{name} is of the appendix, which --short leaves out")
-    if names := [name for name in PICTURE if getattr(args, name) is not None and not args.corridor]:
+    if names := [name for name in PICTURE_SECONDS if getattr(args, name) is not None and not args.corridor]:
         raise Fault(f"--{names[0]} is of the corridor's picture: give --corridor too")
 
 
@@ -165,34 +165,34 @@ def wishes_of(plans: Sequence[Runs], args: argparse.Namespace, seal: Seal | None
     page is not sealed. Fault where one of them cannot be made."""
     pictures = []
     if args.corridor:
-        pictures.append(Section("corridor", "Corridor", "".join(corridor_told(runs, args) for runs in plans)))
+        pictures.append(Section("corridor", "Corridor", "".join(corridor_html(runs, args) for runs in plans)))
     if args.counts:
-        pictures.append(Section("counts", "Beside counts", counts_told(plans[0], args)))
+        pictures.append(Section("counts", "Beside counts", counts_html(plans[0], args)))
     timings = [timings_of(runs) for runs in plans]
     if args.sheets:
-        pictures.append(Section("sheets", "Signal timing sheets", sheets_told(plans, timings, args.sheets)))
+        pictures.append(Section("sheets", "Signal timing sheets", sheets_html(plans, timings, args.sheets)))
     seal_html, doubts = seal.html() if seal else "", clashes(timings[-1], plans[-1])
     detail = DETAIL if args.detail is None else args.detail
     return PageWishes(args.title, args.question, detail, args.short, doubts, pictures, last=seal_html)
 
 
-def counts_told(runs: Runs, args: argparse.Namespace) -> str:
+def counts_html(runs: Runs, args: argparse.Namespace) -> str:
     """How the first seed of a plan meets the counts of --counts, as HTML. Fault where these cannot be read, or as of
     passed_in."""
     counts = read_counts(paths_in(args.counts), args.attribute)
     return counts_section(runs.name, judged(counts, passed_in(runs.first, counts)), runs.first.mapping)
 
 
-def sheets_told(plans: Sequence[Runs], timings: Sequence[Timings], light_names: str) -> str:
-    """The timing sheets of lights, as HTML. timings: by plan; light_names: lights with commas between, or ALL: all of
-    one plan, or those that change from the first of two, with a sentence where none does. Fault where a run does not
-    keep their programs, or a light is not among those of the last."""
+def sheets_html(plans: Sequence[Runs], timings: Sequence[Timings], light_names: str) -> str:
+    """The timing sheets of lights, as HTML. timings: by plan; light_names: lights with commas between, or ALL_LIGHTS:
+    all of one plan, or those that change from the first of two, with a sentence where none does. Fault where a run does
+    not keep their programs, or a light is not among those of the last."""
     for runs, plan_timings in zip(plans, timings, strict=True):
         if not plan_timings:
             why = "the files of the import were gone or had changed when it was run"
             raise Fault(f"{runs.first.path}: no program of its lights is kept, as {why}")
     lights = names_in(light_names)
-    if light_names == ALL:
+    if light_names == ALL_LIGHTS:
         lights = changed(timings[0], timings[-1]) if len(plans) == 2 else sorted(timings[-1])
     if unknown := [light for light in lights if light not in timings[-1]]:
         raise Fault(
@@ -219,11 +219,12 @@ def interval_of(all_runs: Sequence[Runs], args: argparse.Namespace) -> tuple[int
     return args.interval, ends[args.interval]
 
 
-def corridor_told(runs: Runs, args: argparse.Namespace) -> str:
+def corridor_html(runs: Runs, args: argparse.Namespace) -> str:
     """The corridor's picture of a plan's first seed, as HTML; in both directions where edges lead back. Fault where it
     cannot be drawn, as of corridor_picture."""
     folder, paths = runs.first, path_and_way_back(runs.first, names_in(args.corridor))
-    first, last = (usual if getattr(args, name) is None else getattr(args, name) for name, usual in PICTURE.items())
+    given = {name: getattr(args, name) for name in PICTURE_SECONDS}
+    first, last = (usual if given[name] is None else given[name] for name, usual in PICTURE_SECONDS.items())
     text = f"Ways of the vehicles along {args.corridor}{', and back' if len(paths) == 2 else ''}: {runs.name}"
     picture = corridor_picture(folder, paths, first, last, text)
     return f"<figure>{picture}<figcaption>{escape(text)}</figcaption></figure>"

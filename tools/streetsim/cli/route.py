@@ -11,7 +11,7 @@ from streetsim.base.seeds import seeds_of
 from streetsim.base.words import (
     Parser, add_lights, add_lost, add_rounds, integer_within, names_in, paths_in, share_of, time_within,
 )
-from streetsim.cli.defaults import complete_outputs, name_of_network, words_and_options
+from streetsim.cli.defaults import complete_outputs, name_of_network, args_and_options
 from streetsim.cli.import_ import add_options, options_of
 from streetsim.cli.run import add_priority
 from streetsim.cli.words import (
@@ -30,7 +30,7 @@ from streetsim.search.route_watching import RunGround
 from streetsim.sumo.trips import connected_trips, read_trips
 
 # Words that the setting keeps.
-KEPT = (
+SETTING_WORDS = (
     "net", "additional", "trips", "anew", "slice", "iterations", "gap", "share", "tried", "rounds", "seeds",
     "check_seeds", "priority", "seen",
 )
@@ -127,7 +127,7 @@ def shares_of(text: str) -> list[float]:
 def main(arguments: Sequence[str]) -> int:
     """Runs streetsim-route: searches, writes the routes and tables, and prints what was found; gives the greatest
     status that `tell_found` gives for one of the shares of drivers who know."""
-    args, _ = words_and_options(parser(), arguments, "trips")
+    args, _ = args_and_options(parser(), arguments, "trips")
     if not args.trips:
         raise Fault("no trips: give --trips FILE (what may be given: streetsim-route --help)")
     complete_outputs(args, output=f"{name_of_network(args)}.found.rou.xml", out=f"{name_of_network(args)}-routes")
@@ -194,5 +194,5 @@ def job_of(args: argparse.Namespace) -> Job:
         check=seeds_to_check(args),
         works=RouteWorks(closed, args.sign, args.lost or "lead", args.knowing or [1.0], args.before),
         target=RouteFiles(args.output, args.run, args.map, args.out),
-        words={**{name: getattr(args, name) for name in KEPT}, **files},
+        words={**{name: getattr(args, name) for name in SETTING_WORDS}, **files},
     )

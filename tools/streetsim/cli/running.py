@@ -26,8 +26,8 @@ from streetsim.model.replications import DRAWN, drawn, listed_in_map
 from streetsim.model.rows import NAME as ROWS
 from streetsim.model.runs import Run, read_with_map, with_load
 from streetsim.model.tables import PHASES_FILE, ROUTES_FILE, SEEDS, STOPS_FILE, WORKS_FILE, write_table
-from streetsim.observe.kept_lines import how_made_again, write_kept, write_lights
-from streetsim.observe.making import Figures, Making, first_poll, one_run
+from streetsim.observe.kept_lines import remake_setting, write_kept, write_lights
+from streetsim.observe.making import Figures, RunOptions, first_poll, make_run
 from streetsim.observe.sumo_kinds import KINDS
 
 DETECTORS = {"e1": "inductionLoop", "e2": "laneAreaDetector"}  # SUMO's names, by the kind of output
@@ -50,18 +50,20 @@ def run_by(args: argparse.Namespace, number_words: Sequence[str], again_words: S
         refuse_no_poll(settings, run.start())
     simulator = program.find_program(args.program)
     more = args.rounds, args.workers, args.sumo_output, args.junctions
-    along, made_again = along_of(args, mapping), how_made_again(run, number_words, again_words)
+    along, made_again = along_of(args, mapping), remake_setting(run, number_words, again_words)
     listed = listed_in_map(mapping) if args.departures == DRAWN else {}
-    making = Making(simulator, *more, polls=args.polls, along=along, again=made_again, keep=args.keep, listed=listed)
+    run_options = RunOptions(
+        simulator, *more, polls=args.polls, along=along, again=made_again, keep=args.keep, listed=listed
+    )
     if args.keep:
         note_kept(f"{args.keep}, the session: the same words go on there")
     if args.counted != "all":
         print("--counted has no effect any more: every lane is counted, in one run", file=sys.stderr)
     if args.seeds:
-        return run_seeds(args, making, run, mapping, settings)
+        return run_seeds(args, run_options, run, mapping, settings)
     with whole_folder(args.out, NAME) as folder, under_way(args, run, mapping, settings) as shown:
         write_inputs(args, folder, run, mapping)
-        figures = one_run(making, *as_asked(args, run, mapping, settings), folder, shown.show)
+        figures = make_run(run_options, *prepared_run(args, run, mapping, settings), folder, shown.show)
     report(figures, "")
     return 0
 
@@ -72,7 +74,7 @@ def under_way(args: argparse.Namespace, run: Run, mapping: Map, settings: Settin
     passes = 1 + args.rounds if mapping.yields else 1
     return UnderWay(run.start(), settings.until, departing, runs, passes)
 
-def as_asked(args: argparse.Namespace, run: Run, mapping: Map, settings: Settings) -> tuple[Run, Map, Settings]:
+def prepared_run(args: argparse.Namespace, run: Run, mapping: Map, settings: Settings) -> tuple[Run, Map, Settings]:
     """The run with its departures as the words ask for, its map, and the settings with its lights and buses; Fault as
     of drawn and with_lights_and_buses."""
     if args.departures == DRAWN:
@@ -200,7 +202,7 @@ def report(figures: Figures, name: str) -> None:
         print(f"{name}{trust.verdict(figures.doubts)}")
 
 
-def run_seeds(args: argparse.Namespace, making: Making, run: Run, mapping: Map, settings: Settings) -> int:
+def run_seeds(args: argparse.Namespace, run_options: RunOptions, run: Run, mapping: Map, settings: Settings) -> int:
     """Makes a run for each seed of --seeds, side by side, each into a folder of its own below --out; prints and writes
     (seeds.csv) what each gave, prints their mean trip with its 95 % interval, seeds in which nobody arrived left out,
     and which seeds are not to be trusted; gives status 0."""
@@ -215,8 +217,8 @@ def run_seeds(args: argparse.Namespace, making: Making, run: Run, mapping: Map, 
             seed_folder = f"{folder}/seed-{seed}"
             os.mkdir(seed_folder)
             seeded = with_load(run, seed=seed)
-            inputs = as_asked(args, seeded, mapping, settings)
-            figures = one_run(making, *inputs, seed_folder, lambda clock, census: send_progress((clock, census)))
+            inputs = prepared_run(args, seeded, mapping, settings)
+            figures = make_run(run_options, *inputs, seed_folder, lambda clock, census: send_progress((clock, census)))
             send_progress(None)
             return figures
 
@@ -231,13 +233,13 @@ def run_seeds(args: argparse.Namespace, making: Making, run: Run, mapping: Map, 
     for seed, seed_figures in zip(seeds, figures, strict=True):
         report(seed_figures, f"seed {seed}: ")
     if means := [seed_figures.mean_trip_s for seed_figures in figures if seed_figures.mean_trip_s is not None]:
-        print(mean_told(means, args.departures == DRAWN))
+        print(mean_trip_line(means, args.departures == DRAWN))
     if doubtful := [str(seed) for seed, seed_figures in zip(seeds, figures, strict=True) if seed_figures.doubts]:
         print(f"not to be trusted: seed{'s' if len(doubtful) > 1 else ''} {', '.join(doubtful)}")
     return 0
 
 
-def mean_told(means: Sequence[float], is_drawn: bool) -> str:
+def mean_trip_line(means: Sequence[float], is_drawn: bool) -> str:
     """The line on the mean trips (s) of runs with several seeds, one at least: with the 95 % interval of a day where
     their departures were drawn, and else with that of dawdling, of which it says so."""
     mean, half = mean_and_day(means) if is_drawn else mean_and_half_width(means)

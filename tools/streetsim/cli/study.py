@@ -25,8 +25,8 @@ from streetsim.search.study_telling import (
 )
 from streetsim.search.study_variants import Study, read_study
 
-LAST = "differences.csv"
-MADE = "made.json"  # by what a study is made again
+LAST_FILE = "differences.csv"
+ORIGIN_FILE = "made.json"  # by what a study is made again
 # Words that say where and on what a study is made, and change no number of it.
 ELSEWHERE = ("study", "out", "force", "program", "jobs", "cluster")
 
@@ -79,10 +79,10 @@ def main(arguments: list[str]) -> int:
     rows = differences(study, results, args.precision)
     doubts_by_variant = {name: list(doubts(study, name, results[name])) for name in study.variants}
     named = [f"{name}: {text}" for name, texts in doubts_by_variant.items() for text in texts]
-    with whole_folder(args.out, LAST) as folder:
+    with whole_folder(args.out, LAST_FILE) as folder:
         write_table(f"{folder}/runs.csv", RUNS, run_rows(study, results))
         cells = (cell_values((*astuple(row), "; ".join(doubts_by_variant[row.variant]))) for row in rows)
-        write_table(f"{folder}/{LAST}", DIFFERENCES, cells)
+        write_table(f"{folder}/{LAST_FILE}", DIFFERENCES, cells)
         trust.write_doubts(folder, named, args.program)
         write_made(args, given_words(tool_parser, args, ELSEWHERE), folder)
         draw_differences(study, rows, f"{folder}/differences.png")
@@ -99,7 +99,7 @@ def write_made(args: argparse.Namespace, kept_words: list[str], folder: str) -> 
     """Writes by what the study is made again: its file, as a path from the folder of --out, its SHA-256, and the words
     that change numbers (given). folder: where the file is written until it is whole."""
     path = os.path.relpath(os.path.realpath(args.study), os.path.realpath(args.out))
-    with whole_file(f"{folder}/{MADE}") as file:
+    with whole_file(f"{folder}/{ORIGIN_FILE}") as file:
         content = {"study": path, "sum": sum_of(args.study), "words": kept_words}
         json.dump(content | program.proof_note(args.program), file)
 

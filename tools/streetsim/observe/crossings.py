@@ -17,7 +17,7 @@ from streetsim.observe.log import Columns, Log
 from streetsim.observe.passages import Passages
 from streetsim.sumo.across import AT_SIGN
 
-PART = 1 << 14  # vehicles whose plans are looked through at once
+PLANS_AT_ONCE = 1 << 14  # vehicles whose plans are looked through at once
 
 
 class Movements:
@@ -55,7 +55,7 @@ class PlanPlaces:
         # By vehicle, then by edge: keys of both, places of plans, and how often each was passed, by the key's first.
         self.keys = np.zeros(len(plans.links), np.int64)
         self.positions, self.passed = (np.zeros(len(plans.links), np.int32) for _ in range(2))
-        for begin, end in pairwise((*range(0, count, PART), count)):
+        for begin, end in pairwise((*range(0, count, PLANS_AT_ONCE), count)):
             part = slice(plans.first_places[begin], plans.end_places[end - 1])
             keys = plans.vehicles(begin, end) * len(movements.edges) + movements.edge_of[plans.links[part]]
             order = np.argsort(keys, kind="stable")

@@ -18,13 +18,13 @@ Times = Mapping[TurnKey, Sequence[float]]  # when vehicles pass, by turn
 # For each second whether it is red: to one who stands at the line, to one who comes while nobody does; what is shown.
 Signals = tuple[bytearray, bytearray, bytearray]
 Stands = Mapping[tuple[TurnKey, float], float]  # {(turn, second): how long the one that passes then stood at the line}
-AROUND = 300  # seconds before and after, in which those that go first are counted
+AROUND_S = 300  # seconds before and after, in which those that go first are counted
 SHOWN, HIDDEN = 3, 2  # seconds in turn, where those that use a gap follow each other slowly
 # Seconds between two of them that may use one gap, and before and after them for what differs from run to run.
-CLOSE = 15
-PATIENCE = 150  # seconds without a gap; then one goes
-TAIL = 30  # seconds after the last vehicle
-FOLLOWING = 2.0  # seconds behind another, after which one is the first of its lane
+CLOSE_S = 15
+PATIENCE_S = 150  # seconds without a gap; then one goes
+TAIL_S = 30  # seconds after the last vehicle
+FOLLOWING_S = 2.0  # seconds behind another, after which one is the first of its lane
 # Seconds that one who gives way stands at the line before it is in the way of others, and for how many it is at most.
 UNSEEN, MOST_SEEN = 3.0, 30.0
 
@@ -37,9 +37,11 @@ def gap_lines(mapping: Map, passed: StopLinePassings, start: int) -> list[tuple[
 
 
 def reds_of(mapping: Map, passed: StopLinePassings, start: int) -> list[tuple[GivingWay, bytearray]]:
-    """(one who gives way, a byte for each second from start to TAIL after the last passing, 1: red) for each GivingWay
-    of a map; those before whom nobody comes, and that have no pace, are left out. Arguments: as of gap_lines."""
-    end = int(max((second for lane_passings in passed.values() for second, *_ in lane_passings), default=start)) + TAIL
+    """(one who gives way, a byte for each second from start to TAIL_S after the last passing, 1: red) for each
+    GivingWay of a map; those before whom nobody comes, and that have no pace, are left out. Arguments: as of
+    gap_lines."""
+    seconds = (second for lane_passings in passed.values() for second, *_ in lane_passings)
+    end = int(max(seconds, default=start)) + TAIL_S
     times = by_turn(passed)
     stands = stands_of(passed, {turn for yielding in mapping.yields for turn in yielding.turns}, UNSEEN)
     reds = ((yielding, red_seconds(yielding, times, start, end, stands)) for yielding in mapping.yields)
@@ -98,12 +100,12 @@ def stands_of(passed: StopLinePassings, waits: Collection[TurnKey], unseen: floa
 
 def standing_seconds(passing: Iterable[tuple[float, int, float]]) -> Iterator[tuple[float, int, float]]:
     """(second, next link, how many seconds it stood) of each vehicle that passes the line of a lane, by rising seconds:
-    from when it came there, or the one before it was FOLLOWING seconds gone; below 0 where it passes sooner than that.
-    passing: as the values of StopLinePassings."""
+    from when it came there, or the one before it was FOLLOWING_S seconds gone; below 0 where it passes sooner than
+    that. passing: as the values of StopLinePassings."""
     free = -math.inf
     for second, following, due in sorted(passing):
         yield second, following, second - max(due, free)
-        free = second + FOLLOWING
+        free = second + FOLLOWING_S
 
 
 def node_lines(node: int, turns: Sequence[TurnKey], groups: Sequence[Group], start: int) -> Iterator[tuple[int, Line]]:
@@ -188,32 +190,32 @@ def rolling_seconds(waiting: GivingWay, times: Times, start: int, length: int, s
 def show_to_standing(
     lane_key: Place, passing: Iterable[tuple[float, int, float]], signals: Mapping[TurnKey, Signals], start: int
 ) -> None:
-    """Makes red what is shown, as it is to those who stand, while somebody stands at the line of a lane, and CLOSE
+    """Makes red what is shown, as it is to those who stand, while somebody stands at the line of a lane, and CLOSE_S
     seconds longer: who starts behind another, or comes when it is red to those who come, until it is green to those who
     stand. passing: as the values of StopLinePassings; signals: by turn, of those who give way; start: the clock of the
     first byte."""
-    previous = -int(FOLLOWING)
+    previous = -int(FOLLOWING_S)
     for _, following, due in sorted(passing):
         due_byte = max(0, int(due) - start)
-        at = max(due_byte, previous + int(FOLLOWING))
+        at = max(due_byte, previous + int(FOLLOWING_S))
         if turn_signals := signals.get((*lane_key, following)):
             standing, rolling, shown = turn_signals
             if at > due_byte or rolling[at : at + 1] == b"\1":
                 begin = previous + 1 if at > due_byte else at
                 free = standing.find(0, at)
                 at = len(shown) if free < 0 else free
-                shown[max(0, begin) : at + CLOSE] = standing[max(0, begin) : at + CLOSE]
+                shown[max(0, begin) : at + CLOSE_S] = standing[max(0, begin) : at + CLOSE_S]
         previous = at
 
 
 def near_passings(waiting: GivingWay, times: Times, start: int, length: int) -> bytearray:
-    """A byte for each of length seconds from the start, 1 where somebody passes then, or up to CLOSE seconds before or
-    after, on a lane of its turns. All of a lane count, wherever they turn, as they wait for one another."""
+    """A byte for each of length seconds from the start, 1 where somebody passes then, or up to CLOSE_S seconds before
+    or after, on a lane of its turns. All of a lane count, wherever they turn, as they wait for one another."""
     lanes = {(link, lane) for link, lane, _ in waiting.turns}
     near = bytearray(length)
     for (link, lane, _), seconds in times.items():
         for second in seconds if (link, lane) in lanes else ():
-            mark(near, int(second) - CLOSE - start, int(second) + CLOSE - start)
+            mark(near, int(second) - CLOSE_S - start, int(second) + CLOSE_S - start)
     return near
 
 
@@ -252,9 +254,9 @@ class GapCounts:
 
 
 def hourly_around(times: Sequence[float], second: float) -> float:
-    """Vehicles an hour within AROUND seconds before and after a second; times: seconds that rise."""
-    count = bisect_right(times, second + AROUND) - bisect_left(times, second - AROUND)
-    return count * 3600 / (2 * AROUND)
+    """Vehicles an hour within AROUND_S before and after a second; times: seconds that rise."""
+    count = bisect_right(times, second + AROUND_S) - bisect_left(times, second - AROUND_S)
+    return count * 3600 / (2 * AROUND_S)
 
 
 def mark(seconds: bytearray, begin: int, end: int) -> None:
@@ -264,13 +266,13 @@ def mark(seconds: bytearray, begin: int, end: int) -> None:
 
 
 def followings(seconds: Sequence[float]) -> Iterator[tuple[float, float]]:
-    """The stretches of time in which vehicles follow each other closely, (first second, last second), with CLOSE
+    """The stretches of time in which vehicles follow each other closely, (first second, last second), with CLOSE_S
     seconds before and after; they may overlap, and one vehicle alone has none. seconds: when they pass, rising."""
     begin = 0
     for at in range(1, len(seconds) + 1):
-        if at == len(seconds) or seconds[at] - seconds[at - 1] > CLOSE:
+        if at == len(seconds) or seconds[at] - seconds[at - 1] > CLOSE_S:
             if at - begin > 1:
-                yield seconds[begin] - CLOSE, seconds[at - 1] + CLOSE
+                yield seconds[begin] - CLOSE_S, seconds[at - 1] + CLOSE_S
             begin = at
 
 
@@ -284,5 +286,5 @@ def slow_down(red: bytearray, begin: int, end: int) -> None:
 
 
 def be_patient(red: bytearray) -> None:
-    """Makes the last one of each PATIENCE seconds that are red without a break green, so that one vehicle goes."""
-    red[:] = red.replace(b"\1" * PATIENCE, b"\1" * (PATIENCE - 1) + b"\0")
+    """Makes the last one of each PATIENCE_S that are red without a break green, so that one vehicle goes."""
+    red[:] = red.replace(b"\1" * PATIENCE_S, b"\1" * (PATIENCE_S - 1) + b"\0")

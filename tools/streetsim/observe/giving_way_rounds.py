@@ -40,7 +40,7 @@ class Yielding:
         return f"{self.junctions:,} junctions without a light give way by {self.lines:,} signal lines"
 
 
-def made_round(
+def run_round(
     start_program: ProgramStart, run: Run, mapping: Map, settings: Settings, report_progress: ReportProgress
 ) -> StopLinePassings:
     """When vehicles pass stop lines in a run that is made to see that; it ends when all vehicles have ended, or at its
@@ -74,7 +74,7 @@ def gaps_of(
     )
     round_run, yielding = run, Yielding(rounds)
     for _ in range(rounds):
-        passed = made_round(start_program, round_run, mapping, round_settings, report_progress)
+        passed = run_round(start_program, round_run, mapping, round_settings, report_progress)
         reds = reds_of(mapping, passed, run.start())
         lines = signal_lines(mapping, shown_reds(mapping, reds, passed, run.start()), run.start())
         round_run = with_lines(run, lines)

@@ -14,7 +14,7 @@ COUNT = "u2"  # of seconds of a phase, and of vehicles on a lane
 
 
 @dataclass(slots=True)
-class Showed:
+class ShownInterval:
     """An interval, from one clock to another. Its spans go by node. Its lanes go by the node to which they lead."""
 
     begin: int
@@ -29,10 +29,10 @@ class Showed:
     queues: Array  # by lane and cycle the longest queue, metres
 
 
-def showed(
+def make_shown_interval(
     shown: ShownPlans, lanes: Mapping[int, Sequence[int]], lane_keys: Sequence[Place], begin: int, back: Array,
     stood: Array,
-) -> Showed:
+) -> ShownInterval:
     """What lanes showed in some seconds behind a clock. lanes: by node those that lead to it, by their positions among
     the keys; back, stood: by second and lane the queue, in metres, and who had stood."""
     back, stood, end = np.ascontiguousarray(back.T), np.ascontiguousarray(stood.T, COUNT), begin + len(back)
@@ -55,12 +55,12 @@ def showed(
     counts = np.array([len(node_spans.phases) for node_spans in spans.values()])
     phases = np.concatenate([node_spans.phases for node_spans in spans.values()]).astype(np.int32)
     columns = zip(*(columns_by_node[node] for node in lanes), strict=True)
-    return Showed(begin, end, counts, phases, *(np.concatenate(parts) for parts in columns))
+    return ShownInterval(begin, end, counts, phases, *(np.concatenate(parts) for parts in columns))
 
 
 def columns_of(spans: Spans, back: Array, stood: Array) -> tuple[Array, ...]:
-    """What Showed has from `seconds` on, of lanes with the same spans, whose cycles are those of a plan; back, stood:
-    by lane and second."""
+    """What ShownInterval has from `seconds` on, of lanes with the same spans, whose cycles are those of a plan; back,
+    stood: by lane and second."""
     ends, cycles = np.append(spans.begins[1:], len(back[0])), spans.begins[spans.turns]
     waiting = np.add.reduceat(stood > 0, spans.begins, axis=1, dtype=COUNT)
     count, queues = np.full(len(back), len(cycles), COUNT), np.maximum.reduceat(back, cycles, axis=1)

@@ -8,7 +8,7 @@ from streetsim.base.arrays import Array, numpy as np
 from streetsim.kernel.seconds import SLOTS, by_number
 from streetsim.model.mapping import Place
 from streetsim.observe.crossings import Crossed
-from streetsim.observe.intervals import Showed
+from streetsim.observe.intervals import ShownInterval
 from streetsim.observe.junction_capacity import (
     QUEUES, USUAL_LOST, Discharge, Saturation, all_have_same_green, mean_saturation, usual_flow,
 )
@@ -28,7 +28,7 @@ class LaneGreens(NamedTuple):
     same_green: Array  # by lane whether all its vehicles have the same green
 
 
-class Judge:
+class UtilisationCalculator:
     """What is known of the intervals of a run whose passages have ended."""
 
     def __init__(self, passages: Passages, shown: ShownPlans, crossed: Crossed, dawdle: float) -> None:
@@ -48,7 +48,7 @@ class Judge:
         self.usual = mean_saturation(everywhere) if len(everywhere) >= QUEUES else usual
         enough = {key: discharges for key, discharges in self.discharged.items() if len(discharges) >= QUEUES}
         self.saturation_by_lane = {key: mean_saturation(discharges) for key, discharges in enough.items()}
-        self.lanes = np.array([lane for lanes in passages.lanes.values() for lane in lanes], np.int64)  # as of Showed
+        self.lanes = np.array([lane for lanes in passages.lanes.values() for lane in lanes], np.int64)  # as shown
         self.lane_keys = [passages.lane_keys[lane] for lane in self.lanes.tolist()]
         rates = [self.saturation_of(key) for key in self.lane_keys]
         self.flow = np.array([rate.flow for rate in rates], float)
@@ -75,15 +75,15 @@ class Judge:
                     headway = (last - fourth) / (end - begin - 4)
                     yield Discharge(headway, fourth - green - 4 * headway)
 
-    def interval_measures(self, number: int, showed: Showed) -> Interval:
+    def interval_measures(self, number: int, shown: ShownInterval) -> Interval:
         """What vehicles lost whose passages ended in an interval, by its number from 0, and the queues and the use of
         lanes then."""
-        interval = Interval(showed.begin, showed.end)
+        interval = Interval(shown.begin, shown.end)
         interval.lost, interval.lanes = self.crossed.losses_in(number)
-        ends = np.cumsum(showed.cycles).tolist()
-        queues = showed.queues.astype(np.float64).tolist()
+        ends = np.cumsum(shown.cycles).tolist()
+        queues = shown.queues.astype(np.float64).tolist()
         interval.queues = {place: queues[first:last] for place, first, last in zip(self.lane_keys, [0, *ends], ends)}
-        self.add_uses(interval, number, showed)
+        self.add_uses(interval, number, shown)
         return interval
 
     def greens_of(self, node: int, phases: tuple[int, ...]) -> LaneGreens:
@@ -98,34 +98,34 @@ class Judge:
             )
         return self.greens[node, phases]
 
-    def greens_in(self, showed: Showed) -> LaneGreens:
+    def greens_in(self, shown: ShownInterval) -> LaneGreens:
         """What the spans of an interval show to lanes."""
-        parts, ends = [], np.cumsum(showed.spans).tolist()
+        parts, ends = [], np.cumsum(shown.spans).tolist()
         for node, first, last in zip(self.passages.lanes, [0, *ends], ends):
-            phases = showed.phases[first:last].tolist()
+            phases = shown.phases[first:last].tolist()
             column_of = {phase: at for at, phase in enumerate(sorted(set(phases)))}
             greens = self.greens_of(node, tuple(column_of))
             parts.append((greens.has_green[:, [column_of[phase] for phase in phases]].ravel(), greens.same_green))
         return LaneGreens(*(np.concatenate(arrays) for arrays in zip(*parts, strict=True)))
 
-    def add_uses(self, interval: Interval, number: int, showed: Showed) -> None:
+    def add_uses(self, interval: Interval, number: int, shown: ShownInterval) -> None:
         """Adds the v/c of lanes, 0 where nobody passed or nothing was green. Those by whom a queue grew are in it."""
-        greens = self.greens_in(showed)
+        greens = self.greens_in(shown)
         counts = [len(lanes) for lanes in self.passages.lanes.values()]
-        node = np.repeat(np.arange(len(showed.spans)), counts)  # by lane
-        spans = showed.spans[node]
+        node = np.repeat(np.arange(len(shown.spans)), counts)  # by lane
+        spans = shown.spans[node]
         lasts = np.cumsum(spans)
         firsts = lasts - spans  # of each lane the first of its spans
-        of_node = (np.cumsum(showed.spans) - showed.spans)[node]
-        seconds = showed.seconds[np.arange(lasts[-1]) - np.repeat(firsts - of_node, spans)]
+        of_node = (np.cumsum(shown.spans) - shown.spans)[node]
+        seconds = shown.seconds[np.arange(lasts[-1]) - np.repeat(firsts - of_node, spans)]
         before = np.append(False, greens.has_green[:-1])
         before[firsts] = False
-        parts = greens.has_green * seconds, greens.has_green * showed.waiting, greens.has_green & ~before
+        parts = greens.has_green * seconds, greens.has_green * shown.waiting, greens.has_green & ~before
         green, waiting, begins = (np.add.reduceat(part, firsts, dtype=np.int64) for part in parts)
         count, alone = (sums.of(number)[self.lanes] for sums in (self.crossed.passed, self.crossed.alone))
         by_green = count / (self.flow * np.maximum(1.0, green - self.lost * begins) / 3600)
         ratio = np.where(greens.same_green, by_green, self.by_busy_seconds(alone, waiting, green))
-        ratio *= 1 + grown(showed, greens.has_green, firsts, lasts) / np.maximum(1, count)
+        ratio *= 1 + grown(shown, greens.has_green, firsts, lasts) / np.maximum(1, count)
         interval.uses = dict(zip(self.lane_keys, np.where((count > 0) & (green > 0), ratio, 0.0).tolist(), strict=True))
         interval.flows = dict(zip(self.lane_keys, self.flow.tolist(), strict=True))
 
@@ -136,7 +136,7 @@ class Judge:
         return np.minimum(1.0, (waiting + alone * 3600 / self.flow) / np.maximum(1, green))
 
 
-def grown(showed: Showed, open_: Array, firsts: Array, lasts: Array) -> Array:
+def grown(shown: ShownInterval, open_: Array, firsts: Array, lasts: Array) -> Array:
     """By lane how many more had stood at the last end of green than at the first, or, where no green ends, in the last
     second than in the first; 0 for fewer. open_: by lane and span whether it is green; firsts, lasts: of each lane the
     first of its spans, and the one behind its last."""
@@ -144,6 +144,6 @@ def grown(showed: Showed, open_: Array, firsts: Array, lasts: Array) -> Array:
     following[lasts - 1] = True
     ends = np.append(np.flatnonzero(open_ & ~following), lasts[-1])
     low, high = np.searchsorted(ends, firsts), np.searchsorted(ends, lasts) - 1
-    first = np.where(low <= high, showed.stood_last[np.minimum(ends[low], lasts - 1)], showed.stood_first)
-    last = showed.stood_last[np.where(low <= high, ends[high], lasts - 1)]
+    first = np.where(low <= high, shown.stood_last[np.minimum(ends[low], lasts - 1)], shown.stood_first)
+    last = shown.stood_last[np.where(low <= high, ends[high], lasts - 1)]
     return np.maximum(0, last.astype(np.int64) - first)

@@ -7,7 +7,7 @@ from itertools import pairwise
 from streetsim.model.mapping import Map
 from streetsim.model.waiting import GivingWay
 
-LEAST = 30  # vehicles an hour that wait, and that are waited for, from which on it is told
+LEAST_VEH_H = 30  # vehicles an hour that wait, and that are waited for, from which on it is told
 
 
 def junctions_with_facing_streets(mapping: Map, plans: Iterable[Sequence[int]], hours: float) -> list[str]:
@@ -30,4 +30,4 @@ def junctions_with_facing_streets(mapping: Map, plans: Iterable[Sequence[int]], 
         waited_for = {(foe.link, foe.next) for foe in foes}
         return min(sum(flows[pair] for pair in pairs) for pairs in (waiting, waited_for)) / hours
 
-    return sorted({mapping.nodes[yielding.node][0] for yielding in mapping.yields if hourly(yielding) >= LEAST})
+    return sorted({mapping.nodes[yielding.node][0] for yielding in mapping.yields if hourly(yielding) >= LEAST_VEH_H})

@@ -13,8 +13,8 @@ from streetsim.kernel.loop import Kernel
 from streetsim.kernel.seconds import Seconds
 from streetsim.model.names import Names
 from streetsim.observe.crossings import Crossed
-from streetsim.observe.intervals import COUNT, showed
-from streetsim.observe.judging import Judge
+from streetsim.observe.intervals import COUNT, make_shown_interval
+from streetsim.observe.judging import UtilisationCalculator
 from streetsim.observe.junction_facing import junctions_with_facing_streets
 from streetsim.observe.junction_layout import approaches_cut_short
 from streetsim.observe.junction_rows import JunctionTables
@@ -33,7 +33,7 @@ class Junctions(Passages):
         """Nothing is kept."""
         super().begin(kernel)
         self.begun: list[tuple[Array, Array]] = []  # of the interval under way: queues, who had stood
-        self.packed_intervals: list[bytes] = []  # of each interval a packed Showed
+        self.packed_intervals: list[bytes] = []  # of each interval a packed ShownInterval
         # Begin, and seconds to come, of the interval under way.
         self.clock, self.seconds_left = kernel.start, self.interval
         signals = [(kernel.start, line.command) for line in kernel.run.first if line.command["cmd"] == "signal"]
@@ -51,11 +51,12 @@ class Junctions(Passages):
     def keep_interval(self) -> None:
         """Sums up the interval under way, which is over."""
         sent = self.kernel.sent[self.sent :]
-        self.shown.plans.add((clock, line.command) for clock, line, _ in sent if line.command["cmd"] == "signal")
+        lines = ((following.clock, following.line.command) for following in sent)
+        self.shown.plans.add((clock, command) for clock, command in lines if command["cmd"] == "signal")
         self.sent += len(sent)
         back, stood = (np.concatenate(parts) for parts in zip(*self.begun, strict=True))
-        showed_lanes = showed(self.shown, self.lanes, self.lane_keys, self.clock, back, stood)
-        self.packed_intervals.append(zlib.compress(pickle.dumps(showed_lanes), 1))
+        shown_interval = make_shown_interval(self.shown, self.lanes, self.lane_keys, self.clock, back, stood)
+        self.packed_intervals.append(zlib.compress(pickle.dumps(shown_interval), 1))
         self.begun, self.clock, self.seconds_left = [], self.clock + len(back), self.interval
 
     def end(self, clock: int) -> None:
@@ -71,7 +72,7 @@ class Junctions(Passages):
         kernel = self.kernel
         run, mapping, start = kernel.run, kernel.map, kernel.start
         crossed = Crossed(self, kernel.plans, self.interval, dwells(stops))
-        judge = Judge(self, self.shown, crossed, run.load.command["dawdle"])
+        judge = UtilisationCalculator(self, self.shown, crossed, run.load.command["dawdle"])
         tables = JunctionTables(self.approaches, mapping.full.junctions())
         shown = map(pickle.loads, map(zlib.decompress, self.packed_intervals))
         intervals = itertools.starmap(judge.interval_measures, enumerate(shown))
@@ -81,11 +82,11 @@ class Junctions(Passages):
             where = "where minor streets wait for each other"
             messages.append(f"junctions: delays are too small {where}: {first_few(facing)}")
         cut = tables.filled.intersection(approaches_cut_short(mapping, self.approaches))
-        beyond, doubts = told_of_queues_beyond(sorted(cut))
+        beyond, doubts = queues_beyond_messages(sorted(cut))
         return messages + beyond, doubts
 
 
-def told_of_queues_beyond(approaches: list[str]) -> tuple[list[str], list[str]]:
+def queues_beyond_messages(approaches: list[str]) -> tuple[list[str], list[str]]:
     """(a sentence for the terminal, a doubt), each in a list, on approaches beyond which queues went on, if any."""
     if not approaches:
         return [], []

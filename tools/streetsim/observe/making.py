@@ -46,7 +46,7 @@ from streetsim.observe.trips import TripsTable, stop_rows
 from streetsim.observe.works import WorksTable
 
 
-EVERY = 10  # seconds between polls, where no others are asked for
+POLL_EVERY_S = 10  # seconds between polls, where no others are asked for
 
 
 def first_poll(every: int | None, start: int) -> int:
@@ -56,7 +56,7 @@ def first_poll(every: int | None, start: int) -> int:
 
 
 @dataclass(frozen=True, slots=True)
-class Making:
+class RunOptions:
     """How a run is made, and what is written of it beside its tables."""
 
     program: str
@@ -67,7 +67,7 @@ class Making:
     junctions: int | None = None
     polls: bool = False  # as text too
     along: Sequence[Sequence[str]] = ()  # routes, each by its edges, whose travel times are told
-    again: Json = field(default_factory=dict)  # by what it is made again, as kept.how_made_again has it
+    again: Json = field(default_factory=dict)  # by what it is made again, as kept.remake_setting has it
     keep: str | None = None  # the file in which the session of the program is kept
     listed: Json = field(default_factory=dict)  # of drawn departures, as listed_in_map has it
 
@@ -89,10 +89,10 @@ class Figures:
 class RunTables:
     """The observers of a run that make its tables, and the tables that they make."""
 
-    def __init__(self, making: Making, run: Run, mapping: Map, settings: Settings, steering: Steering) -> None:
-        """making, settings: what is asked for; steering: of the same run."""
+    def __init__(self, options: RunOptions, run: Run, mapping: Map, settings: Settings, steering: Steering) -> None:
+        """options, settings: what is asked for; steering: of the same run."""
         self.run, self.mapping, self.settings, self.steering = run, mapping, settings, steering
-        every = EVERY if settings.every is None else settings.every
+        every = POLL_EVERY_S if settings.every is None else settings.every
         edges = set(settings.edges)
         lanes = mapping.lanes()
         self.polled = [lane_key for lane_key in lanes if mapping.links[lane_key[0]].edge in edges] if edges else None
@@ -101,21 +101,21 @@ class RunTables:
         self.every, self.trips, self.counts = every, TripsTable(), Counts(settings.period, samples)
         self.queues = Queues(every, self.polled)
         self.summary = Summary(self.trips, steering.ending.looks)
-        self.segments, self.along = Segments(), making.along
+        self.segments, self.along = Segments(), options.along
         self.detectors, self.works = Detectors(samples), WorksTable(steering.closures, every)
-        self.junctions = None if making.junctions is None else Junctions(making.junctions or settings.period)
+        self.junctions = None if options.junctions is None else Junctions(options.junctions or settings.period)
 
-    def observers(self, making: Making, folder: str, files: contextlib.ExitStack) -> Iterator[Observer]:
+    def observers(self, options: RunOptions, folder: str, files: contextlib.ExitStack) -> Iterator[Observer]:
         """All of them; folder: of the run, in which files are opened as blocks of `files`."""
         yield from (self.trips, self.counts, self.queues, self.summary, self.segments, self.detectors, self.works)
         if self.junctions is not None:
             yield self.junctions
         if self.every:
             yield RowsWriter(files.enter_context(open(f"{folder}/{ROWS}", "wb")), self.polled)
-        if self.every and making.polls:
+        if self.every and options.polls:
             yield Polls(files.enter_context(whole_file(f"{folder}/{POLLS}")), self.every, self.polled)
-        if making.kinds:
-            yield self.sumo_files(making.kinds, folder, files)
+        if options.kinds:
+            yield self.sumo_files(options.kinds, folder, files)
 
     def sumo_files(self, kinds: Iterable[str], folder: str, files: contextlib.ExitStack) -> Observer:
         """What writes SUMO's output files of some kinds to a new folder sumo in the run's, opened as a block of
@@ -157,26 +157,26 @@ class RunTables:
             write_named(f"{folder}/{tables.WORKS_FILE}", tables.WORKS, rows, names)
 
 
-def one_run(
-    making: Making, run: Run, mapping: Map, settings: Settings, folder: str, report_progress: ReportProgress
+def make_run(
+    options: RunOptions, run: Run, mapping: Map, settings: Settings, folder: str, report_progress: ReportProgress
 ) -> Figures:
     """Makes one run, after the rounds by which its vehicles give way, writes all that was asked for into a folder that
     is there, and gives its figures. report_progress: gets the clock and a count while it goes. Fault where the program
     refuses a command, or a file cannot be written."""
-    given_run, start_program = run, partial(serving_program, making.program, run.path, making.workers)
-    run, yielding = giving_way(run, mapping, settings, making.rounds, start_program, report_progress)
+    given_run, start_program = run, partial(serving_program, options.program, run.path, options.workers)
+    run, yielding = giving_way(run, mapping, settings, options.rounds, start_program, report_progress)
     steering = Steering(run, mapping, settings)
-    run_tables = RunTables(making, run, mapping, settings, steering)
+    run_tables = RunTables(options, run, mapping, settings, steering)
     with contextlib.ExitStack() as files:
-        observers = [*run_tables.observers(making, folder, files), ProgressReports(report_progress)]
-        program = files.enter_context(start_program(keep=making.keep))
+        observers = [*run_tables.observers(options, folder, files), ProgressReports(report_progress)]
+        program = files.enter_context(start_program(keep=options.keep))
         kernel = Kernel(program, run, mapping, steering.controllers, observers)
         kernel.go(settings.until)
-    return figures_of(making, given_run, yielding, run_tables, kernel, folder)
+    return figures_of(options, given_run, yielding, run_tables, kernel, folder)
 
 
 def figures_of(
-    making: Making, given_run: Run, yielding: Yielding, run_tables: RunTables, kernel: Kernel, folder: str
+    options: RunOptions, given_run: Run, yielding: Yielding, run_tables: RunTables, kernel: Kernel, folder: str
 ) -> Figures:
     """Writes the tables and the setting of a run that was made to its folder, and gives its figures. given_run: the run
     without the signals by which its vehicles give way, as yielding tells. Fault where a file cannot be written."""
@@ -200,7 +200,7 @@ def figures_of(
         *crowded_works(run, mapping, steering.closures),
     ]
     given_run = with_lines(given_run, list(lit_lines(kernel.sent, mapping)))
-    write_setting(making, given_run, run_tables, yielding, doubts, folder, clock)
+    write_setting(options, given_run, run_tables, yielding, doubts, folder, clock)
     parts = driven.told(), f"{rescues:,} rescues", yielding.summary(), steering.ending.ended
     return Figures(
         vehicles=driven.vehicles,
@@ -210,7 +210,7 @@ def figures_of(
         notes=notes,
         summary=", ".join(filter(None, parts)),
         doubts=doubts,
-        by_class=class_trips_told(trips, mapping) if settings.buses.visits or settings.buses.ahead else "",
+        by_class=class_trips_line(trips, mapping) if settings.buses.visits or settings.buses.ahead else "",
     )
 
 
@@ -219,7 +219,7 @@ def summary_row(census: Census) -> Entry:
     return census.clock, census.admitted, census.waiting, census.cells, census.buffers, census.arrived, census.taken
 
 
-def class_trips_told(trips: Sequence[Entry], mapping: Map) -> str:
+def class_trips_line(trips: Sequence[Entry], mapping: Map) -> str:
     """How many of each vehicle class arrived and their mean trip, as one line; empty where all vehicles are of one.
     trips: rows of trips.csv, in the order of the vehicles' numbers."""
     durations: defaultdict[str, list[int | None]] = defaultdict(list)
@@ -260,7 +260,7 @@ def stop_notes(stops: Sequence[Done], mapping: Map) -> Iterator[str]:
 
 
 def write_setting(
-    making: Making, given_run: Run, run_tables: RunTables, yielding: Yielding, doubts: Sequence[str], folder: str,
+    options: RunOptions, given_run: Run, run_tables: RunTables, yielding: Yielding, doubts: Sequence[str], folder: str,
     clock: int,
 ) -> None:
     """Writes setting.json: what a run was made of. given_run: the run without the signals by which its vehicles give
@@ -268,7 +268,7 @@ def write_setting(
     command, settings = given_run.load.command, run_tables.settings
     of = {"run": os.path.basename(given_run.path), "seed": command.get("seed", 0), "start": given_run.start()}
     of.update(until=clock, rescue=settings.rescue, vehicles=len(given_run.enters))
-    of.update(program=program_digest(making.program), **proof_note(making.program), **making.again)
+    of.update(program=program_digest(options.program), **proof_note(options.program), **options.again)
     content = {
         "map": replace(run_tables.mapping, timings=[]).written(),  # which lights.json has
         "signals": given_run.signals(),
@@ -278,7 +278,7 @@ def write_setting(
         "yielding": asdict(yielding),
         "not_trusted": doubts,
         "made": of,
-        **({"listed": making.listed} if making.listed else {}),
+        **({"listed": options.listed} if options.listed else {}),
     }
     with whole_file(f"{folder}/{NAME}") as file:
         file.write(json.dumps(content, separators=(",", ":")))

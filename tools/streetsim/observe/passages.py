@@ -12,20 +12,20 @@ from streetsim.kernel.seconds import SLOTS, Seconds, groups_of, unbroken
 from streetsim.observe.junction_layout import approaches_of
 from streetsim.observe.log import Columns, Log, by_period
 
-NONE = -1
-REACH = 20.0  # metres: who stands within these of the stop line, or of the queue's rear, is of the queue
-STILL = 2  # seconds of standing that make a stop: who creeps may stand for one by chance
-GAP = 2.5  # metres behind a vehicle that its cell has and it does not cover
+MISSING = -1  # no edge, no lane of an approach or no row
+REACH_M = 20.0  # metres: who stands within these of the stop line, or of the queue's rear, is of the queue
+STILL_S = 2  # seconds of standing that make a stop: who creeps may stand for one by chance
+GAP_M = 2.5  # metres behind a vehicle that its cell has and it does not cover
 
 
 class Passages(Observer):
     """Follows vehicles over approaches. A passage lasts from when a vehicle is first seen on an approach until it has
     left it and the junction behind it. `done` gives those that have ended."""
 
-    # Of one under way, by vehicle: edge, by its number, NONE: it is on none; clocks of its begin and from which on it
-    # was behind the stop line, 0: not yet; its lane and first link; stops; seconds that it stood, and for which it has
-    # stood now; whether nobody else who had stood was on its lane when it passed the line; how many had stood there in
-    # the second before, the lane's first vehicles that passed then among them.
+    # Of one under way, by vehicle: edge, by its number, MISSING: it is on none; clocks of its begin and from which on
+    # it was behind the stop line, 0: not yet; its lane and first link; stops; seconds that it stood, and for which it
+    # has stood now; whether nobody else who had stood was on its lane when it passed the line; how many had stood there
+    # in the second before, the lane's first vehicles that passed then among them.
     FIELDS = "edge", "begin", "line", "slot", "first", "stops", "stood", "still", "alone", "before"
     # Of one that has ended: the clock from which on it was not there, the vehicle, and FIELDS.
     ENDED = {
@@ -43,7 +43,7 @@ class Passages(Observer):
         self.lanes: defaultdict[int, list[int]] = defaultdict(list)  # by node, of the places those that lead to it
         for column, (number, _) in enumerate(self.lane_keys):
             self.lanes[links[number].end].append(column)
-        self.edge_of = np.full(len(links), NONE, np.int32)
+        self.edge_of = np.full(len(links), MISSING, np.int32)
         at_line = np.zeros(len(links), bool)
         for number, approach in enumerate(self.approaches.values()):
             self.edge_of[approach.all_links] = number
@@ -54,21 +54,21 @@ class Passages(Observer):
         self.cells = np.repeat(np.array([link.cells for link in links], np.int32), 2)
         self.slow = np.repeat(np.array([link.limit for link in links]) == 1, 2)
         self.stay = np.repeat(np.array([mapping.nodes[link.end][3] for link in links], np.int32), 2)
-        self.column = np.full(2 * len(links), NONE, np.int32)
+        self.column = np.full(2 * len(links), MISSING, np.int32)
         self.column[[2 * link + lane for link, lane in self.lane_keys]] = np.arange(len(self.lane_keys))
         self.under_way = {name: np.zeros(len(kernel.run.enters), np.int32) for name in self.FIELDS}
-        self.under_way["edge"][:] = NONE
+        self.under_way["edge"][:] = MISSING
         self.log = Log(self.ENDED)
         self.stood_last = np.zeros(len(self.lane_keys), np.int64)  # by lane of an approach: who had stood, a second ago
 
     def see(self, seconds: Seconds) -> None:
         """Takes some seconds."""
         rows = seconds.by_owner
-        rows = rows[self.edge[seconds.slot[rows]] != NONE]
+        rows = rows[self.edge[seconds.slot[rows]] != MISSING]
         runs = FoundPassages(self, seconds, rows, self.standing(seconds, rows))
         still = np.zeros(len(seconds.car), np.int32)
         still[rows] = runs.still
-        queues = self.queues(seconds, np.flatnonzero(still >= STILL))
+        queues = self.queues(seconds, np.flatnonzero(still >= STILL_S))
         self.log_lanes(seconds, queues, runs.stood_on_lanes)
         self.end_passages(seconds, runs)
 
@@ -89,24 +89,24 @@ class Passages(Observer):
 
     def queues(self, seconds: Seconds, rows: Array) -> Array:
         """By second and lane of an approach the metres from the stop line to the rear of the queue of those who have
-        stood for STILL seconds, each at most REACH behind the one before; where it fills the lane, with the longest on
-        the edge before, and so on. rows: who has stood for so long."""
+        stood for STILL_S, each at most REACH_M behind the one before; where it fills the lane, with the longest on the
+        edge before, and so on. rows: who has stood for so long."""
         slot, second = seconds.slot[rows], seconds.second[rows]
         link, cells = slot // 2, self.cells[slot]
         metres = self.metres[link] / cells
         ahead = (cells - 1 - seconds.cell[rows]) * metres
         back = ahead + seconds.size[rows] * metres
         begins, group = groups_of(second * SLOTS + slot)
-        reach = np.append(REACH, back[:-1] + REACH)
-        reach[begins] = REACH
+        reach = np.append(REACH_M, back[:-1] + REACH_M)
+        reach[begins] = REACH_M
         held = unbroken(ahead <= reach, begins, group)
         number = np.bincount(group[held], minlength=len(begins))
         some = np.flatnonzero(number)
         tail = begins[some] + number[some] - 1
         second, slot = second[tail], slot[tail]
-        metres = np.maximum(0.0, np.minimum(back[tail], self.metres[link[tail]]) - GAP)
+        metres = np.maximum(0.0, np.minimum(back[tail], self.metres[link[tail]]) - GAP_M)
         metres_of = np.zeros((len(seconds.clocks), len(self.lane_keys)), np.float32)
-        of_approach = self.column[slot] != NONE
+        of_approach = self.column[slot] != MISSING
         metres_of[second[of_approach], self.column[slot[of_approach]]] = metres[of_approach]
         if any(approach.before for approach in self.approaches.values()):
             queue = np.zeros((len(seconds.clocks), len(self.cells)))
@@ -120,7 +120,7 @@ class Passages(Observer):
         for column, (link, lane) in enumerate(self.lane_keys):
             reach, full = queue[:, 2 * link + lane], self.metres[link]
             for links in self.approaches[self.edges[self.edge_of[link]]].before:
-                fills = reach >= full - GAP - 0.1
+                fills = reach >= full - GAP_M - 0.1
                 if not fills.any():
                     break
                 longest = np.max([queue[:, 2 * at + side] for at, side in self.kernel.map.lanes(links)], axis=0)
@@ -133,14 +133,14 @@ class Passages(Observer):
         under_way, last_second, shown = self.under_way, len(seconds.clocks) - 1, runs.columns
         known = np.zeros(len(under_way["edge"]), bool)
         known[shown["owner"][runs.goes_on]] = True
-        over = np.flatnonzero((under_way["edge"] != NONE) & ~known)
+        over = np.flatnonzero((under_way["edge"] != MISSING) & ~known)
         part = {name: under_way[name][over] for name in self.FIELDS}
         self.keep_ended({**part, "owner": over}, np.zeros(len(over), np.int64), seconds, runs)
-        under_way["edge"][over] = NONE
+        under_way["edge"][over] = MISSING
         ended = runs.end < last_second
         part = {name: shown[name][ended] for name in (*self.FIELDS, "owner")}
         self.keep_ended(part, runs.end[ended], seconds, runs)
-        under_way["edge"][shown["owner"][ended]] = NONE
+        under_way["edge"][shown["owner"][ended]] = MISSING
         for name in self.FIELDS:
             under_way[name][shown["owner"][~ended]] = shown[name][~ended]
 
@@ -219,7 +219,7 @@ class FoundPassages:
         since = since[latest(moved)]
         self.columns["still"] = position[self.last_rows] - since[self.last_rows]
         self.still = np.where(on, position - since, 0)
-        halts = np.bincount(self.run[self.still == STILL], minlength=len(first_rows))
+        halts = np.bincount(self.run[self.still == STILL_S], minlength=len(first_rows))
         self.columns["stops"] = self.carried("stops", 0) + halts.astype(np.int32)
 
     def find_crossings(self) -> None:
@@ -233,13 +233,13 @@ class FoundPassages:
         self.is_new = np.zeros(len(first_rows), bool)
         self.is_new[run[rows]] = True
         self.is_new &= line == 0
-        row = np.full(len(first_rows), NONE)
+        row = np.full(len(first_rows), MISSING)
         row[run[rows[::-1]]] = rows[::-1]  # of each run the first
         self.crossed = row[self.is_new]
         line[self.is_new] = self.clocks[self.second[self.crossed]]
         gained = self.stands.copy()
         slow = np.flatnonzero(gained & passages.slow[slot])
-        gained[slow] = self.still[slow] >= STILL
+        gained[slow] = self.still[slow] >= STILL_S
         gained[rows] = self.clocks[self.second[rows]] - line[run[rows]] > passages.stay[slot[rows]]
         sums = np.cumsum(gained, dtype=np.int32)
         self.stood = sums + (self.carried("stood", 0) - sums[first_rows] + gained[first_rows])[run]
@@ -257,7 +257,7 @@ class FoundPassages:
         some = np.flatnonzero(self.on & (self.stood > 0))
         column = passages.column[self.slot[some]]
         keys = self.second[some].astype(np.int64) * lanes + column
-        self.known = np.bincount(keys[column != NONE], minlength=count * lanes).reshape(count, lanes)
+        self.known = np.bincount(keys[column != MISSING], minlength=count * lanes).reshape(count, lanes)
         self.known[0] = passages.stood_last
         self.stood_on_lanes, passages.stood_last = self.known[1:], self.known[-1].copy()
         before = self.known[self.second[rows] - 1, passages.column[self.slot[rows]]]
@@ -267,5 +267,5 @@ class FoundPassages:
 
 
 def latest(holds: Array) -> Array:
-    """By row the last row up to it that holds; NONE before the first one."""
-    return np.maximum.accumulate(np.where(holds, np.arange(len(holds), dtype=np.int32), NONE))
+    """By row the last row up to it that holds; MISSING before the first one."""
+    return np.maximum.accumulate(np.where(holds, np.arange(len(holds), dtype=np.int32), MISSING))

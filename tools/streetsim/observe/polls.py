@@ -10,7 +10,7 @@ from streetsim.kernel.loop import ClosedCells, Kernel, Observer
 from streetsim.kernel.seconds import SLOTS, Seconds, groups_of
 from streetsim.model.mapping import Place
 from streetsim.model.rows import CLOSED, packed
-from streetsim.observe.queues import wanted_slots
+from streetsim.observe.queues import find_polled_slots
 
 Stretches = dict[int, list[tuple[int, int]]]  # closed ones, by slot
 
@@ -34,10 +34,10 @@ class ClosedLanes:
         """By slot the stretches at a poll; clocks rise."""
         sent, before = self.kernel.sent, self.next_sent
         while self.next_sent < len(sent):
-            at, line, passed_on = sent[self.next_sent]
-            if (at, passed_on) > (clock, False):
+            following = sent[self.next_sent]
+            if (following.clock, following.passed_on) > (clock, False):
                 break
-            self.closed.note(line.command)
+            self.closed.note(following.line.command)
             self.next_sent += 1
         if self.next_sent > before:
             self.stretches = self.find_stretches()
@@ -53,7 +53,7 @@ class RowsWriter(Observer):
 
     def begin(self, kernel: Kernel) -> None:
         """Nothing is written."""
-        self.polled_slots = wanted_slots(self.polled, 2 * len(kernel.map.links))
+        self.polled_slots = find_polled_slots(self.polled, 2 * len(kernel.map.links))
         self.closed = ClosedLanes(kernel, self.polled_slots)
         self.before: Stretches = {}
 
@@ -67,7 +67,7 @@ class RowsWriter(Observer):
         begins = np.flatnonzero(np.append(True, ~goes_on)[: len(rows)])
         lengths = np.diff(np.append(begins, len(rows)))
         stays = owner[begins], seconds.size[rows[begins]], second[begins] - 1, lengths
-        columns = seconds.slot[rows], cells_told(seconds)[rows], seconds.speed[rows]
+        columns = seconds.slot[rows], cells_of_rows(seconds)[rows], seconds.speed[rows]
         changes = [change for clock in seconds.clocks[1:].tolist() for change in self.changes(clock)]
         closed = np.array(changes, np.int64).reshape(-1, len(CLOSED)).T
         clock, count = int(seconds.clocks[1]), len(seconds.clocks) - 1
@@ -84,7 +84,7 @@ class RowsWriter(Observer):
         self.before = stretches
 
 
-def cells_told(seconds: Seconds) -> Array:
+def cells_of_rows(seconds: Seconds) -> Array:
     """By row the cell of its front, and in a buffer -1 for its front, -2 for the next, and so on."""
     cell, off = seconds.cell.copy(), np.flatnonzero(~seconds.on)
     slot, second = seconds.slot[off], seconds.second[off]
@@ -103,7 +103,7 @@ class Polls(Observer):
 
     def begin(self, kernel: Kernel) -> None:
         """No poll has come."""
-        self.polled_slots = wanted_slots(self.polled, 2 * len(kernel.map.links))
+        self.polled_slots = find_polled_slots(self.polled, 2 * len(kernel.map.links))
         self.closed = ClosedLanes(kernel, self.polled_slots)
 
     def see(self, seconds: Seconds) -> None:

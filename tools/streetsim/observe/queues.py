@@ -27,7 +27,7 @@ class Queues(Observer):
         """Nobody stands."""
         self.kernel = kernel
         self.length = np.repeat([link.cells for link in kernel.map.links], 2)
-        self.polled_slots = wanted_slots(self.polled, len(self.length))
+        self.polled_slots = find_polled_slots(self.polled, len(self.length))
 
     def see(self, seconds: Seconds) -> None:
         """Takes some seconds."""
@@ -101,7 +101,7 @@ class Summary(Observer):
             yield Census(admitted, arrived, buffers, cells, clock, out, waiting)
 
 
-def wanted_slots(polled: Collection[Place] | None, slots: int) -> Array:
+def find_polled_slots(polled: Collection[Place] | None, slots: int) -> Array:
     """By slot whether its lane is polled; polled: as of Queues."""
     if polled is None:
         return np.ones(slots, bool)

@@ -92,8 +92,9 @@ class Segments(Observer):
         return SegmentEnds(*(columns[name][order] for name in ("owner", "clock", "edge", "since", "before")))
 
     def segment_rows(self, period: int) -> Iterator[Entry]:
-        """The rows of segments.csv, (begin, end, from, to, then what `told_of` gives), by periods of so many seconds in
-        which segments end: from the stop line of an edge to that of the next; an empty name is that of NO_LINE."""
+        """The rows of segments.csv, (begin, end, from, to, then what `travel_time_columns` gives), by periods of so
+        many seconds in which segments end: from the stop line of an edge to that of the next; an empty name is that of
+        NO_LINE."""
         names = ["", *self.edges]
         for _, rows in by_period(self.log.parts, self.kernel.start, period):
             pairs = (rows["before"].astype(np.int32) - NO_LINE) * len(names) + rows["edge"] - NO_LINE
@@ -101,9 +102,9 @@ class Segments(Observer):
                 yield begin, end, names[pair // len(names)], names[pair % len(names)], *told
 
     def route_rows(self, routes: Iterable[Sequence[str]], period: int) -> Iterator[Entry]:
-        """The rows of routes.csv, (begin, end, edges, then what `told_of` gives), by periods: of vehicles that drive
-        over all edges of a route, one behind the other, from the stop line of the first to that of the last, by the
-        clock there. Who was rescued on the way there is left out."""
+        """The rows of routes.csv, (begin, end, edges, then what `travel_time_columns` gives), by periods: of vehicles
+        that drive over all edges of a route, one behind the other, from the stop line of the first to that of the last,
+        by the clock there. Who was rescued on the way there is left out."""
         ends = self.ends()
         for route in routes:
             last_rows = np.arange(len(route) - 1, len(ends.owner))
@@ -118,8 +119,8 @@ class Segments(Observer):
     def grouped(
         self, clocks: Array, keys: Array, seconds: Array, period: int
     ) -> Iterator[tuple[int, int, int, Entry]]:
-        """(begin, end, key, what `told_of` gives) for each period and key that has any, in their order; clocks: in
-        which period each counts."""
+        """(begin, end, key, what `travel_time_columns` gives) for each period and key that has any, in their order;
+        clocks: in which period each counts."""
         start = self.kernel.start
         numbers = (clocks - 1 - start) // period
         order = by_number(numbers)
@@ -129,11 +130,11 @@ class Segments(Observer):
             rows = rows[np.lexsort((seconds[rows], keys[rows]))]
             firsts, _ = groups_of(keys[rows])
             begin = start + number * period
-            for key, told in zip(keys[rows[firsts]].tolist(), told_of(seconds[rows], firsts), strict=True):
+            for key, told in zip(keys[rows[firsts]].tolist(), travel_time_columns(seconds[rows], firsts), strict=True):
                 yield begin, min(begin + period, self.until), key, told
 
 
-def told_of(seconds: Array, firsts: Array) -> Iterator[Entry]:
+def travel_time_columns(seconds: Array, firsts: Array) -> Iterator[Entry]:
     """(how many, mean, standard deviation, 15, 50, 85 and 95 %) of groups of seconds, with one decimal; the deviation,
     of a sample, is empty for one alone. firsts: where each group begins, in which seconds rise."""
     counts = np.diff(np.append(firsts, len(seconds)))

@@ -11,7 +11,7 @@ from streetsim.model.mapping import Map, Place
 from streetsim.model.runs import Sent
 from streetsim.observe.junction_layout import CYCLE, Greens
 
-NONE = -1  # the phase before the first plan, and without a light
+NO_PHASE = -1  # the phase before the first plan, and without a light
 PHASES = 100  # more than a plan may have
 
 
@@ -35,7 +35,7 @@ class ShownPlans:
         plans = list(self.plans_between(node, begin, end))
         first_clock = plans[0][1] if plans else end
         begins = [begin, *range((begin // CYCLE + 1) * CYCLE, first_clock, CYCLE)] if begin < first_clock else []
-        parts = [Spans(np.array(begins), np.full(len(begins), NONE), np.full(len(begins), True))] if begins else []
+        parts = [Spans(np.array(begins), np.full(len(begins), NO_PHASE), np.full(len(begins), True))] if begins else []
         for number, since, until in plans:
             (ends, _), offset = self.plans.ends_and_greens_of(node, number), self.plans.plans[node][number][1]["offset"]
             plan_spans = spans_between(tuple(ends), offset % ends[-1], since, until)
@@ -54,7 +54,8 @@ class ShownPlans:
 
     def greens(self, node: int, lane_keys: Sequence[Place], phases: Sequence[int]) -> list[list[frozenset[int] | None]]:
         """By lane that leads to a node, and by phase, the links to which it has green; None for all."""
-        plans = [None if phase == NONE else self.plans.ends_and_greens_of(node, phase // PHASES)[1] for phase in phases]
+        greens_of = self.plans.ends_and_greens_of
+        plans = [None if phase == NO_PHASE else greens_of(node, phase // PHASES)[1] for phase in phases]
         parts = list(zip(plans, (phase % PHASES for phase in phases)))
         return [
             [None if plan is None else plan[lane_key][at] if lane_key in plan else frozenset() for plan, at in parts]

@@ -262,7 +262,8 @@ class LaneAreaOutput(DetectorOutput):
         sums.seconds += len(inside)
         sums.most = max(sums.most, len(inside))
         sums.metres += sum(self.lane_places.metres_per_second(at) for at in inside.values())
-        sums.loss += sum(max(0.0, 1 - at.speed / self.lane_places.mapping.links[at.link].limit) for at in inside.values())
+        links = self.lane_places.mapping.links
+        sums.loss += sum(max(0.0, 1 - at.speed / links[at.link].limit) for at in inside.values())
         area = (detector.last - detector.first + 1) * self.lane_places.cell_metres[detector.link]
         sums.covered.append(min(1.0, sum(map(vehicle_metres, inside.values())) / area))
         ranked = sorted(inside.values(), key=lambda at: -at.front)

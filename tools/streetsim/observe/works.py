@@ -15,7 +15,7 @@ from streetsim.model.freeflow import FreeFlow
 from streetsim.model.mapping import Place
 from streetsim.model.tables import BEFORE_WORKS, Entry
 
-NOTHING = Lane((), (), (), ())
+EMPTY_LANE = Lane((), (), (), ())
 
 
 class WorksTable(Observer):
@@ -108,7 +108,7 @@ class LanesNow:
         slot = 2 * lane_key[0] + lane_key[1]
         low, high = (self.begin + np.searchsorted(self.slots, (slot, slot + 1))).tolist()
         if low == high:
-            return NOTHING
+            return EMPTY_LANE
         rows, seconds = slice(low, high), self.seconds
         columns = seconds.car, seconds.cell, seconds.speed, seconds.size
         vehicles = list(zip(*(column[rows].tolist() for column in columns), strict=True))
