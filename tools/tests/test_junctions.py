@@ -16,15 +16,15 @@ from streetsim.model.service import PRIORITY, ROUNDABOUT, SIGNALS, STOP_LOSS, le
 from streetsim.model.tables import APPROACHES, JUNCTIONS, MOVEMENTS, read_table
 from streetsim.model.waiting import Foe, Gap, GivingWay
 from streetsim.observe.crossings import Crossed, Crossings, Movements, PlanPlaces
-from streetsim.observe.intervals import make_shown_interval
-from streetsim.observe.judging import UtilisationCalculator
 from streetsim.observe.junction_capacity import usual_flow
 from streetsim.observe.junction_facing import junctions_with_facing_streets
 from streetsim.observe.junction_layout import Approach, Greens, approaches_of, movements_that_stop, turn_name
 from streetsim.observe.junction_measures import Losses, stop_loss, weighted_mean_losses
 from streetsim.observe.junction_rows import JunctionTables, queue_columns, queue_figures
+from streetsim.observe.lane_utilisation import UtilisationCalculator
 from streetsim.observe.passages import Passages
 from streetsim.observe.shown import ShownPlans
+from streetsim.observe.shown_intervals import make_shown_interval
 
 CORRIDOR = TOOLS / "examples/corridor"
 # The light is red in steps 0 to 4 of each 10, then green.

@@ -17,7 +17,7 @@ from streetsim.kernel.serving import serving_program
 from streetsim.model.mapping import read_map
 from streetsim.model.runs import run_of_texts
 from streetsim.observe.giving_way_rounds import run_round
-from streetsim.observe.making import RunOptions
+from streetsim.observe.run_making import RunOptions
 from streetsim.report.picture_plots import Corridor
 from streetsim.scenario import Scenario
 from streetsim.search import signal_found

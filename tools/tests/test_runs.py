@@ -12,12 +12,12 @@ from support import FORK, MAP, NUMBERED, PROGRAM, RED, TOOLS, Case, lane, needs_
 from streetsim.base.files import Fault
 from streetsim.base.seeds import mean_and_half_width
 from streetsim.cli import run
-from streetsim.cli.opened import lane_to_close
+from streetsim.cli.open_page import lane_to_close
 from streetsim.cli.running import along_of, mean_trip_line
 from streetsim.model.folder import read_folder
 from streetsim.model.mapping import map_from
 from streetsim.model.runs import Line, read_run, read_with_map
-from streetsim.observe.making import first_poll
+from streetsim.observe.run_making import first_poll
 from streetsim.scenario import Scenario
 from streetsim.simulation.connections import Connections
 from streetsim.search.signal_town import read_run_and_map, signal_node

@@ -15,7 +15,7 @@ from streetsim.base.report import Report
 from streetsim.base.seeds import seeds_of
 from streetsim.base.words import Parser, add_jobs, add_rounds, integer_within, names_in, paths_in
 from streetsim.cli import demand as demanding
-from streetsim.cli.given import given_words
+from streetsim.cli.given_words import given_words
 from streetsim.cli.import_ import add_options, options_of
 from streetsim.cli.defaults import complete_outputs, name_of_network, args_and_options
 from streetsim.cli.words import add_check, add_files, add_network, add_out

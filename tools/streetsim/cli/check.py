@@ -16,7 +16,7 @@ from streetsim.base.unpacking import TooMuch, lifted
 from streetsim.base.words import Parser, add_jobs
 from streetsim.cli import report as report_words
 from streetsim.cli.checking import folder_again, run_again, study_again, write_files
-from streetsim.cli.given import refuse_other_words
+from streetsim.cli.given_words import refuse_other_words
 from streetsim.cli.report import text_again
 from streetsim.cli.study import ORIGIN_FILE
 from streetsim.cli.words import add_simulator

@@ -1,4 +1,4 @@
-"""Runs again what a page, or a folder of a run or of a study, keeps, for streetsim-check. No word that is kept there
+"""Makes again, for streetsim-check, what a page or a folder of a run or of a study keeps. No word that is kept there
 names a host, a program or a path outside of what is made for the check."""
 import argparse
 import json
@@ -10,7 +10,7 @@ from pathlib import Path
 from streetsim.base.files import Fault, Json, read_json
 from streetsim.base.seeds import seeds_told
 from streetsim.cli import run as run_words, study as study_words
-from streetsim.cli.given import given_words, refuse_other_words
+from streetsim.cli.given_words import given_words, refuse_other_words
 from streetsim.cli.run import main as run
 from streetsim.cli.study import ORIGIN_FILE, main as study
 from streetsim.model.folder import NAME

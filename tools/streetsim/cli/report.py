@@ -8,7 +8,7 @@ from streetsim.base.files import Fault, refuse_unwritable, whole_file
 from streetsim.base.report import first_few
 from streetsim.base.words import Parser, add_names, integer_within, names_in, paths_in
 from streetsim.cli.defaults import complete_outputs, stem_of
-from streetsim.cli.given import given_words
+from streetsim.cli.given_words import given_words
 from streetsim.cli.words import add_attribute, add_clock, add_files
 from streetsim.demand.judging import judged
 from streetsim.demand.reading import read_counts

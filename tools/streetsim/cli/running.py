@@ -1,4 +1,4 @@
-"""Makes the run, or the runs with several seeds, that the words of streetsim-run ask for."""
+"""Makes the run of streetsim-run, or its runs with several seeds, by its parsed arguments."""
 import argparse
 import os
 import sys
@@ -27,7 +27,7 @@ from streetsim.model.rows import NAME as ROWS
 from streetsim.model.runs import Run, read_with_map, with_load
 from streetsim.model.tables import PHASES_FILE, ROUTES_FILE, SEEDS, STOPS_FILE, WORKS_FILE, write_table
 from streetsim.observe.kept_lines import remake_setting, write_kept, write_lights
-from streetsim.observe.making import Figures, RunOptions, first_poll, make_run
+from streetsim.observe.run_making import Figures, RunOptions, first_poll, make_run
 from streetsim.observe.sumo_kinds import KINDS
 
 DETECTORS = {"e1": "inductionLoop", "e2": "laneAreaDetector"}  # SUMO's names, by the kind of output

@@ -16,7 +16,7 @@ from streetsim.cli.words import add_check, add_clock, add_machines, add_out, see
 from streetsim.control.ending import after_departures
 from streetsim.model.folder import Folder
 from streetsim.model.runs import read_with_map
-from streetsim.observe.making import RunOptions
+from streetsim.observe.run_making import RunOptions
 from streetsim.report.picture_files import load_pyplot
 from streetsim.report.picture_plots import Corridor, refuse_broken
 from streetsim.search.run_machines import machines

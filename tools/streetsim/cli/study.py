@@ -10,7 +10,7 @@ from streetsim.base.files import refuse_foreign, refuse_unwritable, whole_file, 
 from streetsim.base.progress import Meanwhile, Slow
 from streetsim.base.words import ROUNDS, Parser, add_rounds
 from streetsim.cli.defaults import complete_outputs, stem_of
-from streetsim.cli.given import given_words
+from streetsim.cli.given_words import given_words
 from streetsim.cli.words import add_departures, add_machines, add_out
 from streetsim.model import trust
 from streetsim.model.replications import DRAWN

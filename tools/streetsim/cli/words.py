@@ -1,4 +1,4 @@
-"""Words that several commands take."""
+"""Words that several commands take: each function adds one or a few to a command's parser."""
 import argparse
 from collections.abc import Sequence
 

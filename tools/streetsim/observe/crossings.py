@@ -1,4 +1,5 @@
-"""The passages of approaches that go on to another edge, and what they come to in a run."""
+"""The passages that cross a junction, from an approach to another edge: their delays, stops and lanes, summed up by
+movement and interval for the junction tables."""
 from __future__ import annotations
 
 from collections.abc import Iterator, Mapping, Sequence

@@ -1,5 +1,5 @@
-"""How much of their time the lanes that give way without a light are used in a run, by the seconds that are green to
-them."""
+"""Which edges that give way without a light are nearly full in a run, by the seconds that are green to their lanes;
+asked for by giving_way_rounds, told as a doubt of the run."""
 from collections import Counter, defaultdict
 from collections.abc import Iterable, Iterator, Sequence
 from itertools import groupby

@@ -1,4 +1,5 @@
-"""Signals that are green in the gaps between vehicles that go first, where there is no light."""
+"""Makes signal lines for nodes without a light: green in the gaps between vehicles that go first, by when vehicles
+passed in the run before."""
 import math
 from bisect import bisect_left, bisect_right
 from collections import defaultdict

@@ -1,4 +1,4 @@
-"""How much of what a lane can pass is used: v/c, and the saturation flows behind it."""
+"""Saturation flow and lost time of a lane, by the discharges of its queues, as the Highway Capacity Manual has them."""
 from collections.abc import Iterable, Sequence
 from dataclasses import dataclass
 from statistics import fmean

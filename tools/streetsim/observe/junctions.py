@@ -1,4 +1,5 @@
-"""movements.csv, approaches.csv and junctions.csv: what passages lost, by intervals."""
+"""Follows vehicles over approaches while a run is made, and writes movements.csv, approaches.csv and junctions.csv at
+its end."""
 from __future__ import annotations
 
 import itertools
@@ -13,13 +14,13 @@ from streetsim.kernel.loop import Kernel
 from streetsim.kernel.seconds import Seconds
 from streetsim.model.names import Names
 from streetsim.observe.crossings import Crossed
-from streetsim.observe.intervals import COUNT, make_shown_interval
-from streetsim.observe.judging import UtilisationCalculator
 from streetsim.observe.junction_facing import junctions_with_facing_streets
 from streetsim.observe.junction_layout import approaches_cut_short
 from streetsim.observe.junction_rows import JunctionTables
+from streetsim.observe.lane_utilisation import UtilisationCalculator
 from streetsim.observe.passages import Passages
 from streetsim.observe.shown import ShownPlans
+from streetsim.observe.shown_intervals import COUNT, make_shown_interval
 
 
 class Junctions(Passages):

@@ -1,5 +1,5 @@
-"""Keeps in a run's folder the lines of its run, so that it can be made again without the files that it was made of, and
-what its lights show at the road, as far as the files of the import are still there."""
+"""Writes into a run's folder the lines of its run, by which streetsim-check and reports make it again, and the programs
+of its lights."""
 import json
 import os
 from collections.abc import Sequence

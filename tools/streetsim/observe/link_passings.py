@@ -1,4 +1,5 @@
-"""When vehicles come to the links of their plans and pass stop lines, by the record of a run."""
+"""When vehicles come to the links of their plans and pass stop lines; read by rounds of giving way and by searches for
+routes."""
 from __future__ import annotations
 
 from collections.abc import Iterator

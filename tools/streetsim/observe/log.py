@@ -1,4 +1,4 @@
-"""Rows that are kept while a run is made, as columns, to be taken by periods."""
+"""Rows of observers, kept as columns while a run is made, and given by periods at its end."""
 from __future__ import annotations
 
 from collections.abc import Iterable, Iterator, Mapping

@@ -1,4 +1,5 @@
-"""Passages of vehicles over the approaches of junctions, followed through the seconds, as columns."""
+"""Follows vehicles over the approaches of junctions through the seconds of a run: begin, stop line, stops and standing
+of each passage, as columns."""
 from __future__ import annotations
 
 from collections import defaultdict

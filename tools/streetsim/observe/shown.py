@@ -1,4 +1,5 @@
-"""What the lights of a run show: the phases of plans, by numbers."""
+"""Which phase the light of a node shows when, by the signal lines of a run, and which links are green to a lane
+then."""
 from __future__ import annotations
 
 from bisect import bisect_left, bisect_right

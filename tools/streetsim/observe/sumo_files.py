@@ -1,4 +1,4 @@
-"""SUMO's own output files, of the seconds of a run."""
+"""The observer that gives each second of a run to SUMO's output files."""
 from __future__ import annotations
 
 from collections import defaultdict

@@ -1,4 +1,4 @@
-"""SUMO's output files that are made second by second: each class writes one, from what a second shows."""
+"""SUMO's output files that have rows of each second or trip: tripinfo, summary, fcd, queue. Each class writes one."""
 from bisect import bisect_right
 from collections.abc import Mapping, Sequence
 

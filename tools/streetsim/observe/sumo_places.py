@@ -1,4 +1,4 @@
-"""Where cells lie: SUMO's lane names, metres along a lane, points and angles."""
+"""Where vehicles are in SUMO's terms: lane names, metres along a lane, points and angles."""
 from bisect import bisect_right
 from itertools import accumulate
 from math import atan2, degrees, dist

@@ -1,4 +1,5 @@
-"""What each second of a run shows, vehicle by vehicle: who departed, entered an edge, left it, arrived."""
+"""Follows vehicles from second to second for SUMO's output files: who departed, entered an edge, left it, was
+teleported, arrived."""
 from collections.abc import Iterable, Sequence
 from dataclasses import dataclass, field
 from typing import Any

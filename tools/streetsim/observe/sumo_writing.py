@@ -1,4 +1,4 @@
-"""Writes SUMO's output files, from a run's looks at the lanes in every second."""
+"""Opens SUMO's output files of a run, and has each class of sumo_formats and sumo_intervals write its own."""
 import contextlib
 from bisect import insort
 from collections import defaultdict

@@ -13,7 +13,7 @@ from streetsim.model import trust
 from streetsim.model.folder import read_folder
 from streetsim.model.freeflow import FreeFlow
 from streetsim.model.tables import Entry, write_table
-from streetsim.observe.making import RunOptions, make_run
+from streetsim.observe.run_making import RunOptions, make_run
 from streetsim.report.picture_files import load_pyplot, save_picture
 from streetsim.report.picture_plots import Corridor, draw_corridor
 from streetsim.search.run_prepared import Outcome

@@ -1,4 +1,5 @@
-"""What the lanes of approaches showed in an interval, summed up over the spans in which a light shows one phase."""
+"""What the lanes of approaches showed in an interval: queues and who stood, summed up over the spans in which a light
+shows one phase. junctions.py keeps one of each interval, lane_utilisation.py reads them."""
 from __future__ import annotations
 
 from collections import defaultdict

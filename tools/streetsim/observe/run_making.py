@@ -1,4 +1,5 @@
-"""Makes a run into a folder: its tables, its setting, SUMO's output files and the tables of junctions."""
+"""Makes a run, and writes its folder: tables, setting.json, SUMO's output files and junction tables. Called by
+streetsim-run, and by searches for the runs of the plan that they found."""
 from __future__ import annotations
 
 import contextlib

@@ -1,4 +1,5 @@
-"""What vehicles lost on approaches, and how far lanes were used, by intervals of a run."""
+"""Reckons v/c, saturation flows, losses and queues of an interval from the passages of a run, when the run has ended;
+for the junction tables."""
 from __future__ import annotations
 
 from collections.abc import Iterator
@@ -8,7 +9,6 @@ from streetsim.base.arrays import Array, numpy as np
 from streetsim.kernel.seconds import SLOTS, by_number
 from streetsim.model.mapping import Place
 from streetsim.observe.crossings import Crossed
-from streetsim.observe.intervals import ShownInterval
 from streetsim.observe.junction_capacity import (
     QUEUES, USUAL_LOST, Discharge, Saturation, all_have_same_green, mean_saturation, usual_flow,
 )
@@ -16,6 +16,7 @@ from streetsim.observe.junction_measures import Interval
 from streetsim.observe.log import Columns
 from streetsim.observe.passages import Passages
 from streetsim.observe.shown import ShownPlans
+from streetsim.observe.shown_intervals import ShownInterval
 
 GROUP_GAP = 8  # seconds without a vehicle end a group that leaves a queue
 QUEUE = 8  # vehicles of a queue from which on its headways count

@@ -1,4 +1,5 @@
-"""The words of a command that were given, so that it can be run again."""
+"""The words of a command line that were given otherwise than by default, for settings and seals by which a run is made
+again."""
 import argparse
 import contextlib
 import io
