@@ -105,7 +105,7 @@ def main(arguments: list[str]) -> int:
     check_words(args)
     args.program = program.find_program(args.program)
     with tempfile.TemporaryDirectory() as folder:
-        calibration = calibrated(args, given_words(tool_parser, args, OWN_WORDS), folder)
+        calibration = calibrate_street(args, given_words(tool_parser, args, OWN_WORDS), folder)
         with whole_folder(args.out, LAST, WRITTEN_FILES) as out:
             for name in {FITTED, OTHER} & {day.name for day in calibration.days}:
                 if os.path.exists(path := f"{folder}/{name}.rou.xml"):
@@ -141,7 +141,7 @@ def inputs_of(args: argparse.Namespace) -> list[str]:
     return [args.net, *args.additional, *args.counts, *args.times, *args.routes, *args.validate, *more]
 
 
-def calibrated(args: argparse.Namespace, options: list[str], folder: str) -> Calibration:
+def calibrate_street(args: argparse.Namespace, options: list[str], folder: str) -> Calibration:
     """Reads, fits and judges; folder: for files in between. options: words of the import that were given."""
     notes: list[str] = []
     with Slow(f"reading {args.net}"):

@@ -15,9 +15,9 @@ from streetsim.base.progress import Slow
 from streetsim.base.unpacking import TooMuch, lifted
 from streetsim.base.words import Parser, add_jobs
 from streetsim.cli import report as report_words
-from streetsim.cli.checking import folder_again, run_again, study_again, write_files
+from streetsim.cli.checking import remake_folder, remake_run, remake_study, write_files
 from streetsim.cli.given_words import refuse_other_words
-from streetsim.cli.report import text_again
+from streetsim.cli.report import remake_text
 from streetsim.cli.study import ORIGIN_FILE
 from streetsim.cli.words import add_simulator
 from streetsim.model.folder import LIGHTS
@@ -92,15 +92,15 @@ def check_page(args: argparse.Namespace) -> int:
     text = page_text(args.target)
     seal = seal_of(args.target, text)
     with Slow(f"running again what made {args.target}"):
-        page_anew = page_again(args, seal)
+        page_anew = remake_page(args, seal)
     mismatches = page_mismatches(text, page_anew)
     note = ""
     if seal.content["tools"] != tools_sum():
         note = "; the page names other tools than these" + (", so that words may differ, too" if mismatches else "")
     runs = sum(len(plan["seeds"]) for plan in seal.content["plans"])
-    same = all(plan["program"] == program_digest(args.program) for plan in seal.content["plans"])
-    which = "the program that made it" if same else "another program than the one that made it"
-    again = f"{runs} run{'s' * (runs != 1)} made again by {which}"
+    same_program = all(plan["program"] == program_digest(args.program) for plan in seal.content["plans"])
+    program_text = "the program that made it" if same_program else "another program than the one that made it"
+    again = f"{runs} run{'s' * (runs != 1)} made again by {program_text}"
     good = f"each of the {numbers_in(page_anew):,} numbers on the page is that of a run ({again})"
     return tell_result(args.target, mismatches, good, note)
 
@@ -123,31 +123,31 @@ def tell_result(target: str, mismatches: Sequence[Mismatch], good: str, note: st
         return 0
     named = "; ".join(mismatch.told() for mismatch in mismatches[:NAMED_AT_MOST])
     more = f"; and {len(mismatches) - NAMED_AT_MOST:,} more" if len(mismatches) > NAMED_AT_MOST else ""
-    places = "1 place is" if len(mismatches) == 1 else f"{len(mismatches):,} places are"
-    print(f"{target}: {places} not what the runs give: {named}{more}{note}")
+    places_text = "1 place is" if len(mismatches) == 1 else f"{len(mismatches):,} places are"
+    print(f"{target}: {places_text} not what the runs give: {named}{more}{note}")
     return 1
 
 
-def page_again(args: argparse.Namespace, seal: Seal) -> str:
+def remake_page(args: argparse.Namespace, seal: Seal) -> str:
     """The page that the sealed files and words give now, with a seal of its own; Fault where they give none."""
     with tempfile.TemporaryDirectory() as temporary:
         try:
             write_files(temporary, sealed_files(seal, args.target))
-            return made_again(args, seal, temporary)
+            return remake_from_files(args, seal, temporary)
         except (Fault, LookupError, TypeError, ValueError, AttributeError, OSError) as fault:
             reason = str(fault).removeprefix(f"{args.target}: ").replace(f"{temporary}/", "")
             raise Fault(f"{args.target}: what is sealed in it gives no such page: {reason}") from None
 
 
-def made_again(args: argparse.Namespace, seal: Seal, temporary: str) -> str:
+def remake_from_files(args: argparse.Namespace, seal: Seal, temporary: str) -> str:
     """The page, of sealed files that were unpacked into the folder `temporary`; runs are written there too. Where they
-    give none it raises one of the exceptions that page_again tells as a Fault."""
+    give none it raises one of the exceptions that remake_page tells as a Fault."""
     plans, needed = seal.content["plans"], ["x", "-o", "x"]
     refuse_other_words(report_words.parser(), seal.content["words"], needed, report_words.ELSEWHERE, args.target)
     folders = [f"{temporary}/out-{at}" for at in range(len(plans))]
     for plan, folder in zip(plans, folders, strict=True):
         with silent():
-            run_again(args, plan, temporary, folder)
+            remake_run(args, plan, temporary, folder)
         if os.path.exists(lights := f"{temporary}/{os.path.dirname(plan['run'])}/{LIGHTS}"):
             shutil.copy(lights, folder)
     files = {name: f"{temporary}/{name}" for name in seal.content["files"] if "/" not in name}
@@ -156,7 +156,7 @@ def made_again(args: argparse.Namespace, seal: Seal, temporary: str) -> str:
     arguments = [*folders, *seal.content["words"], *names, *(["--counts", *counts] if counts else [])]
     plan_names = ["--plans", *(plan["name"] for plan in plans)]
     sealing = partial(sealed_again, said=seal, page=args.target, others=files)
-    return text_again([*arguments, *plan_names, "-o", args.target], sealing)
+    return remake_text([*arguments, *plan_names, "-o", args.target], sealing)
 
 
 def check_folder(args: argparse.Namespace, study: bool) -> int:
@@ -165,7 +165,7 @@ def check_folder(args: argparse.Namespace, study: bool) -> int:
     counts = ComparedNumbers()
     with tempfile.TemporaryDirectory() as temporary, Slow(f"running again what made {args.target}"):
         with silent():
-            folder_anew = (study_again if study else folder_again)(args, f"{temporary}/out")
+            folder_anew = (remake_study if study else remake_folder)(args, f"{temporary}/out")
         mismatches = [Mismatch(*difference) for difference in folder_differences(args.target, folder_anew, counts)]
     good = f"each of the {counts.numbers:,} numbers in {counts.files} files is that of a run"
     return tell_result(args.target, mismatches, good)

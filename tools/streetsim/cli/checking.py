@@ -37,7 +37,7 @@ def write_files(top: str, files: Iterable[tuple[str, bytes]]) -> None:
         path.write_bytes(content)
 
 
-def run_again(args: argparse.Namespace, plan: Json, top: str, out: str) -> None:
+def remake_run(args: argparse.Namespace, plan: Json, top: str, out: str) -> None:
     """Makes the runs of a plan again, as sealed_plan tells it, of its files below the folder `top`, into `out`. The
     files of the import, which its map names, are not looked for. Fault where its words are not those that a run keeps
     or do not fit to each other, its seeds do not follow each other, or a run fails. Prints what streetsim-run does."""
@@ -65,19 +65,19 @@ def refuse_run_words(plan: Json, where: str) -> None:
         raise Fault(f"{where}: the words of a run and those by which it is made again differ: it was changed")
 
 
-def folder_again(args: argparse.Namespace, out: str) -> str:
+def remake_folder(args: argparse.Namespace, out: str) -> str:
     """Makes the runs of the folder `words.target` again, and writes them into `out`; gives the folder that stands for
     the target: `out`, or below it that of the seed where the target is of one seed of several. Fault where the target
-    does not keep what made it, and as of run_again. Prints what streetsim-run does."""
+    does not keep what made it, and as of remake_run. Prints what streetsim-run does."""
     plan, files = sealed_plan(read_folders(args.target), 1)
     with tempfile.TemporaryDirectory() as top:
         write_files(top, files.items())
-        run_again(args, plan, top, out)
+        remake_run(args, plan, top, out)
     is_seed = plan["several"] and os.path.exists(f"{args.target}/{NAME}")
     return f"{out}/seed-{plan['seeds'][0]}" if is_seed else out
 
 
-def study_again(args: argparse.Namespace, out: str) -> str:
+def remake_study(args: argparse.Namespace, out: str) -> str:
     """Makes the study of the folder `words.target` again, into `out`, which it gives; Fault where --study does not name
     its file, as a check takes no path from a folder, or that has changed since, and where a run fails. Prints what
     streetsim-study does."""

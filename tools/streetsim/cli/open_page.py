@@ -109,7 +109,7 @@ def next_steps_html(runs: Runs, run: str) -> str:
     name = run or folder.made.get("run", "RUN.jsonl")
     net = net_of(folder, name)
     lane, metres, is_only = lane_to_close(folder)
-    works = f"{lane}:{int(metres / 2)}-{int(metres / 2 + min(metres / 4, 100))}:{closing(folder)}"
+    works = f"{lane}:{int(metres / 2)}-{int(metres / 2 + min(metres / 4, 100))}:{closing_times(folder)}"
     edge, seeds = lane.rpartition("_")[0], ("--seeds", "1-5", "--junctions", "900")
     joint = () if is_only or len(folder.mapping.links_of[edge]) == 1 else ("--joint", edge)
     folder_path = os.path.normpath(folder.path)
@@ -147,14 +147,14 @@ def lane_to_close(folder: Folder) -> tuple[str, float, bool]:
     mapping = folder.mapping
     firsts = {edge: mapping.links[links[0]] for edge, links in mapping.links_of.items()}
     lanes = {edge: sum(len(mapping.links[at].lanes) for at in links) for edge, links in mapping.links_of.items()}
-    come = {(mapping.links[turn.next].edge, mapping.links[turn.link].begin) for turn in mapping.turns}
-    led_to = {edge for edge, begin in come if begin != firsts[edge].end}
+    arrivals = {(mapping.links[turn.next].edge, mapping.links[turn.link].begin) for turn in mapping.turns}
+    led_to = {edge for edge, begin in arrivals if begin != firsts[edge].end}
     whole = {edge for edge, links in mapping.links_of.items() if len(links) == 1}
     edge = max(firsts, key=lambda name: (lanes[name] > 1, name in led_to, name in whole, firsts[name].metres))
     return f"{edge}_{min(firsts[edge].lanes)}", firsts[edge].metres, lanes[edge] == 1
 
 
-def closing(folder: Folder) -> str:
+def closing_times(folder: Folder) -> str:
     """About the middle half of the time in which vehicles depart, as --close takes it: round clock times, and of less
     than four minutes round seconds."""
     departs = [int(row["depart"]) for row in folder.trips()] or [folder.made.get("start", 0)]

@@ -118,7 +118,7 @@ def main(arguments: list[str]) -> int:
     return 0
 
 
-def text_again(arguments: list[str], sealing: Callable[[list[Runs]], Seal]) -> str:
+def remake_text(arguments: list[str], sealing: Callable[[list[Runs]], Seal]) -> str:
     """The text of a page by the words that made it, with the seal that `sealing` gives of its plans. Fault where they
     give none."""
     args = parser().parse_args(arguments)
@@ -211,9 +211,11 @@ def interval_of(all_runs: Sequence[Runs], args: argparse.Namespace) -> tuple[int
     if not common:
         raise Fault("the runs have no interval in common")
     if args.interval is None:
-        spans = [seen.span() for runs in all_runs for seen in seen_in(runs)]
-        works = {own for own in common if any(begin < own[1] and own[0] < end for begin, end in spans)}
-        return all_runs[0].busiest(works or common)
+        spans = [works_seen.span() for runs in all_runs for works_seen in seen_in(runs)]
+        of_works = {
+            (first, last) for first, last in common if any(begin < last and first < end for begin, end in spans)
+        }
+        return all_runs[0].busiest(of_works or common)
     if args.interval not in (ends := dict(sorted(common))):
         raise Fault(f"--interval {args.interval}: no interval begins there, of {', '.join(map(str, ends))}")
     return args.interval, ends[args.interval]
@@ -223,8 +225,8 @@ def corridor_html(runs: Runs, args: argparse.Namespace) -> str:
     """The corridor's picture of a plan's first seed, as HTML; in both directions where edges lead back. Fault where it
     cannot be drawn, as of corridor_picture."""
     folder, paths = runs.first, path_and_way_back(runs.first, names_in(args.corridor))
-    given = {name: getattr(args, name) for name in PICTURE_SECONDS}
-    first, last = (usual if given[name] is None else given[name] for name, usual in PICTURE_SECONDS.items())
+    clocks = ((getattr(args, name), usual) for name, usual in PICTURE_SECONDS.items())
+    first, last = (usual if clock is None else clock for clock, usual in clocks)
     text = f"Ways of the vehicles along {args.corridor}{', and back' if len(paths) == 2 else ''}: {runs.name}"
     picture = corridor_picture(folder, paths, first, last, text)
     return f"<figure>{picture}<figcaption>{escape(text)}</figcaption></figure>"

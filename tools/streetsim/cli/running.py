@@ -50,10 +50,10 @@ def run_by(args: argparse.Namespace, number_words: Sequence[str], again_words: S
         refuse_no_poll(settings, run.start())
     simulator = program.find_program(args.program)
     more = args.rounds, args.workers, args.sumo_output, args.junctions
-    along, made_again = along_of(args, mapping), remake_setting(run, number_words, again_words)
+    along, again_setting = along_of(args, mapping), remake_setting(run, number_words, again_words)
     listed = listed_in_map(mapping) if args.departures == DRAWN else {}
     run_options = RunOptions(
-        simulator, *more, polls=args.polls, along=along, again=made_again, keep=args.keep, listed=listed
+        simulator, *more, polls=args.polls, along=along, again=again_setting, keep=args.keep, listed=listed
     )
     if args.keep:
         note_kept(f"{args.keep}, the session: the same words go on there")
@@ -64,7 +64,7 @@ def run_by(args: argparse.Namespace, number_words: Sequence[str], again_words: S
     with whole_folder(args.out, NAME) as folder, under_way(args, run, mapping, settings) as shown:
         write_inputs(args, folder, run, mapping)
         figures = make_run(run_options, *prepared_run(args, run, mapping, settings), folder, shown.show)
-    report(figures, "")
+    print_figures(figures, "")
     return 0
 
 
@@ -191,7 +191,7 @@ def refuse_no_poll(settings: Settings, start: int) -> None:
         )
 
 
-def report(figures: Figures, name: str) -> None:
+def print_figures(figures: Figures, name: str) -> None:
     """Prints what a run gave, its notes on standard error; name: what each line begins with."""
     for note in figures.notes:
         print(f"{name}{note}", file=sys.stderr)
@@ -231,7 +231,7 @@ def run_seeds(args: argparse.Namespace, run_options: RunOptions, run: Run, mappi
         rows = [(seed, *columns) for seed, columns in zip(seeds, values, strict=True)]
         write_table(f"{folder}/seeds.csv", SEEDS, rows)
     for seed, seed_figures in zip(seeds, figures, strict=True):
-        report(seed_figures, f"seed {seed}: ")
+        print_figures(seed_figures, f"seed {seed}: ")
     if means := [seed_figures.mean_trip_s for seed_figures in figures if seed_figures.mean_trip_s is not None]:
         print(mean_trip_line(means, args.departures == DRAWN))
     if doubtful := [str(seed) for seed, seed_figures in zip(seeds, figures, strict=True) if seed_figures.doubts]:

@@ -36,7 +36,7 @@ class Detectors(Observer):
             self.see_loops(seconds)
         if self.areas.detectors:
             for second in np.flatnonzero(self.samples.among(seconds.clocks)):
-                self.areas.sample(int(seconds.clocks[second]), lambda place: cells_of(seconds, int(second), place))
+                self.areas.sample(int(seconds.clocks[second]), lambda key: cells_of(seconds, int(second), key))
 
     def see_loops(self, seconds: Seconds) -> None:
         """Looks at each vehicle where its front was a second ago, on this link, and is now; who has left it is beyond

@@ -44,8 +44,8 @@ class Junctions(Passages):
         """Takes what lanes showed in some seconds."""
         while len(back) and self.lane_keys:
             self.begun.append((back[: self.seconds_left], stood[: self.seconds_left].astype(COUNT)))
-            taken = len(self.begun[-1][0])
-            back, stood, self.seconds_left = back[taken:], stood[taken:], self.seconds_left - taken
+            count = len(self.begun[-1][0])
+            back, stood, self.seconds_left = back[count:], stood[count:], self.seconds_left - count
             if not self.seconds_left:
                 self.keep_interval()
 

@@ -83,7 +83,7 @@ class UtilisationCalculator:
         interval.lost, interval.lanes = self.crossed.losses_in(number)
         ends = np.cumsum(shown.cycles).tolist()
         queues = shown.queues.astype(np.float64).tolist()
-        interval.queues = {place: queues[first:last] for place, first, last in zip(self.lane_keys, [0, *ends], ends)}
+        interval.queues = {key: queues[begin:end] for key, begin, end in zip(self.lane_keys, [0, *ends], ends)}
         self.add_uses(interval, number, shown)
         return interval
 
@@ -91,7 +91,7 @@ class UtilisationCalculator:
         """What some phases show to the lanes that lead to a node."""
         if (node, phases) not in self.greens:
             lane_keys = [self.passages.lane_keys[lane] for lane in self.passages.lanes[node]]
-            used = [self.used_links[place] for place in lane_keys]
+            used = [self.used_links[lane_key] for lane_key in lane_keys]
             lanes = list(zip(self.shown.greens(node, lane_keys, phases), used, strict=True))
             self.greens[node, phases] = LaneGreens(
                 np.array([[shown is None or bool(shown & links) for shown in greens] for greens, links in lanes]),

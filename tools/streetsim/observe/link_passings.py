@@ -24,10 +24,10 @@ class Passings(Observer):
 
     def see(self, seconds: Seconds) -> None:
         """Takes some seconds."""
-        came, passed = first_in_cell_0(seconds), seconds.joined_buffer(self.stay)
-        rows = np.append(came, passed)
+        arrived, passed = first_in_cell_0(seconds), seconds.joined_buffer(self.stay)
+        rows = np.append(arrived, passed)
         owner, clocks = seconds.vehicles.owner[seconds.car[rows]], seconds.clocks[seconds.second[rows]]
-        self.parts.append((owner, clocks, seconds.slot[rows], np.arange(len(rows)) < len(came)))
+        self.parts.append((owner, clocks, seconds.slot[rows], np.arange(len(rows)) < len(arrived)))
 
     def end(self, clock: int) -> None:
         """Puts what was noted in order, by vehicle and then by clock."""

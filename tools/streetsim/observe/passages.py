@@ -102,8 +102,8 @@ class Passages(Observer):
         reach[begins] = REACH_M
         held = unbroken(ahead <= reach, begins, group)
         number = np.bincount(group[held], minlength=len(begins))
-        some = np.flatnonzero(number)
-        tail = begins[some] + number[some] - 1
+        occupied = np.flatnonzero(number)
+        tail = begins[occupied] + number[occupied] - 1
         second, slot = second[tail], slot[tail]
         metres = np.maximum(0.0, np.minimum(back[tail], self.metres[link[tail]]) - GAP_M)
         metres_of = np.zeros((len(seconds.clocks), len(self.lane_keys)), np.float32)
@@ -255,9 +255,9 @@ class FoundPassages:
         and of those who passed the line what this was in the second before. count: seconds, with second 0."""
         passages, rows = self.passages, self.crossed
         lanes = len(passages.lane_keys)
-        some = np.flatnonzero(self.on & (self.stood > 0))
-        column = passages.column[self.slot[some]]
-        keys = self.second[some].astype(np.int64) * lanes + column
+        stood_rows = np.flatnonzero(self.on & (self.stood > 0))
+        column = passages.column[self.slot[stood_rows]]
+        keys = self.second[stood_rows].astype(np.int64) * lanes + column
         self.known = np.bincount(keys[column != MISSING], minlength=count * lanes).reshape(count, lanes)
         self.known[0] = passages.stood_last
         self.stood_on_lanes, passages.stood_last = self.known[1:], self.known[-1].copy()

@@ -43,10 +43,10 @@ class Queues(Observer):
         stands = unbroken(stands, begins, group)
         count = np.bincount(group[stands], minlength=len(begins))
         covered = np.bincount(group[stands], size[stands], len(begins)).astype(np.int64)
-        some = np.flatnonzero(count)
-        slots, clocks = slot[begins[some]], seconds.clocks[second[begins[some]]]
-        covered = np.minimum(covered[some], self.length[slots])
-        self.log.add({"clock": clocks, "slot": slots, "vehicles": count[some], "covered": covered})
+        occupied = np.flatnonzero(count)
+        slots, clocks = slot[begins[occupied]], seconds.clocks[second[begins[occupied]]]
+        covered = np.minimum(covered[occupied], self.length[slots])
+        self.log.add({"clock": clocks, "slot": slots, "vehicles": count[occupied], "covered": covered})
 
     def rows(self) -> Iterator[Entry]:
         """The rows of queues.csv at stop lines, (clock, edge, SUMO's index of the lane, vehicles, metres that they
@@ -92,10 +92,10 @@ class Summary(Observer):
     def censuses(self) -> Iterator[Census]:
         """The counts, without vehicles that wish to depart then or later."""
         arrival = np.sort(self.trips.arrival[self.trips.arrival > 0])
-        taken = np.sort([takeout.clock for takeout in self.kernel.vehicles.takeouts])
+        taken_out = np.sort([takeout.clock for takeout in self.kernel.vehicles.takeouts])
         departs = np.array(self.kernel.departs, np.int64)
         for clock, cells, buffers in self.counted:
-            arrived, out = int(np.searchsorted(arrival, clock, "right")), int(np.searchsorted(taken, clock))
+            arrived, out = int(np.searchsorted(arrival, clock, "right")), int(np.searchsorted(taken_out, clock))
             admitted = int(np.searchsorted(departs, clock)) + out
             waiting = admitted - arrived - out - cells - buffers
             yield Census(admitted, arrived, buffers, cells, clock, out, waiting)

@@ -98,8 +98,8 @@ class Segments(Observer):
         names = ["", *self.edges]
         for _, rows in by_period(self.log.parts, self.kernel.start, period):
             pairs = (rows["before"].astype(np.int32) - NO_LINE) * len(names) + rows["edge"] - NO_LINE
-            for begin, end, pair, told in self.grouped(rows["clock"], pairs, rows["clock"] - rows["since"], period):
-                yield begin, end, names[pair // len(names)], names[pair % len(names)], *told
+            for begin, end, pair, columns in self.grouped(rows["clock"], pairs, rows["clock"] - rows["since"], period):
+                yield begin, end, names[pair // len(names)], names[pair % len(names)], *columns
 
     def route_rows(self, routes: Iterable[Sequence[str]], period: int) -> Iterator[Entry]:
         """The rows of routes.csv, (begin, end, edges, then what `travel_time_columns` gives), by periods: of vehicles
@@ -113,8 +113,8 @@ class Segments(Observer):
             for step, edge in enumerate(route):
                 fits &= ends.edge[first_rows + step] == self.edges.index(edge)
             clocks, since = ends.clock[last_rows[fits]], ends.clock[first_rows[fits]]
-            for begin, end, _, told in self.grouped(clocks, np.zeros_like(clocks), clocks - since, period):
-                yield begin, end, " ".join(route), *told
+            for begin, end, _, columns in self.grouped(clocks, np.zeros_like(clocks), clocks - since, period):
+                yield begin, end, " ".join(route), *columns
 
     def grouped(
         self, clocks: Array, keys: Array, seconds: Array, period: int
@@ -130,8 +130,9 @@ class Segments(Observer):
             rows = rows[np.lexsort((seconds[rows], keys[rows]))]
             firsts, _ = groups_of(keys[rows])
             begin = start + number * period
-            for key, told in zip(keys[rows[firsts]].tolist(), travel_time_columns(seconds[rows], firsts), strict=True):
-                yield begin, min(begin + period, self.until), key, told
+            groups = travel_time_columns(seconds[rows], firsts)
+            for key, columns in zip(keys[rows[firsts]].tolist(), groups, strict=True):
+                yield begin, min(begin + period, self.until), key, columns
 
 
 def travel_time_columns(seconds: Array, firsts: Array) -> Iterator[Entry]:

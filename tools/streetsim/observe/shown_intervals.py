@@ -75,6 +75,6 @@ def by_greens(
     with the greens of each lane; greens: as `ShownPlans.greens` gives them; back: by lane and second."""
     queues = []
     for lane_greens, metres in zip(greens, back, strict=True):
-        rises = [True, *(bool(now) and not before for before, now in zip(lane_greens, lane_greens[1:]))]
+        rises = [True, *(bool(after) and not before for before, after in zip(lane_greens, lane_greens[1:]))]
         queues.append(np.maximum.reduceat(metres, spans.begins[rises]))
     return [len(cycles) for cycles in queues], np.concatenate(queues)

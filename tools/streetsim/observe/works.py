@@ -64,10 +64,10 @@ class WorksTable(Observer):
 
     def seen_before(self, clock: int, watched: Watched, lanes: LanesNow) -> dict[Place, Lane]:
         """What stands on the lanes of the link of some works, and of those upstream that their queue reaches."""
-        places = self.kernel.map.lanes
-        lanes_seen = {lane_key: lanes.at(lane_key) for lane_key in places([watched.closure.link])}
+        lanes_of = self.kernel.map.lanes
+        lanes_seen = {lane_key: lanes.at(lane_key) for lane_key in lanes_of([watched.closure.link])}
         while more := watched.further(clock, lanes_seen):
-            lanes_seen.update((lane_key, lanes.at(lane_key)) for lane_key in places(sorted(more)))
+            lanes_seen.update((lane_key, lanes.at(lane_key)) for lane_key in lanes_of(sorted(more)))
         return lanes_seen
 
     def reach_at(self, clock: int, watched: Watched, lanes: LanesNow) -> Reach:
@@ -119,8 +119,8 @@ class LanesNow:
 def upstream_of(closure: Closure, closures: Iterable[Closure]) -> list[Closure]:
     """The works on the lane of some works that begin upstream of these, whenever they are there."""
     lane_key = closure.link, closure.lane
-    on_lane = [other for other in closures if (other.link, other.lane) == lane_key]
-    return [other for other in on_lane if other.first < closure.first]
+    on_lane = [closure_before for closure_before in closures if (closure_before.link, closure_before.lane) == lane_key]
+    return [closure_before for closure_before in on_lane if closure_before.first < closure.first]
 
 
 def due_after(watched: Watched, clock: int) -> int | None:
