@@ -58,6 +58,21 @@ def parser() -> Parser:
         "where a criterion does not hold there.",
     )
     add_network(tool_parser)
+    add_days(tool_parser)
+    add_fit(tool_parser)
+    tool_parser.add_argument(
+        "-o", "--output", required=True, help="the file to write: the drivers, as --drivers takes them"
+    )
+    add_out(tool_parser, "the folder to write to (default: NET-drivers, here)")
+    add_rounds(tool_parser)
+    add_jobs(tool_parser)
+    tool_parser.add_argument("--program", help=program.HELP)
+    add_options(tool_parser)
+    return tool_parser
+
+
+def add_days(tool_parser: argparse.ArgumentParser) -> None:
+    """Adds the words of files with what was measured, on the fitted day and on the other one."""
     counts = "counts of edges and turns, of which the demand is made (CSV, or SUMO's edgeData)"
     add_files(tool_parser, "--counts", counts)
     add_files(
@@ -77,6 +92,10 @@ def parser() -> Parser:
     tool_parser.add_argument(
         "--validate", nargs="+", default=[], metavar="FILE", help="of another day: its counts, times, and maybe queues"
     )
+
+
+def add_fit(tool_parser: argparse.ArgumentParser) -> None:
+    """Adds the words that say what is fitted, by how many runs and by which seeds."""
     tool_parser.add_argument("--free", default=",".join(FREE_VALUES), help="what may be fitted (default %(default)s)")
     tool_parser.add_argument(
         "--runs", type=integer_within(2, 10_000), default=60, metavar="N",
@@ -86,15 +105,6 @@ def parser() -> Parser:
         "--seeds", default="1-2", metavar="SEEDS", help="seeds (1-5, or 1,4,7-9) of the fit (default %(default)s)"
     )
     add_check(tool_parser, "101-105", "those of the other day")
-    tool_parser.add_argument(
-        "-o", "--output", required=True, help="the file to write: the drivers, as --drivers takes them"
-    )
-    add_out(tool_parser, "the folder to write to (default: NET-drivers, here)")
-    add_rounds(tool_parser)
-    add_jobs(tool_parser)
-    tool_parser.add_argument("--program", help=program.HELP)
-    add_options(tool_parser)
-    return tool_parser
 
 
 def main(arguments: list[str]) -> int:

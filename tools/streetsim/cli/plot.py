@@ -45,35 +45,37 @@ def parser() -> Parser:
         kind_parser.old = OLD_WORDS.get(kind, {})
         often = "?" if kind == "fundamental" else None
         # argparse takes None too, which is its default.
-        argument_help = "what streetsim-run wrote"
-        kind_parser.add_argument("folder", nargs=often, metavar="FOLDER", help=argument_help)  # type: ignore[arg-type]
+        wrote = "what streetsim-run wrote"
+        kind_parser.add_argument("folder", nargs=often, metavar="FOLDER", help=wrote)  # type: ignore[arg-type]
         kind_parser.add_argument(
             "-o", "--output", help="the file to write: the picture (.png, .svg, .pdf; default: FOLDER.KIND.png, here)"
         )
-        if kind in ("corridor", "fundamental"):
-            kind_parser.add_argument(
-                "--edges", required=kind == "corridor", default="", help="edges, with spaces or commas between"
-            )
-        if kind == "corridor":
-            kind_parser.add_argument("--both", action="store_true", help="the other direction too, below")
-            add_clock(kind_parser, "--first", "the first second shown", default=0)
-            add_clock(kind_parser, "--last", "the last second shown", default=600)
-        if kind == "fundamental":
-            add_diagram(kind_parser)
-        if kind == "map":
-            kind_parser.add_argument(
-                "--what", choices=picture_maps.WHAT, default="density", help="(default: %(default)s)"
-            )
-            interval = "the interval shown, by its begin (default: the busiest; of density all)"
-            add_clock(kind_parser, "--interval", interval)
-        if kind == "greens":
-            kind_parser.add_argument(
-                "--shown", default="", help="lights shown, with spaces or commas between (default: the first six)"
-            )
-        if kind == "arrivals":
-            argument_help = "what SUMO wrote of the same demand: its trips, drawn beside"
-            kind_parser.add_argument("--sumo", metavar="TRIPINFO", help=argument_help)
+        add_words_of_kind(kind_parser, kind)
     return tool_parser
+
+
+def add_words_of_kind(kind_parser: argparse.ArgumentParser, kind: str) -> None:
+    """Adds the words that one kind of picture alone takes."""
+    if kind in ("corridor", "fundamental"):
+        kind_parser.add_argument(
+            "--edges", required=kind == "corridor", default="", help="edges, with spaces or commas between"
+        )
+    if kind == "corridor":
+        kind_parser.add_argument("--both", action="store_true", help="the other direction too, below")
+        add_clock(kind_parser, "--first", "the first second shown", default=0)
+        add_clock(kind_parser, "--last", "the last second shown", default=600)
+    if kind == "fundamental":
+        add_diagram(kind_parser)
+    if kind == "map":
+        kind_parser.add_argument("--what", choices=picture_maps.WHAT, default="density", help="(default: %(default)s)")
+        add_clock(kind_parser, "--interval", "the interval shown, by its begin (default: the busiest; of density all)")
+    if kind == "greens":
+        kind_parser.add_argument(
+            "--shown", default="", help="lights shown, with spaces or commas between (default: the first six)"
+        )
+    if kind == "arrivals":
+        sumo = "what SUMO wrote of the same demand: its trips, drawn beside"
+        kind_parser.add_argument("--sumo", metavar="TRIPINFO", help=sumo)
 
 
 def add_diagram(tool_parser: argparse.ArgumentParser) -> None:

@@ -68,6 +68,12 @@ def parser() -> Parser:
         "--sealed", action="store_true",
         help="put into the page what made it, so that streetsim-check can run it again and compare each number",
     )
+    add_appendix(tool_parser)
+    return tool_parser
+
+
+def add_appendix(tool_parser: argparse.ArgumentParser) -> None:
+    """Adds the words that say what the appendix shows, and when."""
     tool_parser.add_argument(
         "--sheets", nargs="?", const=ALL_LIGHTS, default="", metavar="LIGHTS",
         help="a signal timing sheet for each of these lights, with commas between (default: all that plans change, or "
@@ -86,7 +92,6 @@ def parser() -> Parser:
     )
     for name, default in PICTURE_SECONDS.items():
         add_clock(tool_parser, f"--{name}", f"the {name} second shown, of the corridor's picture (default {default})")
-    return tool_parser
 
 
 def main(arguments: list[str]) -> int:
