@@ -73,10 +73,10 @@ class Junctions(Passages):
         kernel = self.kernel
         run, mapping, start = kernel.run, kernel.map, kernel.start
         crossed = Crossed(self, kernel.plans, self.interval, dwells(stops))
-        judge = UtilisationCalculator(self, self.shown, crossed, run.load.command["dawdle"])
+        calculator = UtilisationCalculator(self, self.shown, crossed, run.load.command["dawdle"])
         tables = JunctionTables(self.approaches, mapping.full.junctions())
         shown = map(pickle.loads, map(zlib.decompress, self.packed_intervals))
-        intervals = itertools.starmap(judge.interval_measures, enumerate(shown))
+        intervals = itertools.starmap(calculator.interval_measures, enumerate(shown))
         tables.write(folder, Names(mapping), intervals)
         plans, messages = [line.command["plan"] for line in run.enters], []
         if facing := junctions_with_facing_streets(mapping, plans, (self.until - start) / 3600):
