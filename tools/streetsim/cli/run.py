@@ -6,7 +6,7 @@ from streetsim.base.words import (
     Parser, add_jobs, add_lights, add_lost, add_rounds, add_run, integer_within, time_within,
 )
 from streetsim.cli.defaults import complete_outputs, complete_run, stem_of
-from streetsim.cli.given import given_words
+from streetsim.cli.given_words import given_words
 from streetsim.cli.words import add_clock, add_departures, add_out, add_simulator
 from streetsim.control.bus_planned import MOST_SEEN, SEEN
 from streetsim.model.folder import POLLS

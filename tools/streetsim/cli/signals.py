@@ -17,7 +17,7 @@ from streetsim.cli.words import add_check, add_clock, add_machines, add_out, see
 from streetsim.control.ending import after_departures
 from streetsim.model.folder import Folder
 from streetsim.model.runs import read_with_map
-from streetsim.observe.making import Making
+from streetsim.observe.run_making import RunOptions
 from streetsim.report.picture_files import load_pyplot
 from streetsim.report.picture_plots import Corridor, refuse_broken
 from streetsim.search.run_machines import machines
@@ -132,7 +132,7 @@ def main(arguments: list[str]) -> int:
     check_cycles(words, town)
     if words.bounds:
         return find_bounds(words, reading, town, check)
-    making = Making(reading.program, words.rounds)
+    making = RunOptions(reading.program, words.rounds)
     warn_of_gaps(words, town)
     target = PlanFiles(words.output, words.out, corridor_of(words, town), making, words.until)
     in_sumo = sumo_for(reading, town.mapping, town.run) if words.verify_sumo else None

@@ -12,7 +12,7 @@ from streetsim.model import trust
 from streetsim.model.folder import read_folder
 from streetsim.model.freeflow import FreeFlow
 from streetsim.model.tables import Entry, write_table
-from streetsim.observe.making import Making, one_run
+from streetsim.observe.run_making import RunOptions, make_run
 from streetsim.report.picture_files import load_pyplot, save_picture
 from streetsim.report.picture_plots import Corridor, draw_corridor
 from streetsim.search.run_prepared import Outcome
@@ -87,7 +87,7 @@ class PlanFiles:
     plan: str  # a file
     folder: str
     corridor: Corridor | None
-    making: Making  # of the runs that are drawn
+    making: RunOptions  # of the runs that are drawn
     until: int
 
 
@@ -138,7 +138,7 @@ def draw_plan(target: PlanFiles, corridor: Corridor, town: SignalTown, plan: Pla
     until = min(corridor.last + 1, target.until)
     settings = replace(town.settings, until=until, every=1, edges=tuple(corridor.edges))
     with tempfile.TemporaryDirectory() as folder:
-        one_run(target.making, run, town.mapping, settings, folder, lambda *_: None)
+        make_run(target.making, run, town.mapping, settings, folder, lambda *_: None)
         save_picture(draw_corridor(load_pyplot(), read_folder(folder), corridor), path)
 
 
