@@ -20,7 +20,7 @@ from test_help import parsers
 from streetsim.base.files import Fault
 from streetsim.base.report import Report
 from streetsim.cli.open_ import run_tool
-from streetsim.cli.opened import search_words
+from streetsim.cli.open_page import search_words
 from streetsim.demand.invented import invented_trips
 from streetsim.model.mapping import TOLD_INVENTED
 from streetsim.model.timing import SignalMovement, Timing
