@@ -1,27 +1,141 @@
-"""What the scripts of this folder share: places, commands that are run, seeds, and lines for the program.
+"""What the modules of this folder share: places, words of commands, commands that are run, seeds, lines, rows of
+tables, and what a table rests on.
 
-It puts the tools of this repository on the path, so that a script that imports it can import `streetsim` behind it.
+It puts the tools of this repository, and what their tests share, on the path, so that a module that imports it can
+import both behind it.
 """
 
 import argparse
+import ast
+import hashlib
+import inspect
 import json
 import os
-import random
+import re
+import resource
+import shutil
 import subprocess
 import sys
 import xml.etree.ElementTree as ElementTree
+from collections.abc import Callable, Iterable, Iterator, Sequence
+from dataclasses import dataclass
+from functools import cache
 from pathlib import Path
+from typing import NoReturn
 
 TOP = Path(__file__).resolve().parents[1]
-sys.path.insert(0, str(TOP / "tools"))
+TOOLS = TOP / "tools"
+sys.path[1:1] = [str(TOOLS), str(TOOLS / "tests")]
 
-SAMPLES, CORRIDOR = TOP / "tools/tests/data", TOP / "tools/examples/corridor"
+SAMPLES, CORRIDOR = TOOLS / "tests/data", TOOLS / "examples/corridor"
 SUMO_HOME = os.environ.get("SUMO_HOME", "/usr/share/sumo")
 SHIPPED = Path(SUMO_HOME) / "tools/sumolib/scenario/scenarios/RealWorld"  # networks and demands of sumo-tools
 RANDOM_TRIPS = f"{SUMO_HOME}/tools/randomTrips.py"
 
+# ---- the measurements, and their words
 
-def run(words, folder):
+FOLDERS = {  # by what is asked
+    "program": "The program: speed and memory",
+    "beside_sumo": "How close to SUMO",
+    "planners": "What planners do",
+    "repository": "The repository",
+    "networks": "Networks for all of these",
+}
+# The functions main_NAME of modules in these folders are the measurements; each has a text.
+MAIN = re.compile(r'^def main_(\w+)\(argv: [^\n]*\n    """(.*?)"""$', re.MULTILINE | re.DOTALL)
+
+
+@dataclass(frozen=True)
+class Command:
+    """A measurement: the module that has it, what it answers, and what it takes."""
+
+    name: str
+    module: str
+    question: str
+    takes: str
+
+    @property
+    def function(self) -> str:
+        return f"main_{self.name.replace('-', '_')}"
+
+
+def commands_of(folder: str, top: Path = TOP) -> Iterator[Command]:
+    """The measurements of a folder; its modules are read, not loaded."""
+    for path in sorted((top / "bench" / folder).glob("*.py")):
+        for name, text in MAIN.findall(path.read_text(encoding="utf-8")):
+            question, takes, *_ = (" ".join(part.split()).rstrip(".") for part in f"{text}\n\n".split("\n\n"))
+            yield Command(name.replace("_", "-"), f"{folder}.{path.stem}", question, takes.removeprefix("Takes "))
+
+
+def all_commands(top: Path = TOP) -> dict[str, Command]:
+    """All measurements by name."""
+    return {command.name: command for folder in FOLDERS for command in commands_of(folder, top)}
+
+
+class Parser(argparse.ArgumentParser):
+    """A parser that says in one line what it refuses."""
+
+    def error(self, message: str) -> NoReturn:
+        self.exit(2, f"{self.prog}: {message}; --help has all words\n")
+
+
+def parser_of(command: Callable, program: bool = True, work: bool = False) -> argparse.ArgumentParser:
+    """A parser whose help is the text of a measurement's function. program: the first word; work: whether it needs a
+    folder."""
+    name, path = command.__name__.removeprefix("main_").replace("_", "-"), Path(inspect.getfile(command)).resolve()
+    made = Parser(
+        prog=f"bench/run {name}",
+        description=inspect.getdoc(command),
+        epilog=f"It is in {path.relative_to(TOP)}.",
+        formatter_class=argparse.RawTextHelpFormatter,
+    )
+    if program:
+        made.add_argument("program", metavar="PROGRAM", type=found_program, help="the built program")
+    if work:
+        made.add_argument("--work", required=True, type=whole, help="a folder for what is made")
+    return made
+
+
+def add_some(parser: argparse.ArgumentParser, word: str, known: Iterable[str], usual: Iterable[str] = ()) -> None:
+    """A word for some names of those that are known. usual: where it is not given; all where nothing is told."""
+    names = [*known]
+
+    def read(text: str) -> list[str]:
+        if unknown := [name for name in text.split(",") if name not in names]:
+            raise argparse.ArgumentTypeError(f"{unknown[0]!r} is none of {', '.join(names)}")
+        return text.split(",")
+
+    told = f"some, with commas between, of {', '.join(names)}"
+    parser.add_argument(word, type=read, default=[*(usual or names)], metavar="NAME,..", help=told)
+
+
+def found_program(text: str) -> str:
+    """The whole path of a program."""
+    if not (found := shutil.which(text)):
+        raise argparse.ArgumentTypeError(f"no program is at {text}")
+    return str(whole(found))
+
+
+def whole(text: str) -> Path:
+    return Path(text).resolve()
+
+
+def work_of(args: argparse.Namespace) -> Path:
+    """The folder of --work, made where it is not there."""
+    args.work.mkdir(parents=True, exist_ok=True)
+    return args.work
+
+
+def numbers(seeds: str) -> range:
+    """The seeds of FIRST-LAST, or of one number."""
+    first, _, last = seeds.partition("-")
+    return range(int(first), int(last or first) + 1)
+
+
+# ---- commands that are run
+
+
+def run(words: Iterable[object], folder: Path) -> str:
     """Runs a command in a folder; gives what it said."""
     words = [str(word) for word in words]
     done = subprocess.run(words, cwd=folder, env=with_sumo(), capture_output=True, text=True, check=False)
@@ -30,48 +144,26 @@ def run(words, folder):
     return done.stdout + done.stderr
 
 
-def with_sumo():
+def with_sumo() -> dict[str, str]:
     """This environment, and where SUMO is."""
     return {**os.environ, "SUMO_HOME": SUMO_HOME}
 
 
-def parser_of(page):
-    """A parser whose help is a script's own text, with the program as its first word."""
-    made = argparse.ArgumentParser(description=page, formatter_class=argparse.RawTextHelpFormatter)
-    made.add_argument("program")
-    return made
+def children_seconds() -> float:
+    """The processor seconds of all processes that this one has waited for, and that these have."""
+    used = resource.getrusage(resource.RUSAGE_CHILDREN)
+    return used.ru_utime + used.ru_stime
 
 
-def random_routes(streams, last, seed):
-    """A route file with vehicles at random until a second. streams: (begin of their names, vehicles an hour, edges) of
-    each."""
-    draws, found = random.Random(seed), []
-    for name, hourly, edges in streams:
-        clock = 0.0
-        while hourly and (clock := clock + draws.expovariate(hourly / 3600)) < last:
-            found.append((clock, f"{name}.{len(found)}", edges))
-    lines = (
-        f'<vehicle id="{name}" depart="{clock:.1f}" departSpeed="max"><route edges="{edges}"/></vehicle>'
-        for clock, name, edges in sorted(found)
-    )
-    return f"<routes>{''.join(lines)}</routes>"
+# ---- rows of tables
 
 
-def work_of(args):
-    """The folder of --work, made where it is not there; the program's path from then on is a whole one."""
-    args.program = str(Path(args.program).resolve())
-    folder = Path(args.work).resolve()
-    folder.mkdir(parents=True, exist_ok=True)
-    return folder
+def print_heads(heads: str) -> None:
+    """The head of a table, with bars between."""
+    print(f"| {heads} |\n|{'---|' * (heads.count('|') + 1)}", flush=True)
 
 
-def numbers(seeds):
-    """The seeds of FIRST-LAST, or of one number."""
-    first, _, last = seeds.partition("-")
-    return range(int(first), int(last or first) + 1)
-
-
-def spread(values):
+def spread(values: Sequence[float]) -> str:
     """A mean and half the width of its 95 % interval, in whole numbers."""
     from streetsim.base.seeds import mean_and_half_width
 
@@ -79,17 +171,185 @@ def spread(values):
     return f"{mean:,.0f}" + (f" ± {half:,.0f}" if half is not None else "")
 
 
-def teleports_of(statistic):
+def teleports_of(statistic: Path) -> int:
     """The teleports of a statistic output of SUMO's."""
     return int(ElementTree.parse(statistic).getroot().find("teleports").get("total"))
 
 
-def text_of(command):
+# ---- lines of the program
+
+
+def text_of(command: dict) -> str:
     """A command, or a reply, as the program has it on a line."""
     return json.dumps(command, separators=(",", ":"))
 
 
-def load(nodes, links, turns, zone=0, dawdle=0, change=0, seed=0):
+def load(nodes, links, turns, zone: int = 0, dawdle: int = 0, change: int = 0, seed: int = 0) -> dict:
     """The command that loads a network."""
     values = {"zone": zone, "dawdle": dawdle, "change": change, "seed": seed}
     return {"cmd": "load", "nodes": nodes, "links": links, "turns": turns, **values}
+
+
+# ---- what a table rests on: the modules that print it, those of the tools that its commands load, and the machine's
+# definitions, all without comments, docs and blanks
+
+PARTS = ("script", "tools", "machine")
+DEFINING = ("street_base", "street_text")  # the crates that define what is answered
+COMMAND = re.compile(r"(?:.*/)?streetsim-([a-z]+)")
+
+
+def digests_of(command: Command, top: Path) -> dict[str, str]:
+    """A digest of each of PARTS for a table that a measurement prints. top: the repository."""
+    loaded = loaded_by(command, top)
+    return {
+        "script": digest(dumped(loaded[name]) for name in sorted(loaded) if not is_tool(name)),
+        "tools": digest_of_tools(loaded),
+        "machine": digest(machine(top)),
+    }
+
+
+def is_tool(name: str) -> bool:
+    return name.partition(".")[0] == "streetsim"
+
+
+def digest_of_tools(loaded: dict[str, ast.Module]) -> str:
+    return digest(f"{name} {dumped(loaded[name])}" for name in sorted(loaded) if is_tool(name))
+
+
+def digest(texts: Iterable[str]) -> str:
+    found = hashlib.sha256()
+    for text in texts:
+        found.update(f"{text}\n".encode())
+    return found.hexdigest()[:16]
+
+
+@cache
+def tree_of(path: Path) -> ast.Module:
+    """A module without the docs of its classes, its functions and itself."""
+    tree = ast.parse(path.read_text(encoding="utf-8"))
+    for node in ast.walk(tree):
+        if isinstance(node, (ast.Module, ast.ClassDef, ast.FunctionDef, ast.AsyncFunctionDef)):
+            if ast.get_docstring(node, clean=False) is not None:
+                node.body = node.body[1:]
+    return tree
+
+
+@cache
+def dumped(tree: ast.Module) -> str:
+    """What a module does: its code without docs, comments and layout."""
+    return ast.dump(tree)
+
+
+def part_of(tree: ast.Module, name: str) -> ast.Module:
+    """What of a module a function of it needs: the other ones, the values and the imports that it names, and so on."""
+    bound = {known: node for node in tree.body for known in names_bound(node)}
+    needed, left = set(), [name]
+    while left:
+        node = bound.get(left.pop())
+        if node and id(node) not in needed:
+            needed.add(id(node))
+            left += names_used(node)
+    return ast.Module([node for node in tree.body if id(node) in needed or not [*names_bound(node)]], [])
+
+
+def names_used(node: ast.stmt) -> set[str]:
+    """The names of the module that a statement may use: in a function not those that it gives to values of its own,
+    but for those of comprehensions, behind which a name means what it meant before."""
+    every = [one for one in ast.walk(node) if isinstance(one, ast.Name)]
+    inner = [one for part in ast.walk(node) if isinstance(part, ast.comprehension) for one in ast.walk(part.target)]
+    own = {one.id for one in {*every} - {*inner} if isinstance(one.ctx, ast.Store)}
+    return {one.id for one in every} - (own if isinstance(node, ast.FunctionDef) else set())
+
+
+def names_bound(node: ast.stmt) -> Iterator[str]:
+    """The names that a statement gives to something."""
+    if isinstance(node, (ast.FunctionDef, ast.ClassDef)):
+        yield node.name
+    elif isinstance(node, (ast.Import, ast.ImportFrom)):
+        yield from (one.asname or one.name.partition(".")[0] for one in node.names)
+    elif isinstance(node, (ast.Assign, ast.AnnAssign)):
+        yield from (one.id for one in ast.walk(node) if isinstance(one, ast.Name) and isinstance(one.ctx, ast.Store))
+
+
+@cache
+def modules(top: Path) -> dict[str, Path]:
+    """All modules by the names that measurements import them by: of bench/, of the tests' helpers, of the tools."""
+    found = {}
+    for folder in (top / "tools/tests", top / "tools", top / "bench"):
+        for path in (*folder.glob("*.py"), *folder.glob("[a-z]*/**/*.py")):
+            parts = path.relative_to(folder).with_suffix("").parts
+            found[".".join(parts[:-1] if parts[-1] == "__init__" else parts)] = path
+    return found
+
+
+def loaded_by(command: Command, top: Path) -> dict[str, ast.Module]:
+    """The part of its module that a measurement needs, and all modules that it and its commands load, by name."""
+    begin = part_of(tree_of(modules(top)[command.module]), command.function)
+    return {command.module: begin, **loaded_from([(command.module, begin)], top)}
+
+
+def loaded_from(begin: Iterable[tuple[str, ast.Module]], top: Path) -> dict[str, ast.Module]:
+    """The modules that some modules and their commands load, and these, by name."""
+    known, left = modules(top), [*begin]
+    have, found = {name for name, _ in left}, {}
+    while left:
+        name, tree = left.pop()
+        package = name if name in known and known[name].name == "__init__.py" else name.rpartition(".")[0]
+        wanted = needed_by(tree, package, not is_tool(name))
+        new = {other: tree_of(known[other]) for other in wanted if other in known and other not in have}
+        have.update(new)
+        found.update(new)
+        left += new.items()
+    return found
+
+
+@cache
+def needed_by(tree: ast.Module, package: str, running: bool) -> list[str]:
+    """The names that may be modules that a module imports, or whose commands it runs."""
+    return sorted({*imported(tree, package), *(commands_in(tree) if running else ())})
+
+
+def imported(tree: ast.Module, package: str) -> Iterator[str]:
+    """The names that may be modules of what is imported, at the top or in functions, with the packages above each."""
+    for node in ast.walk(tree):
+        if isinstance(node, ast.Import):
+            for one in node.names:
+                yield from above(one.name)
+        elif isinstance(node, ast.ImportFrom):
+            parents = package.split(".")[: len(package.split(".")) + 1 - node.level] if node.level else []
+            begin = ".".join([*parents, *filter(None, [node.module])])
+            yield from above(begin)
+            yield from (f"{begin}.{one.name}" for one in node.names)
+
+
+def above(name: str) -> Iterator[str]:
+    """A name and those of the packages that it lies in."""
+    parts = name.split(".")
+    return (".".join(parts[:count]) for count in range(1, len(parts) + 1))
+
+
+def commands_in(tree: ast.Module) -> Iterator[str]:
+    """The modules of the commands that a module names in its texts, with those above."""
+    for node in ast.walk(tree):
+        if isinstance(node, ast.Constant) and isinstance(node.value, str) and (found := COMMAND.fullmatch(node.value)):
+            yield from modules_of(found[1])
+
+
+def modules_of(name: str) -> list[str]:
+    """The modules that a command of the tools may be, with those above."""
+    return [*above(f"streetsim.cli.{name}"), f"streetsim.cli.{name}_"]
+
+
+def digest_of_commands(names: Iterable[str], top: Path) -> str:
+    """A digest of the modules of the tools that some of their commands load."""
+    known = modules(top)
+    begin = {one: tree_of(known[one]) for name in names for one in modules_of(name) if one in known}
+    return digest_of_tools({**begin, **loaded_from(begin.items(), top)})
+
+
+@cache
+def machine(top: Path) -> tuple[str, ...]:
+    """The definitions of the machine and of its lines, without comments and layout. The program is proved to answer as
+    they say, so neither its code nor a proof moves a table."""
+    paths = (path for crate in DEFINING for path in sorted((top / "crates" / crate / "specs").rglob("*.antt")))
+    return tuple(" ".join(re.sub("--.*", "", path.read_text(encoding="utf-8")).split()) for path in paths)

@@ -1,4 +1,4 @@
-"""bench/rows.py, sides.py and doubts.py: rows of networks beside SUMO, kept, counted and told by what is doubted."""
+"""bench/beside_sumo/rows.py: rows of networks beside SUMO, kept, counted and told by what is doubted."""
 import sys
 import unittest
 from dataclasses import replace
@@ -7,11 +7,11 @@ from unittest import mock
 from support import TOOLS, Case
 
 sys.path.insert(0, str(TOOLS.parent / "bench"))
-import rows  # noqa: E402
-from doubts import REASONS, reasons  # noqa: E402
-from rows import Row, Tally, row_of, tally  # noqa: E402
-from sides import Side, doubt_of, mean_trips, side_of, text_of  # noqa: E402
-from unseen_nets import Made  # noqa: E402
+from beside_sumo import rows  # noqa: E402
+from beside_sumo.rows import (  # noqa: E402
+    REASONS, Row, Side, Tally, doubt_of, mean_trips, reasons, row_of, side_of, tally, text_of,
+)
+from networks.unseen import Made  # noqa: E402
 
 FULL = "9 of 10 vehicles pass lanes that are nearly full by the demand, and their queues may be other than in SUMO: "
 PLACES = "left from A to B at J1: demand 1.10 of what passes here; straight on from C to D at J2: demand 1.00 of what"

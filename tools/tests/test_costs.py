@@ -1,4 +1,4 @@
-"""bench/costs.py: the table of what the gate costs, of made-up gates;
+"""bench/run costs: the table of what the gate costs, of made-up gates;
 figures of what was kept are those of the run that proved it."""
 import importlib.util
 import json
@@ -11,7 +11,10 @@ import unittest
 
 from support import TOOLS, Case
 
-COSTS = TOOLS.parent / "bench/costs.py"
+sys.path.insert(0, str(TOOLS.parent / "bench"))  # which has what costs.py imports
+
+BENCH = TOOLS.parent / "bench"
+COSTS = "repository/costs.py"
 # What rt ci prints: of a crate and its tests that were proved, and of one that an earlier run proved.
 PROVED = """== street_base
 logic=proved functions=43 sum=dac8208d650f15bf
@@ -58,10 +61,11 @@ class Costs(Case):
         ):
             (self.top / path).parent.mkdir(parents=True, exist_ok=True)
             (self.top / path).write_text(text)
-        (self.top / "bench").mkdir()
-        shutil.copy(COSTS, self.top / "bench")
+        (self.top / "bench/repository").mkdir(parents=True)
+        for name in ("run", "shared.py", COSTS):
+            shutil.copy(BENCH / name, self.top / "bench" / name)
         (self.folder / "rattle").symlink_to(os.path.realpath(sys.executable))
-        spec = importlib.util.spec_from_file_location("costs", self.top / "bench/costs.py")
+        spec = importlib.util.spec_from_file_location("costs", self.top / "bench" / COSTS)
         self.costs = importlib.util.module_from_spec(spec)
         spec.loader.exec_module(self.costs)
 
@@ -72,7 +76,7 @@ class Costs(Case):
         (self.top / "gate.py").write_text(
             SCRIPT.format(seconds=seconds, checks=list(checks), rattle=rattle, prints=prints)
         )
-        command = [sys.executable, "bench/costs.py", *words, sys.executable, "gate.py"]
+        command = [sys.executable, "bench/run", "costs", *words, sys.executable, "gate.py"]
         done = subprocess.run(command, cwd=self.top, capture_output=True, text=True, check=False)
         self.assertEqual((done.returncode, done.stdout), (status, prints), done.stderr)
         return done.stderr
@@ -191,7 +195,7 @@ class Costs(Case):
             (self.top / f"crates/{name}/src/main.rt").write_text("fn main() {}\n// more\n")
         more = [("street_more", "proof", 20.0, 1), ("street_more", "compiled", 3.0, 0)]
         self.earlier(("rt ci street_more", more))
-        words = [sys.executable, "bench/costs.py", "--rows"]
+        words = [sys.executable, "bench/run", "costs", "--rows"]
         subprocess.run([*words, "street_more"], cwd=self.top, check=True)
         self.assertEqual(self.row("street_more"), ["2", "", "1", "", "", "20", "", "", "3", "3"])
         self.assertEqual(self.row("street_base"), ["3", "2", "43", "7", "2", "61", "1,002", "30", "", "1, 2"])
@@ -206,15 +210,15 @@ class Costs(Case):
 
     def test_beside(self):
         log = self.write("log", PROVED + PROGRAM + TRIED + PASSED)
-        with subprocess.Popen([sys.executable, "-c", "import time; time.sleep(1)"]) as gate:
-            words = [sys.executable, "bench/costs.py", "--beside", str(gate.pid), "--log", log]
+        with subprocess.Popen([sys.executable, "-c", "import time; time.sleep(5)"]) as gate:
+            words = [sys.executable, "bench/run", "costs", "--beside", str(gate.pid), "--log", log]
             # The gate is this process's child, and is gone only once it was waited for.
             with subprocess.Popen(words, cwd=self.top, stderr=subprocess.DEVNULL) as costs:
                 gate.wait()
                 self.assertEqual(costs.wait(timeout=60), 0)
         self.assertEqual(self.row("street_base")[2:5], ["43", "7", "2"])
         (self.top / "docs/COSTS.md").unlink()
-        subprocess.run([sys.executable, "bench/costs.py", "--log", log], cwd=self.top, check=True)
+        subprocess.run([sys.executable, "bench/run", "costs", "--log", log], cwd=self.top, check=True)
         self.assertEqual(self.row("street_base")[2:5], ["43", "7", "2"])
         self.assertEqual(len(self.notes()), 1)
 

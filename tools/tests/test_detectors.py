@@ -115,7 +115,7 @@ class Detectors(Case):
     @needs_simulator
     def test_beside_sumo(self):
         """The grid's 240 lanes with a loop in the middle and an area on the last 100 m of each, four quarter hours;
-        the means of SUMO 1.15 are printed by bench/detectors.py."""
+        the means of SUMO 1.15 are printed by bench/run detectors."""
         with gzip.open(DATA / "grid.net.xml.gz", "rt", encoding="utf-8") as file:
             lanes = [
                 (lane.get("id"), float(lane.get("length")))

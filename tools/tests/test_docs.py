@@ -14,6 +14,7 @@ FENCE = re.compile(r"^ *```.*?^ *```$", re.MULTILINE | re.DOTALL)
 # A file of the repository, as a page writes it: of a kind that no tool writes for a user.
 FILE = re.compile(r"(?:[\w.-]+/)*[\w-]+\.(?:rt|antt|edit|py|md|js)")
 NAME = re.compile(r"[A-Za-z_]\w*(?:(?:::|\.)[A-Za-z_]\w*)*(?:\(\))?")
+MEASURED = re.compile(r"bench/run ([a-z][a-z-]*|NAME)")
 # Names of other programs, and the end of a crate's name.
 FOREIGN = {"MSCFModel", "passingTime", "lefthand", "distributed", "comm", "tls", "listhc", "_tests"}
 # Files without names.
@@ -109,11 +110,14 @@ class Pages(Case):
         self.assertGreater(len(named), 20)
         self.assertEqual(sorted(named - edits - {"once"}), [])
 
-    def test_each_script_of_bench_is_in_its_table(self):
-        text = (TOP / "bench/README.md").read_text(encoding="utf-8")
-        scripts = {re.sub(r"/.*", "", path.removeprefix("bench/")) for path in listed(TOP) if path.startswith("bench/")}
-        written = ("README.md", "RESULTS.md", "tables.json")
-        self.assertEqual([name for name in sorted(scripts.difference(written)) if name not in text], [])
+    def test_each_measurement_that_a_page_names_is_there(self):
+        done = subprocess.run([TOP / "bench/run", "--list"], capture_output=True, text=True, check=True)
+        known = dict(re.findall(r"^  ([a-z-]+) +(\S.* \[\S.*\])$", done.stdout, re.MULTILINE))
+        lines = [line for line in done.stdout.splitlines() if line.startswith(" ")]
+        self.assertEqual(len(known), len(lines))  # each with its question and what it takes
+        named = {name for page in pages(TOP) for name in MEASURED.findall(page.read_text(encoding="utf-8"))}
+        self.assertEqual(sorted(named - {*known, "NAME"}), [])
+        self.assertGreater(len(named), 30)
 
     def test_what_is_lost_is_found(self):
         links = "[a](#one-head) [b](#two) [c](page.md#one-head) [d](x.md)"

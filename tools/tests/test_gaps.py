@@ -13,7 +13,7 @@ from streetsim.observe.giving_way_gaps import (
     CLOSE, MOST_SEEN, PATIENCE, UNSEEN, GapCounts, be_patient, followings, gap_lines, mark, phases_of_reds, red_seconds,
     slow_down, standing_seconds, stands_of,
 )
-from streetsim.sumo.conflicts import CROSSING, JOINING, foes
+from streetsim.sumo.conflicts import CROSSING, JOINING, foes, turns_by_movement
 from streetsim.sumo.driving import Driving
 from streetsim.sumo.import_files import convert
 from streetsim.sumo.net import MAJOR, MINOR, STOPS, NetConnection
@@ -189,6 +189,22 @@ class Conflicts(unittest.TestCase):
         self.assertEqual(seconds, [3.0, 9.0, 9.0])
         self.assertEqual(self.gap(STOPS, STOPS), self.gap(STOPS, MAJOR))
         self.assertEqual(self.gap(MINOR, MINOR, "e").seconds, CROSSING.seconds)
+
+    def test_turns_that_sumo_has_not_go_first_too(self):
+        """Two lanes of a main street are one link, so those who turn left leave both: who waits sees them all."""
+        lanes = (("w", (0, 1)), ("n", (0,)))
+        links = [SimpleNamespace(edge=edge, lanes=own, speed=13.89) for edge, own in lanes]
+        turns = {(0, 1, 1): SimpleNamespace(added=False), (0, 0, 1): SimpleNamespace(added=True)}
+        network = SimpleNamespace(
+            place_of={("w", 1): (0, 1)}, links_of={"w": [0], "n": [1]}, links=links, rings=[], turns=turns
+        )
+        self.assertEqual(turns_by_movement(network), {("w", "n"): [(0, 1, 1), (0, 0, 1)]})
+        waiting, left = (
+            NetConnection("s", "n", 0, 0, None, 0, MINOR), NetConnection("w", "n", 1, 0, None, 0, MINOR)
+        )  # fmt: skip
+        found = foes(waiting, left, network, turns_by_movement(network, True))
+        self.assertEqual({(one.link, one.lane, one.next) for one in found.values()}, set(turns))
+        self.assertEqual(len({one.gap for one in found.values()}), 1)
 
 
 class Lines(unittest.TestCase):

@@ -1,5 +1,5 @@
-"""Changes of single places in the tools that tests must notice: those of data/mutants.json, which bench/mutants drew by
-a seed and keeps there. Each is [file, its line, the line as it is changed, a test that fails then]."""
+"""Changes of single places in the tools that tests must notice: those of data/mutants.json, which bench/run mutants
+drew by a seed and keeps there. Each is [file, its line, the line as it is changed, a test that fails then]."""
 import json
 import os
 import shutil
@@ -33,7 +33,7 @@ def failing(tools, *tests, longest=LONGEST):
 
 class Listed(unittest.TestCase):
     def test_each_line_stands_once_in_its_file(self):
-        """Where a line was changed since, take it off the list, and have bench/mutants draw others with --keep."""
+        """Where a line was changed since, take it off the list, and have bench/run mutants draw others with --keep."""
         for path, line, changed, test in LIST:
             text = (TOOLS / "streetsim" / path).read_text()
             self.assertEqual(text.count(line), 1, (path, line))

@@ -1,4 +1,6 @@
 """How long SUMO's vehicles take alone: on streets, by their types, where they depart, and across junctions."""
+import math
+import random
 import unittest
 from xml.etree import ElementTree
 
@@ -10,7 +12,7 @@ from streetsim.sumo.driving import Driving, driving_of
 from streetsim.sumo.import_files import convert
 from streetsim.sumo.net import read_net
 from streetsim.sumo.network import Options
-from streetsim.sumo.paces import Drivers, Paces
+from streetsim.sumo.paces import Drivers, Paces, lost_behind
 
 KMH = 3.6
 # Seconds for a metre at 50 km/h in SUMO 1.15, of 4,800 vehicles of a type, each alone, with eight seeds.
@@ -144,6 +146,18 @@ class Across(Case):
         self.assertAlmostEqual(self.crossing('tl="L" linkIndex="0"'), seconds, places=2)
 
 
+def drawn_behind(hourly, metres, speed, count=20_000):
+    """Mean seconds lost behind slower ones on one lane, by vehicles drawn one by one; speed: metres a second."""
+    draws, clock, last, lost = random.Random(5), 0.0, 0.0, 0.0
+    for _ in range(count):
+        clock += draws.expovariate(hourly / 3600)
+        own = speed * min(2.0, max(0.2, draws.gauss(1, 0.1)))
+        alone = clock + metres / (own - 0.25 * min(2.6, own))
+        last = max(alone, last + 1 + 7.5 / speed)
+        lost += last - alone
+    return lost / count
+
+
 class Bunches(unittest.TestCase):
     def test_who_follows_a_slower_one_loses(self):
         """None where nobody drives, more the more there are."""
@@ -153,8 +167,23 @@ class Bunches(unittest.TestCase):
             drivers = Drivers({Driving(): count})
             alone.seconds = 3600.0
             lost.append(alone.bunching(drivers, 2000.0, 50 / KMH))
-        self.assertTrue(0 < lost[0] < lost[1] < lost[2] < 10, lost)
+        self.assertTrue(0 < lost[0] < lost[1] < lost[2], lost)
         self.assertEqual(alone.bunching(Drivers({Driving(deviation=0.0): 400}), 2000.0, 50 / KMH), 0.0)
+
+    def test_two_speeds(self):
+        """By hand: half need 20 s more, and come each 40 s. A fast one is held up for more than z seconds unless no
+        slow one came in the 20 - z seconds before it, exp(-(20 - z) / 40); the mean is 20 - 40 (1 - exp(-1 / 2)) s."""
+        self.assertAlmostEqual(lost_behind(0.05, [(120.0, 0.5), (100.0, 0.5)]), 0.5 * (20 - 40 * (1 - math.exp(-0.5))))
+        self.assertEqual(lost_behind(0.05, [(100.0, 0.5), (100.0, 0.5)]), 0.0)
+
+    def test_a_queue_that_is_drawn(self):
+        """As long as vehicles lose that are drawn one by one, and arrive no less than they keep apart behind the one
+        before, in the mean."""
+        paces = Paces()
+        paces.seconds = 3600.0
+        for kmh, hourly in ((20, 200), (30, 400), (50, 200), (100, 100)):
+            found = paces.bunching(Drivers({Driving(): hourly}), 2000.0, kmh / KMH)
+            self.assertAlmostEqual(found / drawn_behind(hourly, 2000.0, kmh / KMH), 1, delta=0.12, msg=(kmh, hourly))
 
 
 if __name__ == "__main__":

@@ -270,7 +270,7 @@ class Packed(Case):
         for prefix, pages, more in ((self.usr, "../README", packages), (self.venv, "../README,README", {})):
             with self.subTest(prefix.name):
                 path = f"{prefix / 'bin'}:/usr/bin:/bin"
-                words = ["/usr/bin/python3", TOP / "bench/walks.py", "--installed", "--only", pages]
+                words = ["/usr/bin/python3", TOP / "bench/run", "walks", "--installed", "--only", pages]
                 told = self.do([*words, "--work", self.folder / prefix.name], PATH=path, SUMO_HOME="", **more)
                 self.assertIn("each walk prints what its page says", told)
 

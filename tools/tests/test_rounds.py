@@ -377,7 +377,7 @@ class Capacity(Rounds):
         return sum(600 <= clock < LAST for clock in arrived) * 3600 / (LAST - 600)
 
     def test_as_many_join_as_in_sumo(self):
-        # In SUMO 1.15 a right turn into such a street, always full: 560 against 400 an hour (bench/junctions).
+        # In SUMO 1.15 a right turn into such a street, always full: 560 against 400 an hour (bench/run junctions).
         self.assertLess(abs(self.entries(400) / 560 - 1), 0.15)
 
 

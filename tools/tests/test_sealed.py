@@ -218,7 +218,7 @@ DIGITS = {
     "vehicles of a movement": section("details") + r"<tbody>.*?<td>(\d)",
     "v/c of a movement": section("details") + r"</span></td><td>0\.(\d)",
     "a queue": section("details") + r'<td><span class="ids">(\d)',
-    "the bar of a queue": section("details") + r'<rect x="156" y="11" width="(\d)',
+    "the bar of a queue": section("details") + r'<rect y="3" width="(\d)',
     "the line of a greatest queue": section("details") + r'<line x1="(\d)',
     "the text of a bar": section("details") + r'<text x="646" y="21">(\d)',
     "seeds": section("run") + r"seeds (\d)",

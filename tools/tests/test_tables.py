@@ -1,19 +1,17 @@
-"""bench/tables: what a table rests on, what of printed rows stands otherwise on a page, and putting it there."""
+"""bench/run tables: what a table rests on, what of printed rows stands otherwise on a page, and putting it there."""
 import json
 import re
 import subprocess
 import sys
 import unittest
-from importlib.machinery import SourceFileLoader
-from importlib.util import module_from_spec, spec_from_loader
 from pathlib import Path
 
 from support import TOOLS, Case
 
 TOP = TOOLS.parent
 sys.path.insert(0, str(TOP / "bench"))
-from placing import grids, put, section  # noqa: E402
-from sources import digests_of, loaded_by  # noqa: E402
+from repository.tables import TABLES, grids, put, section  # noqa: E402
+from shared import all_commands, digests_of, loaded_by  # noqa: E402
 
 PAGE = """# Page
 
@@ -48,9 +46,25 @@ told below
 |---|---|
 | large | 9.9 |
 """
-# A repository with one script, which runs one command.
+# A repository with one measurement, which runs one command, beside another one.
+SEEN = '''"""Page."""
+from helper import TOOL
+from streetsim.cli import play
+KNOWN = TOOL
+
+
+def main_seen(argv: list[str]) -> int:
+    """What is seen."""
+    play = KNOWN  # its own value, not the module
+    print(play, "streetsim-play is not run")
+
+
+def main_unseen(argv: list[str]) -> int:
+    """What is not."""
+    return play.PLAY
+'''
 MADE = {
-    "bench/seen": '"""Page."""\nfrom helper import TOOL\nprint(TOOL, "streetsim-play is not run")\n',
+    "bench/program/both.py": SEEN,
     "bench/helper.py": 'TOOL = "tools/streetsim-run"\n',
     "bench/other.py": "OTHER = 1\n",
     "tools/streetsim/__init__.py": "",
@@ -75,14 +89,6 @@ def figures(lines):
         having = [line for line, row in grid.rows.items() if any(map(FIGURE.search, row[1:]))]
         if 2 * len(having) > len(grid.rows):
             yield min(grid.rows)
-
-
-def of_the_script():
-    """The tables that bench/tables makes."""
-    spec = spec_from_loader("tables", SourceFileLoader("tables", str(TOP / "bench/tables")))
-    module = module_from_spec(spec)
-    spec.loader.exec_module(module)
-    return module.TABLES
 
 
 class Placing(Case):
@@ -122,12 +128,12 @@ class Sources(Case):
             for path, content in files.items():
                 (top / path).parent.mkdir(parents=True, exist_ok=True)
                 (top / path).write_text(content, encoding="utf-8")
-        before, after = (digests_of("seen", top) for top in tops)
+        before, after = (digests_of(all_commands(top)["seen"], top) for top in tops)
         return [part for part in before if before[part] != after[part]]
 
     def test_what_a_table_rests_on_changes_its_digests(self):
         for name, text, part in (
-            ("bench/seen", MADE["bench/seen"] + "print()\n", "script"),
+            ("bench/program/both.py", SEEN.replace("is not run", "is run"), "script"),
             ("bench/helper.py", MADE["bench/helper.py"] + "MORE = 1\n", "script"),
             ("tools/streetsim/base/low.py", "LOW = 2\n", "tools"),
             ("crates/street_base/specs/One.antt", "one = 2\n", "machine"),
@@ -137,6 +143,7 @@ class Sources(Case):
     def test_nothing_else_does(self):
         for name, text in (
             ("bench/other.py", "OTHER = 2\n"),
+            ("bench/program/both.py", SEEN.replace("return play.PLAY", "return play.PLAY + 1")),
             ("tools/streetsim/cli/play.py", "PLAY = 2\n"),
             ("tools/streetsim/base/low.py", '"""Other docs."""\n\nLOW = 1\n'),
             ("crates/street_base/src/lib.rt", "pub fn one() -> u64 { 2 }\n"),
@@ -146,27 +153,25 @@ class Sources(Case):
             self.assertEqual(self.changed_by(name, text), [], name)
 
     def test_a_table_of_closeness_rests_on_the_commands_that_it_runs(self):
-        loaded = loaded_by("closeness", TOP).keys()
-        self.assertLessEqual({"shared", "roundabouts", "streetsim.cli.run", "streetsim.cli.import_"}, loaded)
+        loaded = loaded_by(all_commands()["closeness"], TOP).keys()
+        self.assertLessEqual({"shared", "networks.streets", "streetsim.cli.run", "streetsim.cli.import_"}, loaded)
         self.assertEqual([name for name in loaded if name.startswith(("streetsim.live", "streetsim.traci"))], [])
 
 
 class Pages(Case):
-    def test_each_table_has_its_script_and_its_heading(self):
-        tables = of_the_script()
-        for table in tables:
+    def test_each_table_has_its_measurement_and_its_heading(self):
+        for table in TABLES:
             lines = (TOP / table.page).read_text(encoding="utf-8").split("\n")
             self.assertEqual(lines.count(table.heading), 1, f"{table.name}: {table.heading}")
-            self.assertTrue((TOP / "bench" / table.script).exists(), table.name)
-        names = [table.name for table in tables]
+            self.assertIn(table.command, all_commands(), table.name)
+        names = [table.name for table in TABLES]
         self.assertEqual(len({*names}), len(names))
         self.assertLessEqual(json.loads((TOP / "bench/tables.json").read_text()).keys(), {*names})
 
-    def test_each_table_of_figures_of_the_tools_is_made_by_a_script(self):
-        tables = of_the_script()
+    def test_each_table_of_figures_of_the_tools_is_made_by_a_measurement(self):
         for page in sorted(TOOLS.glob("*.md")):
             lines = page.read_text(encoding="utf-8").split("\n")
-            made = [section(lines, table.heading) for table in tables if table.page == f"tools/{page.name}"]
+            made = [section(lines, table.heading) for table in TABLES if table.page == f"tools/{page.name}"]
             lost = [line + 1 for line in figures(lines) if not any(line in lines_of for lines_of in made)]
             self.assertEqual(lost, [], page.name)
 
@@ -175,7 +180,7 @@ class Pages(Case):
         self.assertEqual(list(figures(["| A | b |", "|---|---|", "| c | 5.5 s |", "| d | none |"])), [])
 
     def test_what_tools_found_is_kept_apart_for_each_state_of_them(self):
-        places = {table.name: table.place(Path("/folder")).name for table in of_the_script()}
+        places = {table.name: table.place(Path("/folder")).name for table in TABLES}
         self.assertEqual(places["cross"], "cross")
         self.assertEqual(places["versions"], places["sweep"])
         self.assertRegex(places["signals"], "^signals-[0-9a-f]{16}$")
@@ -183,9 +188,15 @@ class Pages(Case):
 
     def test_words_that_do_nothing_are_refused(self):
         for words in (["--list", "--put"], ["PROGRAM"], ["--list", "--only", "none such"]):
-            command = [sys.executable, str(TOP / "bench/tables"), *words]
+            command = [sys.executable, str(TOP / "bench/run"), "tables", *words]
             done = subprocess.run(command, capture_output=True, text=True, check=False)
             self.assertEqual((bool(done.returncode), done.stdout), (True, ""), words)
+
+    def test_what_no_measurement_knows_is_refused_in_a_line(self):
+        for words in ([], ["no-such"], ["closeness"], ["doubts", "more"], ["unseen-nets", "7", "--kinds", "no-such"]):
+            command = [sys.executable, str(TOP / "bench/run"), *words]
+            done = subprocess.run(command, capture_output=True, text=True, check=False)
+            self.assertEqual((done.returncode, done.stdout, done.stderr.count("\n")), (2, "", 1), words)
 
 
 if __name__ == "__main__":

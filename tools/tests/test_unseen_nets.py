@@ -9,7 +9,7 @@ from support import TOOLS, Case, needs_sumo, needs_sumo_tools
 
 BENCH = TOOLS.parent / "bench"
 sys.path.insert(0, str(BENCH))
-from unseen_nets import make  # noqa: E402
+from networks.unseen import make  # noqa: E402
 
 
 @needs_sumo
@@ -17,7 +17,7 @@ from unseen_nets import make  # noqa: E402
 class Nets(Case):
     def made(self, *words, status=0):
         """What the maker says."""
-        command = [sys.executable, str(BENCH / "unseen_nets"), *map(str, words)]
+        command = [sys.executable, str(BENCH / "run"), "unseen-nets", *map(str, words)]
         done = subprocess.run(command, capture_output=True, text=True, check=False)
         self.assertEqual(done.returncode, status, done.stderr)
         return done.stdout + done.stderr

@@ -6,7 +6,7 @@ import unittest
 from support import PROGRAM, TOOLS, Case, needs_package, needs_simulator, needs_sumo_tools
 
 sys.path.insert(0, str(TOOLS.parent / "bench"))
-import walks  # noqa: E402
+from repository import walks  # noqa: E402
 
 try:
     import matplotlib
@@ -14,7 +14,7 @@ try:
 except ImportError:
     matplotlib = scipy = None
 
-# Those of SIGNALS, ROUTES and CALIBRATION take minutes: bench/walks.py alone runs them.
+# Those of SIGNALS, ROUTES and CALIBRATION take minutes: bench/run walks alone runs them.
 PAGES = "../README,README,WORKS,ACTUATED,BUSES,COUNTS"
 
 
@@ -35,7 +35,8 @@ class Ends(unittest.TestCase):
 @needs_package("python3-scipy", scipy)
 class Walks(Case):
     def test_walks(self):
-        words = ["/usr/bin/python3", TOOLS.parent / "bench/walks.py", PROGRAM, "--work", self.folder, "--only", PAGES]
+        words = ["/usr/bin/python3", TOOLS.parent / "bench/run", "walks", PROGRAM, "--work", self.folder]
+        words += ["--only", PAGES]
         done = subprocess.run(words, capture_output=True, text=True, check=False)
         self.assertEqual(done.returncode, 0, done.stdout + done.stderr)
 

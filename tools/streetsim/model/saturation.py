@@ -7,7 +7,7 @@ from streetsim.base.arrays import numpy as np
 GREEN = 36  # seconds of the greens of the table
 DAWDLES = (0.0, 0.05, 0.1, 0.15, 0.17, 0.2, 0.25, 0.3, 0.35, 0.4, 0.45)
 # By the limit of a link (cells a step): of a lane that is always full, the mean headway from the 4th vehicle on (s) and
-# the vehicles of a green of 36 s, for each of DAWDLES. Made by bench/saturation.py.
+# the vehicles of a green of 36 s, for each of DAWDLES. Made by bench/run saturation.
 FULL_LANES: dict[int, tuple[tuple[float, float], ...]] = {
     1: (
         (2.0000, 18.00), (2.3567, 15.77), (2.6231, 14.32), (2.8667, 13.18), (2.9839, 12.71), (3.1150, 12.11),

@@ -14,7 +14,7 @@ WHITE_LETTERS = "EF"  # letters that are written in white
 ROUNDED = 0.1  # metres by which a queue and its edge may be off in the tables
 # Seconds that a vehicle which stops loses beyond what is seen here, where vehicles brake and start at once: on an
 # approach of one lane, where in SUMO one who drives slowly holds up those behind, and of more. Measured on lone crosses
-# at four flows against SUMO's e3 (bench/delays --calibrate).
+# at four flows against SUMO's e3 (bench/run delays --calibrate).
 STOP_LOSS = 2.5, 1.5
 
 

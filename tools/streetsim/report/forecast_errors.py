@@ -22,7 +22,7 @@ class ForecastError:
     streets: int
 
 
-# Made by bench/calibrated.py, beside SUMO's drivers.
+# Made by bench/run calibrated, beside SUMO's drivers.
 ERRORS: tuple[ForecastError, ...] = (
     ForecastError("a green wave", 0.19, 0.23, 14),
     ForecastError("seconds of green moved", 0.46, 0.31, 14),

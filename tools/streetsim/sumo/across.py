@@ -14,7 +14,7 @@ LOOKING, TURNING = 0.35, 0.15
 AT_SIGN = 5.1  # seconds that one loses who stops at a sign on streets of 50 km/h and goes on at once
 STOPPING = STOPS + "w"  # states of connections whose vehicles have to stop
 # Seconds less than the first of a queue at a light that those who stop lose behind its line in the mean, beyond what
-# they lose here: of 1.95 and 2.2 chosen at lone lights with drawn arms, flows and turns (bench/lone_trips.py).
+# they lose here: of 1.95 and 2.2 chosen at lone lights with drawn arms, flows and turns (bench/run lone-trips).
 LESS = 2.2
 # Share of those at a light who stop: of no program, so that a street is the same under each plan of a search.
 RED = 0.5

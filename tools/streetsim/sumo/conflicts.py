@@ -1,12 +1,12 @@
 """Who gives way to whom where there is no light, and for how long: for the map, by which runs find gaps.
 
-The seconds were measured in SUMO 1.15 at lone junctions, under a queue that does not end (bench/junctions): how many
+The seconds were measured in SUMO 1.15 at lone junctions under an endless queue (bench/run junctions): how many
 leave in each gap between two that they give way to, then chosen so that as many leave here against 200 to 1,000
 vehicles an hour. They fall with the flow, as the traffic of SUMO, whose vehicles differ in speed, is more bunched
 and leaves more long gaps. Lanes side by side are bunched each for itself, and who goes across them needs longer. Who
 comes while nobody stands at the line needs a shorter gap: in SUMO it loses time where one who goes first passes up to
 3.5 s later, whatever the street's speed and lanes, and 4.3 s right before left (one alone, meeting one). Where several
-come in a row, who joins them loses more: these seconds are chosen of two each by bench/light_waits.py.
+come in a row, who joins them loses more: these seconds are chosen of two each by bench/run light-waits.
 """
 from collections import defaultdict
 from collections.abc import Iterable, Mapping
@@ -43,27 +43,35 @@ def conflicts_of(net: SumoNet, network: Network, flows: Flows) -> list[GivingWay
     """Who gives way at junctions without any light, once the network has the turns that plans add (enters): one
     GivingWay for each movement that routes use (flows: vehicles an hour by (edge, next edge)) and that gives way to
     another used one, or always has to stop. Junctions with a connection whose request is not known are left out."""
-    turns_at = defaultdict(list)
-    for link, lane, following in network.turns:
-        turns_at[network.links[link].edge, network.links[following].edge].append((link, lane, following))
+    turns_at, added = turns_by_movement(network), turns_by_movement(network, True)
     number = {name: at for at, name in enumerate(network.nodes)}
     return [
         GivingWay(number[junction], tuple(sorted(turns_at[pair])), tuple(found.values()), paces.get(pair))
         for junction, connections in connections_of(net).items()
         if junction in number and not any(one.light or one.request is None for one in connections)
         for paces in [{(one.source, one.target): PACES[one.state] for one in connections if one.state in PACES}]
-        for pair, found in foes_by_movement(connections, net.yields.get(junction, {}), network, flows).items()
+        for pair, found in foes_by_movement(connections, net.yields.get(junction, {}), network, added, flows).items()
         if found or pair in paces
     ]
 
 
+def turns_by_movement(network: Network, added: bool = False) -> dict[EdgePair, list[TurnKey]]:
+    """The turns of a network by (edge, next edge); added: those alone that SUMO has not."""
+    found = defaultdict[EdgePair, list[TurnKey]](list)
+    for (link, lane, following), turn in network.turns.items():
+        if turn.added or not added:
+            found[network.links[link].edge, network.links[following].edge].append((link, lane, following))
+    return found
+
+
 def foes_by_movement(
-    connections: Iterable[NetConnection], yields: Mapping[int, Iterable[int]], network: Network, flows: Flows
-) -> dict[EdgePair, dict[TurnKey, Foe]]:
+    connections: Iterable[NetConnection], yields: Mapping[int, Iterable[int]], network: Network,
+    added: Mapping[EdgePair, Iterable[TurnKey]], flows: Flows,
+) -> dict[EdgePair, dict[TurnKey, Foe]]:  # fmt: skip
     """Who goes before each used movement of a junction, as foes gives them, {(edge, next edge): {(link, lane, next
     link): foe}}, empty where nobody does. connections: of the junction; yields: the requests that each request gives
     way to. Where all have to stop, these are all who come from other edges; those of zippers go by turns (merges).
-    flows: as in conflicts_of."""
+    added: the turns that SUMO has not, by (edge, next edge); flows: as in conflicts_of."""
     used = (one for one in connections if flows.get((one.source, one.target)))
     of_request = {one.request: one for one in used if one.request is not None}
     found: dict[EdgePair, dict[TurnKey, Foe]] = {(one.source, one.target): {} for one in of_request.values()}
@@ -74,13 +82,16 @@ def foes_by_movement(
             asked = (foe for foe in sorted(yields.get(request, ())) if foe in of_request)
             before = [foe for foe in asked if not one.state == of_request[foe].state == ZIPPER]
         for foe in before:
-            found[one.source, one.target].update(foes(one, of_request[foe], network))
+            found[one.source, one.target].update(foes(one, of_request[foe], network, added))
     return found
 
 
-def foes(one: NetConnection, other: NetConnection, network: Network) -> dict[TurnKey, Foe]:
+def foes(
+    one: NetConnection, other: NetConnection, network: Network, added: Mapping[EdgePair, Iterable[TurnKey]] = {}
+) -> dict[TurnKey, Foe]:
     """A connection (other) as foes of one that gives way to it, one for each link of its next edge, by (link, lane,
-    next link), whether or not the network has such a turn."""
+    next link), whether or not the network has such a turn, and one for each turn between its edges that SUMO has not,
+    as vehicles use these too. added: such turns, by (edge, next edge)."""
     link, lane = network.place_of[other.source, other.source_lane]
     links = network.links_of[other.source]
     fast = joins_fast(one, other, network.links[link].speed, other.source in network.rings)
@@ -92,10 +103,9 @@ def foes(one: NetConnection, other: NetConnection, network: Network) -> dict[Tur
     if one.state == other.state:
         gap = gap.later(STANDING.get(one.state, 0.0))
     slow = fast and one.state not in PACES  # which have a pace of their own
-    return {
-        (link, lane, following): Foe(link, lane, following, gap, slow, links[0])
-        for following in network.links_of[other.target]
-    }
+    own = [(link, lane, following) for following in network.links_of[other.target]]
+    turns = [*own, *added.get((other.source, other.target), ())]
+    return {turn: Foe(*turn, gap, slow, links[0]) for turn in turns}
 
 
 def joins_fast(one: NetConnection, other: NetConnection, speed: float, in_ring: bool) -> bool:

@@ -42,11 +42,6 @@ class Driving:
         """Mean seconds for a metre where speed is allowed (metres a second, above 0)."""
         return mean_slowness(self, speed)
 
-    def spread(self, speed: float) -> float:
-        """The deviation of the seconds for a metre where speed is allowed (metres a second, above 0)."""
-        own = self.factor * speed
-        return self.deviation * speed / max(SLOWEST, own - self.lost(own)) ** 2 if own < self.most else 0.0
-
     def lost(self, speed: float) -> float:
         """What is lost of a speed by chance, in the mean; metres a second."""
         return self.sigma / 2 * min(self.accel, speed)
@@ -70,13 +65,19 @@ USUAL = Driving()
 
 
 @cache
-def mean_slowness(one: Driving, speed: float) -> float:
-    """Mean seconds for a metre, as Driving.slowness says."""
-    seconds = 0.0
+def slownesses(one: Driving, speed: float) -> tuple[tuple[float, float], ...]:
+    """(seconds for a metre, share) of the vehicles of a type where speed is allowed (metres a second, above 0)."""
+    found = []
     for deviations, weight in POINTS:
         own = speed * min(MOST_FACTOR, max(LEAST_FACTOR, one.factor + deviations * one.deviation))
-        seconds += weight / max(SLOWEST, min(one.most, own) - one.lost(own))
-    return seconds
+        found.append((1 / max(SLOWEST, min(one.most, own) - one.lost(own)), weight))
+    return tuple(found)
+
+
+@cache
+def mean_slowness(one: Driving, speed: float) -> float:
+    """Mean seconds for a metre, as Driving.slowness says."""
+    return sum(seconds * share for seconds, share in slownesses(one, speed))
 
 
 def driving_of(path: FilePath, element: Element, accel: float, vclass: str) -> Driving:

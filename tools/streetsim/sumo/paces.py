@@ -2,18 +2,21 @@
 start."""
 from __future__ import annotations
 
+import math
 from collections import Counter, defaultdict
-from collections.abc import Callable, Collection, Iterable, Mapping
+from collections.abc import Callable, Collection, Iterable, Mapping, Sequence
+from itertools import pairwise
 from types import MappingProxyType
 from typing import Any
 
-from streetsim.sumo.driving import USUAL, Driving
+from streetsim.sumo.driving import USUAL, Driving, slownesses
 
 LEAST_SECONDS = 900.0  # as which a demand counts that departs in fewer
 BEGIN = 5.0  # metres from an edge's begin, where a vehicle departs in SUMO
 AT_SPEED = ("max", "desired", "speedLimit", "last", "avg")  # departSpeed with which nobody has to gain speed
-# Of vehicles behind slower ones that nobody overtakes, fitted to a queue of its own, not to trips.
-BUNCHED, LESS = 0.49, 0.36
+# Seconds, and metres, by which SUMO's usual vehicles keep apart on one lane: its tau; length and minGap.
+APART_SECONDS, APART_METRES = 1.0, 7.5
+LEAST_FREE = 0.1  # share of a lane's time that is counted as free of these at least
 
 Started = tuple[Driving, str, str]  # how one drives, its class, its departSpeed
 
@@ -36,6 +39,12 @@ class Drivers:
     def slowness(self, speed: float) -> float:
         """Mean seconds for a metre where speed is allowed (metres a second, above 0)."""
         return self.mean(lambda one: one.slowness(speed))
+
+    def slownesses(self, speed: float) -> list[tuple[float, float]]:
+        """(seconds for a metre, share of the vehicles) of those alone where speed is allowed, the slowest first."""
+        vehicles = sum(self.counts.values())
+        each = ((count, own) for one, count in self.counts.items() for own in slownesses(one, speed))
+        return sorted(((seconds, count / vehicles * share) for count, (seconds, share) in each), reverse=True)
 
 
 class Paces:
@@ -85,12 +94,13 @@ class Paces:
 
     def bunching(self, drivers: Drivers, metres: float, speed: float) -> float:
         """Mean seconds that vehicles lose behind slower ones on metres of one lane, where nobody overtakes and speed is
-        allowed: for q vehicles a second whose times alone have the deviation s, BUNCHED q s / (1 + LESS q s) of s."""
+        allowed; what each keeps apart from the one before it makes the others come closer together."""
         if not drivers.total:
             return 0.0
-        spread = drivers.mean(lambda one: one.spread(speed)) * metres
-        ahead = drivers.total / self.seconds * spread
-        return BUNCHED * ahead / (1 + LESS * ahead) * spread
+        rate = drivers.total / self.seconds
+        apart = APART_SECONDS + APART_METRES * drivers.slowness(speed)
+        alone = [(metres * seconds, share) for seconds, share in drivers.slownesses(speed)]
+        return lost_behind(rate / max(LEAST_FREE, 1 - rate * apart), alone)
 
     def at_start(
         self, edge: str, metres: float, speed: float, classes: Collection[str] | None = None
@@ -101,6 +111,20 @@ class Paces:
         lost = sum(count * (gained(one, metres, speed, text) - BEGIN / speed) for (one, _, text), count in own.items())
         total = sum(own.values())
         return total, lost / total if total else 0.0
+
+
+def lost_behind(rate: float, alone: Sequence[tuple[float, float]]) -> float:
+    """Mean seconds lost by vehicles that come at random, rate a second (above 0), and of which none arrives before the
+    one that came before it; alone: (seconds from begin to end, share of the vehicles), the slowest first. One has
+    arrived by a second if it needs no more, and so has each before it: of these exp(-rate * later) have, later: the
+    mean of the seconds beyond that second that one needs."""
+    lost, slower, later = 0.0, 0.0, 0.0
+    for (seconds, share), (fewer, _) in pairwise(alone):
+        slower += share
+        sooner, later = later, later + slower * (seconds - fewer)
+        held_up = seconds - fewer - (math.exp(-rate * sooner) - math.exp(-rate * later)) / (rate * slower)
+        lost += (1 - slower) * held_up
+    return lost
 
 
 def gained(one: Driving, metres: float, speed: float, text: str) -> float:

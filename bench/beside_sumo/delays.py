@@ -1,0 +1,413 @@
+"""Delays, letters and queues of approaches beside SUMO's detectors."""
+
+import csv
+import gzip
+import re
+import shlex
+import sys
+import xml.etree.ElementTree as ElementTree
+from collections import defaultdict
+from dataclasses import dataclass, replace
+from itertools import product
+from pathlib import Path
+from statistics import fmean
+from types import SimpleNamespace
+
+import shared
+from crosses import demand
+from seen import kernel_of, show
+from shared import CORRIDOR, RANDOM_TRIPS, SAMPLES, SHIPPED, TOP, run
+from streetsim.base.report import Report
+from streetsim.model.folder import read_folder
+from streetsim.model.mapping import read_map
+from streetsim.model.runs import read_run
+from streetsim.model.service import LETTERS, SIGNALS, level, percentile
+from streetsim.observe import junction_measures as measuring
+from streetsim.observe.crossings import Crossings
+from streetsim.observe.junction_layout import approaches_of
+from streetsim.observe.passages import Passages
+from streetsim.report.beside_sumo import correlation
+from streetsim.sumo.net import read_net
+
+ACOSTA = SHIPPED / "acosta"
+ENTRY = 8.0  # metres: just ahead of a car that departs with its rear at the lane's begin
+LEAST = 20  # vehicles of an approach in all seeds, from which on it is judged
+THIN = 0.1  # of the vehicles drive alone
+LONE = "lone"  # the run of those, in place of a seed
+NINE = "--grid --grid.number 3 --no-turnarounds true"
+MADE = {  # by netgenerate: its words, seconds between two vehicles and until when they depart
+    "nine": (f"{NINE} --grid.length 220 --grid.attach-length 220 -L 2 -j traffic_light --tls.cycle.time 90", 1.2, 3600),
+    "nine-priority": (f"{NINE} --grid.length 250 --grid.attach-length 250 -L 1 -j priority", 1.5, 1800),
+}
+
+
+@dataclass
+class Case:
+    name: str
+    net: Path
+    routes: Path
+    additional: tuple = ()
+    counted: int = 3600
+    by_edges: bool = False  # delays by edgeData, as SUMO 1.15 ends at an assertion of its e3
+
+
+CASES = (
+    Case("corridor", CORRIDOR / "corridor.net.xml.gz", CORRIDOR / "corridor.rou.xml"),
+    Case("grid", SAMPLES / "grid.net.xml.gz", SAMPLES / "grid.rou.xml.gz"),
+    Case("acosta", ACOSTA / "acosta_buslanes.net.xml", ACOSTA / "acosta.rou.xml",
+         (ACOSTA / "acosta_vtypes.add.xml", ACOSTA / "acosta_tls.add.xml"), 5400),
+    Case("town", SAMPLES / "town.net.xml.gz", SAMPLES / "town.rou.xml.gz", by_edges=True),
+    *(Case(name, Path("net.net.xml"), Path("trips.rou.xml"), counted=last) for name, (_, _, last) in MADE.items()),
+)
+
+
+def prepared(case, folder):
+    """The case, with its network and its demand made where they are to be."""
+    if case.name not in MADE:
+        return case
+    words, often, last = MADE[case.name]
+    net, routes = folder / case.net, folder / case.routes
+    if not routes.exists():
+        run(["netgenerate", *shlex.split(words), "--seed", 1, "-o", net], folder)
+        made = f"-b 0 -e {last} -p {often} --seed 7 --min-distance 300 --fringe-factor 2 --validate"
+        run([sys.executable, RANDOM_TRIPS, "-n", net, *made.split(), "-r", routes], folder)
+    return replace(case, net=net, routes=routes)
+
+
+def at_speed(routes, folder):
+    """The demand with vehicles that depart at the speed of traffic."""
+    opened = gzip.open if routes.suffix == ".gz" else open
+    with opened(routes, "rt", encoding="utf-8") as file:
+        text = re.sub(r' departSpeed="[^"]*"', "", file.read())
+    path = folder / "demand.rou.xml"
+    path.write_text(re.sub(r"<(vehicle|flow|trip) ", r'<\1 departSpeed="max" ', text), encoding="utf-8")
+    return path
+
+
+def cycles(mapping, folder):
+    """The cycle of each edge's signal, seconds."""
+    by_node = {}
+    for line in read_run(folder / "run.jsonl").first:
+        if line.command["cmd"] == "signal":
+            by_node[line.command["node"]] = sum(seconds for seconds, _ in line.command["phases"])
+    return {link.edge: by_node.get(link.end, 60) for link in mapping.links}
+
+
+def write_detectors(case, mapping, folder, seed, cycle, queues=True):
+    """An additional file with an e3 for each approach (or one edgeData) and an e2 for each of its lanes."""
+    net = read_net(str(case.net), ("passenger",), Report())
+    lost = f'<edgeData id="lost" freq="{case.counted}" file="lost-{seed}.xml" withInternal="true"/>'
+    rows = [lost] if case.by_edges else []
+    for edge in approaches_of(mapping):
+        lanes = net.edges[edge].lanes
+        rows += [] if case.by_edges else e3(case, net, edge, targets_of(net, edge), edge, seed)
+        rows += [
+            f'<laneAreaDetector id="{edge}_{lane.index}" lane="{edge}_{lane.index}" pos="0" endPos="-0.1" '
+            f'friendlyPos="true" freq="{cycle[edge]}" file="e2-{seed}.xml"/>'
+            for lane in lanes
+            if queues
+        ]
+    (folder / f"detectors-{seed}.add.xml").write_text("<additional>\n" + "\n".join(rows) + "\n</additional>")
+
+
+def targets_of(net, edge):
+    return sorted({one.target for one in net.connections if one.source == edge})
+
+
+def e3(case, net, edge, targets, name, seed):
+    """The rows of an e3 from an edge to next ones."""
+    lanes = net.edges[edge].lanes
+    entry = min(ENTRY, lanes[0].metres / 2)
+    return [
+        f'<e3Detector id="{name}" freq="{case.counted}" file="e3-{seed}.xml" openEntry="true">',
+        *(f'<detEntry lane="{edge}_{lane.index}" pos="{entry}"/>' for lane in lanes),
+        *(
+            f'<detExit lane="{target}_{lane.index}" pos="{min(ENTRY, lane.metres / 2)}"/>'
+            for target in targets for lane in net.edges[target].lanes
+        ),
+        "</e3Detector>",
+    ]
+
+
+def lost_on_edges(case, folder, seed):
+    """{edge: (vehicles that left it, what they lost there and in the junction behind)} by edgeData."""
+    opened = gzip.open if case.net.suffix == ".gz" else open
+    inside = defaultdict(set)  # the internal lanes behind a lane on the way to an edge
+    behind = defaultdict(set)  # the internal edges behind an edge
+    with opened(case.net, "rt", encoding="utf-8") as file:
+        for one in ElementTree.parse(file).getroot().iter("connection"):
+            if one.get("via"):
+                inside[f"{one.get('from')}_{one.get('fromLane')}", one.get("to")].add(one.get("via"))
+    for (lane, target), ways in list(inside.items()):
+        while ways:
+            behind[lane.rsplit("_", 1)[0]] |= {via.rsplit("_", 1)[0] for via in ways}
+            ways = {via for lane in ways for via in inside.get((lane, target), ())}
+    rows = {one.get("id"): one for one in ElementTree.parse(folder / f"lost-{seed}.xml").getroot().iter("edge")}
+    lost = {edge: float(one.get("timeLoss") or 0) for edge, one in rows.items()}
+    left = {edge: int(one.get("left")) for edge, one in rows.items() if edge[0] != ":"}
+    return {
+        edge: (count, (lost[edge] + sum(lost.get(one, 0.0) for one in behind[edge])) / count)
+        for edge, count in left.items() if count
+    }
+
+
+def run_sumo(case, routes, folder, seed):
+    """What the detectors saw: {edge: (vehicles, delay)} and {lane: the longest jam of each cycle, metres}."""
+    if not (folder / f"done-{seed}").exists():
+        lights = (folder / "green.add.xml",) if seed == LONE else ()
+        more = ",".join(map(str, (*case.additional, *lights, folder / f"detectors-{seed}.add.xml")))
+        words = ["sumo", "-n", case.net, "-r", routes, "-a", more, "--end", case.counted]
+        drawn = ("--scale", THIN) if seed == LONE else ("--seed", seed)
+        run([*words, *drawn, "--no-step-log", "--no-warnings"], folder)
+        (folder / f"done-{seed}").touch()
+    delays, jams = lost_on_edges(case, folder, seed) if case.by_edges else {}, defaultdict(list)
+    for one in [] if case.by_edges else ElementTree.parse(folder / f"e3-{seed}.xml").getroot():
+        if int(one.get("vehicleSum")):
+            delays[one.get("id")] = int(one.get("vehicleSum")), float(one.get("meanTimeLoss"))
+    if (folder / f"e2-{seed}.xml").exists():
+        for one in ElementTree.parse(folder / f"e2-{seed}.xml").getroot():
+            jams[one.get("id")].append(float(one.get("maxJamLengthInMeters")))
+    return delays, jams
+
+
+def write_greens(case, folder):
+    """An additional file with programs that are always green."""
+    rows = []
+    for light, program in read_net(str(case.net), ("passenger",), Report()).programs.items():
+        phase = f'<phase duration="90" state="{"G" * len(program.phases[0][1])}"/>'
+        rows.append(f'<tlLogic id="{light}" type="static" programID="green" offset="0">{phase}</tlLogic>')
+    (folder / "green.add.xml").write_text("<additional>\n" + "\n".join(rows) + "\n</additional>")
+
+
+def alone(case, mapping, routes, folder, cycle):
+    """What a vehicle loses that nobody hinders: {edge: seconds} of each approach, the mean of all for the others."""
+    write_detectors(case, mapping, folder, LONE, cycle, queues=False)
+    write_greens(case, folder)
+    delays, _ = run_sumo(case, routes, folder, LONE)
+    delays = {edge: delays[edge] for edge in approaches_of(mapping) if edge in delays}
+    usual = mean_delay(delays.values())
+    return defaultdict(lambda: usual, {edge: lost for edge, (_, lost) in delays.items()})
+
+
+def run_here(case, folder, seeds, program):
+    more = ["--seeds", seeds, "--departures", "listed"]
+    more += ["--jobs", 1, "--junctions", case.counted, "--period", case.counted]
+    simulate(case, folder, program, "--every", 60, *more)
+
+
+def simulate(case, folder, program, *words):
+    """Runs the case here, with the words that say what is written."""
+    usual = ["run.jsonl", "--map", "run.map.json", "--until", case.counted, "--out", "here", "--program", program]
+    run([TOP / "tools/streetsim-run", *usual, *words], folder)
+
+
+def convert(case, routes, folder):
+    """Imports the case; gives its map."""
+    words = [case.net, *case.additional, "--routes", routes, "-o", "run.jsonl", "--map", "run.map.json"]
+    run([TOP / "tools/streetsim-import", *words], folder)
+    return read_map(folder / "run.map.json")
+
+
+def rows_of(folder, seed):
+    with open(folder / f"here/seed-{seed}/approaches.csv", encoding="utf-8") as file:
+        return {row["approach"]: row for row in csv.DictReader(file)}
+
+
+@dataclass
+class Both:
+    """An approach in SUMO and here: vehicles and delays over all seeds, mean 95 % queues."""
+
+    edge: str
+    control: str
+    vehicles: tuple
+    delays: tuple
+    queues: tuple
+    counted: float  # the delay as SUMO counts it, with what a vehicle alone loses
+
+    def letters(self):
+        return tuple(LETTERS.index(level(delay, self.control)) for delay in self.delays)
+
+
+def mean_delay(pairs):
+    """The mean of (vehicles, delay) pairs by vehicles."""
+    return sum(count * delay for count, delay in pairs) / sum(count for count, _ in pairs)
+
+
+def judged(case, folder, seeds, mapping, free):
+    """The approaches with vehicles enough on both sides; free: what a vehicle loses in SUMO that nobody hinders."""
+    there = [run_sumo(case, folder / "demand.rou.xml", folder, seed) for seed in seeds]
+    here = [rows_of(folder, seed) for seed in seeds]
+    for edge, approach in approaches_of(mapping).items():
+        ours = [(int(rows[edge]["vehicles"]), float(rows[edge]["control_delay_s"])) for rows in here if edge in rows]
+        theirs = [delays[edge] for delays, _ in there if edge in delays]
+        counts = tuple(sum(count for count, _ in side) for side in (theirs, ours))
+        if min(counts) < LEAST:
+            continue
+        lanes = [name for name in there[0][1] if name.rsplit("_", 1)[0] == edge]
+        jams = fmean(max(percentile(jams[lane], 0.95) for lane in lanes) for _, jams in there)
+        queue = fmean(float(rows[edge]["queue_95_m"]) for rows in here if edge in rows)
+        counted = mean_delay(theirs)
+        delays = max(0.0, counted - free[edge]), mean_delay(ours)
+        yield Both(edge, approach.control, counts, delays, (jams, queue), counted)
+
+
+def told(name, control, found):
+    """A row of the table."""
+    means = [mean_delay([(one.vehicles[side], one.delays[side]) for one in found]) for side in (0, 1)]
+    counted = mean_delay([(one.vehicles[0], one.counted) for one in found])
+    r = correlation([one.delays[0] for one in found], [one.delays[1] for one in found])
+    apart = [abs(one.letters()[0] - one.letters()[1]) for one in found]
+    queues = [fmean(one.queues[side] for one in found) for side in (0, 1)]
+    more = (means[1] / means[0] - 1) * 100, (queues[1] / queues[0] - 1) * 100 if queues[0] else 0.0
+    return (
+        f"| {name}, {control} | {len(found)} | {counted:.1f} | {means[0]:.1f} | {means[1]:.1f} ({more[0]:+.0f} %) | "
+        f"{r or 0:.2f} | "
+        f"{apart.count(0) / len(found) * 100:.0f} %, {sum(gap <= 1 for gap in apart) / len(found) * 100:.0f} % | "
+        f"{queues[0]:.0f} | {queues[1]:.0f} ({more[1]:+.0f} %) |"
+    )
+
+
+def compare(case, args, seeds):
+    folder = args.work / case.name
+    folder.mkdir(parents=True, exist_ok=True)
+    case = prepared(case, folder)
+    routes = at_speed(case.routes, folder)
+    mapping = convert(case, routes, folder)
+    cycle = cycles(mapping, folder)
+    free = alone(case, mapping, routes, folder, cycle)
+    for seed in seeds:
+        write_detectors(case, mapping, folder, seed, cycle)
+        run_sumo(case, routes, folder, seed)
+    run_here(case, folder, args.seeds, args.program)
+    found = list(judged(case, folder, seeds, mapping, free))
+    groups = [(control, [one for one in found if one.control == control]) for control in (SIGNALS, "priority")]
+    if all(those for _, those in groups):
+        print(told(case.name, "all", found))
+    for control, those in groups:
+        if those:
+            print(told(case.name, control, those), flush=True)
+        for one in those:
+            if abs(one.letters()[0] - one.letters()[1]) > 1 or args.all:
+                print(described(one), flush=True)
+
+
+def described(one):
+    """A line on an approach."""
+    letters = "".join(LETTERS[letter] for letter in one.letters())
+    delays, queues = ("{:.1f} and {:.1f} s".format(*one.delays), "{:.0f} and {:.0f} m".format(*one.queues))
+    return f"    {one.edge}: {one.vehicles} vehicles, {delays} ({letters}), queues {queues}"
+
+
+LONE_CROSSES = (  # way, lanes, vehicles an hour from each side
+    ("straight", 1, (150, 300, 450, 600)),
+    ("straight", 2, (300, 600, 900, 1200)),
+    ("right", 1, (150, 300, 450)),
+)
+
+
+def calibrate(args, seeds):
+    """The loss of a stop, of each way: the delay that SUMO's e3 have more, over the share that stops here. Of lone
+    crosses of one lane and of two, on which all go the same way."""
+    for way, lanes, flows in LONE_CROSSES:
+        pairs = []
+        for flow, seed in product(flows, seeds):
+            folder = args.work / f"cross-{way}-{lanes}-{flow}-{seed}"
+            folder.mkdir(parents=True, exist_ok=True)
+            routes = folder / "one.rou.xml"
+            routes.write_text(demand({(arm, way): flow for arm in "wens"}, seed), encoding="utf-8")
+            case = Case("cross", cross_of(lanes, args.work), routes)
+            for edge, there, lost, share in apart(case, folder, seed, args.program):
+                pairs.append((share, there - lost))
+                told = f"SUMO {there:.1f} s, here {lost:.1f} s without the loss of a stop, {share:.2f} stop"
+                print(f"{way}, {lanes} lanes, {flow} an hour, {edge}: {told}", flush=True)
+        loss = sum(share * more for share, more in pairs) / sum(share * share for share, _ in pairs)
+        squares = f"least squares over {len(pairs)} approaches"
+        print(f"{way}, {lanes} lanes: loss of a stop {loss:.2f} s ({squares})", flush=True)
+
+
+def cross_of(lanes, folder):
+    """The network of a lone cross: the tests' of one lane, or the same of more, made by netconvert."""
+    if lanes == 1:
+        return SAMPLES / "cross1.net.xml.gz"
+    net = folder / f"cross-of-{lanes}.net.xml"
+    if not net.exists():
+        places = {"c": (0, 0), "w": (-500, 0), "e": (500, 0), "n": (0, 500), "s": (0, -500)}
+        nodes = "".join(
+            f'<node id="{name}" x="{x}" y="{y}"' + (' type="traffic_light"/>' if name == "c" else "/>")
+            for name, (x, y) in places.items()
+        )
+        edges = "".join(
+            f'<edge id="{source}{target}" from="{source}" to="{target}" numLanes="{lanes}" speed="13.89"/>'
+            for arm in "wens" for source, target in ((arm, "c"), ("c", arm))
+        )
+        (folder / "cross.nod.xml").write_text(f"<nodes>{nodes}</nodes>", encoding="utf-8")
+        (folder / "cross.edg.xml").write_text(f"<edges>{edges}</edges>", encoding="utf-8")
+        words = ["netconvert", "-n", "cross.nod.xml", "-e", "cross.edg.xml", "--no-turnarounds", "--tls.cycle.time", 90]
+        run([*words, "-o", net], folder)
+    return net
+
+
+def apart(case, folder, seed, program):
+    """For each approach the delay in SUMO, here without the loss of a stop, and the share that stops."""
+    routes = at_speed(case.routes, folder)
+    mapping = convert(case, routes, folder)
+    cycle = cycles(mapping, folder)
+    write_detectors(case, mapping, folder, seed, cycle)
+    delays, _ = run_sumo(case, routes, folder, seed)
+    free = alone(case, mapping, routes, folder, cycle)
+    simulate(case, folder, program, "--every", 1)
+    for edge, (lost, share) in plain_delays(folder, mapping).items():
+        yield edge, delays[edge][1] - free[edge], lost, share
+
+
+def plain_delays(folder, mapping):
+    """For each approach the mean delay without the loss of a stop, and the share that stops."""
+    by_edge = defaultdict(list)
+    for one in plain_crossings(folder, mapping):
+        by_edge[one.movement[0]].append(one)
+    return {
+        edge: (fmean(one.delay for one in those), fmean(one.stops > 0 for one in those))
+        for edge, those in by_edge.items()
+    }
+
+
+def plain_crossings(folder, mapping):
+    """What each vehicle lost on each approach, without the loss of a stop, in the order in which they left these."""
+    measuring.STOP_LOSS = 0.0, 0.0
+    there, seen = read_folder(str(folder / "here")), Passages()
+    plans = [line.command["plan"] for line in read_run(folder / "run.jsonl").enters]
+    kernel = kernel_of(mapping, plans, dawdle=there.dawdle)
+    show(kernel, [(poll["clock"], [lane[:4] for lane in poll["lanes"]]) for poll in there.polls()], seen)
+    found = Crossings(seen, kernel.plans, seen.done({}))
+    columns = (one.tolist() for one in (found.movement, found.delay, found.stops))
+    return [SimpleNamespace(movement=found.names[at], delay=delay, stops=stops)
+            for at, delay, stops in zip(*columns, strict=True)]  # fmt: skip
+
+
+def main_delays(argv: list[str]) -> int | None:
+    """Control delays, letters and queues of approaches beside SUMO; the loss of a stop.
+
+    Takes minutes a seed; needs sumo, sumo-tools.
+
+    An e3 of each approach begins where a departing vehicle stands and ends as far into the next edges (SUMO 1.15 ends
+    at an assertion where it lies nearer to their begins); an e2 lies on each of its lanes and tells the longest jam in
+    each cycle. In SUMO vehicles depart at the speed of traffic (departSpeed="max"), so that a departure is no delay. An
+    e3 counts as lost what a vehicle loses that nobody hinders: it drives below its speed by chance, and slower in
+    turns. So from each approach that is taken off which a tenth of the demand loses where all lights are green.
+    --calibrate: the loss of a stop, from lone crosses.
+    """
+    parser = shared.parser_of(main_delays, work=True)
+    parser.add_argument("--seeds", default="1-5")
+    shared.add_some(parser, "--only", (case.name for case in CASES))
+    parser.add_argument("--calibrate", action="store_true")
+    parser.add_argument("--all", action="store_true", help="print each approach")
+    args = parser.parse_args(argv)
+    seeds = shared.numbers(args.seeds)
+    if args.calibrate:
+        return calibrate(args, seeds)
+    delays = "delay as SUMO counts it, s | beyond a vehicle alone, s | here, s | r | same letter, within one"
+    shared.print_heads(f"Network, approaches at | approaches | {delays} | 95 % queue: SUMO, m | here, m")
+    for case in CASES:
+        if case.name in args.only:
+            compare(case, args, seeds)
+    return None

@@ -1,0 +1,351 @@
+"""A network and its demand in SUMO and here: runs with several seeds, what vehicles did in them, and the rows of this
+folder's files that keep means of both."""
+
+import argparse
+import csv
+import json
+import re
+import xml.etree.ElementTree as ElementTree
+from collections import Counter, defaultdict
+from collections.abc import Callable, Iterable, Iterator, Mapping, Sequence
+from concurrent.futures import ThreadPoolExecutor
+from dataclasses import asdict, dataclass, field, fields
+from itertools import pairwise
+from pathlib import Path
+from statistics import fmean, median
+from typing import ClassVar
+
+import shared
+from networks.unseen import Made
+from shared import TOOLS, TOP, digest_of_commands, run, teleports_of
+from streetsim.model.folder import read_folder
+from streetsim.model.tables import MOVEMENTS, read_table
+from streetsim.report.beside_sumo import read_tripinfo, trip_times_of
+
+MORE = 1800  # seconds behind the last departure, at which both sides end
+LOCKED = 0.02  # share of the vehicles that SUMO teleports, above which it is locked
+Way = tuple[str, str]  # edge, next edge
+
+
+@dataclass
+class Side:
+    """What vehicles did in a run in SUMO or here."""
+
+    trips: dict[str, tuple[float, float]] = field(default_factory=dict)
+    delays: dict[Way, tuple[float, float]] = field(default_factory=dict)  # vehicles, mean seconds
+    teleports: int = 0
+    doubt: str = ""
+
+
+def sumo_trips(trips: Path, words: Iterable[object]) -> Path:
+    """The tripinfo output of a run of SUMO's, which is made where the file is not there."""
+    if not trips.exists():
+        run(["sumo", *words, "--no-step-log", "--no-warnings", "--tripinfo-output", "half.xml"], trips.parent)
+        (trips.parent / "half.xml").replace(trips)
+    return trips
+
+
+def run_files(folder: Path, files: Iterable[object], words: Iterable[object], program: str, tools=TOOLS) -> str:
+    """Imports files of SUMO's, with words of the import among them, and makes their run; gives what it said."""
+    run([tools / "streetsim-import", *files, "-o", "run.jsonl", "--map", "run.map.json"], folder)
+    usual = ["run.jsonl", "--map", "run.map.json", "--out", "out", "--program", program]
+    return run([tools / "streetsim-run", *usual, *words], folder)
+
+
+def trips_here(folder: Path) -> dict[str, tuple[float, float]]:
+    """Departure and arrival of each vehicle of the run in a folder."""
+    return trip_times_of(read_folder(str(folder / "out")))
+
+
+def in_sumo(made: Made, seed: int) -> Side:
+    """Delays are seconds on an edge beyond those at its speed, movement by movement."""
+    folder, name = made.folder, f"sumo-{seed}"
+    trips, ways, statistics = (folder / f"{name}.{kind}.xml" for kind in ("trips", "ways", "statistics"))
+    words = ["-n", made.net, "-r", ",".join(map(str, made.routes)), "--seed", seed, "--end", made.seconds + MORE]
+    words += ["-a", ",".join(map(str, made.additional))] if made.additional else []
+    words += ["--statistic-output", statistics, "--vehroute-output", ways, "--vehroute-output.exit-times"]
+    found = read_tripinfo(str(sumo_trips(trips, words)))
+    return Side(found, delays_of(ways, speeds_of(made.net)), teleports_of(statistics))
+
+
+def in_sumo_until_locked(made: Made, seeds: Sequence[int]) -> list[Side]:
+    """SUMO's runs, in order; none behind the first that is locked."""
+    found: list[Side] = []
+    for seed in seeds:
+        found.append(in_sumo(made, seed))
+        if found[-1].teleports > LOCKED * made.vehicles:
+            break
+    return found
+
+
+def speeds_of(net: Path) -> dict[str, float]:
+    """The seconds of each edge at its speed."""
+    edges = ElementTree.parse(net).getroot().iter("edge")
+    lanes = ((edge.get("id"), edge.find("lane")) for edge in edges if edge.get("function") != "internal")
+    return {name: float(lane.get("length")) / float(lane.get("speed")) for name, lane in lanes}
+
+
+def delays_of(path: Path, free: dict[str, float]) -> dict[Way, tuple[float, float]]:
+    found = defaultdict(list)
+    for vehicle in ElementTree.parse(path).getroot().iter("vehicle"):
+        route = vehicle.find("route") if vehicle.find("route") is not None else vehicle.find("routeDistribution/route")
+        edges, ends = route.get("edges").split(), [float(text) for text in route.get("exitTimes", "").split()]
+        for at, way in enumerate(pairwise(edges)):
+            if 0 < at < len(ends) and ends[at] >= 0:
+                found[way].append(ends[at] - ends[at - 1] - free[way[0]])
+    return {way: (len(values), fmean(values)) for way, values in found.items()}
+
+
+def here(made: Made, seeds: Sequence[int], program: str, tools: Path) -> list[Side]:
+    """Our runs, one after another from one import; what other tools found is kept apart."""
+    state = digest_of_commands(("import", "run"), tools.parent)
+    kept = [made.folder / f"here-{state}-{seed}.json" for seed in seeds]
+    if not all(path.exists() for path in kept):
+        for path, side in zip(kept, run_here(made, seeds, program, tools), strict=True):
+            path.write_text(text_of(side), encoding="utf-8")
+    return [side_of(path.read_text(encoding="utf-8")) for path in kept]
+
+
+def run_here(made: Made, seeds: Sequence[int], program: str, tools: Path) -> list[Side]:
+    last, files = made.seconds + MORE, [made.net, *made.additional, "--routes", *made.routes, *made.words]
+    words = ["--until", last, "--junctions", last, "--seeds", f"{seeds[0]}-{seeds[-1]}", "--departures", "listed"]
+    said = run_files(made.folder, files, [*words, "--jobs", 1], program, tools)
+    return [read_side(made.folder / "out" / f"seed-{seed}", said, seed) for seed in seeds]
+
+
+def read_side(out: Path, said: str, seed: int) -> Side:
+    """A run by its folder and by what was said of it."""
+    delays = {
+        (row["approach"], row["to"]): (float(row["vehicles"]), float(row["control_delay_s"]))
+        for row in read_table(str(out / "movements.csv"), MOVEMENTS)
+    }
+    return Side(trip_times_of(read_folder(str(out))), delays, doubt=doubt_of(said, seed))
+
+
+def doubt_of(said: str, seed: int) -> str:
+    """What streetsim-run says of a seed's run against itself; nothing where it does not."""
+    return " ".join(re.findall(rf"^seed {seed}: not to be trusted: (.*)$", said, re.MULTILINE))
+
+
+def text_of(side: Side) -> str:
+    delays = [[*way, *values] for way, values in side.delays.items()]
+    return json.dumps({"trips": side.trips, "delays": delays, "doubt": side.doubt})
+
+
+def side_of(text: str) -> Side:
+    kept = json.loads(text)
+    delays = {(edge, following): (count, mean) for edge, following, count, mean in kept["delays"]}
+    return Side({name: tuple(times) for name, times in kept["trips"].items()}, delays, doubt=kept["doubt"])
+
+
+def mean_trips(theirs: Sequence[Side], ours: Sequence[Side], first: int = 0) -> tuple[float, float]:
+    """SUMO's mean trip and ours, over vehicles that depart from a second on and arrived in both."""
+    pairs = [(a.trips, b.trips) for a, b in zip(theirs, ours, strict=True)]
+    common = [[name for name in a.keys() & b.keys() if a[name][0] >= first] for a, b in pairs]
+    sumo, own = (
+        fmean(fmean(pair[at][name][1] - pair[at][name][0] for name in names) for pair, names in zip(pairs, common))
+        for at in (0, 1)
+    )
+    return sumo, own
+
+
+def common_ways(sides: Sequence[Side]) -> set[Way]:
+    """The movements that all runs have."""
+    return set.intersection(*(set(side.delays) for side in sides))
+
+
+def mean_delay(sides: Sequence[Side], ways: set[Way]) -> float:
+    """The mean delay over all vehicles of some ways and runs."""
+    parts = [side.delays[way] for side in sides for way in ways if way in side.delays]
+    vehicles = sum(count for count, _ in parts)
+    return sum(count * delay for count, delay in parts) / vehicles if vehicles else 0.0
+
+
+FOLDER = TOP / "bench/beside_sumo"
+NEAR = 0.05  # share of SUMO's mean trip within which ours is near it
+LEAST = 30  # vehicles of a movement that is compared
+HALF = 1800  # seconds of a demand that is short, of which the first third is to warm up
+
+
+@dataclass(frozen=True)
+class Row:
+    """Means of several runs of one network and demand; seconds."""
+
+    network: str  # its kind and its seed, or its name
+    level: float  # the busiest lane's share of what it can pass; 0: not known
+    vehicles: int
+    sumo: float  # mean trip
+    jams: float  # teleports of a run of SUMO's
+    here: float
+    movement: str  # whose delay differs most
+    lost_in_sumo: float  # on that movement, by a vehicle
+    lost_here: float
+    doubt: str  # of the first run's last line
+
+    @property
+    def more(self) -> float:
+        """Our mean trip over SUMO's, less 1."""
+        return self.here / self.sumo - 1
+
+    @property
+    def is_locked(self) -> bool:
+        return self.jams > LOCKED * self.vehicles
+
+    @property
+    def is_near(self) -> bool:
+        return abs(self.more) <= NEAR
+
+
+@dataclass(frozen=True)
+class Tally:
+    """How many of some rows are near SUMO, and of how many the last line says that they may not be."""
+
+    near: int
+    near_doubted: int  # of the former
+    off_doubted: int
+    off_silent: int
+    locked: int  # in SUMO, and not counted above
+
+    HEADS: ClassVar[str] = "within 5 % | of these doubted | beyond, doubted | beyond, in silence | SUMO locks"
+
+    def __str__(self) -> str:
+        return f"{self.near} | {self.near_doubted} | {self.off_doubted} | {self.off_silent} | {self.locked}"
+
+
+def tally(every: Sequence[Row]) -> Tally:
+    free = [row for row in every if not row.is_locked]
+    found = Counter((row.is_near, bool(row.doubt)) for row in free)
+    near = found[True, True] + found[True, False]
+    return Tally(near, found[True, True], found[False, True], found[False, False], len(every) - len(free))
+
+
+def add_words(parser: argparse.ArgumentParser) -> None:
+    """The words of all measurements that keep rows."""
+    parser.add_argument("--jobs", default=1, type=int, help="networks, or runs, side by side")
+    parser.add_argument("--tools", default=TOOLS, type=shared.whole, help="other tools than these")
+    parser.add_argument("--rows", help="keep the rows in bench/beside_sumo, by this name")
+
+
+def parser_of(command: Callable, runs: str, seed: Callable = int) -> argparse.ArgumentParser:
+    """A parser of the words of measurements of networks of a seed. runs: the usual seeds of runs; seed: how the seed is
+    read, or several seeds."""
+    made = shared.parser_of(command, work=True)
+    made.add_argument("seed", type=seed, help="of the networks")
+    made.add_argument("--runs", default=runs, type=shared.numbers, help="seeds of the runs")
+    add_words(made)
+    return made
+
+
+def ints(text: str) -> list[int]:
+    return [int(one) for one in text.split(",")]
+
+
+def floats(text: str) -> list[float]:
+    return [float(one) for one in text.split(",")]
+
+
+def side_by_side(jobs: int, act: Callable, some: Sequence) -> Iterator:
+    """What an act gives of each of some things, in their order."""
+    with ThreadPoolExecutor(jobs) as pool:
+        yield from pool.map(act, some)
+
+
+def both_sides(made: Made, runs: Sequence[int], program: str, tools: Path) -> tuple[list[Side], list[Side]]:
+    """SUMO's runs and ours; where SUMO is locked, those up to the first that is."""
+    theirs = in_sumo_until_locked(made, runs)
+    return theirs, here(made, runs[: len(theirs)], program, tools)
+
+
+def row_of(name: str, made: Made, theirs: Sequence[Side], ours: Sequence[Side]) -> Row:
+    counts = {way: min(side.delays[way][0] for side in theirs) for way in common_ways([*theirs, *ours])}
+    delays = {way: (mean_delay(theirs, {way}), mean_delay(ours, {way})) for way in counts if counts[way] >= LEAST}
+    worst = max(delays, key=lambda way: abs(delays[way][1] - delays[way][0]), default=())
+    sumo, own = (round(seconds, 1) for seconds in mean_trips(theirs, ours, warm_up(made)))
+    jams = sum(side.teleports for side in theirs) / len(theirs)
+    lost = [round(seconds, 1) for seconds in delays.get(worst, (0.0, 0.0))]
+    return Row(name, made.level, made.vehicles, sumo, round(jams, 1), own, " to ".join(worst), *lost, ours[0].doubt)
+
+
+def warm_up(made: Made) -> int:
+    """The second from which on trips count."""
+    return made.seconds // 3 if made.seconds == HALF else 0
+
+
+def reason(doubt: str) -> str:
+    """The first reason of a last line against itself, without the names of places."""
+    return re.split(", for |, and | at |, as |;", doubt)[0]
+
+
+def keep(name: str, rows: Sequence[Row]) -> None:
+    """Writes rows into the file of a measurement."""
+    FOLDER.mkdir(exist_ok=True)
+    with (FOLDER / f"{name}.csv").open("w", encoding="utf-8", newline="") as file:
+        table = csv.DictWriter(file, [one.name for one in fields(Row)], lineterminator="\n")
+        table.writeheader()
+        table.writerows(asdict(row) for row in rows)
+
+
+def read(name: str) -> list[Row]:
+    """The rows of a measurement's file."""
+    with (FOLDER / f"{name}.csv").open(encoding="utf-8", newline="") as file:
+        return [row_from(cells) for cells in csv.DictReader(file)]
+
+
+def row_from(cells: dict[str, str]) -> Row:
+    kinds = {one.name: one.type for one in fields(Row)}
+    return Row(**{name: kinds[name](text) for name, text in cells.items()})
+
+
+REASONS = {  # what a last line names: as it says it
+    "lanes that are nearly full by the demand": "nearly full by the demand",
+    "streets that give way without a light nearly full": "without a light (is|are) nearly full",
+    "rescues, who waited to enter, who did not arrive": "rescues|waited to enter|had the time to arrive|is locked",
+    "other": "",
+}
+SPLIT = re.compile("; (?!(?:left|right|straight on|back|where lanes become one) from )")  # not between places
+HEADS = ("The last line names", "rows", "SUMO locks", "within 5 %", "beyond", "off by: median", "most")
+
+
+def reasons(doubt: str) -> set[str]:
+    """What a last line names."""
+    parts = SPLIT.split(doubt) if doubt else []
+    return {next(name for name, text in REASONS.items() if re.search(text, part)) for part in parts}
+
+
+def by_name(found: Mapping[str, Sequence[Row]]) -> Iterator[str]:
+    yield f"| Rows of | rows | {Tally.HEADS} |\n|{'---|' * 7}"
+    for name, own in found.items():
+        yield f"| `{name}` | {len(own)} | {tally(own)} |"
+    every = [row for own in found.values() for row in own]
+    yield f"| all | {len(every)} | {tally(every)} |"
+
+
+def by_reason(every: Sequence[Row]) -> Iterator[str]:
+    yield f"| {' | '.join(HEADS)} |\n|{'---|' * len(HEADS)}"
+    for name in REASONS:
+        if own := [row for row in every if name in reasons(row.doubt)]:
+            yield of_reason(name, own)
+    yield of_reason("nothing", [row for row in every if not row.doubt])
+
+
+def of_reason(name: str, own: Sequence[Row]) -> str:
+    free = [row for row in own if not row.is_locked]
+    off = [abs(row.more) for row in free]
+    near = sum(row.is_near for row in free)
+    sizes = f"{median(off):.1%} | {max(off):.1%}" if off else " | "
+    return f"| {name} | {len(own)} | {len(own) - len(free)} | {near} | {len(free) - near} | {sizes} |"
+
+
+def main_doubts(argv: list[str]) -> int | None:
+    """How often a run's last line is right that it is not to be trusted, by kept rows.
+
+    Takes seconds.
+
+    It runs nothing. The rows are those of bench/beside_sumo, which unseen, closeness, sweep and drawn-rows write with
+    --rows. The first table has the rows by measurement: how many are within 5 % of SUMO's mean trip, how many beyond,
+    and of how many the last line says so. The second one has them by what the last line names, and by how much those
+    are off that SUMO does not lock.
+    """
+    shared.parser_of(main_doubts, program=False).parse_args(argv)
+    found = {path.stem: read(path.stem) for path in sorted(FOLDER.glob("*.csv"))}
+    print(*by_name(found), "", *by_reason([row for own in found.values() for row in own]), sep="\n")

@@ -1,0 +1,349 @@
+"""Sessions of many vehicles: how fast steps are, in which instructions, and whether threads change a reply."""
+
+import json
+import random
+import re
+import subprocess
+import tempfile
+import time
+from concurrent.futures import ThreadPoolExecutor
+from pathlib import Path
+
+import shared
+
+DIRECTIONS = [(0, 1), (1, 0), (0, -1), (-1, 0)]
+BATCH = 50  # lines that are sent before their replies are read, so that no pipe fills
+CALLS = ["--calls", "1000000"]  # more than a program serves by itself
+
+
+def line(**fields):
+    return shared.text_of(fields)
+
+
+def load(nodes, links, turns, **values):
+    return shared.text_of(shared.load(nodes, links, turns, dawdle=200, seed=1, **values))
+
+
+def ring(density):
+    """The lines that a session begins with, and the steps of each timed advance."""
+    links = 100
+    here = range(links)
+    lines = [
+        load(
+            [[at, 1, 2] for at in here],
+            [[at, at, (at + 1) % links, 1, 1_000, 5] for at in here],
+            [[at, 0, (at + 1) % links, 0] for at in here],
+            zone=0,
+            change=0,
+        )
+    ]
+    red = [line(cmd="signal", node=at, offset=0, phases=[[600, []]]) for at in here]
+    green = [line(cmd="signal", node=at, offset=0, phases=[[600, [[(at - 1) % links, 0, at]]]]) for at in here]
+    plans = [[(at + lap) % links for lap in range(links)] for at in here]
+    entered = [line(cmd="enter", plan=plan, lane=0, depart=0) for _ in range(round(density * 1_000)) for plan in plans]
+    filled = line(cmd="advance", steps=3_000)
+    return lines + red + entered + [filled] + green + [line(cmd="advance", steps=500)], [100] * 10
+
+
+def grid(vehicles, advances=20):
+    side, draws = 32, random.Random(1)
+    nodes = [(x, y) for x in range(side) for y in range(side)]
+    number = {node: at for at, node in enumerate(nodes)}
+    links = [
+        (at, node, (node[0] + dx, node[1] + dy))
+        for node in nodes
+        for at, (dx, dy) in enumerate(DIRECTIONS)
+        if (node[0] + dx, node[1] + dy) in number
+    ]
+    place = {(direction, begin): at for at, (direction, begin, _) in enumerate(links)}
+    onward = [
+        [place[to, end] for to in ((way + 1) % 4, way, (way + 3) % 4) if (to, end) in place] for way, _, end in links
+    ]
+    turns = [[at, lane, then, lane] for at, after in enumerate(onward) for then in after for lane in (0, 1)]
+    lines = [
+        load(
+            [[at, 1, 4] for at in range(len(nodes))],
+            [[at, number[begin], number[end], 2, 100, 5] for at, (_, begin, end) in enumerate(links)],
+            turns,
+            zone=20,
+            change=800,
+        )
+    ]
+    for node in nodes:
+        into = [at for at, (_, _, end) in enumerate(links) if end == node]
+        phases = [
+            [
+                30,
+                [[at, lane, then] for at in into if links[at][0] % 2 == axis for then in onward[at] for lane in (0, 1)],
+            ]
+            for axis in (0, 1)
+        ]
+        lines.append(line(cmd="signal", node=number[node], offset=draws.randrange(60), phases=phases))
+    for _ in range(vehicles):
+        plan = [draws.randrange(len(links))]
+        while len(plan) < 20:
+            plan.append(draws.choice(onward[plan[-1]]))
+        lines.append(line(cmd="enter", plan=plan, lane=draws.randrange(2), depart=draws.randrange(500)))
+    return lines, [50] * advances
+
+
+def sparse(vehicles):
+    draws, links = random.Random(1), 4_096
+    lines = [load([[1, 1, 2], [2, 1, 2]], [[at, 1, 2, 2, 1_000_000, 5] for at in range(links)], [], zone=0, change=800)]
+    for _ in range(vehicles):
+        lines.append(
+            line(cmd="enter", plan=[draws.randrange(links)], lane=draws.randrange(2), depart=draws.randrange(150))
+        )
+    return lines + [line(cmd="advance", steps=200)], [200] * 10
+
+
+def star(vehicles, arms=200):
+    """Links from as many nodes as arms to one node, and back to each: vehicles drive in and out."""
+    draws, inward = random.Random(1), range(arms)
+    ends = [[at, 1 + at, 0] for at in inward] + [[arms + at, 0, 1 + at] for at in inward]
+    onward = {at: [arms + (at + ahead) % arms for ahead in (1, 7, 50)] for at in inward}
+    onward |= {arms + at: [at] for at in inward}
+    turns = [[at, lane, then, lane] for at, after in onward.items() for then in after for lane in (0, 1)]
+    lines = [
+        load(
+            [[at, 1, 4] for at in range(arms + 1)],
+            [[*link, 2, 100, 5] for link in ends],
+            turns,
+            zone=20,
+            change=800,
+        )
+    ]
+    for _ in range(vehicles):
+        plan = [draws.randrange(arms)]
+        while len(plan) < 40:
+            plan.append(draws.choice(onward[plan[-1]]))
+        lines.append(line(cmd="enter", plan=plan, lane=draws.randrange(2), depart=draws.randrange(200)))
+    return lines + [line(cmd="advance", steps=200)], [50] * 10
+
+
+SESSIONS = {
+    "ring 0.1": lambda: ring(0.1),
+    "ring 0.3": lambda: ring(0.3),
+    "grid 20000": lambda: grid(20_000),
+    "grid 100000": lambda: grid(100_000),
+    "grid 400000": lambda: grid(400_000, advances=8),
+    "sparse 10000": lambda: sparse(10_000),
+    "star 10000": lambda: star(10_000),
+}
+
+
+class Program:
+    """A program that answers lines on its standard input."""
+
+    def __init__(self, name, words):
+        self.name = name
+        self.process = subprocess.Popen(words, stdin=subprocess.PIPE, stdout=subprocess.PIPE)
+
+    def ask(self, lines):
+        replies = []
+        for at in range(0, len(lines), BATCH):
+            part = lines[at : at + BATCH]
+            self.process.stdin.write("".join(text + "\n" for text in part).encode())
+            self.process.stdin.flush()
+            replies += [self.process.stdout.readline() for _ in part]
+        return replies
+
+    def end(self):
+        self.process.stdin.close()
+        self.process.wait()
+
+
+def run(words_of, lines, chunks):
+    """Updates of each advance, and for each program the seconds of each."""
+    programs = [Program(name, words) for name, words in words_of.items()]
+    first = [program.ask(lines) for program in programs]
+    updates, spent = [], {program.name: [] for program in programs}
+    for steps in chunks:
+        said = []
+        for program in programs:
+            before = program.ask([line(cmd="count")])
+            start = time.perf_counter()
+            moved = program.ask([line(cmd="advance", steps=steps)])
+            spent[program.name].append(time.perf_counter() - start)
+            said.append(before + moved + program.ask([line(cmd="count")]))
+        first = [replies + more for replies, more in zip(first, said, strict=True)]
+        cells = [json.loads(said[0][at])["cells"] for at in (0, 2)]
+        updates.append(sum(cells) / 2 * steps)
+    for program in programs:
+        program.end()
+    if any(replies != first[0] for replies in first):
+        raise SystemExit("the replies are not the same")
+    return updates, spent
+
+
+def main_steps(argv: list[str]) -> int | None:
+    """How many vehicles move in a second, with some numbers of workers, and beside another program.
+
+    Takes minutes.
+
+    Sessions: a ring of 100 one-lane links of 1,000 cells, filled to a density; a grid of 32 by 32 nodes with signals
+    and two-lane links of 100 cells, on which vehicles drive through 20 links; 4,096 two-lane links of 1,000,000 cells
+    with 10,000 vehicles; a star of 200 two-lane links of 100 cells into one node and 200 out of it, with 10,000
+    vehicles. OTHER is another program for the same lines and the option --calls. All take turns, advance by advance,
+    and their replies must be the same, byte for byte. Times are those of the clock on the wall, so that workers on
+    threads count; the best of the runs of each advance is taken.
+    """
+    parser = shared.parser_of(main_steps)
+    parser.add_argument("--workers", default="1")
+    parser.add_argument("--beside")
+    parser.add_argument("--only", default="")
+    parser.add_argument("--times", type=int, default=3)
+    args = parser.parse_args(argv)
+
+    words = {f"{workers} workers": [args.program, "--workers", workers, *CALLS] for workers in args.workers.split(",")}
+    if args.beside:
+        words = {"beside": [args.beside, *CALLS], **words}
+    print(f"million vehicle updates a second (best of {args.times} runs)")
+    for name, make in SESSIONS.items():
+        if args.only not in name:
+            continue
+        lines, chunks = make()
+        best = {}
+        for _ in range(args.times):
+            updates, spent = run(words, lines, chunks)
+            best = {it: [min(pair) for pair in zip(spent[it], best.get(it, spent[it]), strict=True)] for it in spent}
+        rates = {it: sum(updates) / sum(best[it]) / 1e6 for it in best}
+        of = rates[next(iter(rates))]
+        print(
+            f"  {name:<14}" + ", ".join(f"{it} {rate:.1f} ({rate / of:.2f})" for it, rate in rates.items()), flush=True
+        )
+
+
+WARM = 32  # steps with caches before those that are counted
+CACHES = ["--cache-sim=yes", "--D1=32768,8,64", "--LL=1048576,16,64"]
+# What is shown of each function: instructions, reads that miss the near cache, reads that miss the far one.
+EVENTS = ("Ir", "D1mr", "DLmr")
+NUMBER = re.compile(r"([\d,]+|\.)(?: \( ?[\d.]+%\))?(?=\s)")
+
+
+def control(program, *words):
+    """Tells callgrind what to do."""
+    told = subprocess.run(
+        ["callgrind_control", *words, str(program.process.pid)], capture_output=True, text=True, check=False
+    )
+    if told.returncode:
+        raise SystemExit(told.stdout + told.stderr)
+
+
+def cells(program):
+    return json.loads(program.ask([line(cmd="count")])[0])["cells"]
+
+
+def counted(path, lines, before, steps, folder):
+    """Runs a session up to the steps that are counted, and these;
+    gives callgrind's file and how many updates they are."""
+    found = Path(folder) / "callgrind.out"
+    words = [
+        "valgrind", "--tool=callgrind", "--instr-atstart=no", *CACHES, f"--callgrind-out-file={found}",
+        f"--log-file={folder}/log",
+    ]
+    program = Program("counted", [*words, path, "--workers", "1", *CALLS])
+    program.ask(lines)
+    if before > WARM:
+        program.ask([line(cmd="advance", steps=before - WARM)])
+    control(program, "-i", "on")
+    program.ask([line(cmd="advance", steps=min(before, WARM))])
+    first = cells(program)
+    control(program, "-z")
+    program.ask([line(cmd="advance", steps=steps)])
+    control(program, "-d")
+    updates = steps * (first + cells(program)) / 2
+    program.end()
+    return found.with_name("callgrind.out.1"), updates
+
+
+def by_function(path):
+    """The events of all, and of each function: [(name, [number of each event])], the most instructions first."""
+    words = ["callgrind_annotate", "--threshold=100", f"--show={','.join(EVENTS)}", path]
+    told = subprocess.run(words, capture_output=True, text=True, check=True).stdout
+    rows = []
+    for text in told.splitlines():
+        numbers = NUMBER.findall(text)
+        name = re.sub(r"^(\?\?\?|\S*\.[cS]):", "", text.rsplit("  ", 1)[-1].partition(" [")[0])
+        if len(numbers) >= len(EVENTS) and re.match(r"\s*[\d,]+ \(", text):
+            rows.append((name, [0 if one == "." else int(one.replace(",", "")) for one in numbers[: len(EVENTS)]]))
+    return rows
+
+
+def main_instructions(argv: list[str]) -> int | None:
+    """Instructions for a vehicle and step, by function, and reads that miss caches.
+
+    Takes minutes; needs valgrind.
+
+    Valgrind's callgrind runs the program, some fifty times slower. The sessions are those of `steps`. Steps before
+    those that are counted: --before (200) after what a session begins with, the last 32 of them with the caches. In 32
+    steps (--steps) each vehicle makes its draws once. Functions with fewer instructions than --least (1) are left out.
+    What was counted is the same for each run, however busy the machine is.
+    """
+    parser = shared.parser_of(main_instructions)
+    shared.add_some(parser, "--only", SESSIONS, ("ring 0.3", "grid 20000", "grid 100000"))
+    parser.add_argument("--before", type=int, default=200)
+    parser.add_argument("--steps", type=int, default=32)
+    parser.add_argument("--least", type=float, default=1.0)
+    args = parser.parse_args(argv)
+    print("instructions a vehicle and step (reads that miss 32 KB, and 1 MB)")
+    for name in args.only:
+        with tempfile.TemporaryDirectory() as folder:
+            found, updates = counted(args.program, SESSIONS[name]()[0], args.before, args.steps, folder)
+            rows = by_function(found)
+        for function, numbers in rows:
+            instructions, near, far = (number / updates for number in numbers)
+            if instructions >= args.least:
+                print(f"  {name:<12} {instructions:7.1f} ({near:.2f}, {far:.2f})  {function}", flush=True)
+
+
+LINKS, LENGTH, VEHICLES = 70, 200, 2_400
+WORKERS = (2, 3, 4, 5, 8, 16, 33, 64)
+SEEDS = 8
+SECONDS = 120
+
+
+def commands(seed):
+    """A load, vehicles that enter evenly, some advances of many steps and of one, and a count."""
+    nodes = [[link + 1, 1, 2] for link in range(LINKS)]
+    links = [[1_000 + link, link + 1, (link + 1) % LINKS + 1, 2, LENGTH, 5] for link in range(LINKS)]
+    turns = [[1_000 + link, lane, 1_000 + (link + 1) % LINKS, lane] for link in range(LINKS) for lane in (0, 1)]
+    yield shared.load(nodes, links, turns, dawdle=200, seed=seed)
+    for vehicle in range(VEHICLES):
+        plan = [1_000 + (vehicle + seed + onward) % LINKS for onward in range(6)]
+        yield {"cmd": "enter", "plan": plan, "lane": vehicle // LINKS % 2, "depart": 0}
+    for steps in (30, *[1] * 8, 25):
+        yield {"cmd": "advance", "steps": steps}
+    yield {"cmd": "count"}
+
+
+def replies(program, text, workers):
+    words = [program, "--workers", str(workers)]
+    return subprocess.run(words, input=text, capture_output=True, timeout=SECONDS, check=True).stdout
+
+
+def main_short_sessions(argv: list[str]) -> int | None:
+    """Whether short sessions on many threads hang, or differ from those of one worker.
+
+    Takes minutes.
+
+    A ring of 70 links has 2,260 vehicles in its cells, enough for steps to be shared; sessions differ by the seed, by
+    where vehicles enter, and by the number of workers. A session that has not ended after two minutes hangs.
+    """
+    parser = shared.parser_of(main_short_sessions)
+    parser.add_argument("--runs", type=int, default=10_000)
+    parser.add_argument("--jobs", type=int, default=3)
+    args = parser.parse_args(argv)
+
+    texts = ["".join(shared.text_of(command) + "\n" for command in commands(seed)).encode() for seed in range(SEEDS)]
+    wanted = [replies(args.program, text, 1) for text in texts]
+    print(wanted[0].decode().splitlines()[-1])
+
+    def is_equal(number):
+        at, workers = number % SEEDS, WORKERS[number // SEEDS % len(WORKERS)]
+        return replies(args.program, texts[at], workers) == wanted[at]
+
+    with ThreadPoolExecutor(args.jobs) as pool:
+        equal = sum(pool.map(is_equal, range(args.runs)))
+    told = f"{args.runs - equal:,} with other replies than one worker's"
+    print(f"{args.runs:,} sessions with {WORKERS[0]} to {WORKERS[-1]} workers: {told}, none hung")

@@ -1,0 +1,337 @@
+"""The tables of the pages: which are of the present tools, making them again, and putting rows into pages.
+
+A page may leave out columns and rows of what was printed; the heads of its columns are those of the measurement, in the
+same order. A row is known by its first cells, as many as tell the printed rows apart; an empty first cell is the one
+above.
+"""
+
+import fcntl
+import json
+import re
+import shlex
+import subprocess
+import sys
+from collections.abc import Iterator, Sequence
+from dataclasses import dataclass, field
+from itertools import takewhile
+from pathlib import Path
+
+import shared
+from shared import PARTS, TOP, all_commands, digest, digests_of
+
+RULE = re.compile(r"\s*\|[|\s:-]+\|\s*")
+Row = tuple[str, ...]
+
+
+@dataclass(frozen=True)
+class Grid:
+    """A table of a text. rows: the cells by the number of the line that has them."""
+
+    head: Row
+    rows: dict[int, Row]
+
+    def filled(self, line: int) -> Row:
+        """A row's cells; where the first is empty, that of a row above."""
+        row = self.rows[line]
+        firsts = [self.rows[at][0] for at in self.rows if at <= line and self.rows[at][0]]
+        return (firsts[-1] if firsts else "", *row[1:])
+
+
+@dataclass
+class Placed:
+    """A text with the rows in it, and what was found on the way."""
+
+    lines: list[str]
+    moved: list[str] = field(default_factory=list)  # rows that stood otherwise, as they were and as they are
+    missing: list[str] = field(default_factory=list)  # printed tables and rows that the page does not have
+    unmade: list[str] = field(default_factory=list)  # rows of the page's tables that were not printed
+    placed: int = 0  # rows that the page has, moved or not
+
+
+def is_row(line: str) -> bool:
+    return line.lstrip().startswith("|")
+
+
+def cells(line: str) -> Row:
+    """The cells of a row, without what makes them bold."""
+    inner = line.strip().removeprefix("|").removesuffix("|")
+    return tuple(cell.strip().replace("**", "") for cell in inner.split("|"))
+
+
+def grids(lines: list[str], first: int = 0) -> Iterator[Grid]:
+    """The tables of some lines of a text, which are numbered from first on."""
+    heads = [at for at, line in enumerate(lines[1:]) if RULE.fullmatch(line) and is_row(lines[at])]
+    for head, following in zip(heads, [*heads[1:], len(lines)]):
+        rows = takewhile(lambda at: is_row(lines[at]), range(head + 2, following))
+        yield Grid(cells(lines[head]), {first + row: cells(lines[row]) for row in rows})
+
+
+def section(lines: list[str], heading: str) -> range:
+    """The lines below a heading, such as '## How good', up to the next one that is not below it."""
+    begin = lines.index(heading) + 1
+    next_one = re.compile(f"#{{1,{heading.index(' ')}}} ")
+    ends = (at for at in range(begin, len(lines)) if next_one.match(lines[at]))
+    return range(begin, next(ends, len(lines)))
+
+
+def columns(page: Row, made: Row) -> list[int] | None:
+    """For each column of a page's table the place of the printed one with the same head; none where one is lost."""
+    found: list[int] = []
+    for head in page:
+        begin = found[-1] + 1 if found else 0
+        if head not in made[begin:]:
+            return None
+        found.append(made.index(head, begin))
+    return found
+
+
+@dataclass(frozen=True)
+class Match:
+    """Printed rows, with the columns of a table of the page that may have them, by their first cells."""
+
+    grid: Grid
+    width: int  # how many first cells tell the rows apart
+    wanted: dict[Row, Row]
+
+    def key(self, line: int) -> Row:
+        return self.grid.filled(line)[: self.width]
+
+    def common(self) -> int:
+        """How many rows of the page were printed."""
+        return sum(self.key(line) in self.wanted for line in self.grid.rows)
+
+
+def match(grid: Grid, made: Grid) -> Match | None:
+    """None where the page's table has a column that was not printed."""
+    way = columns(grid.head, made.head)
+    if way is None:
+        return None
+    rows = [tuple(made.filled(line)[at] for at in way) for line in made.rows]
+    width = next((count for count in range(1, len(way)) if len({row[:count] for row in rows}) == len(rows)), len(way))
+    return Match(grid, width, {row[:width]: row for row in rows})
+
+
+def put(text: str, heading: str, printed: str) -> Placed:
+    """The tables of what a script printed in those of a section of a text that have most of their rows."""
+    done = Placed(text.split("\n"))
+    within = section(done.lines, heading)
+    there = list(grids(done.lines[within.start : within.stop], within.start))
+    for made in grids([line for line in printed.split("\n") if is_row(line)]):
+        ways = [found for grid in there if (found := match(grid, made))]
+        best = max(ways, key=lambda one: (one.common(), len(one.grid.head)), default=None)
+        if best and best.common():
+            place(done, best)
+        else:
+            done.missing.append(f"the table {' | '.join(made.head)}")
+    return done
+
+
+def place(done: Placed, found: Match) -> None:
+    """Printed rows in a table of the page."""
+    wanted = dict(found.wanted)
+    for line in found.grid.rows:
+        old, new = found.grid.filled(line), wanted.pop(found.key(line), None)
+        if new is None:
+            done.unmade.append(" | ".join(old))
+        else:
+            done.placed += 1
+            move(done, line, old, new)
+    done.missing += [" | ".join(row) for row in wanted.values()]
+
+
+def move(done: Placed, line: int, old: Row, new: Row) -> None:
+    """A row of the page as it is now; its first cell stays empty where it was."""
+    if old != new:
+        done.moved.append(f"{' | '.join(old)}\n    now: {' | '.join(new)}")
+        before, bar, rest = done.lines[line].partition("|")
+        first = new[0] if rest.partition("|")[0].strip() else ""
+        done.lines[line] = f"{before}{bar} {' | '.join((first, *new[1:]))} |"
+
+
+KEPT = TOP / "bench/tables.json"
+COMMANDS = all_commands()
+RUNNING_NOTHING = ("doubts",)
+Digests = dict[str, str]
+
+
+@dataclass(frozen=True)
+class Table:
+    """Tables of a page below one of its headings: the measurement that prints them, its words behind PROGRAM, and about
+    how many minutes of one processor it takes where nothing is kept."""
+
+    name: str
+    page: str
+    heading: str
+    command: str
+    words: str
+    minutes: int
+    shares: str = ""  # the table whose folder it has too, for what SUMO wrote
+
+    def line(self, program: str, place: Path) -> list[str]:
+        """The command line. place: the folder of its own."""
+        usual = [] if self.command in RUNNING_NOTHING else [program, "--work", str(place)]
+        return [sys.executable, str(TOP / "bench/run"), self.command, *usual, *shlex.split(self.words)]
+
+    def place(self, folder: Path) -> Path:
+        """Its own folder: where what the tools found is kept, one for these tools."""
+        own = f"-{digest(self.digests().values())}" if self.command in FINDING else ""
+        return folder / f"{self.shares or self.name}{own}"
+
+    def digests(self) -> Digests:
+        return digests_of(COMMANDS[self.command], TOP)
+
+
+# The others keep what SUMO wrote alone, or by the tools.
+FINDING = ("signals", "routes", "demand", "day", "calibrated")
+CLOSENESS, WORKS, ROUTES, SIGNALS = (f"tools/{name}.md" for name in ("CLOSENESS", "WORKS", "ROUTES", "SIGNALS"))
+ACTUATED, BUSES, COUNTS, OUTPUTS = (f"tools/{name}.md" for name in ("ACTUATED", "BUSES", "COUNTS", "OUTPUTS"))
+CALIBRATION, PYTHON, GAINS = "tools/CALIBRATION.md", "tools/PYTHON.md", "## What a calibration gains"
+CLOSE, BESIDE, GOOD = "## How close to SUMO", "## Beside SUMO", "## How good they are"
+KINDS, SHIPPED = "## How far mean trips are off, by kind of network", "## Networks that sumo-tools 1.15 ships"
+LOADS, DRAWN, RIGHT = "### By load", "### Rows of single kinds", "### How often a doubt is right"
+GREENS, LONE = "### Permissive greens", "### Giving way without a light"
+ROUTERS = "free flow (duarouter),streetsim-route"
+TABLES = (
+    Table("unseen", CLOSENESS, KINDS, "unseen", "38885,10463,25092 --rows unseen", 20),
+    Table("closeness", CLOSENESS, CLOSE, "closeness", "--seeds 1-5 --rows closeness", 20),
+    Table("sweep", CLOSENESS, LOADS, "sweep", "74220 --rows sweep", 15),
+    Table("versions", CLOSENESS, LOADS, "versions", "74220 --levels 0.5", 15, shares="sweep"),
+    Table("drawn-rows", CLOSENESS, DRAWN, "drawn-rows", "64023 --rows drawn-rows", 4),
+    Table("doubts", CLOSENESS, RIGHT, "doubts", "", 1),
+    Table("shared-lanes", CLOSENESS, GREENS, "shared-lanes", "--seeds 1-1", 4),
+    Table("cross", CLOSENESS, GREENS, "cross", "", 5),
+    Table("junctions", CLOSENESS, LONE, "junctions", "", 6),
+    Table("long-vehicles", CLOSENESS, "### Long vehicles", "long-vehicles", "", 1),
+    Table("detectors", CLOSENESS, "### Detectors", "detectors", "", 1),
+    Table("delays", CLOSENESS, "### Delays of approaches", "delays", "--seeds 1-3", 8),
+    Table("shipped", CLOSENESS, SHIPPED, "shipped-demands", "--only game/A10KW,BasicRiLSACorridor3", 3),
+    Table("works-street", WORKS, BESIDE, "works", "--street --seeds 1-1", 2),
+    Table("works-66845", WORKS, BESIDE, "works", "--drawn 66845", 3),
+    Table("works-30243", WORKS, BESIDE, "works", "--drawn 30243", 3),
+    Table("works", WORKS, BESIDE, "works", "--only grid,acosta --edges C1C2,21b,69,85", 7),
+    Table("buses", BUSES, CLOSE, "buses", "--seeds 9639-9640 --table stops", 2),
+    Table("priority", BUSES, CLOSE, "buses", "--seeds 9639-9641 --table priority", 3),
+    Table("actuated", ACTUATED, CLOSE, "actuated", "--seed 90083 --levels 0.5", 3),
+    Table("signals", SIGNALS, "## How good", "signals", "--only corridor --sumo 1-3", 2),
+    Table("signals-verified", SIGNALS, "## How good", "signals", "--verified --only rilsa1,rilsa2,rilsa4", 3),
+    Table("routes", ROUTES, GOOD, "routes", "--only town", 6),
+    Table("routes-new", ROUTES, GOOD, "routes", f"--only 'spider;random' --methods '{ROUTERS}'", 2),
+    Table("routes-works", ROUTES, GOOD, "routes", "--works --only town --knowing 0,0.3,1", 5),
+    Table("demand", COUNTS, "## Beside SUMO's tools", "demand", "--unseen radial-17149,grid-71347 --most 30000", 3),
+    Table("sumo-scripts", PYTHON, "## Scripts for TraCI", "sumo-scripts", "--seconds 1800 --times 1", 5),
+    Table("calibrated", CALIBRATION, GAINS, "calibrated", "--ten --drawn 15074,17244,32762,15049", 60),
+    Table("day-intervals", CALIBRATION, "## How often an interval holds", "day-intervals", "", 30),
+    Table("day", OUTPUTS, "## Whole days, and rescues", "day", "--junctions 900 --sumo", 25),
+)
+
+
+def what_changed(kept: Digests | None, now: Digests) -> str:
+    """What changed since a table was made, in words; nothing where it is of the present tools."""
+    if kept is None:
+        return "never made by this measurement"
+    return ", ".join(part for part in PARTS if kept.get(part) != now[part])
+
+
+def made_by(table: Table, program: str, folder: Path) -> str:
+    """What a table's measurement prints, made where it is not kept; a failure ends all."""
+    path, digests = folder / f"{table.name}.json", table.digests()
+    found = json.loads(path.read_text(encoding="utf-8")) if path.exists() else {}
+    if found.get("digests") == digests and found.get("words") == table.words:
+        return found["text"]
+    command = table.line(program, table.place(folder))
+    print(f"{table.name}: {shlex.join(command[1:])}", flush=True)
+    done = subprocess.run(command, env=shared.with_sumo(), stdout=subprocess.PIPE, text=True, check=False)
+    if done.returncode:
+        raise SystemExit(f"{table.name}: status {done.returncode}")
+    path.write_text(json.dumps({"digests": digests, "words": table.words, "text": done.stdout}, indent=1))
+    return done.stdout
+
+
+def told_of(table: Table, done: Placed) -> str:
+    """What of a table is otherwise on its page."""
+    lines = [f"{table.name}: {table.page}: {done.placed} rows, {len(done.moved)} of them moved"]
+    lines += [f"  was: {row}" for row in done.moved]
+    lines += [f"  not on the page: {row}" for row in done.missing]
+    lines += [f"  on the page alone: {row}" for row in done.unmade]
+    return "\n".join(lines)
+
+
+def kept_digests() -> dict[str, Digests]:
+    return json.loads(KEPT.read_text(encoding="utf-8"))
+
+
+def keep_table(table: Table, done: Placed) -> None:
+    """Writes a page with its table, and the digests."""
+    (TOP / table.page).write_text("\n".join(done.lines), encoding="utf-8")
+    if done.placed and not done.unmade:
+        known = {**kept_digests(), table.name: table.digests()}
+        own = {name: known[name] for name in sorted(known) if name in {one.name for one in TABLES}}
+        KEPT.write_text(json.dumps(own, indent=1) + "\n", encoding="utf-8")
+
+
+def list_all(tables: Sequence[Table]) -> int:
+    """Prints what is known of each table; gives how many are not of the present tools."""
+    kept, old, needed = kept_digests(), 0, 0
+    for table in tables:
+        why = what_changed(kept.get(table.name), table.digests())
+        old, needed = old + bool(why), needed + bool(why) * table.minutes
+        state = f"not of the present tools: {why}" if why else "of the present tools"
+        place = f"{table.page}, {table.heading.lstrip('# ')}"
+        print(f"{table.name}: {place}: {state} ({table.minutes} min)", flush=True)
+    print(f"{old} of {len(tables)} are not; to make these all takes {needed} min of one processor")
+    return old
+
+
+def make_all(tables: Sequence[Table], program: str, folder: Path, putting: bool) -> int:
+    """Makes tables; gives how many rows are otherwise on their pages."""
+    wrong = 0
+    for table in tables:
+        text = made_by(table, program, folder)
+        with open(KEPT, "a", encoding="utf-8") as lock:  # of another call that puts, too
+            fcntl.flock(lock, fcntl.LOCK_EX)
+            done = put((TOP / table.page).read_text(encoding="utf-8"), table.heading, text)
+            if putting:
+                keep_table(table, done)
+        print(told_of(table, done), flush=True)
+        wrong += len(done.moved) + len(done.unmade)
+    return wrong
+
+
+def chosen(names: str | None) -> Sequence[Table]:
+    known = {table.name: table for table in TABLES}
+    wanted = names.split(",") if names else list(known)
+    unknown = [name for name in wanted if name not in known]
+    if unknown:
+        raise SystemExit(f"no table {unknown[0]!r}: {', '.join(known)}")
+    return [known[name] for name in wanted]
+
+
+def main_tables(argv: list[str]) -> int | None:
+    """Which tables of the pages are of the present tools; makes them again.
+
+    Takes seconds with --list, else the minutes that --list says.
+
+    Each table has a measurement that prints its rows. What was printed is kept in the folder of --work with digests of
+    what it rests on: the functions and modules of the measurement, the modules of the tools that its commands load, and
+    the machine's definitions, all without docs and comments. So a call that was interrupted goes on with the next
+    table, and a table of other digests is made anew. Two calls may run side by side with one folder.
+
+    --put writes rows that moved into the page, and the digests into tables.json; it says what the page does not have,
+    and no digests are written where the page has rows that were not printed. --list runs nothing: it says of each table
+    whether the digests in tables.json are those of the present tools, and if not what changed. The status is 1 where a
+    cell is another one than on its page, or where a table of --list is not of the present tools.
+    """
+    parser = shared.parser_of(main_tables, program=False)
+    parser.add_argument("program", metavar="PROGRAM", nargs="?", type=shared.found_program)
+    parser.add_argument("--work", type=shared.whole, help="a folder for what is made")
+    parser.add_argument("--only", help="names of tables, with commas between")
+    parser.add_argument("--list", action="store_true", help="run nothing")
+    parser.add_argument("--put", action="store_true", help="write rows into the pages, and digests into tables.json")
+    args = parser.parse_args(argv)
+    if args.list:
+        if args.put:
+            parser.error("--list runs nothing, and --put puts what was made")
+        return 1 if list_all(chosen(args.only)) else 0
+    if not (args.program and args.work):
+        parser.error("PROGRAM and --work are needed, but for --list")
+    return 1 if make_all(chosen(args.only), args.program, shared.work_of(args), args.put) else 0
