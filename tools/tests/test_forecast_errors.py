@@ -50,7 +50,8 @@ class Errors(unittest.TestCase):
         light = SimpleNamespace(phases=[(9, "G")], offset=0)
         for works, vehicles, phases, offset, kind in (
             ((0, 1), 100, [(8, "G")], 5, LANE), ((1, 1), 100, [(9, "G")], 0, None),
-            ((0, 0), 110, [(8, "G")], 5, GROWTH), ((0, 0), 104, [(8, "G")], 5, SPLIT), ((0, 0), 100, [(9, "G")], 5, WAVE), ((0, 0), 90, [(9, "G")], 0, None),
+            ((0, 0), 110, [(8, "G")], 5, GROWTH), ((0, 0), 104, [(8, "G")], 5, SPLIT),
+            ((0, 0), 100, [(9, "G")], 5, WAVE), ((0, 0), 90, [(9, "G")], 0, None),
         ):  # fmt: skip
             changed = SimpleNamespace(phases=phases, offset=offset)
             plans = [SimpleNamespace(vehicles=100, first=works[0], lights={"L": light, "M": light})]
