@@ -10,7 +10,7 @@ import shared
 from networks.unseen import make
 from shared import SAMPLES, SUMO_HOME, TOP, with_sumo
 from streetsim.base.report import Report
-from streetsim.demand.judging import judged
+from streetsim.demand.judging import judge_counts
 from streetsim.demand.passing import CountsByEdges
 from streetsim.demand.running import passed_by_count, run_demand
 from streetsim.demand.values import Count
@@ -56,7 +56,7 @@ class Case:
         ground = RunGround(self.program, program_digest(self.program), town.graph, 300, 2 * HOUR + 7200, 2)
         done = run_demand(ground, town.loaded(all_), seed)
         by_edges, kinds = CountsByEdges(counts, town.graph), [""] * len(all_)
-        values = passed_by_count(by_edges, [trip.path for trip in all_], kinds, done.left)
+        values = passed_by_count(by_edges, [trip.path for trip in all_], kinds, done.exit_clocks)
         return values, len(all_), done.rescues
 
     def turns(self):
@@ -143,7 +143,7 @@ def fitted_there(case, wrong):
 
 def shares(counts, values):
     """GEH of hourly volumes below 5, of how many, and their mean; the total's difference."""
-    hourly = judged(counts, values).hourly
+    hourly = judge_counts(counts, values).hourly
     good, mean = (sum(some) / len(hourly) for some in ((one.geh < 5 for one in hourly), (one.geh for one in hourly)))
     total = sum(values) / sum(one.vehicles for one in counts) - 1
     return f"{good:.0%} of {len(hourly)} | {mean:.1f} | {total:+.1%}"

@@ -21,7 +21,7 @@ def wrong_sums(segments, trips, clock):
 def main():
     """Runs a tool: its path and words are those of the command line."""
     sys.argv, sys.path[0] = sys.argv[1:], str(TOOLS)
-    from streetsim.observe.making import RunTables
+    from streetsim.observe.run_making import RunTables
 
     write = RunTables.write
 

@@ -265,7 +265,7 @@ def page_session(files):
     asked = live.parser().parse_args([str(files.run), "--map", str(files.map), *feature.words])
     names = tuple(feature.wishes.get("joint", ()))
     program, run_and_map = find_program(None), read_with_map(files.run, files.map)
-    settings = partial(live.asked_of, asked)
+    settings = partial(live.page_settings, asked)
     more = False, names, asked.rounds, 1, asked.departures or "listed"
     of, _ = Joining(*run_and_map, files.map, program, settings, *more).page_run()
     session = PageSession(of)

@@ -231,7 +231,7 @@ class Reading(unittest.TestCase):
         yellow. At the begin of a run, which has 10 s left of its first phase, the last 10 s of that."""
         shown = NodesOfLight(Driven("L", 0, TWO, 2.0, (), (), ()), SimpleNamespace(links=[]))
         one, other, none = frozenset({(0, 0, 1)}), frozenset({(0, 0, 2)}), frozenset()
-        shown.nodes = [(None, SimpleNamespace(node=7))]
+        shown.nodes = [(None, SimpleNamespace(node=7, light="L", turns=[]))]
         shown.greens_by_second = lambda *_: [none] * 2 + [one] * 40 + [none] * 3 + [other] * 42 + [none] * 3
         ended = [EndedPhase(3, 0, 3, "listed")]
         for at, before, phases in (
@@ -240,6 +240,33 @@ class Reading(unittest.TestCase):
         ):  # fmt: skip
             [command] = shown.plans(SimpleNamespace(at=at, ended=before, due=110), 100)
             self.assertEqual((command["node"], command["phases"]), (7, phases))
+
+    def test_who_gives_way_goes_before_a_least_green_ends(self):
+        """Of a green of 20 s on the mean that may end after 5: who goes first starts after 1 s and has a pause at 10 s,
+        who gives way is let go in the last 4 s. The first 2 of these, in which one vehicle passes, are moved to before
+        5 s, but not the last second of the phase. Nothing is moved where some are let go before 5 s, or none at all,
+        where a phase has no detectors, and at the begin of a run, when 5 s are left of a phase."""
+        main, left = (0, 0, 1), (0, 0, 2)
+        turns = [(*key, SimpleNamespace(light="L", index=index)) for index, key in enumerate((main, left))]
+        late = {16: 20}
+        for detectors, before, lets, phases in (
+            ((0,), [1], late, [(1, ""), (2, "m"), (2, "ml"), (5, "m"), (2, ""), (6, "m"), (600, "ml")]),
+            ((0,), [1], {19: 20}, [(1, ""), (2, "m"), (2, "ml"), (5, "m"), (2, ""), (7, "m"), (600, "ml")]),
+            ((0,), [1], {2: 3, **late}, [(1, ""), (1, "m"), (1, "ml"), (7, "m"), (2, ""), (4, "m"), (600, "ml")]),
+            ((0,), [1], {}, [(1, ""), (9, "m"), (2, ""), (600, "m")]),
+            ((), [1], late, [(1, ""), (9, "m"), (2, ""), (4, "m"), (600, "ml")]),
+            ((0,), [], late, [(1, "m"), (600, "ml")]),
+        ):
+            light = Driven("L", 0, (Phase("Gg", 20, 5, 50, detectors), Phase("rr", 9, 9, 9)), 2.0, (), (), ())
+            shown = NodesOfLight(light, SimpleNamespace(links=[]))
+            shown.nodes = [(None, SimpleNamespace(node=7, light="L", turns=turns))]
+            spans = [(main, 1, 10), (main, 12, 20), *((left, begin, end) for begin, end in lets.items())]
+            rows = [frozenset(turn for turn, begin, end in spans if begin <= at < end) for at in range(29)]
+            shown.greens_by_second = lambda *_, rows=rows: rows
+            ended = [EndedPhase(1, 0, 9, "listed") for _ in before]
+            [command] = shown.plans(SimpleNamespace(at=0, ended=ended, due=105), 100)
+            names = {"m": [*main], "l": [*left]}
+            self.assertEqual(command["phases"], [[seconds, [names[one] for one in own]] for seconds, own in phases])
 
     def test_a_plan_begins_now_and_stays(self):
         rows = [frozenset({(0, 0, 1)})] * 3 + [frozenset()] * 2

@@ -296,7 +296,7 @@ class Fitting(unittest.TestCase):
         of (0.1^2 + 3.5^2)^0.5 = 3.50143 s. All slower by two errors, and a speed that is off by its spread, are 33."""
         fit = self.fit(self.day([50.0] * 8), lambda _: [50 + 2 * 3.50143] * 8)
         values = [value(SPEED, 1.0, 0.1, 0.04)]
-        fit.take([fit.drivers(values, numpy.array([1.1]))])
+        fit.run_missing([fit.drivers(values, numpy.array([1.1]))])
         self.assertAlmostEqual(fit.cost(values, numpy.array([1.1]), numpy.array([1.0])), 8 * 2**2 + 1, places=3)
 
     def test_what_they_do_not_tell_stays_at_its_prior(self):

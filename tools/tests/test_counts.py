@@ -102,7 +102,7 @@ class Inputs(Case):
     def test_lines_of_rows(self):
         """Blank lines and remarks stand before the columns, a value goes over two lines, and a remark has a quote."""
         path = self.write("z.csv", '\n# of "1\nzone,edges\n1,"a\nb"\n#,"\n2,c\n')
-        found = [(zone.name, list(zone.sources), zone.where) for zone in zones.read_zones([path]).values()]
+        found = [(zone.name, list(zone.sources), zone.location) for zone in zones.read_zones([path]).values()]
         self.assertEqual(found, [("1", ["a", "b"], f"{path}: line 4"), ("2", ["c"], f"{path}: line 7")])
 
     def test_sumo(self):
@@ -114,7 +114,7 @@ class Inputs(Case):
         path = self.folder / "c.xml.gz"
         path.write_bytes(gzip.compress(text.encode()))
         self.assertEqual(
-            [(one.edges, one.vehicles, one.where) for one in reading.read_counts([str(path)])],
+            [(one.edges, one.vehicles, one.location) for one in reading.read_counts([str(path)])],
             [
                 (("a",), 7.0, f"{path}: line 3"), (("b",), 9.0, f"{path}: line 4"),
                 (("a", "b", "c"), 4.0, f"{path}: line 5"),
@@ -349,10 +349,10 @@ class Judging(Case):
     def test_criteria(self):
         counts = [Count(900 * at, 900 * at + 900, ("a",), 100, "", group="north") for at in range(4)]
         counts += [Count(0, 3600, ("b",), 400, "", group="north"), Count(3600, 7200, ("a",), 0, "")]
-        fit = judging.judged(counts, [90, 110, 100, 104, 500, 0])
+        fit = judging.judge_counts(counts, [90, 110, 100, 104, 500, 0])
         # GEH of 404 and 400 is 0.2; of 500 and 400 it is sqrt(2 * 100^2 / 900) = 4.71.
         self.assertEqual([round(one.geh, 2) for one in fit.hourly], [0.2, 4.71, 0])
-        self.assertEqual([one.meets_criteria for one in (fit, judging.judged(counts[1:2], [101]))], [False, True])
+        self.assertEqual([one.meets_criteria for one in (fit, judging.judge_counts(counts[1:2], [101]))], [False, True])
         hours = [(one.counts, one.good, one.meets_criteria) for one in fit.hours]
         self.assertEqual(hours, [(2, 2, False), (1, 1, True)])
         self.assertEqual([(one.group, one.counted, one.passed) for one in fit.groups], [("north", 800, 904)])
@@ -360,29 +360,29 @@ class Judging(Case):
         self.assertEqual(fit.groups[0].group_row(), (0, 3600, "north", 2, "800", "904", "13.0", "3.56"))
         self.assertIn("does not fit (totals within 5 %)", next(fit.lines()))
         # A quarter of an hour: 90 of 100 are 360 of 400 an hour, sqrt(2 * 40^2 / 760) = 2.05.
-        self.assertEqual(round(fit.each[0].geh, 2), 2.05)
+        self.assertEqual(round(fit.compared[0].geh, 2), 2.05)
 
     def test_quarters_of_an_hour_with_one_between_that_is_not_counted(self):
         # 100 in each of two quarters are 400 an hour, and 120 are 480: sqrt(2 * 80^2 / 880) = 3.81.
         counts = [Count(at, at + 900, ("a",), 100, "", group="north") for at in (0, 1800)]
-        fit = judging.judged(counts, [120, 120])
+        fit = judging.judge_counts(counts, [120, 120])
         self.assertEqual([(one.begin, one.end, round(one.geh, 2)) for one in fit.hourly], [(0, 2700, 3.81)])
         self.assertEqual(fit.groups[0].group_row(), (0, 2700, "north", 1, "200", "240", "20.0", "3.81"))
 
     def test_slope(self):
         counts = [Count(0, 3600, (name,), value, "") for name, value in (("a", 100), ("b", 200), ("c", 300))]
-        fit, single = judging.judged(counts, [110, 210, 310]), judging.judged(counts[:1], [1])
-        r, slope = judging.correlation_and_slope(fit.each)
+        fit, single = judging.judge_counts(counts, [110, 210, 310]), judging.judge_counts(counts[:1], [1])
+        r, slope = judging.correlation_and_slope(fit.compared)
         self.assertEqual((round(r, 6), round(slope, 6)), (1, 1))
         self.assertEqual([*fit.lines()][1:], ["all 3 counts: r = 1.000, slope 1.000"])
-        self.assertIsNone(judging.correlation_and_slope(single.each))
+        self.assertIsNone(judging.correlation_and_slope(single.compared))
         self.assertEqual([*single.lines()][1:], [])
 
 
 class Pictures(Case):
     @needs_package("python3-matplotlib", find_spec("matplotlib"))
     def test_a_fit_is_drawn_where_matplotlib_is(self):
-        fit, links = judging.judged([Count(0, 3600, ("a",), 100, "")], [110]), map_from("", MAP).links
+        fit, links = judging.judge_counts([Count(0, 3600, ("a",), 100, "")], [110]), map_from("", MAP).links
         with mock.patch("streetsim.report.picture_files.pyplot_if_installed", return_value=None):
             draw_fit(str(self.folder), fit, links, "passed in the run")
         self.assertEqual(list(self.folder.iterdir()), [])
@@ -596,7 +596,7 @@ class Fit(Tool):
         numpy, _ = science.numpy_and_scipy()
         trucks = [Count(900 * at, 900 * at + 900, ("a",), 25, "", "truck") for at in range(4)]
         counts = [Count(0, 3600, ("a",), 400, ""), *trucks]
-        basis = SimpleNamespace(given={}, counts=counts, ways=[], pairs=[], slices=[])
+        basis = SimpleNamespace(given_vehicles={}, counts=counts, ways=[], pairs=[], slices=[])
         with mock.patch.object(demanding, "Expecting") as made:
             counted = numpy.array([count.vehicles for count in counts])
             demanding.expected_vehicles(basis, demanding.DemandInputs(), "", numpy.eye(5), counted)
@@ -630,11 +630,11 @@ class Fit(Tool):
         pairs = [Pair(source, target, {}, {}) for source, target in ("ab", "cd")]
         town = SimpleNamespace(types=SimpleNamespace(report=Report()))
         basis = SimpleNamespace(
-            town=town, contradictions=[], counts=[], ways=[SimpleNamespace(pair=0)], pairs=pairs, given=True,
+            town=town, contradictions=[], counts=[], ways=[SimpleNamespace(pair=0)], pairs=pairs, given_vehicles=True,
             kept_pairs=(2, 2),
         )  # fmt: skip
         with mock.patch.object(making, "unreachable_counts", return_value=[]), redirect_stderr(io.StringIO()) as said:
-            making.tell_inputs(basis, SimpleNamespace(passing=None))
+            making.print_input_notes(basis, SimpleNamespace(passing=None))
         told = "warning: no way leads from c to d: vehicles of the matrix are left out\n"
         self.assertEqual(said.getvalue(), told)
 
@@ -645,7 +645,7 @@ class Fit(Tool):
         names = "RunGround", "program_digest", "correcting"
         with mock.patch.multiple(making, **dict.fromkeys(names, mock.DEFAULT)) as made:
             made["correcting"].AFTER, made["correcting"].try_demands.return_value = correcting.AFTER, []
-            self.assertEqual(making.run_and_tell(basis, None, wanted, None, None, None), [])
+            self.assertEqual(making.run_attempts(basis, None, wanted, None, None, None), [])
         self.assertEqual(made["RunGround"].call_args.args[4], 1800 + 2 * 3600)
 
     def test_slices_have_their_seconds(self):

@@ -45,7 +45,7 @@ class Schedules(Case):
         Samples saw 2 and 4 vehicles on 75 m, which are 40 a kilometre, at 18 cells a step in all: 3 cells a step or
         22.5 m/s, so 75 m take 10 / 3 s."""
         counts = Counts(900, Samples(0, 900, 0, 0))
-        counts.samples = SimpleNamespace(among=lambda clocks: numpy.isin(clocks, (1000, 1100)), any=True)
+        counts.samples = SimpleNamespace(among=lambda clocks: numpy.isin(clocks, (1000, 1100)), has_samples=True)
         seen = {1000: [[7, 3, 2], [8, 2, 4]], 1100: [[7, 3, 3], [8, 2, 3], [9, 1, 3], [10, 0, 3]]}
         seen |= {900: [[7, 3, 2]], 1800: [[1, 9, 1], [2, 2, 2], [3, 1, 3]]}
         passing = {1200 + car: car for car in range(7, 16)}  # in each second one, who joins the buffer behind the line

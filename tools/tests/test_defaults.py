@@ -4,6 +4,7 @@ import csv
 import gzip
 import json
 import os
+import shlex
 import shutil
 import subprocess
 import unittest
@@ -12,7 +13,7 @@ from argparse import Namespace
 from support import FORK, MAP, NUMBERED, PROGRAM, TOOLS, Case, needs_simulator
 
 from streetsim.base.files import Fault, read_json
-from streetsim.base.seeds import seeds_of, seeds_told
+from streetsim.base.seeds import seeds_of, seeds_text
 from streetsim.cli.defaults import map_beside, name_of_network, stem_of
 
 CONFIGURATION = (
@@ -42,7 +43,7 @@ class Names(Case):
             with self.subTest(text), self.assertRaisesRegex(Fault, "--seeds '.*': expected FIRST-LAST, or such"):
                 seeds_of(text, "--seeds")
         for text in ("1,4,7-9", "3", "1-2", "5,7"):
-            self.assertEqual(seeds_told(seeds_of(text, "--seeds")), text)
+            self.assertEqual(seeds_text(seeds_of(text, "--seeds")), text)
 
 
 class InAFolder(Case):
@@ -157,9 +158,21 @@ class InAFolder(Case):
         ))  # fmt: skip
         self.tool_here("import", "c.sumocfg")
         words = "c.jsonl", "--plans", "c.sumocfg", "--budget", 3, "--check", "101-102"
-        told, _ = self.tool_here("signals", *words, status=None)
+        told, said = self.tool_here("signals", *words, status=None)
         self.assertTrue((self.folder / "c.found.add.xml").exists(), told)
         self.assertTrue((self.folder / "c-signals").is_dir())
+        self.its_commands_show_the_plan(said)
+
+    def its_commands_show_the_plan(self, said):
+        """The commands that a search prints import the plan found, run both plans, and make a report of them."""
+        commands = [shlex.split(line)[1:] for line in said.splitlines() if line.startswith("$ ")]
+        tools = [name.removeprefix("streetsim-") for name, *_ in commands]
+        self.assertEqual(tools, ["import", "run", "run", "report"])
+        for name, (_, *words) in zip(tools, commands):
+            self.tool_here(name, *words)
+        found = [json.loads((self.folder / name).read_text())["options"] for name in ("c.map.json", "c.found.map.json")]
+        self.assertEqual(*found)
+        self.assertEqual(len(list(self.folder.glob("*.html"))), 1)
 
 
 if __name__ == "__main__":

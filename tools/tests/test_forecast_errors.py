@@ -2,8 +2,14 @@
 import re
 import unittest
 
+from types import SimpleNamespace
+from unittest import mock
+
 from support import TOOLS
-from streetsim.report.forecast_errors import ERRORS, PAGE, error_lines, errors_table
+from streetsim.report.forecast_errors import (
+    ERRORS, GROWTH, LANE, PAGE, SPLIT, WAVE, error_lines, error_told, errors_table, is_calibrated,
+)
+from streetsim.report.page_summary import kind_of_change
 
 
 class Errors(unittest.TestCase):
@@ -27,6 +33,34 @@ class Errors(unittest.TestCase):
             head, *cells = (row[place] for row in rows)
             self.assertEqual(head, f"{one.kind} ({one.streets})")
             self.assertEqual(cells, [f"{100 * one.uncalibrated:.0f} %", f"{100 * one.calibrated:.0f} %"])
+
+    def test_a_sentence_of_the_kind_that_fits(self):
+        """A calibration is advised where it makes such forecasts better."""
+        said = "For a closed lane, forecasts with {} base were off by {} % of the change on 6 streets{}."
+        self.assertEqual(error_told(LANE, False), said.format("an uncalibrated", 148, ": streetsim-calibrate first"))
+        self.assertEqual(error_told(LANE, True), said.format("a calibrated", 13, ""))
+        self.assertNotIn("streetsim-calibrate", error_told(WAVE, False))
+
+    def test_what_a_calibration_gave(self):
+        for options, calibrated in (({}, False), ({"cut": 0.0, "speeds": []}, False), ({"cut": 0.5}, True)):
+            self.assertEqual(is_calibrated(SimpleNamespace(options=options)), calibrated)
+
+    def test_kinds_of_changes(self):
+        """Works, more vehicles, other greens, other offsets; nothing where none of them is."""
+        light = SimpleNamespace(phases=[(9, "G")], offset=0)
+        for works, vehicles, phases, offset, kind in (
+            ((0, 1), 100, [(8, "G")], 5, LANE), ((1, 1), 100, [(9, "G")], 0, None),
+            ((0, 0), 110, [(8, "G")], 5, GROWTH), ((0, 0), 104, [(8, "G")], 5, SPLIT),
+            ((0, 0), 100, [(9, "G")], 5, WAVE), ((0, 0), 90, [(9, "G")], 0, None),
+        ):  # fmt: skip
+            changed = SimpleNamespace(phases=phases, offset=offset)
+            plans = [SimpleNamespace(vehicles=100, first=works[0], lights={"L": light, "M": light})]
+            plans.append(SimpleNamespace(vehicles=vehicles, first=works[1], lights={"L": changed}))
+            with (
+                mock.patch("streetsim.report.page_works.works_rows", lambda first: [{}] * first),
+                mock.patch("streetsim.report.page_summary.timings_of", lambda runs: runs.lights),
+            ):
+                self.assertEqual(kind_of_change(*plans), kind)
 
 
 if __name__ == "__main__":

@@ -154,12 +154,12 @@ class Pages(Page):
         super().setUp()
         if not hasattr(type(self), "anew"):
             words = check.parser().parse_args([str(self.page), "--program", PROGRAM])
-            type(self).anew = check.page_again(words, self.seal)
-        again = unittest.mock.patch.object(check, "page_again", self.page_again)
+            type(self).anew = check.remake_page(words, self.seal)
+        again = unittest.mock.patch.object(check, "remake_page", self.remake_page)
         again.start()
         self.addCleanup(again.stop)
 
-    def page_again(self, words, seal):
+    def remake_page(self, words, seal):
         """The page made anew, once for all whose seal is the same; the packed files are looked at each time."""
         self.assertEqual(seal.content, self.seal.content)
         dict(sealing.sealed_files(seal, words.target))

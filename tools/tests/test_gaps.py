@@ -10,8 +10,8 @@ from streetsim.model.mapping import MapLink, MapTurn
 from streetsim.model.waiting import Foe, Gap, GivingWay, Pace, giving_way_of
 from streetsim.observe.giving_way_crowded import crowded_edges, used_shares
 from streetsim.observe.giving_way_gaps import (
-    CLOSE, MOST_SEEN, PATIENCE, UNSEEN, GapCounts, be_patient, followings, gap_lines, mark, phases_of_reds, red_seconds,
-    slow_down, standing_seconds, stands_of,
+    CLOSE_S, MOST_SEEN, PATIENCE_S, UNSEEN, GapCounts, be_patient, followings, gap_lines, mark, phases_of_reds,
+    red_seconds, slow_down, standing_seconds, stands_of,
 )
 from streetsim.sumo.conflicts import CROSSING, JOINING, foes, turns_by_movement
 from streetsim.sumo.driving import Driving
@@ -102,7 +102,7 @@ class Reds(unittest.TestCase):
         self.assertEqual(seconds_red((1, 0, 2), {**first, (1, 0): [(51.0, 2, 47.0)]}), [*range(46, 51), *range(53, 59)])
         behind = {**first, (1, 0): [(43.0, 2, 43.0), (44.0, 2, 43.5)]}  # who starts behind another
         self.assertEqual(seconds_red((1, 0, 2), behind), standing)
-        later = {(0, 0): [(50.0, 2, 20.0), (51.0 + CLOSE + 7, 2, 20.0)], (1, 0): [(51.0, 2, 47.0)]}
+        later = {(0, 0): [(50.0, 2, 20.0), (51.0 + CLOSE_S + 7, 2, 20.0)], (1, 0): [(51.0, 2, 47.0)]}
         self.assertEqual(len(seconds_red((1, 0, 2), later)), 5 + 4)
 
     def test_who_starts_from_a_stand_is_out_of_the_way_later(self):
@@ -166,9 +166,9 @@ class Reds(unittest.TestCase):
         self.assertEqual(list(followings([10, 20, 90, 200, 214, 228])), [(-5, 35), (185, 243)])
 
     def test_after_a_long_time_one_goes(self):
-        red = bytearray(b"\1" * (PATIENCE + 10))
+        red = bytearray(b"\1" * (PATIENCE_S + 10))
         be_patient(red)
-        self.assertEqual([at for at, closed in enumerate(red) if not closed], [PATIENCE - 1])
+        self.assertEqual([at for at, closed in enumerate(red) if not closed], [PATIENCE_S - 1])
 
 
 class Conflicts(unittest.TestCase):

@@ -233,6 +233,20 @@ class WhichProgram(Case):
             self.assertEqual((find_program(copy), find_program(copy), find_program(proved)), (copy, copy, proved))
         self.assertEqual((said.getvalue().count("NOT PROVED"), said.getvalue().count("\n")), (1, 1))
 
+    def test_who_has_no_repository_is_to_ask_for_a_package(self):
+        """In a clone, and for a program in one, `./build` is named; of what is installed it is not."""
+        for place, top, told in (
+            ("a", TOOLS.parent, "`./build` makes the proved one"), ("b", None, "ask for a package that was proved"),
+            ("clone/out", None, "`./build` makes the proved one"),
+        ):  # fmt: skip
+            made = self.program(self.folder / place / "program")
+            (self.folder / "clone").mkdir(exist_ok=True)
+            (self.folder / "clone/build").touch()
+            prefix = None if top else self.folder
+            with redirect_stderr(StringIO()) as said, patch.object(program, "PREFIX", prefix):
+                program.tell_unproved(Path(made))
+            self.assertEqual(said.getvalue(), f"streetsim: NOT PROVED: this program was built without proofs: {told}\n")
+
     def test_a_run_without_a_program_ends_at_once(self):
         done = subprocess.run(
             [TOOLS / "streetsim-run", *self.words()], env=environment(), capture_output=True, text=True, check=False

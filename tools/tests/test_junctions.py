@@ -16,15 +16,15 @@ from streetsim.model.service import PRIORITY, ROUNDABOUT, SIGNALS, STOP_LOSS, le
 from streetsim.model.tables import APPROACHES, JUNCTIONS, MOVEMENTS, read_table
 from streetsim.model.waiting import Foe, Gap, GivingWay
 from streetsim.observe.crossings import Crossed, Crossings, Movements, PlanPlaces
-from streetsim.observe.intervals import showed
-from streetsim.observe.judging import Judge
 from streetsim.observe.junction_capacity import usual_flow
 from streetsim.observe.junction_facing import junctions_with_facing_streets
 from streetsim.observe.junction_layout import Approach, Greens, approaches_of, movements_that_stop, turn_name
 from streetsim.observe.junction_measures import Losses, stop_loss, weighted_mean_losses
 from streetsim.observe.junction_rows import JunctionTables, queue_columns, queue_figures
+from streetsim.observe.lane_utilisation import UtilisationCalculator
 from streetsim.observe.passages import Passages
 from streetsim.observe.shown import ShownPlans
+from streetsim.observe.shown_intervals import make_shown_interval
 
 CORRIDOR = TOOLS / "examples/corridor"
 # The light is red in steps 0 to 4 of each 10, then green.
@@ -184,7 +184,7 @@ class Definitions(unittest.TestCase):
         """Those of the page's table at a limit of 2, by headways; between its rows, and none beyond the last."""
         page = (TOOLS / "CALIBRATION.md").read_text(encoding="utf-8").partition("\n## Saturation\n")[2]
         rows = [line.split("|")[1:-1] for line in page.splitlines() if re.match(r"\| \d+ \|", line)][:11]
-        told = {int(cells[0]): int(cells[4].replace(",", "")) for cells in rows}
+        told = {int(cells[0]): int(cells[2].replace(",", "")) for cells in rows}
         self.assertEqual(told[170], 1786)
         self.assertEqual({dawdle: round(usual_flow(dawdle)) for dawdle in told}, told)
         self.assertTrue(told[200] < usual_flow(185) < told[170])
@@ -249,14 +249,15 @@ def judge_of(frames, plans, signals=((0, SIGNAL),), dwells=None, parts=1, interv
     dwells: by vehicle its stops."""
     seen = passages_of(frames, plans, parts=parts)
     crossed = Crossed(seen, seen.kernel.plans, interval, dwells or {})
-    return Judge(seen, ShownPlans(seen.kernel.map, signals), crossed, 0)
+    return UtilisationCalculator(seen, ShownPlans(seen.kernel.map, signals), crossed, 0)
 
 
 def judged(frames, plans, signals=((0, SIGNAL),), dwells=None, end=10, parts=1):
     """What is known of the street up to a clock."""
     judge = judge_of(frames, plans, signals, dwells, parts, end)
     seen = judge.passages
-    return judge.judged(0, showed(judge.shown, seen.lanes, seen.places, 0, seen.back[:end], seen.stood[:end]))
+    back, stood = seen.back[:end], seen.stood[:end]
+    return judge.interval_measures(0, make_shown_interval(judge.shown, seen.lanes, seen.lane_keys, 0, back, stood))
 
 
 class ByHand(unittest.TestCase):
@@ -267,7 +268,7 @@ class ByHand(unittest.TestCase):
         seen = passages_of(frames, plans, mapping)
         movements = Movements(seen)
         places, found = PlanPlaces(movements, seen.kernel.plans), []
-        for _, part in seen.done(interval, {}):
+        for _, part in seen.ended_passages(interval, {}):
             one = Crossings(places, part)
             found += zip(map(movements.name, one.movement.tolist()), one.end.tolist(), strict=True)
         return found
@@ -295,7 +296,7 @@ class ByHand(unittest.TestCase):
         """Each passage is judged by what follows there: the first goes on to b, the second ends on the edge."""
         on = [[[0, 0, [[0, 5, 2]], []]], [[0, 0, [], [0]]], [[1, 0, [[0, 2, 2]], []]]]
         frames = [*enumerate(on, 1), (4, [[0, 0, [[0, 3, 2]], []]]), (5, [[0, 0, [], [0]]])]
-        [(_, done)] = passages_of(frames, [[0, 1, 0]]).done(900, {})
+        [(_, done)] = passages_of(frames, [[0, 1, 0]]).ended_passages(900, {})
         self.assertEqual(len(done["end"]), 2)
         for interval in (900, 4, 1):
             self.assertEqual(self.crossings(frames, [[0, 1, 0]], interval=interval), [(("a", "b"), 3)])
@@ -320,7 +321,7 @@ class ByHand(unittest.TestCase):
             way += [[[0, 0, [], [0]]], *([[1, 0, [[0, cell, 2]], []]] for cell in (1, 3, 5, 7, 9)), [[1, 0, [], [0]]]]
             seen = passages_of([*enumerate([*way, [[2, 0, [[0, 1, 2]], []]]], 1)], [[0, 1, 2]], mapping)
             movements = Movements(seen)
-            [(_, done)] = seen.done(900, {})
+            [(_, done)] = seen.ended_passages(900, {})
             found += Crossings(PlanPlaces(movements, seen.kernel.plans), done).delay.tolist()
         self.assertAlmostEqual(found[0], 0, delta=1)
         self.assertAlmostEqual(found[1] - found[0], 4 + STOP_LOSS[0])
@@ -332,17 +333,17 @@ class ByHand(unittest.TestCase):
         self.assertEqual((lost.delay, lost.stood, lost.stops), ((2 + 4 + STOP_LOSS[0]) / 2, 1.0, 0.5))
         # One on another link, or of another passage, changes nothing.
         stops = {0: [Dwell(1, 4, 6, 3), Dwell(0, 90, 96, 6)]}
-        [(_, elsewhere)] = passages_of(FRAMES, self.plans).done(900, stops)
+        [(_, elsewhere)] = passages_of(FRAMES, self.plans).ended_passages(900, stops)
         self.assertEqual(elsewhere["dwell"].tolist(), [0, 0, 0])
         # Who stops at the bus stop and then in a queue has stopped once for the junction.
         speeds = enumerate((2, 0, 0, 1, 0, 0), 1)
         frames = [*((clock, [[0, 0, [[0, 5, speed]], []]]) for clock, speed in speeds), (7, [[0, 0, [], [0]]])]
-        [(_, both)] = passages_of(frames, [[0, 1]]).done(900, {0: [Dwell(0, 2, 2, 2)]})
+        [(_, both)] = passages_of(frames, [[0, 1]]).ended_passages(900, {0: [Dwell(0, 2, 2, 2)]})
         self.assertEqual((self.passage(frames)[0], both["stops"].tolist()), (2, [1]))
 
     def passage(self, frames):
         """(stops, seconds of standing) of the only passage."""
-        [(_, done)] = passages_of(frames, [[0, 1]]).done(900, {})
+        [(_, done)] = passages_of(frames, [[0, 1]]).ended_passages(900, {})
         [stops], [stood] = done["stops"].tolist(), done["stood"].tolist()
         return stops, stood
 

@@ -20,8 +20,10 @@ from test_help import parsers
 from streetsim.base.files import Fault
 from streetsim.base.report import Report
 from streetsim.cli.open_ import run_tool
+from streetsim.cli.open_page import search_words
 from streetsim.demand.invented import invented_trips
 from streetsim.model.mapping import TOLD_INVENTED
+from streetsim.model.timing import SignalMovement, Timing
 from streetsim.sumo.net import read_net
 
 CORRIDOR = TOOLS / "examples/corridor"
@@ -191,6 +193,20 @@ class Open(Case):
         summary = (self.folder / "cross-run/summary.csv").read_text().splitlines()
         self.assertEqual(summary[-1].split(",")[0], "180", "the end of the configuration")
         self.assertIn('id="player"', self.page("cross.html"))
+
+
+class Advice(unittest.TestCase):
+    """The words that a page advises for a search for signals."""
+
+    def test_sumo_judges_where_turns_wait_for_gaps(self):
+        """A left (index 1) across those who come (index 0): with them a gap is needed, else none."""
+        two = [SignalMovement("a", "b", (0,)), SignalMovement("c", "d", (1,))]
+        for states, needed in (("Gg rr", True), ("GG rr", False), ("Gr rg", False), ("yg rr", False)):
+            timing = Timing("L", "J", 0.0, [(9, one) for one in states.split()], "static", two, {frozenset((0, 1))})
+            for path, words in (("/bin/sumo", ["--verify-sumo"]), (None, [])):
+                with mock.patch("shutil.which", return_value=path):
+                    self.assertEqual(search_words({"L": timing}), words if needed else [], states)
+        self.assertEqual(search_words({}), [])
 
 
 class Statuses(unittest.TestCase):

@@ -56,7 +56,7 @@ class Told(unittest.TestCase):
         for looks, expected in (((), [(2, 1, 1)]), ((1,), [(1, 2, 0), (2, 1, 1)]), ((2,), [(2, 1, 1)])):
             summary = Summary(None, looks)
             show(kernel_of(map_from("", MAP), [[0, 1]] * 2), frames, summary)
-            self.assertEqual(summary.found, expected)
+            self.assertEqual(summary.counted, expected)
 
 
 class ByHand(unittest.TestCase):
@@ -67,7 +67,7 @@ class ByHand(unittest.TestCase):
             kernel.vehicles.add([int(kernel.vehicles.owner[one.car])], [1])
         for parts in (1, 5):
             show(kernel, frames, passings, parts=parts)
-            found = passings.came(), passings.passed()
+            found = passings.link_arrivals(), passings.passed()
             self.assertEqual(found, getattr(self, "before", found), "in parts")
             self.before = found
         return found
@@ -130,7 +130,7 @@ class OfARun(Case):
         passings, looking = Passings(), Looking()
         _, steering = made(PROGRAM, *read_with_map(run, mapped), Settings(2400, rescue=60), passings, looking)
         self.assertGreater(steering.rescue.count.total(), 5)
-        came = {owner: clocks for owner, clocks in enumerate(passings.came()) if clocks}
+        came = {owner: clocks for owner, clocks in enumerate(passings.link_arrivals()) if clocks}
         self.assertEqual(came, looking.came)
         self.assertGreater(len(came), 1000)
         passed = {place: [one[:2] for one in those] for place, those in passings.passed().items()}

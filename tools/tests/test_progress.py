@@ -4,7 +4,7 @@ import unittest
 
 import support  # noqa: F401  # which finds the package
 from streetsim.base.client import Census
-from streetsim.base.progress import Meanwhile, UnderWay, time_told
+from streetsim.base.progress import RunProgress, WorkProgress, time_text
 
 
 class Terminal(io.StringIO):
@@ -20,7 +20,7 @@ class Lines(unittest.TestCase):
     def test_a_run(self):
         """At most five times a second, and at the end, which ends the line. Of 10 vehicles 3 and the half of 8 are
         done, which is half of the run that is 1 of 1.4 parts of the work."""
-        with UnderWay(0, 100, 10, stream=Terminal()) as line:
+        with RunProgress(0, 100, 10, stream=Terminal()) as line:
             line.begin -= 10
             line.show(50, census(50, 8, 3))
             line.show(60, census(60, 4, 4))
@@ -30,7 +30,7 @@ class Lines(unittest.TestCase):
         self.assertEqual(line.stream.getvalue(), f"{first}\r{last:{len(first) - 1}}\r\n")
 
     def test_a_run_without_vehicles_goes_by_its_seconds(self):
-        line = UnderWay(21_600, 25_200, stream=Terminal())
+        line = RunProgress(21_600, 25_200, stream=Terminal())
         line.begin -= 10
         line.show(24_120, census(24_120, 1, 0))
         told = f"\r[{'#' * 15}{' ' * 15}] 24,120 s, 1 on their way, 0 arrived, 252 x real time, 10 s left "
@@ -38,7 +38,7 @@ class Lines(unittest.TestCase):
 
     def test_rounds_are_part_of_the_work(self):
         """Two rounds of 100 s, and the run that counts: a clock that falls begins the next."""
-        line = UnderWay(0, 100, 10, passes=3, stream=Terminal())
+        line = RunProgress(0, 100, 10, passes=3, stream=Terminal())
         line.begin -= 20
         for clock, ways, arrived in ((50, 6, 0), (100, 0, 10), (10, 6, 0), (100, 0, 10), (50, 2, 1)):
             line.last -= 1
@@ -53,16 +53,16 @@ class Lines(unittest.TestCase):
         self.assertIn(", 11 s left", lines[4])
 
     def test_no_end_is_told_before_there_is_one_to_tell(self):
-        line = UnderWay(0, 100, 1000, stream=Terminal())
+        line = RunProgress(0, 100, 1000, stream=Terminal())
         line.show(5, census(5, 4, 0))
         self.assertNotIn("left", line.stream.getvalue())
 
     def test_times_are_told_as_people_say_them(self):
-        told = [time_told(seconds) for seconds in (0.4, 99, 180, 3600, 9000)]
+        told = [time_text(seconds) for seconds in (0.4, 99, 180, 3600, 9000)]
         self.assertEqual(told, ["0 s", "99 s", "3 min", "60 min", "2.5 h"])
 
     def test_runs_side_by_side(self):
-        line = UnderWay(0, 100, 10, 2, stream=Terminal())
+        line = RunProgress(0, 100, 10, 2, stream=Terminal())
         line.begin -= 10
         line.note_end()
         line.show(100, census(100, 0, 10), 0)
@@ -77,7 +77,7 @@ class Lines(unittest.TestCase):
         )
 
     def test_a_shorter_line_covers_a_longer_one_and_all_is_taken_away(self):
-        line = Meanwhile("runs", 4, Terminal())
+        line = WorkProgress("runs", 4, Terminal())
         line.begin -= 60
         line.show(1, "best 100.0 s")
         line.last -= 1
@@ -89,22 +89,22 @@ class Lines(unittest.TestCase):
         self.assertEqual(told, [longer, f"{shorter:{len(longer)}}", " " * len(shorter), ""])
 
     def test_more_is_done_than_was_thought(self):
-        told = Meanwhile("plans", 4, Terminal()).line(5, "", 60)
+        told = WorkProgress("plans", 4, Terminal()).line(5, "", 60)
         self.assertEqual(told, f"[{'#' * 30}] 5 of 4 plans, 0 s left")
 
     def test_half_of_what_is_done_side_by_side_counts(self):
         """1 of 20 and the half of 4 are done in 3 s: 17 are left."""
-        self.assertIn(", 17 s left", Meanwhile("runs", 20, Terminal(), abreast=4).line(1, "", 3))
-        self.assertIn(", 0 s left", Meanwhile("runs", 20, Terminal(), abreast=4).line(20, "", 3))
+        self.assertIn(", 17 s left", WorkProgress("runs", 20, Terminal(), abreast=4).line(1, "", 3))
+        self.assertIn(", 0 s left", WorkProgress("runs", 20, Terminal(), abreast=4).line(20, "", 3))
 
     def test_an_end_that_is_told_counts(self):
-        self.assertIn("1 of 20 runs, 5 s left", Meanwhile("runs", 20, Terminal()).line(1, "", 3, 5.2))
+        self.assertIn("1 of 20 runs, 5 s left", WorkProgress("runs", 20, Terminal()).line(1, "", 3, 5.2))
 
     def test_nothing_elsewhere(self):
         elsewhere = io.StringIO()
-        with UnderWay(0, 100, stream=elsewhere) as line:
+        with RunProgress(0, 100, stream=elsewhere) as line:
             line.show(100, census(100, 0, 9))
-        meanwhile = Meanwhile("runs", 4, elsewhere)
+        meanwhile = WorkProgress("runs", 4, elsewhere)
         meanwhile.show(4)
         meanwhile.end()
         self.assertEqual(elsewhere.getvalue(), "")

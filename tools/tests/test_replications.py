@@ -8,7 +8,7 @@ from doors import lit
 from support import MAP, NUMBERED, PROGRAM, Case, needs_simulator
 from streetsim.base.files import Fault
 from streetsim.base.seeds import mean_and_day, mean_and_half_width
-from streetsim.cli.running import mean_told
+from streetsim.cli.running import mean_trip_line
 from streetsim.model.mapping import map_from
 from streetsim.model.replications import DRAWN, drawn, listed_in_map
 from streetsim.model.runs import run_of_texts, with_load
@@ -114,8 +114,8 @@ class Intervals(unittest.TestCase):
         self.assertIsNone(mean_and_day([3.0])[1])
 
     def test_listed_runs_call_nothing_sure(self):
-        self.assertIn("95 % interval of a day", mean_told([100.0, 104.0], True))
-        told = mean_told([100.0, 104.0], False)
+        self.assertIn("95 % interval of a day", mean_trip_line([100.0, 104.0], True))
+        told = mean_trip_line([100.0, 104.0], False)
         self.assertIn("of another day nothing is sure", told)
         self.assertNotIn("95 %", told)
 

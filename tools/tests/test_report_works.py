@@ -7,7 +7,7 @@ import unittest
 
 from test_reports import Given
 from streetsim.base.shapes import point_along
-from streetsim.demand.judging import judged
+from streetsim.demand.judging import judge_counts
 from streetsim.demand.reporting import counts_section
 from streetsim.demand.values import Count
 from streetsim.model.tables import EDGES, QUEUES, WORKS, write_table
@@ -80,7 +80,11 @@ class Works(Given):
         for words in (
             "after: a, from the west, lane 0, 30 to 60 m, from 0:05 to 0:20",
             "0:05 to 0:15 101.5 1350 10 5 15 40 22 12",  # means of two seeds, of the greatest the greatest
-            "0:15 to 0:20 50 0 0 0 0",
+            "0:15 to 0:20 50 - 0 0 0 0",  # nobody queued
+            # 101 and 102 vehicles of 10 s each in two runs: 1,015 s.
+            "In all 0.28 vehicle-hours were lost by those who passed. Capacity -: no queue stood for a quarter of",
+            "For a closed lane, forecasts with an uncalibrated base were off by 148 % of the change on 6 streets: "
+            "streetsim-calibrate first.",
         ):
             with self.subTest(words):
                 self.assertIn(words, text)
@@ -130,7 +134,7 @@ class Counts(Given):
         shutil.rmtree(self.folder / "after")
         counts = [Count(0, 3600, ("a",), 100, "x"), Count(0, 3600, ("b",), 100, "x")]
         runs = read_runs(str(self.folder / "before"))
-        text = counts_section("p", judged(counts, [100, 400]), runs.first.mapping)
+        text = counts_section("p", judge_counts(counts, [100, 400]), runs.first.mapping)
         self.assertIn("counted: 432 vehicles/h", text)
         self.assertEqual((text.count('fill="#c04000"'), text.count('fill="#225588"')), (1, 1))
         self.assertIn("b: +300", text)

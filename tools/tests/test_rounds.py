@@ -16,8 +16,8 @@ from streetsim.control.settings import Settings
 from streetsim.kernel.serving import serving_program
 from streetsim.model.mapping import read_map
 from streetsim.model.runs import run_of_texts
-from streetsim.observe.giving_way_rounds import made_round
-from streetsim.observe.making import Making
+from streetsim.observe.giving_way_rounds import run_round
+from streetsim.observe.run_making import RunOptions
 from streetsim.report.picture_plots import Corridor
 from streetsim.scenario import Scenario
 from streetsim.search import signal_found
@@ -91,7 +91,7 @@ class Until(Rounds):
         lines += [{"cmd": "enter", "plan": [0, 1], "lane": 0, "depart": depart} for depart in (0, 101)]
         run, mapping = run_of_texts("run", map(json.dumps, lines)), read_map(self.write("map.json", json.dumps(MAP)))
         clocks = []
-        passed = made_round(
+        passed = run_round(
             partial(serving_program, PROGRAM, "run"), run, mapping, Settings(1200),
             lambda clock, _: clocks.append(clock),
         )  # fmt: skip
@@ -275,7 +275,7 @@ class ManyRuns(Many):
     def test_pictures_of_plans_have_their_gaps(self):
         files = [str(self.folder / name) for name in ("run.jsonl", "map.json", "net.net.xml")]
         town = read_town(Reading(*files[:2], files[2:], 600, PROGRAM, 5, (), 2))
-        target = PlanFiles("", "", Corridor(["w", "e"], 0, 300), Making(PROGRAM, 2), 600)
+        target = PlanFiles("", "", Corridor(["w", "e"], 0, 300), RunOptions(PROGRAM, 2), 600)
         drawn = []
 
         def draw(_, folder, __):

@@ -12,12 +12,12 @@ from support import FORK, MAP, NUMBERED, PROGRAM, RED, TOOLS, Case, lane, needs_
 from streetsim.base.files import Fault
 from streetsim.base.seeds import mean_and_half_width
 from streetsim.cli import run
-from streetsim.cli.opened import lane_to_close
-from streetsim.cli.running import along_of, mean_told
+from streetsim.cli.open_page import lane_to_close
+from streetsim.cli.running import along_of, mean_trip_line
 from streetsim.model.folder import read_folder
 from streetsim.model.mapping import map_from
 from streetsim.model.runs import Line, read_run, read_with_map
-from streetsim.observe.making import first_poll
+from streetsim.observe.run_making import first_poll
 from streetsim.scenario import Scenario
 from streetsim.simulation.connections import Connections
 from streetsim.search.signal_town import read_run_and_map, signal_node
@@ -305,8 +305,8 @@ class Reading(Runs):
         self.assertEqual((mean, round(half, 3)), (2, 2.484))
         self.assertEqual(mean_and_half_width([5]), (5, None))
         # 100, 110 and 120 deviate by 10, and t is 4.303: 24.8 to each side; of another day twice as much.
-        self.assertIn(" 85.2 to 134.8 s", mean_told([100, 110, 120], False))
-        self.assertIn(" 60.3 to 159.7 s", mean_told([100, 110, 120], True))
+        self.assertIn(" 85.2 to 134.8 s", mean_trip_line([100, 110, 120], False))
+        self.assertIn(" 60.3 to 159.7 s", mean_trip_line([100, 110, 120], True))
 
 
 @needs_simulator

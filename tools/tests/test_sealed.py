@@ -15,7 +15,7 @@ from types import SimpleNamespace
 from support import DATA as SAMPLES
 from support import MAP, PROGRAM, TOOLS, Case, needs_simulator
 from streetsim.base.files import Fault
-from streetsim.cli.check import page_again
+from streetsim.cli.check import remake_page
 from streetsim.report import page_seal as sealing
 from streetsim.report.folder_differences import ComparedNumbers, folder_differences
 from streetsim.report.page_elements import numbers_in, page_mismatches
@@ -173,7 +173,7 @@ class Sealed(Case):
     def again(self, text):
         """The page that the seal of a text gives, in this process."""
         words = SimpleNamespace(target=str(self.page), program=PROGRAM, workers=1, jobs=2)
-        return page_again(words, seal_of("x.html", text))
+        return remake_page(words, seal_of("x.html", text))
 
 
 def section(name):
@@ -247,7 +247,7 @@ class Changes(Sealed):
     def setUpClass(cls):
         super().setUpClass()
         words = SimpleNamespace(target=str(cls.page), program=PROGRAM, workers=1, jobs=2)
-        cls.made = page_again(words, seal_of("x.html", cls.text))
+        cls.made = remake_page(words, seal_of("x.html", cls.text))
 
     def test_the_untouched_page(self):
         self.assertEqual(page_mismatches(self.text, self.made), [])

@@ -22,7 +22,7 @@ from streetsim.model.mapping import map_from
 from streetsim.model.rows import frames_in
 from streetsim.model.runs import read_with_map
 from streetsim.model.service import percentile
-from streetsim.observe.segments import Segments, told_of
+from streetsim.observe.segments import Segments, travel_time_columns
 from streetsim.observe.trips import TripsTable
 
 
@@ -71,7 +71,8 @@ class ByHand(unittest.TestCase):
     def test_shares(self):
         """As the percentiles and deviations of other tables, and of Python's own library."""
         values = sorted([3, 9, 4, 4, 17, 40, 1])
-        [(count, mean, deviation, *shares), _] = told_of(numpy.array([*values, 2]), numpy.array([0, len(values)]))
+        columns = travel_time_columns(numpy.array([*values, 2]), numpy.array([0, len(values)]))
+        [(count, mean, deviation, *shares), _] = columns
         self.assertEqual((count, mean), (7, f"{statistics.fmean(values):.1f}"))
         self.assertEqual(deviation, f"{statistics.stdev(values):.1f}")
         self.assertEqual(shares, [f"{percentile(values, share):.1f}" for share in (0.15, 0.5, 0.85, 0.95)])

@@ -9,7 +9,11 @@ import sys
 import time
 import unittest
 import xml.etree.ElementTree as ElementTree
+from argparse import Namespace
 from collections import Counter
+from contextlib import redirect_stderr
+from dataclasses import asdict, replace
+from io import StringIO
 from itertools import permutations
 from math import exp, lgamma, pi, sqrt
 from unittest import mock
@@ -19,6 +23,9 @@ from support import MAP, NUMBERED, PROGRAM, TOOLS, Case, lane, needs_package, ne
 from test_works import fan, flows
 from streetsim.base.files import Fault
 from streetsim.base.seeds import runs_needed, seeds_for, seeds_of, student
+from streetsim.cli.import_ import options_of, parser as import_parser
+from streetsim.cli.plan_commands import found_run, import_words
+from streetsim.cli.signals import warn_of_gaps
 from streetsim.control.settings import Settings
 from streetsim.model.mapping import map_from, read_map
 from streetsim.model.runs import Line, Run, read_run
@@ -30,12 +37,14 @@ from streetsim.search.run_giving_way import (
 )
 from streetsim.search.run_prepared import Giving, Outcome, outcome, session_of, vehicle_seconds
 from streetsim.search.signal_formulas import Hop, StreetFlows, heaviest_tree, waved, webster_cycle
-from streetsim.search.signal_found import doubts_of, verdict
+from streetsim.search.signal_found import cycles_told, doubts_of, verdict
 from streetsim.search.signal_in_sumo import mean_trip, sumo_for
 from streetsim.search.signal_lines import LightLines, read_plans
 from streetsim.search.signal_plans import PlannedLight, PlannedTiming, light_and_timing, rounded_durations, spread
 from streetsim.search.signal_search import PlanSearch, climb, search_plan, shift_of
+from streetsim.search.signal_town import SignalTown
 from streetsim.sumo.net import LightProgram
+from streetsim.sumo.network import Options
 
 CORRIDOR = TOOLS / "examples/corridor"
 STREET = ("W", "J1", "J2", "J3", "J4", "J5", "E")
@@ -386,6 +395,7 @@ class Tool(Searching):
             r"mean trip [\d.]+ s as given, [\d.]+ s as found: -[\d.]+ s ± [\d.]+ "
             r"\(95 % interval of dawdling alone, 3 seeds",
         )
+        self.assertRegex(told, r"\ncycle 80 s as given, \d+ s as found")
         self.assertEqual([row["light"] for row in self.table("lights.csv")], ["J1", "J4", "J5"])
         trials = self.table("search.csv")
         self.assertEqual(trials[0]["step"], "given")
@@ -481,6 +491,30 @@ class Tool(Searching):
         self.assertEqual(len(self.offsets()), 5)
 
 
+class Commands(Case):
+    """What a search prints at its end: how its plan is shown."""
+
+    def test_an_import_is_made_again_by_the_words_of_its_options(self):
+        words = [
+            *("net.xml", "--classes", "passenger,bus", "--turns", "strict", "--sizes", "off", "--joint", "-a,b_1"),
+            *("--begin", "60", "--end", "900", "--ignore-route-errors", "--dawdle", "100", "--residence", "3"),
+            *("--permissive", "0.5,x=0.25", "--speed-factor", "0.9,50=1.1", "--cut", "-0.5", "--seed", "7"),
+        ]
+        for given in (words, ["net.xml"]):
+            options = options_of(import_parser().parse_args(given))
+            again = import_parser().parse_args(["net.xml", *import_words(json.loads(json.dumps(asdict(options))))])
+            self.assertEqual(options_of(again), options)
+        slow = asdict(replace(Options(), slow=("a:0-9:30", "b:0-9:30")))
+        self.assertEqual(list(import_words(slow)), ["--slow=a:0-9:30,b:0-9:30"])
+
+    def test_what_was_found_has_a_name_of_its_own(self):
+        for output, given, run in (
+            ("found.add.xml", "zero.jsonl", "found.jsonl"), ("d/plan.xml", "zero.jsonl", "d/plan.jsonl"),
+            ("zero.add.xml", "day/zero.jsonl", "zero.found.jsonl"),
+        ):  # fmt: skip
+            self.assertEqual(found_run(output, given), run)
+
+
 @needs_simulator
 class Verdicts(Searching):
     """What the last line says, and what it rests on."""
@@ -511,6 +545,26 @@ class Verdicts(Searching):
             worse = [where for where, (difference, half) in found.items() if difference + half >= 0]
             self.assertEqual(verdict(found, worse, PlanSearch(None, 1, 1)), told)
 
+    def test_cycles_are_named_and_the_end_of_those_that_were_tried(self):
+        """Two lights of 90 and 80 s; both at 60, the shortest; one at 60; between; and where only the given one is."""
+        timings = {cycle: PlannedTiming(0, (cycle - 3, 3)) for cycle in (60, 70, 80, 90, 120)}
+        given = {"L": timings[90], "M": timings[80]}
+        others = "that was tried (--cycle S-S tries others)"
+        for tried, found, told in (
+            ((60, 70), (60, 60), f"90 s as given, 60 s as found, the shortest {others}"),
+            ((120,), (120, 120), f"90 s as given, 120 s as found, the longest {others}"),
+            ((60, 120), (70, 70), "90 s as given, 70 s as found"),
+            ((), (90, 80), "90 s as given, 80 to 90 s as found"),
+            ((60, 120), (60, 70), f"90 s as given, 60 to 70 s as found, at 1 of 2 lights the shortest {others}"),
+        ):
+            with self.subTest(told):
+                search = PlanSearch(lambda plans: (1.0 for _ in plans), 100, 1)
+                plans = [given, *({"L": timings[one], "M": timings[one]} for one in tried)]
+                plans.append(dict(zip("LM", (timings[one] for one in found))))
+                search.mean_trips([("", plan) for plan in plans])
+                search.best = 1.0, plans[-1]
+                self.assertEqual(cycles_told(given, search), "cycle 80 to " + told)
+
     def test_trips_in_sumo_are_over_the_vehicles_of_the_run(self):
         """Trips of 100 and 50 s; one that has not arrived counts from 400 to 1,000;
         a vehicle that the run has not is left out."""
@@ -526,11 +580,21 @@ class Verdicts(Searching):
             settings=Settings(1000),
             run=run,
             mapping=map_from("map", MAP),
-            lines=Mock(permissive={"L"}),
+            gaps_told=lambda: SignalTown.gaps_told(Mock(lines=Mock(permissive={"L"}))),
         )
         told = "without --verify-sumo, as turns find their gaps in oncoming traffic by formula at L"
         self.assertEqual(list(doubts_of(town, runs, runs, None)), [told])
         self.assertEqual(list(doubts_of(town, runs, runs, object())), [])
+
+    def test_a_doubt_that_is_known_is_told_before_the_search(self):
+        """A result without --verify-sumo will not be trusted; with it, or where nobody waits for gaps, nothing is."""
+        for verify, gaps, told in (
+            (False, "turns find their gaps", "warning: the result will not be trusted without --verify-sumo: turns"),
+            (True, "turns find their gaps", ""), (False, "", ""),
+        ):  # fmt: skip
+            with redirect_stderr(StringIO()) as said:
+                warn_of_gaps(Namespace(verify_sumo=verify), Mock(gaps_told=lambda gaps=gaps: gaps))
+            self.assertEqual(said.getvalue()[: len(told)] if told else said.getvalue(), told)
 
     def test_queues_at_entries(self):
         """Two of 20 vehicles, a tenth, waited to enter under the plan given, and none under the plan found."""
@@ -540,7 +604,7 @@ class Verdicts(Searching):
         )
         town = Mock(
             session=Mock(clocks=(0, 1000), departs=20 * (0,)), settings=Settings(1000), run=run, mapping=mapping,
-            lines=Mock(permissive=set()),
+            gaps_told=lambda: "",
         )  # fmt: skip
         given, found = ([Outcome("", 20, 9, 1000, waiting, 120)] for waiting in (2, 0))
         told = "as given 2 of 20 vehicles waited to enter at some 120 s, and are in no queue or count"

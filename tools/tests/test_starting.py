@@ -11,7 +11,7 @@ from io import StringIO
 from support import TOOLS, Case
 from test_install import COMMANDS
 
-from streetsim.base.files import ASKED, end_again, end_by_signal, interrupt, status_of
+from streetsim.base.files import RECEIVED_SIGNALS, end_again, end_by_signal, interrupt, status_of
 
 # In the place of a module that all commands read: it says that it is read, and waits.
 SLOW = """import time
@@ -68,16 +68,16 @@ class Asked(Case):
 
         before = signal.signal(signal.SIGINT, interrupt)
         self.addCleanup(signal.signal, signal.SIGINT, before)
-        self.addCleanup(ASKED.clear)
+        self.addCleanup(RECEIVED_SIGNALS.clear)
         with redirect_stderr(StringIO()) as said:
             self.assertEqual(status_of(main), 130)
         self.assertIn(": ended by Ctrl-C: nothing was written\n", said.getvalue())
         for number, name in ((signal.SIGTERM, "SIGTERM"), (signal.SIGHUP, "SIGHUP")):
-            ASKED[:] = [number]
+            RECEIVED_SIGNALS[:] = [number]
             with redirect_stderr(StringIO()) as said:
                 self.assertEqual(status_of(lambda _: int("wrong")), 128 + number)
             self.assertIn(f": ended by {name}: nothing was written\n", said.getvalue())
-        ASKED.clear()
+        RECEIVED_SIGNALS.clear()
         with self.assertRaisesRegex(ValueError, "wrong"):
             status_of(lambda _: int("wrong"))
 
@@ -100,7 +100,7 @@ class Asked(Case):
 
         for number, how in ((signal.SIGTERM, end_by_signal), (signal.SIGALRM, end_again)):
             self.addCleanup(signal.signal, number, signal.signal(number, how))
-        self.addCleanup(ASKED.clear)
+        self.addCleanup(RECEIVED_SIGNALS.clear)
         begin = time.monotonic()
         with redirect_stderr(StringIO()) as said, self.assertRaises(SystemExit) as raised:
             status_of(main)

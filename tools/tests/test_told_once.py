@@ -22,11 +22,7 @@ END = re.compile(r"[.:;!?](?=\s)|\n(?= *(?:[-*#]|\d+\.) )|\n\s*\n")
 # Rows of words that stand twice with reason, and the reason.
 SHARED: dict[str, str] = {}
 # Pages that have not been gone through: what these share with each other is not looked at.
-NOT_YET = {
-    "CONTRIBUTING.md", "README.md", "SECURITY.md", "docs/ARCHITECTURE.md", "docs/MACHINE.md", "docs/PARTS.md",
-    "docs/PROOFS.md", "tools/CALIBRATION.md", "tools/LIVE.md", "tools/PYTHON.md",
-    "tools/README.md", "tools/REPORTS.md",
-}  # fmt: skip
+NOT_YET: set[str] = set()
 
 DECISIONS = "docs/DECISIONS.md"
 ENTRY = ("- **", "  *Chosen:* ", "  *Why:* ", "  *Change:* ")

@@ -11,7 +11,7 @@ from pathlib import Path
 from support import PROGRAM, TOOLS, Case, needs_package, needs_simulator
 
 from streetsim.base.files import read_json
-from streetsim.base.program import MARK, TOLD, find_program
+from streetsim.base.program import MARK, UNPROVED_NOTE, find_program
 from streetsim.model import trust
 
 CORRIDOR = TOOLS / "examples/corridor"
@@ -19,7 +19,8 @@ CORRIDOR = TOOLS / "examples/corridor"
 
 class Settings(Case):
     def test_what_a_search_or_a_study_leaves_says_so_too(self):
-        for content, wanted in ((b"program" + MARK, {"not_trusted": [], "unproved": TOLD}), (b"", {"not_trusted": []})):
+        unproved = {"not_trusted": [], "unproved": UNPROVED_NOTE}
+        for content, wanted in ((b"program" + MARK, unproved), (b"", {"not_trusted": []})):
             program = self.folder / f"program-{len(content)}"
             program.write_bytes(content)
             trust.write_doubts(str(self.folder), [], str(program))
@@ -41,16 +42,16 @@ class Unproved(Case):
 
     def test_the_setting_and_the_pages_say_so(self):
         self.assertEqual(self.said.count("NOT PROVED"), 1)
-        self.assertEqual(read_json(self.out / "setting.json", ["made"])["made"]["unproved"], TOLD)
+        self.assertEqual(read_json(self.out / "setting.json", ["made"])["made"]["unproved"], UNPROVED_NOTE)
         self.tool("report", self.out, "-o", self.folder / "r.html")
-        self.assertIn(TOLD, (self.folder / "r.html").read_text())
+        self.assertIn(UNPROVED_NOTE, (self.folder / "r.html").read_text())
         self.tool("play", self.out, "-o", self.folder / "p.html")
         packed = re.findall(r"[A-Za-z0-9+/=]{1000,}", (self.folder / "p.html").read_text())
         [played] = json.loads(gzip.decompress(base64.b64decode(max(packed, key=len))))
         self.assertEqual(played["name"], "out (NOT PROVED)")
         counts = self.folder / "counts.csv"
         counts.write_text("begin,end,from,to,vehicles\n0,300,WJ1,,40\n")
-        self.assertIn(TOLD, self.tool("compare", self.out, "--counts", counts, status=None)[0])
+        self.assertIn(UNPROVED_NOTE, self.tool("compare", self.out, "--counts", counts, status=None)[0])
         told, _ = self.tool("export", self.out, "-o", self.folder / "x.geojson", "--projection", "+proj=utm +zone=32")
         self.assertIn("NOT PROVED", told)
 

@@ -1,4 +1,4 @@
-"""One word is one thing in all commands: the table of all words in CONTRIBUTING.md, which `test_word_table.py --write`
+"""One word is one thing in all commands: the list of all words in CONTRIBUTING.md, which `test_word_table.py --write`
 makes of the parsers; and words of earlier versions, which are still taken."""
 import argparse
 import re
@@ -12,7 +12,7 @@ from streetsim.base.words import Parser
 
 PAGE = TOOLS.parent / "CONTRIBUTING.md"
 TITLE = "## Words of the commands"
-SECTION = re.compile(rf"(?<={TITLE}\n\n)(.*?)(\|.*?)(?=\n## |\Z)", re.DOTALL)
+SECTION = re.compile(rf"(?<={TITLE}\n\n)(.*?)(```.*?)(?=\n## |\Z)", re.DOTALL)
 SUMO = "sumo"  # whose words are those of SUMO's command line, and mean what they mean there
 AS_OF = "as of streetsim-"  # which means what the other command says
 PARTS = re.compile(r" \(|; |: |, ")
@@ -56,23 +56,22 @@ def two_things(found):
 
 
 def table():
-    """The table of the page."""
-    found, all_ = words(), set(commands())
-    old = {}
-    for made in commands().values():
-        for word, new in made.old.items():
-            old.setdefault(new, {})[word] = True
-    lines = ["| Word | Is | Of | Earlier |", "|---|---|---|---|"]
-    for word, own in sorted(found.items(), key=lambda item: item[0].lstrip("-").lower()):
+    """The list of the page: each word, what it is, and the words of earlier versions that are this one now."""
+    old, lines = earlier_words(), []
+    for word, own in sorted(words().items(), key=lambda item: item[0].lstrip("-").lower()):
         said = next((told for name, told in own.items() if not told.startswith(AS_OF)), "")
-        names = "all" if set(own) == all_ else ", ".join(sorted(own))
-        lines.append(f"| `{word}` | {thing(said).replace('|', '/')} | {names} | {earlier(word, old)} |")
-    return "\n".join(line.replace("  |", " |") for line in lines)
+        earlier = "".join(old.get(name, "") for name in word.split(", "))
+        lines.append(f"{word:<26} {thing(said)}{earlier}")
+    return "\n".join(["```text", *lines, "```"])
 
 
-def earlier(word, old):
-    """The words of earlier versions that are this one now."""
-    return ", ".join(f"`{one}`" for name in word.split(", ") for one in old.get(name, ()))
+def earlier_words():
+    """{word: what its help does not tell: the words of earlier versions that are this one now}."""
+    found = {}
+    for made in commands().values():
+        for word, new in made.renamed.items():
+            found.setdefault(new, {})[word] = True
+    return {word: f" (earlier {', '.join(names)})" for word, names in found.items()}
 
 
 class Words(Case):
@@ -88,12 +87,12 @@ class Words(Case):
 
     def test_earlier_words_are_taken_and_not_told(self):
         for name, made in commands().items():
-            for word, new in made.old.items():
+            for word, new in made.renamed.items():
                 with self.subTest(f"{name} {word}"):
                     self.assertNotIn(word, made._option_string_actions)
                     self.assertIn(new, made._option_string_actions)
                     self.assertNotRegex(made.format_help(), rf"{word}\b(?!-)")
-        made = Parser(prog="x", old={"--old": "--new"})
+        made = Parser(prog="x", renamed={"--old": "--new"})
         made.add_argument("--new")
         self.assertEqual([made.parse_args(given).new for given in (["--old", "1"], ["--old=2"])], ["1", "2"])
 

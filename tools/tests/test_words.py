@@ -9,7 +9,7 @@ import unittest
 from support import FORK, MAP, NUMBERED, PROGRAM, TOOLS, Case, needs_simulator
 from streetsim.base.files import Fault, read_json
 from streetsim.base.words import Parser, integer_within, names_in, paths_in, time_within
-from streetsim.cli.given import given_words
+from streetsim.cli.given_words import given_words
 from streetsim.model.folder import read_folder
 
 ENTER = {"cmd": "enter", "plan": [0, 1], "lane": 0, "depart": 0}

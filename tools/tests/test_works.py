@@ -185,6 +185,7 @@ class Works(Case):
         )
         told = self.run_with(run, mapped, "to0_0:50-100:60-300")[0]
         self.assertIn("edge to0: its only lane is closed between 60 and 300 s", told)
+        self.assertIn("waits before the works (streetsim-route .. --close finds ways round)\n", told)
 
     def test_beyond_the_end(self):
         run, mapped = self.imported()

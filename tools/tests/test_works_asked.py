@@ -6,7 +6,7 @@ from test_pictures import needs_matplotlib
 from test_works import fan, flows
 import streetsim.traci as traci
 from streetsim.base.files import Fault
-from streetsim.control.works_asked import all_works
+from streetsim.control.works_asked import all_works, works_of
 from streetsim.model.mapping import map_from, read_map
 from streetsim.scenario import Scenario
 
@@ -43,6 +43,17 @@ class Times(unittest.TestCase):
         for start, until, told in ((20, None, "ends at the start, 20 s"), (0, 5, "begins at the end, 5 s")):
             with self.assertRaisesRegex(Fault, told):
                 all_works(works, mapping, start, until)
+
+    def test_a_streets_name_is_answered_by_its_edges(self):
+        """Two edges, of which one has this name; a name of an edge that the map does not have is left out."""
+        mapping = map_from("", MAP)
+        edge = next(iter(mapping.links_of))
+        mapping.names = {"edges": {edge: "High Street", "gone": "High Street", "other": "Low Street"}}
+        told = f"the map has no lane 'High Street': High Street is the name of edges {edge}$"
+        with self.assertRaisesRegex(Fault, told):
+            works_of("High Street:0-10:5-20", mapping)
+        with self.assertRaisesRegex(Fault, "the map has no lane 'Low Street'$"):
+            works_of("Low Street:0-10:5-20", mapping)
 
 
 class AskedCase(Case):

@@ -31,9 +31,9 @@ class NumPy:
 
     def __getattr__(self, name: str) -> Any:
         """What NumPy has by this name, which is kept here."""
-        found = getattr(numpy_module(), name)
-        setattr(self, name, found)
-        return found
+        attribute = getattr(numpy_module(), name)
+        setattr(self, name, attribute)
+        return attribute
 
 
 numpy = NumPy()

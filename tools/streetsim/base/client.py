@@ -1,4 +1,5 @@
-"""A client of streetsim: starts the program, sends commands as lines and gives typed replies."""
+"""The Python client of the program streetsim: starts it, sends commands as lines and gives typed replies.
+streetsim.client is the same for users; the kernel sends its commands by it."""
 import fcntl
 import json
 import subprocess
@@ -40,9 +41,9 @@ class Refused(Exception):
     __hash__ = Exception.__hash__
 
 
-def refusal(number: int, name: str, words: str) -> type[Refused]:
+def refusal(number: int, name: str, doc: str) -> type[Refused]:
     """Makes the class of a refusal: its number in a reply, its name there, and the doc that says what it means."""
-    return type(name, (Refused,), {"number": number, "__doc__": words, "__module__": __name__})
+    return type(name, (Refused,), {"number": number, "__doc__": doc, "__module__": __name__})
 
 
 NotLoaded = refusal(1, "NotLoaded", "No network is loaded.")

@@ -1,4 +1,5 @@
-"""Files in and out: XML read element by element, outputs written whole or not at all."""
+"""Files in and out, and how a tool ends. XML is read element by element; outputs are written whole or not at all;
+Faults and signals become a line and a status (run_tool)."""
 from __future__ import annotations
 
 import contextlib
@@ -28,7 +29,7 @@ ESCAPED = (("&", "&amp;"), (">", "&gt;"), ("<", "&lt;"), ("\n", "&#10;"), ("\r",
 Json = dict[str, Any]  # an object of JSON
 FilePath = str | os.PathLike[str]
 Value = TypeVar("Value")
-Other = TypeVar("Other")
+Default = TypeVar("Default")
 Number = TypeVar("Number", int, float)
 Main = Callable[[list[str]], int]  # a tool's main function: its words, and the status
 
@@ -190,8 +191,8 @@ def attribute(path: FilePath, element: Element, name: str, convert: Callable[[st
 
 
 def optional(
-    path: FilePath, element: Element, name: str, convert: Callable[[str], Value], default: Other
-) -> Value | Other:
+    path: FilePath, element: Element, name: str, convert: Callable[[str], Value], default: Default
+) -> Value | Default:
     """As `attribute`, but the default where the element does not have the attribute."""
     return default if element.get(name) is None else attribute(path, element, name, convert)
 
@@ -283,41 +284,41 @@ def read_json(path: FilePath, keys: Iterable[str]) -> Json:
 def read_json_list(path: FilePath) -> list[Json]:
     """The list of JSON objects of a file; Fault where it cannot be read, is no JSON or holds anything else."""
     value = json_in(path)
-    if not isinstance(value, list) or not all(isinstance(one, dict) for one in value):
+    if not isinstance(value, list) or not all(isinstance(entry, dict) for entry in value):
         raise Fault(f"{path}: no list of objects")
     return value
 
 
 def checked_output_path(path: FilePath) -> str:
     """Checks the path of an output: Fault where anything but a regular file is there; gives its real path."""
-    place = os.path.realpath(path)
-    if os.path.exists(place) and not os.path.isfile(place):
+    real_path = os.path.realpath(path)
+    if os.path.exists(real_path) and not os.path.isfile(real_path):
         raise Fault(f"{path}: exists and is no regular file")
-    return place
+    return real_path
 
 
 def refuse_equal(outputs: Mapping[str, FilePath], inputs: Iterable[FilePath] = ()) -> None:
     """Fault where two of the outputs, {what the user calls it: path}, are one file, or one of them is an input."""
-    places: dict[str, str] = {}
+    name_of_path: dict[str, str] = {}
     for name, path in outputs.items():
-        place = os.path.realpath(path)
-        if place in places:
-            raise Fault(f"{path}: {places[place]} and {name} name the same file")
-        places[place] = name
+        real_path = os.path.realpath(path)
+        if real_path in name_of_path:
+            raise Fault(f"{path}: {name_of_path[real_path]} and {name} name the same file")
+        name_of_path[real_path] = name
     for path in inputs:
-        if os.path.realpath(path) in places:
-            raise Fault(f"{path}: {places[os.path.realpath(path)]} names a file that is read")
+        if os.path.realpath(path) in name_of_path:
+            raise Fault(f"{path}: {name_of_path[os.path.realpath(path)]} names a file that is read")
 
 
 def refuse_unwritable(folder: str, outputs: Mapping[str, FilePath | None], inputs: Iterable[FilePath]) -> None:
     """Fault where outputs cannot be written: as refuse_equal has it, where a file has no folder, where anything but a
     regular file is at its place, or where `folder`, which need not be there, is none. outputs: {what the user calls it:
     path}, None for one that is not wanted."""
-    wanted = {name: path for name, path in outputs.items() if path is not None}
-    refuse_equal(wanted, inputs)
-    for path in wanted.values():
-        if not os.path.isdir(own := os.path.dirname(checked_output_path(path))):
-            raise Fault(f"{path}: there is no folder {own}")
+    given = {name: path for name, path in outputs.items() if path is not None}
+    refuse_equal(given, inputs)
+    for path in given.values():
+        if not os.path.isdir(parent := os.path.dirname(checked_output_path(path))):
+            raise Fault(f"{path}: there is no folder {parent}")
     if os.path.exists(folder) and not os.path.isdir(folder):
         raise Fault(f"{folder}: exists and is no folder")
 
@@ -327,11 +328,11 @@ def whole_path(path: FilePath) -> Iterator[str]:
     """A path to write to. When the block ends, the file written there takes the place of the output `path`; after an
     exception nothing is left and the output is as it was. Fault where it cannot be written; an OSError of the block
     that names another file stays one."""
-    place = checked_output_path(path)
+    real_path = checked_output_path(path)
     try:
-        with half_file(place) as half:
+        with half_file(real_path) as half:
             yield half
-            os.replace(half, place)
+            os.replace(half, real_path)
     except OSError as fault:
         if fault.filename and not is_half(fault.filename):
             raise
@@ -351,80 +352,82 @@ def refuse_foreign(folder: FilePath, is_forced: bool = False, outputs: Iterable[
     something that they do not write. Not so where it is forced. outputs: paths of other outputs of the command, which
     may lie in the folder."""
     also = [os.path.basename(path) for path in outputs if path is not None]
-    found = "" if is_forced or not os.path.isdir(folder) else foreign_path(folder, also)
-    if found != "":
-        why = f"has {found}, which no run of the tools wrote" if found else f"has no {SETTING} of a run of the tools"
+    foreign = "" if is_forced or not os.path.isdir(folder) else foreign_path(folder, also)
+    if foreign != "":
+        lacks = f"has no {SETTING} of a run of the tools"
+        why = f"has {foreign}, which no run of the tools wrote" if foreign else lacks
         more = "or --force to write there, where files of the names of the tools' are replaced"
         raise Fault(f"{folder}: {why}: give --out another folder, {more}")
 
 
 @contextlib.contextmanager
-def whole_folder(path: FilePath, last: str, names: Collection[str] = NAMES) -> Iterator[str]:
+def whole_folder(path: FilePath, last_file: str, names: Collection[str] = NAMES) -> Iterator[str]:
     """A folder to write to, whose files come to the output folder `path` together, in the place of all that the tools
     wrote there before; after an exception of the block that folder is as it was. Whether it is one of the tools says
     refuse_foreign. Fault where it cannot be written, and for any OSError of the block.
 
-    A file of the name `last` is away while the others take their places, so that a folder without it is not whole.
+    A file of the name `last_file` is away while the others take their places, so that a folder without it is not whole.
     names: of the files that the tool writes there, where another one's may stay beside; as a rule all of the tools.
     """
-    made = not os.path.isdir(path)
+    is_new = not os.path.isdir(path)
     try:
         os.makedirs(path, exist_ok=True)
         with half_folder(path) as half:
             yield half
             with uninterrupted():
-                move_files(half, path, last, names)
-        made = False
+                move_files(half, path, last_file, names)
+        is_new = False
     except OSError as fault:
         named = fault.filename if fault.filename and not is_half(fault.filename) else path
         raise Fault(f"{named}: {fault.strerror or fault}") from None
     finally:
-        if made:
+        if is_new:
             with contextlib.suppress(OSError):
                 os.rmdir(path)
 
 
-def move_files(source: str, target: FilePath, last: str, names: Collection[str] = NAMES) -> None:
-    """Moves all files below the folder `source` to the same places below `target`; those of the name `last` go last of
-    all. What the tools wrote to `target` before, as of remove_own, is removed first. Fault, before any is moved, where
-    anything but a regular file is at a place, or a folder on the way is a link."""
+def move_files(source: str, target: FilePath, last_file: str, names: Collection[str] = NAMES) -> None:
+    """Moves all files below the folder `source` to the same places below `target`; those of the name `last_file`
+    go last of all. What the tools wrote to `target` before, as of remove_own, is removed first. Fault, before any is
+    moved, where anything but a regular file is at a place, or a folder on the way is a link."""
     moved = [
         os.path.relpath(os.path.join(folder, name), source) for folder, _, files in os.walk(source) for name in files
     ]
     for name in moved:
         inside = os.path.dirname(name)
-        own = os.path.normpath(os.path.join(os.path.realpath(target), inside))
-        if os.path.realpath(own) != own:
-            raise Fault(f"{own}: is a link to elsewhere")
-        checked_output_path(os.path.join(own, os.path.basename(name)))
-    remove_own(target, last, names)
-    for name in sorted(moved, key=lambda name: os.path.basename(name) == last):
+        directory = os.path.normpath(os.path.join(os.path.realpath(target), inside))
+        if os.path.realpath(directory) != directory:
+            raise Fault(f"{directory}: is a link to elsewhere")
+        checked_output_path(os.path.join(directory, os.path.basename(name)))
+    remove_own(target, last_file, names)
+    for name in sorted(moved, key=lambda name: os.path.basename(name) == last_file):
         os.makedirs(os.path.dirname(os.path.join(target, name)), exist_ok=True)
         os.replace(os.path.join(source, name), os.path.join(target, name))
 
 
-ENDINGS = (signal.SIGTERM, signal.SIGINT, signal.SIGHUP)
-STATUSES = {128 + one: one.name for one in ENDINGS}  # of a tool that such a signal ended
+END_SIGNALS = (signal.SIGTERM, signal.SIGINT, signal.SIGHUP)
+STATUSES = {128 + one: one.name for one in END_SIGNALS}  # of a tool that such a signal ended
 AGAIN = 0.2  # seconds until a signal's exception that got lost is raised again
 
 
 @contextlib.contextmanager
 def uninterrupted() -> Iterator[None]:
-    """Holds back, while the block runs, the signals that end a tool (ENDINGS); they come after it. They are held back
-    from this thread alone, and from processes begun in the block for good."""
-    before = signal.pthread_sigmask(signal.SIG_BLOCK, (*ENDINGS, signal.SIGALRM))
+    """Holds back, while the block runs, the signals that end a tool (END_SIGNALS); they come after it. They are held
+    back from this thread alone, and from processes begun in the block for good."""
+    before = signal.pthread_sigmask(signal.SIG_BLOCK, (*END_SIGNALS, signal.SIGALRM))
     try:
         yield
     finally:
         signal.pthread_sigmask(signal.SIG_SETMASK, before)
 
 
-ASKED: list[int] = []  # the signals that asked for an end, where a library takes their exceptions for faults of its own
+# the signals that asked for an end, where a library takes their exceptions for faults of its own
+RECEIVED_SIGNALS: list[int] = []
 
 
 def end_by_signal(number: int, _frame: FrameType | None) -> NoReturn:
     """Handles a signal: ends the tool by SystemExit, with status 128 + number, so that nothing half-written is left."""
-    ASKED.append(number)
+    RECEIVED_SIGNALS.append(number)
     signal.setitimer(signal.ITIMER_REAL, AGAIN, AGAIN)
     sys.exit(128 + number)
 
@@ -436,27 +439,27 @@ def end_again(_number: int, _frame: FrameType | None) -> None:
     while fault and not isinstance(fault, SystemExit):
         fault = fault.__context__
     if not fault:
-        sys.exit(128 + ASKED[0])
+        sys.exit(128 + RECEIVED_SIGNALS[0])
 
 
 def interrupt(number: int, _frame: FrameType | None) -> NoReturn:
     """Handles Ctrl-C: ends the tool by KeyboardInterrupt, so that nothing half-written is left."""
-    ASKED.append(number)
+    RECEIVED_SIGNALS.append(number)
     raise KeyboardInterrupt
 
 
-KEPT: list[str] = []  # what is kept, in words, of a tool that a signal ends, beside what was there before
+KEPT_NOTES: list[str] = []  # what is kept, in words, of a tool that a signal ends, beside what was there before
 
 
 def note_kept(text: str) -> None:
     """Notes what is kept where a signal ends the tool from now on: files that are whole, a session that can go on."""
-    KEPT.append(text)
+    KEPT_NOTES.append(text)
 
 
-def tell_ended(name: str) -> None:
+def print_signal_end(name: str) -> None:
     """Says on standard error which signal ended the tool, and what is kept of its work."""
     with contextlib.suppress(OSError):
-        tell_fault(f"ended by {name}: {'kept: ' + ', '.join(KEPT) if KEPT else 'nothing was written'}")
+        print_fault(f"ended by {name}: {'kept: ' + ', '.join(KEPT_NOTES) if KEPT_NOTES else 'nothing was written'}")
 
 
 def run_tool(main: Main) -> NoReturn:
@@ -467,7 +470,7 @@ def run_tool(main: Main) -> NoReturn:
             signal.signal(number, end_by_signal)
     signal.signal(signal.SIGALRM, end_again)
     status = status_of(main)
-    for number in ENDINGS:
+    for number in END_SIGNALS:
         signal.signal(number, signal.SIG_IGN)
     sys.exit(status)
 
@@ -483,16 +486,16 @@ def status_of(main: Main) -> int:
             signal.setitimer(signal.ITIMER_REAL, 0)
             sys.stdout.flush()
     except KeyboardInterrupt:
-        tell_ended("Ctrl-C")
+        print_signal_end("Ctrl-C")
         return 128 + signal.SIGINT
     except SystemExit as ended:
         if isinstance(ended.code, int) and ended.code in STATUSES:
-            tell_ended(STATUSES[ended.code])
+            print_signal_end(STATUSES[ended.code])
         raise
     except Exception as fault:
-        if ASKED:
-            tell_ended("Ctrl-C" if ASKED[0] == signal.SIGINT else STATUSES[128 + ASKED[0]])
-            return 128 + ASKED[0]
+        if RECEIVED_SIGNALS:
+            print_signal_end("Ctrl-C" if RECEIVED_SIGNALS[0] == signal.SIGINT else STATUSES[128 + RECEIVED_SIGNALS[0]])
+            return 128 + RECEIVED_SIGNALS[0]
         return status_of_fault(fault)
 
 
@@ -500,19 +503,19 @@ def status_of_fault(fault: Exception) -> int:
     """Tells on standard error what went wrong with a tool, and gives its status, as status_of has it; raises what is
     none of the faults that are told."""
     if isinstance(fault, Fault):
-        tell_fault(fault)
+        print_fault(fault)
         return 2
     if isinstance(fault, BrokenPipeError):
         drop_output()
         return 1
     if isinstance(fault, OSError):
         drop_output()
-        tell_fault(f"{fault.filename or 'standard output'}: {fault.strerror or fault}")
+        print_fault(f"{fault.filename or 'standard output'}: {fault.strerror or fault}")
         return 2
     raise fault
 
 
-def tell_fault(text: object) -> None:
+def print_fault(text: object) -> None:
     """Prints what is wrong on standard error, after the tool's name."""
     print(f"{os.path.basename(sys.argv[0])}: {text}", file=sys.stderr)
 

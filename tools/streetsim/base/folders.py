@@ -34,7 +34,7 @@ def own_paths(folder: FilePath, also: Collection[str] = ()) -> Iterator[tuple[st
         for name in [*folders, *files]:
             path = os.path.join(where, name)
             if is_half(name):
-                folders[:] = [one for one in folders if not is_half(one)]
+                folders[:] = [folder_name for folder_name in folders if not is_half(folder_name)]
             elif os.path.islink(path):
                 yield os.path.relpath(path, folder), False
             elif name in files:
@@ -52,20 +52,20 @@ def is_inside(name: str) -> bool:
 def foreign_path(folder: FilePath, also: Collection[str] = ()) -> str | None:
     """What is in a folder that no command wrote, the first by name as seen from it; empty where all is of a command, or
     nothing is there, None where all is called so, and no setting is there. also: more names that a tool writes."""
-    found = dict(own_paths(folder, also))
-    if foreign := sorted(path for path, is_own in found.items() if not is_own):
+    is_own_of = dict(own_paths(folder, also))
+    if foreign := sorted(path for path, is_own in is_own_of.items() if not is_own):
         return foreign[0]
-    whole = {*found} <= COMPARED or any(os.path.basename(path) in (SETTING, CRITERIA) for path in found)
-    return "" if whole or not found else None
+    whole = {*is_own_of} <= COMPARED or any(os.path.basename(path) in (SETTING, CRITERIA) for path in is_own_of)
+    return "" if whole or not is_own_of else None
 
 
-def remove_own(folder: FilePath, first: str, names: Collection[str] = NAMES) -> None:
+def remove_own(folder: FilePath, first_file: str, names: Collection[str] = NAMES) -> None:
     """Removes from a folder the files of some names that the tools write there, and of SUMO's outputs, those of the
-    name `first` before others, and folders inside that are empty then."""
-    found = [path for path, is_own in own_paths(folder, names) if is_own]
-    own = [path for path in found if path in names or os.sep in path and names is NAMES]
-    for path in sorted(own, key=lambda path: os.path.basename(path) != first):
+    name `first_file` before others, and folders inside that are empty then."""
+    tool_paths = [path for path, is_own in own_paths(folder, names) if is_own]
+    removed = [path for path in tool_paths if path in names or os.sep in path and names is NAMES]
+    for path in sorted(removed, key=lambda path: os.path.basename(path) != first_file):
         os.remove(os.path.join(folder, path))
-    for where, _, _ in os.walk(folder, topdown=False):
-        if where != os.fspath(folder) and is_inside(os.path.basename(where)) and not os.listdir(where):
-            os.rmdir(where)
+    for directory, _, _ in os.walk(folder, topdown=False):
+        if directory != os.fspath(folder) and is_inside(os.path.basename(directory)) and not os.listdir(directory):
+            os.rmdir(directory)

@@ -38,31 +38,31 @@ def group_of(action: argparse.Action) -> str:
 
 def in_groups(actions: Iterable[argparse.Action]) -> list[tuple[str, list[argparse.Action]]]:
     """The words of a command by groups, (title, words), in the order of GROUPS; without empty groups."""
-    found: dict[str, list[argparse.Action]] = {title: [] for title in (*GROUPS, OTHER, HELP)}
+    by_title: dict[str, list[argparse.Action]] = {title: [] for title in (*GROUPS, OTHER, HELP)}
     for action in actions:
-        found[group_of(action)].append(action)
-    return [(title, own) for title, own in found.items() if own]
+        by_title[group_of(action)].append(action)
+    return [(title, members) for title, members in by_title.items() if members]
 
 
-def help_of(made: argparse.ArgumentParser, examples: Sequence[str]) -> str:
+def help_of(parser: argparse.ArgumentParser, examples: Sequence[str]) -> str:
     """The text of --help of a command: how it goes, with the words that it must have; what it does; its words in
     groups; its examples."""
-    formatter = made._get_formatter()
+    formatter = parser._get_formatter()
     more = argparse.Action([], "words", nargs="?", metavar="WORDS")
-    must = [action for action in made._actions if action.required or not action.option_strings]
-    formatter.add_usage(made.usage, [*must, more], [])
-    formatter.add_text(made.description)
-    for title, actions in in_groups(made._actions):
+    must = [action for action in parser._actions if action.required or not action.option_strings]
+    formatter.add_usage(parser.usage, [*must, more], [])
+    formatter.add_text(parser.description)
+    for title, actions in in_groups(parser._actions):
         formatter.start_section(title)
         formatter.add_arguments(actions)
         formatter.end_section()
-    formatter.add_text(made.epilog)
-    told = "".join(f"  {example}\n" for example in examples)
-    return formatter.format_help() + (f"\nExamples:\n{told}" if told else "")
+    formatter.add_text(parser.epilog)
+    lines = "".join(f"  {example}\n" for example in examples)
+    return formatter.format_help() + (f"\nExamples:\n{lines}" if lines else "")
 
 
-def nearest(word: str, known: Iterable[str]) -> str:
+def nearest(unknown: str, known: Iterable[str]) -> str:
     """The known word that is most like another one, as words to add to a fault, ' (did you mean --until?)'; empty where
     none is much like it."""
-    found = difflib.get_close_matches(word, list(known), 1)
-    return f" (did you mean {found[0]}?)" if found else ""
+    matches = difflib.get_close_matches(unknown, list(known), 1)
+    return f" (did you mean {matches[0]}?)" if matches else ""

@@ -1,4 +1,5 @@
-"""Work in processes side by side, with results in order, news of how far each is, and the first Fault for all."""
+"""Runs work in processes side by side: results in order, progress of each, and the first Fault for all. Calibration,
+runs of several seeds and runs of SUMO use it."""
 from __future__ import annotations
 
 import os
@@ -6,7 +7,7 @@ import signal
 from collections.abc import Callable, Iterable
 from typing import TYPE_CHECKING, Any, TypeVar
 
-from streetsim.base.files import ENDINGS, Fault, uninterrupted
+from streetsim.base.files import END_SIGNALS, Fault, uninterrupted
 
 if TYPE_CHECKING:  # what takes long to import, and one run does without
     from multiprocessing.connection import Connection
@@ -14,24 +15,24 @@ if TYPE_CHECKING:  # what takes long to import, and one run does without
 
 Item = TypeVar("Item")
 Result = TypeVar("Result")
-Tell = Callable[[Any], object]  # takes any value that says how far a work is
-Told = Callable[[int, Any], object]  # takes the index of an item, from 0, and what its work told
+SendProgress = Callable[[Any], object]  # takes any value that says how far a work is
+OnProgress = Callable[[int, Any], object]  # takes the index of an item, from 0, and what its work told
 Running = dict["Connection", tuple[int, "BaseProcess"]]  # by the pipe that it tells to: index of its item, process
 CORES = len(os.sched_getaffinity(0))  # that this process may use
 
 
 def side_by_side(
-    work: Callable[[Item, Tell], Result],
+    work: Callable[[Item, SendProgress], Result],
     items: Iterable[Item],
     jobs: int = CORES,
-    told: Told = lambda index, value: None,
+    on_progress: OnProgress = lambda index, value: None,
 ) -> list[Result]:
     """What a function gives for each item, in the items' order. Each runs in a process of its own, at most `jobs` at
     once (one where that is less); results go through a pipe, so they must be what pickle takes.
 
-    The function gets an item and a function to tell how far it is; what it tells goes to `told(index, value)`, index:
-    of the item, from 0. A Fault of one ends all the others and is raised; where one fails otherwise, its traceback goes
-    to standard error, and a Fault that says so is raised in the same way.
+    The function gets an item and a function to tell how far it is; what it tells goes to `on_progress(index,
+    value)`, index: of the item, from 0. A Fault of one ends all the others and is raised; where one fails otherwise,
+    its traceback goes to standard error, and a Fault that says so is raised in the same way.
     """
     running: Running = {}
     results: dict[int, Result] = {}
@@ -39,9 +40,9 @@ def side_by_side(
         for index, item in enumerate(items):
             start_process(work, index, item, running)
             while running and len(running) >= jobs:
-                hear(running, results, told)
+                receive_messages(running, results, on_progress)
         while running:
-            hear(running, results, told)
+            receive_messages(running, results, on_progress)
     finally:
         for _, process in running.values():
             process.kill()
@@ -49,7 +50,7 @@ def side_by_side(
     return [results[index] for index in sorted(results)]
 
 
-def start_process(work: Callable[[Item, Tell], object], index: int, item: Item, running: Running) -> None:
+def start_process(work: Callable[[Item, SendProgress], object], index: int, item: Item, running: Running) -> None:
     """Starts a process for an item, and notes it in `running`; index: of the item, from 0."""
     import multiprocessing
 
@@ -61,20 +62,20 @@ def start_process(work: Callable[[Item, Tell], object], index: int, item: Item, 
     end.close()
 
 
-def work_and_send(work: Callable[[Item, Tell], object], item: Item, pipe: Connection) -> None:
+def work_and_send(work: Callable[[Item, SendProgress], object], item: Item, pipe: Connection) -> None:
     """Runs inside the process: SIGTERM and SIGHUP end it at once, Ctrl-C is left to the process that began it; sends
     what the work tells, and its result or a Fault, to the pipe."""
     signal.signal(signal.SIGINT, signal.SIG_IGN)
     for number in (signal.SIGTERM, signal.SIGHUP):
         signal.signal(number, signal.SIG_DFL)
-    signal.pthread_sigmask(signal.SIG_UNBLOCK, ENDINGS)  # which start_process held back
+    signal.pthread_sigmask(signal.SIG_UNBLOCK, END_SIGNALS)  # which start_process held back
     try:
         pipe.send(("done", work(item, lambda value: pipe.send(("told", value)))))
     except Fault as fault:
         pipe.send(("fault", str(fault)))
 
 
-def hear(running: Running, results: dict[int, Result], told: Told) -> None:
+def receive_messages(running: Running, results: dict[int, Result], on_progress: OnProgress) -> None:
     """Waits for messages of the processes, and takes one of each that sent some: notes its result and takes it from
     `running`, or passes on what it tells; raises its Fault, or one where it ended without a result."""
     from multiprocessing.connection import Connection, wait
@@ -90,7 +91,7 @@ def hear(running: Running, results: dict[int, Result], told: Told) -> None:
         if kind == "fault":
             raise Fault(value)
         if kind == "told":
-            told(index, value)
+            on_progress(index, value)
         else:
             results[index] = value
             process.join()

@@ -28,6 +28,6 @@ def example_files(example: Path) -> list[Path]:
 def examples() -> dict[str, Path]:
     """{name of an example: its folder or file}, without empty ones; SESSIONS are among them in the repository alone."""
     folder = PREFIX / "share/streetsim/examples" if PREFIX else TOP / "tools/examples"
-    found = {path.name: path for path in sorted(folder.glob("*")) if example_files(path)}
+    by_name = {path.name: path for path in sorted(folder.glob("*")) if example_files(path)}
     sessions = TOP / "examples"
-    return found | ({SESSIONS: sessions} if not PREFIX and sessions.is_dir() else {})
+    return by_name | ({SESSIONS: sessions} if not PREFIX and sessions.is_dir() else {})

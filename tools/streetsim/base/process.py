@@ -1,4 +1,5 @@
-"""A program that runs beside its caller, with pipes to it and from it."""
+"""A program that runs beside its caller, with pipes to and from it; the client and the kernel start the simulator by
+it."""
 import contextlib
 import subprocess
 import tempfile
@@ -12,21 +13,21 @@ class ProgramEnded(Exception):
     def __init__(self, status: int, stderr: str) -> None:
         """status: of the program, 0 too where it ended too early, -N by signal N; stderr: its standard error."""
         self.status, self.stderr = status, stderr
-        told = ": ".join(stderr.splitlines()) or "nothing on standard error"
-        super().__init__(f"the program ended with status {status}: {told}")
+        error_text = ": ".join(stderr.splitlines()) or "nothing on standard error"
+        super().__init__(f"the program ended with status {status}: {error_text}")
 
 
 class Process:
     """A program that runs. Its standard error goes into a file that has no name, so that it never waits for a reader.
     As a block it is closed at the end, as `close` does; after an exception it is killed."""
 
-    def __init__(self, words: Sequence[str], buffer: int, files: Sequence[int] = ()) -> None:
-        """Starts the program. words: its path and its arguments; buffer: bytes of the buffer of each pipe, 0 for none;
-        files: descriptors that it inherits beside its streams."""
+    def __init__(self, arguments: Sequence[str], buffer: int, files: Sequence[int] = ()) -> None:
+        """Starts the program. arguments: its path and what follows it; buffer: bytes of the buffer of each pipe, 0 for
+        none; files: descriptors that it inherits beside its streams."""
         self.ended: tuple[int, str] | None = None
         self.errors = tempfile.TemporaryFile()
         self.process = subprocess.Popen(
-            words, stdin=subprocess.PIPE, stdout=subprocess.PIPE, stderr=self.errors, bufsize=buffer, pass_fds=files
+            arguments, stdin=subprocess.PIPE, stdout=subprocess.PIPE, stderr=self.errors, bufsize=buffer, pass_fds=files
         )
         assert self.process.stdin and self.process.stdout
         self.input, self.output = self.process.stdin, self.process.stdout
@@ -46,9 +47,9 @@ class Process:
 
     def close(self) -> None:
         """Ends the input and waits for the program; ProgramEnded if its status is not 0."""
-        status, told = self.end()
+        status, error_text = self.end()
         if status:
-            raise ProgramEnded(status, told)
+            raise ProgramEnded(status, error_text)
 
     def end(self) -> tuple[int, str]:
         """Ends the input and waits for the program; gives (its status, its standard error), later the same."""

@@ -1,4 +1,4 @@
-"""Which program, the simulator, the tools run, and whether it is one without proofs."""
+"""Finds the program (the simulator) that the tools run, and says whether it was built without proofs."""
 import contextlib
 import functools
 import os
@@ -14,7 +14,7 @@ UNBUILT = "STREETSIM_UNBUILT"  # where it is set, nothing counts as built in the
 BUILT = "crates/street_sim/out/street_sim"  # where `./build` of the repository puts it
 UNPROVED = "unproved/street_sim"  # where `./build --unproved` does
 MARK = b"\nstreetsim: NOT PROVED\n"  # the last bytes of a program without proofs, wherever it was copied to
-TOLD = "NOT PROVED: made by a program without proofs (./build --unproved)"  # of what such a program made
+UNPROVED_NOTE = "NOT PROVED: made by a program without proofs (./build --unproved)"  # of what such a program made
 HELP = (
     f"the simulator (default: ${VARIABLE}, else the one that is installed with the tools, or the one that was built in "
     "the repository)"
@@ -22,20 +22,20 @@ HELP = (
 BUILDS = f"`./build` in streetsim's repository makes {BUILT}, in half an hour, and `./build --unproved` one without"
 
 
-def find_program(given: str | None = None) -> str:
+def find_program(program: str | None = None) -> str:
     """The path of the program that is given (a path or a command's name), else of the one that STREETSIM_PROGRAM names,
     else of the one that is installed with the tools, else of the one that was built in their repository; Fault where
     there is none. The repository's script `streetsim` stands for the program that was built there: no tool starts a
     build. Tells once, on standard error, of a program without proofs that it is."""
-    named = given or os.environ.get(VARIABLE) or installed(PROGRAM) or (None if PREFIX else built_in(TOP))
+    named = program or os.environ.get(VARIABLE) or installed(PROGRAM) or (None if PREFIX else built_in(TOP))
     if not named:
         raise Fault(f"no simulator: give --program PATH or set {VARIABLE}; {BUILDS} proofs, in minutes")
-    found = shutil.which(named)
-    if found is None:
+    executable = shutil.which(named)
+    if executable is None:
         raise Fault(f"{named}: no program that can be run; {BUILDS} proofs, in minutes")
-    path = of_script(Path(found).resolve())
+    path = of_script(Path(executable).resolve())
     if is_unproved(str(path)):
-        tell_unproved(path)
+        warn_unproved(path)
     return str(path)
 
 
@@ -54,8 +54,8 @@ def of_script(path: Path) -> Path:
         return path
     built = built_in(path.parent)
     if built is None:
-        made = "run `./build` there first, or `./build --unproved`, which takes minutes"
-        raise Fault(f"{path.parent}: the simulator is not built: {made}")
+        advice = "run `./build` there first, or `./build --unproved`, which takes minutes"
+        raise Fault(f"{path.parent}: the simulator is not built: {advice}")
     return built
 
 
@@ -70,12 +70,14 @@ def is_unproved(path: str) -> bool:
 
 
 def proof_note(path: str) -> dict[str, str]:
-    """What a setting says of a program's proofs: nothing, or of one without proofs `unproved`: TOLD."""
-    return {"unproved": TOLD} if is_unproved(path) else {}
+    """What a setting says of a program's proofs: nothing, or of one without proofs `unproved`: UNPROVED_NOTE."""
+    return {"unproved": UNPROVED_NOTE} if is_unproved(path) else {}
 
 
 @functools.cache
-def tell_unproved(path: Path) -> None:
-    """Says on standard error that a program is one without proofs; once in a process."""
-    told = "results are those of the rules only if it is right; `./build` makes the proved program"
-    print(f"streetsim: NOT PROVED: {path} was built without proofs: {told}", file=sys.stderr, flush=True)
+def warn_unproved(path: Path) -> None:
+    """Says on standard error that a program is one without proofs, and what to do; once in a process."""
+    tops = [*path.parents, *([] if PREFIX else [TOP])]
+    built = any((top / "build").is_file() for top in tops)
+    advice = "`./build` makes the proved one" if built else "ask for a package that was proved"
+    print(f"streetsim: NOT PROVED: this program was built without proofs: {advice}", file=sys.stderr, flush=True)

@@ -1,4 +1,5 @@
-"""Long work: a line on a terminal that says how far it is, and an end that the user asks for by Ctrl-C."""
+"""Progress of long work: a line on a terminal with what is done and the seconds that are left, and Ctrl-C that asks for
+an end."""
 import signal
 import sys
 import threading
@@ -49,31 +50,31 @@ class TerminalLine:
             self.width = 0
 
 
-class Meanwhile(TerminalLine):
+class WorkProgress(TerminalLine):
     """A line that says how much of some work is done, and how long it still takes."""
 
-    def __init__(self, what: str, total: int, stream: IO[str] | None = None, abreast: int = 1) -> None:
-        """what: the parts of the work in the plural, as the line says it ("12 of 40 plans"); total: how many there
+    def __init__(self, unit: str, total: int, stream: IO[str] | None = None, abreast: int = 1) -> None:
+        """unit: the parts of the work in the plural, as the line says it ("12 of 40 plans"); total: how many there
         are. stream: of the line, None: standard error; abreast: how many are done side by side."""
         super().__init__(stream)
-        self.what, self.total, self.abreast = what, total, abreast
+        self.unit, self.total, self.abreast = unit, total, abreast
 
-    def show(self, done: int, more: str = "", left: float | None = None) -> None:
-        """Writes the line where it is due; done, more, left: as `line` has them."""
+    def show(self, done: int, more: str = "", seconds_left: float | None = None) -> None:
+        """Writes the line where it is due; done, more, seconds_left: as `line` has them."""
         if self.takes_turn(done >= self.total):
-            self.write_over(self.line(done, more, self.seconds(), left))
+            self.write_over(self.line(done, more, self.seconds(), seconds_left))
 
-    def line(self, done: int, more: str, seconds: float, left: float | None = None) -> str:
+    def line(self, done: int, more: str, seconds: float, seconds_left: float | None = None) -> str:
         """The line's text; done: parts done; more: what else there is to say; seconds: since the begin of the work;
-        left: seconds that it still takes, None: as long for a part as so far."""
-        if left is None:
+        seconds_left: that it still takes, None: as long for a part as so far."""
+        if seconds_left is None:
             going = min(self.abreast, max(0, self.total - done)) / 2 if self.abreast > 1 else 0.0  # half done
-            left = seconds * max(0, self.total - done - going) / max(1, done + going)
-        told = f"[{bar(done, self.total)}] {done:,} of {self.total:,} {self.what}"
-        return f"{told}{more and f', {more}'}, {time_told(left)} left"
+            seconds_left = seconds * max(0, self.total - done - going) / max(1, done + going)
+        text = f"[{bar(done, self.total)}] {done:,} of {self.total:,} {self.unit}"
+        return f"{text}{more and f', {more}'}, {time_text(seconds_left)} left"
 
 
-class UnderWay(TerminalLine):
+class RunProgress(TerminalLine):
     """A line on the terminal with the clock of a run, or how many of several runs are done; vehicles on their way,
     arrived, how many times as fast as real time, and how long it still takes. It stays there, as the runs left it, when
     the block ends.
@@ -133,14 +134,14 @@ class UnderWay(TerminalLine):
         share = 1.0 if ended else sum(map(self.share, range(runs))) / runs
         place = f"{self.clocks[0]:,} s" if runs == 1 else f"{self.over} of {runs} runs done"
         around = f"round {self.passed[0] + 1} of {self.passes}, " if runs == 1 < self.passes else ""
-        left = "" if ended or share < LEAST_SHARE else f", {time_told(seconds * (1 - share) / share)} left"
+        seconds_left = "" if ended or share < LEAST_SHARE else f", {time_text(seconds * (1 - share) / share)} left"
         return (
             f"[{bar(round(1000 * share), 1000)}] {around}{place}, {sum(self.ways):,} on their way, "
-            f"{sum(self.arrived):,} arrived, {steps / max(0.001, seconds):,.0f} x real time{left}"
+            f"{sum(self.arrived):,} arrived, {steps / max(0.001, seconds):,.0f} x real time{seconds_left}"
         )
 
 
-def time_told(seconds: float) -> str:
+def time_text(seconds: float) -> str:
     """Seconds of waiting as people say them: 50 s, 3 min, 1.5 h."""
     if seconds < 100:
         return f"{seconds:.0f} s"

@@ -1,4 +1,5 @@
-"""What an import, or another reader of SUMO's files, has to say: warnings, and what is left out or has no effect."""
+"""The report of an import, or of another reader of SUMO's files: warnings, and what is left out or has no effect. Tools
+print it; pages list it."""
 from collections import Counter
 from collections.abc import Iterable, Iterator, Sequence
 from dataclasses import dataclass, replace
@@ -38,20 +39,20 @@ class Report:
         of its kind are told in one line, behind their count and before the ids; empty: each has its line."""
         if text not in self.warnings:
             self.warnings.append(text)
-            one = Warned(text, LIGHT if light else HEAVY, tuple(names), do)
-            self.alike.setdefault(kind or text, []).append(one)
+            warning = Warned(text, LIGHT if light else HEAVY, tuple(names), do)
+            self.alike.setdefault(kind or text, []).append(warning)
 
     def by_weight(self) -> list[Warned]:
         """The warnings, several of a kind as one, first those that change results; equals in the order they came."""
-        told = (one_warning(kind, those) for kind, those in self.alike.items())
-        return sorted(told, key=lambda one: one.weight != HEAVY)
+        merged = (one_warning(kind, warnings) for kind, warnings in self.alike.items())
+        return sorted(merged, key=lambda warning: warning.weight != HEAVY)
 
     def lines(self) -> Iterator[str]:
         """All that is said, a line each, as terminals, maps and pages show it; of a warning's names only the first few,
         where several of a kind are one."""
         yield from (f"skipped: {count} vehicles: {why}" for why, count in sorted(self.skipped.items()))
-        for one in self.by_weight():
-            yield f"warning: {one.text}{f' ({one.do})' if one.do else ''}"
+        for warning in self.by_weight():
+            yield f"warning: {warning.text}{f' ({warning.do})' if warning.do else ''}"
         yield from self.notes
         yield from (f"ignored: {count} x {what}" for what, count in sorted(self.ignored.items()) if count)
 
@@ -59,18 +60,20 @@ class Report:
         """All that is said, but for the notes, as rows of `COLUMNS`, the ids with blanks between: first the vehicles
         that are left out, then the warnings as by_weight has them, last what has no effect."""
         skipped, ignored = sorted(self.skipped.items()), sorted(self.ignored.items())
-        found = [[HEAVY, f"{count} vehicles are left out: {why}", "", ""] for why, count in skipped]
-        found += [[one.weight, one.text, " ".join(one.names), one.do] for one in self.by_weight()]
-        return found + [[NONE, f"{count} x {what}", "", ""] for what, count in ignored if count]
+        table_rows = [[HEAVY, f"{count} vehicles are left out: {why}", "", ""] for why, count in skipped]
+        table_rows += [
+            [warning.weight, warning.text, " ".join(warning.names), warning.do] for warning in self.by_weight()
+        ]
+        return table_rows + [[NONE, f"{count} x {what}", "", ""] for what, count in ignored if count]
 
 
-def one_warning(kind: str, those: Sequence[Warned]) -> Warned:
+def one_warning(kind: str, warnings: Sequence[Warned]) -> Warned:
     """Warnings of one kind as one: how many they are, their kind and the first ids, with all ids; weight and what to do
     are of the first. A warning alone stays as it is."""
-    if len(those) == 1:
-        return those[0]
-    names = tuple(dict.fromkeys(name for one in those for name in one.names))
-    return replace(those[0], text=f"{len(those):,} {kind}: {first_few(names)}", names=names)
+    if len(warnings) == 1:
+        return warnings[0]
+    names = tuple(dict.fromkeys(name for warning in warnings for name in warning.names))
+    return replace(warnings[0], text=f"{len(warnings):,} {kind}: {first_few(names)}", names=names)
 
 
 def first_few(names: Iterable[str], most: int = 5) -> str:

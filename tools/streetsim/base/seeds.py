@@ -23,20 +23,20 @@ def seeds_of(text: str | int, name: str) -> Sequence[int]:
     where it is none, or names more than 1,000, one twice, or one of 2^64 or more. name: what the user calls them."""
     ranges = [range_of(part) for part in str(text).split(",")]
     count = sum(map(len, ranges))
-    if not all(ranges) or count > MOST_SEEDS or len(found := sorted({*chain(*ranges)})) < count:
-        told = f"expected FIRST-LAST, or such and numbers with commas between, at most {MOST_SEEDS:,} of them"
-        raise Fault(f"{name} {text!r}: {told}, each once")
-    return ranges[0] if len(ranges) == 1 else found
+    if not all(ranges) or count > MOST_SEEDS or len(seeds := sorted({*chain(*ranges)})) < count:
+        expected = f"expected FIRST-LAST, or such and numbers with commas between, at most {MOST_SEEDS:,} of them"
+        raise Fault(f"{name} {text!r}: {expected}, each once")
+    return ranges[0] if len(ranges) == 1 else seeds
 
 
 def range_of(text: str) -> range:
     """The numbers below 2^64 of a text FIRST-LAST, both included, or of one number; none where it is neither."""
-    found = re.fullmatch(r"(\d{1,20})(?:-(\d{1,20}))?", text)
-    first, last = (int(found[1]), int(found[2] or found[1])) if found else (1, 0)
+    match = re.fullmatch(r"(\d{1,20})(?:-(\d{1,20}))?", text)
+    first, last = (int(match[1]), int(match[2] or match[1])) if match else (1, 0)
     return range(first, last + 1 if last < min(first + MOST_SEEDS, 2**64) else first)
 
 
-def seeds_told(seeds: Iterable[int]) -> str:
+def seeds_text(seeds: Iterable[int]) -> str:
     """Seeds that rise as the text that seeds_of reads, as 1,4,7-9."""
     runs: list[list[int]] = []
     for seed in seeds:
@@ -63,7 +63,8 @@ def half_width(deviation: float, runs: int) -> float:
 
 def paired(before: Sequence[float], after: Sequence[float]) -> tuple[float, float | None]:
     """As `mean_and_half_width`, of `after` less `before` over runs with equal seeds in the same order."""
-    return mean_and_half_width([there - here for here, there in zip(before, after, strict=True)])
+    pairs = zip(before, after, strict=True)
+    return mean_and_half_width([value_after - value_before for value_before, value_after in pairs])
 
 
 def unpaired_half_width(before: Sequence[float], after: Sequence[float]) -> float:
@@ -111,4 +112,5 @@ def mean_and_day(values: Sequence[float]) -> tuple[float, float | None]:
 
 def paired_day(before: Sequence[float], after: Sequence[float]) -> tuple[float, float | None]:
     """As `mean_and_day`, of `after` less `before` over runs with equal seeds in the same order."""
-    return mean_and_day([there - here for here, there in zip(before, after, strict=True)])
+    pairs = zip(before, after, strict=True)
+    return mean_and_day([value_after - value_before for value_before, value_after in pairs])

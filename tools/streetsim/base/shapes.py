@@ -1,4 +1,5 @@
-"""Lines of points, in metres."""
+"""Geometry of lines of points, in metres: lengths, points and headings along a line. Pages and the TraCI module use
+it."""
 from collections.abc import Sequence
 from itertools import pairwise
 from math import atan2, degrees, hypot

@@ -26,9 +26,9 @@ CHUNK, MEGA = 1 << 16, 1 << 20  # bytes that are read, and unpacked, at once
 class TooMuch(ValueError):
     """A limit is passed; the text says which, and goes behind the file's name."""
 
-    def __init__(self, told: str) -> None:
-        """told: what the file has or does."""
-        super().__init__(f"{told}, which no file of a city does: --large-files reads it all the same")
+    def __init__(self, text: str) -> None:
+        """text: what the file has or does."""
+        super().__init__(f"{text}, which no file of a city does: --large-files reads it all the same")
 
 
 def lifted() -> bool:
@@ -53,26 +53,26 @@ def refuse_bomb(file: IO[bytes], size: int, ratio: int = RATIO) -> None:
     most = most_unpacked(size, ratio)
     if lifted() or 1032 * size <= most:  # no stream of zlib unpacks to more than 1,032 times its size
         return
-    found, member = 0, None
+    unpacked, member = 0, None
     while data := file.read(CHUNK):
         while data := data if member else data.lstrip(b"\0"):  # zeros may stand behind a member
-            one = member or zlib.decompressobj(31)
-            found += len(one.decompress(data, MEGA))
-            if found > most:
+            stream = member or zlib.decompressobj(31)
+            unpacked += len(stream.decompress(data, MEGA))
+            if unpacked > most:
                 raise TooMuch(f"unpacks to more than {most:,} bytes, and has {size:,}")
-            member, data = (None, one.unused_data) if one.eof else (one, one.unconsumed_tail)
+            member, data = (None, stream.unused_data) if stream.eof else (stream, stream.unconsumed_tail)
 
 
-def inflated(data: bytes, most: int) -> bytes:
+def inflate(data: bytes, most: int) -> bytes:
     """What a whole stream of zlib unpacks to; TooMuch for more than `most` bytes, zlib.error where it is none, is cut
     off, or has something behind it."""
     stream = zlib.decompressobj()
-    found = stream.decompress(data, most + 1)
-    if len(found) > most:
+    unpacked = stream.decompress(data, most + 1)
+    if len(unpacked) > most:
         raise TooMuch(f"unpacks to more than {most:,} bytes")
     if not stream.eof or stream.unused_data:
         raise zlib.error("cut off, or with something behind its end")
-    return found
+    return unpacked
 
 
 class Chunks:

@@ -29,38 +29,40 @@ class Parser(argparse.ArgumentParser):
     up to a = (-o=FILE) is a value, as many of SUMO's edges begin so."""
 
     def __init__(
-        self, *args: Any, examples: Sequence[str] = (), old: Mapping[str, str] | None = None, **more: Any
+        self, *args: Any, examples: Sequence[str] = (), renamed: Mapping[str, str] | None = None, **more: Any
     ) -> None:
-        """examples: whole lines of the shell, two at least of a command; old: {word of earlier versions, which is taken
-        and not told: the word that it is now}. All other arguments are those of ArgumentParser."""
+        """examples: whole lines of the shell, two at least of a command; renamed: {word of earlier versions, which is
+        taken and not told: the word that it is now}. All other arguments are those of ArgumentParser."""
         super().__init__(*args, **more)
-        self.examples, self.old = examples, old or {}
-        told = f"{self.prog.partition(' ')[0]} {VERSION}"
-        self.add_argument("--version", action="version", version=told, help="print the version and exit")
+        self.examples, self.renamed = examples, renamed or {}
+        version = f"{self.prog.partition(' ')[0]} {VERSION}"
+        self.add_argument("--version", action="version", version=version, help="print the version and exit")
         self.add_argument("--large-files", action=Lifting, nargs=0, help="read files of any size; see SECURITY.md")
         self._negative_number_matcher = re.compile("-[^-]")  # what argparse takes for a value all the same
 
     def parse_known_args(self, args: Any = None, namespace: Any = None) -> Any:
-        """As argparse's; Fault for a word without a name in it, as `naming_nothing` tells."""
+        """As argparse's; Fault for a word without a name in it, as `unnamed_argument` tells."""
         words = [self.new_word(word) for word in (sys.argv[1:] if args is None else args)]
-        if (told := naming_nothing(words) or self.unknown_in(words)) is not None:
-            self.error(told)
+        if (fault := unnamed_argument(words) or self.unknown_in(words)) is not None:
+            self.error(fault)
         return super().parse_known_args(words, namespace)
 
-    def new_word(self, word: str) -> str:
+    def new_word(self, argument: str) -> str:
         """A word as it is now: of earlier versions another one, with its value behind = where it has one there."""
-        name, sign, text = word.partition("=")
-        return self.old[name] + sign + text if name in self.old else word
+        name, sign, text = argument.partition("=")
+        return self.renamed[name] + sign + text if name in self.renamed else argument
 
-    def unknown_in(self, words: Sequence[str]) -> str | None:
+    def unknown_in(self, arguments: Sequence[str]) -> str | None:
         """What argparse says of the first word with -- before it that this command does not have, which it would say
         only where no word lacks; None for a command of several kinds, whose words are those of the kind."""
         if self._subparsers is not None:
             return None
         known = tuple(self._option_string_actions)
-        given = words[: words.index("--")] if "--" in words else words
-        named = (word for before, word in zip(("", *given), given) if word.startswith("--") and before not in known)
-        wrong = [word for word in named if not any(name.startswith(word.partition("=")[0]) for name in known)]
+        leading = arguments[: arguments.index("--")] if "--" in arguments else arguments
+        pairs = zip(("", *leading), leading)
+        named = (argument for before, argument in pairs if argument.startswith("--") and before not in known)
+        options = ((argument, argument.partition("=")[0]) for argument in named)
+        wrong = [argument for argument, option in options if not any(name.startswith(option) for name in known)]
         return f"unrecognized arguments: {wrong[0]}" if wrong else None
 
     def _get_option_tuples(self, option_string: str) -> list[Any]:
@@ -73,18 +75,18 @@ class Parser(argparse.ArgumentParser):
 
     def near(self, message: str) -> str:
         """The right word that is nearest to the wrong one of a message of argparse, as words to add; else nothing."""
-        if found := UNKNOWN.search(message):
-            return nearest(found[1].partition("=")[0], self._option_string_actions)
-        found = NO_CHOICE.search(message)
-        return nearest(found[1], re.findall(r"'([^']*)'", found[2])) if found else ""
+        if match := UNKNOWN.search(message):
+            return nearest(match[1].partition("=")[0], self._option_string_actions)
+        match = NO_CHOICE.search(message)
+        return nearest(match[1], re.findall(r"'([^']*)'", match[2])) if match else ""
 
     def error(self, message: str) -> NoReturn:
         """Raises the Fault of wrong words, in place of argparse's exit."""
-        told = message.removeprefix("argument ") + self.near(message)
-        option, _, lacks = told.partition(": ")
+        text = message.removeprefix("argument ") + self.near(message)
+        option, _, lacks = text.partition(": ")
         if lacks.startswith("expected"):
-            told += f", which goes as {option.rpartition('/')[2]}=-.. where it begins with -"
-        raise Fault(f"{told} (what may be given: {self.prog} --help)")
+            text += f", which goes as {option.rpartition('/')[2]}=-.. where it begins with -"
+        raise Fault(f"{text} (what may be given: {self.prog} --help)")
 
 
 class Lifting(argparse.Action):
@@ -99,12 +101,12 @@ class Lifting(argparse.Action):
         lift()
 
 
-def naming_nothing(words: Sequence[str]) -> str | None:
+def unnamed_argument(arguments: Sequence[str]) -> str | None:
     """What is wrong with the first word that has no name in it, as a variable of the shell that is not set leaves one
     (a tool would go on as if the word were not there), or None; the text of --title may be empty."""
-    for before, word in zip(("", *words), words):
-        name, sign, text = word.partition("=")
-        option, value = (name, text) if sign and word.startswith("--") else (before, word)
+    for before, argument in zip(("", *arguments), arguments):
+        name, sign, text = argument.partition("=")
+        option, value = (name, text) if sign and argument.startswith("--") else (before, argument)
         if option not in FREE and not names_in(value):
             return f"{option}: {value!r} names nothing" if option.startswith("-") else f"{value!r} names nothing"
     return None
@@ -150,8 +152,8 @@ def whole_seconds(text: str) -> int | None:
 
 def time_of_day(second: int) -> str:
     """Seconds since midnight as hours and minutes, 7:30, with seconds where these are not 0; hours may be above 23."""
-    told = f"{second // 3600:d}:{second // 60 % 60:02d}"
-    return f"{told}:{second % 60:02d}" if second % 60 else told
+    hours_minutes = f"{second // 3600:d}:{second // 60 % 60:02d}"
+    return f"{hours_minutes}:{second % 60:02d}" if second % 60 else hours_minutes
 
 
 def names_in(text: str) -> list[str]:
@@ -171,15 +173,15 @@ def share_of(text: str) -> float:
     return value
 
 
-def add_run(made: argparse.ArgumentParser) -> None:
+def add_run(parser: argparse.ArgumentParser) -> None:
     """Adds to a parser the words that name what streetsim-import made: the run file (run) and its map (--map)."""
-    made.add_argument("run", metavar="RUN", help="the run that streetsim-import wrote (.jsonl)")
-    made.add_argument("--map", help="the map of names, of RUN (default: NAME.map.json beside NAME.jsonl)")
+    parser.add_argument("run", metavar="RUN", help="the run that streetsim-import wrote (.jsonl)")
+    parser.add_argument("--map", help="the map of names, of RUN (default: NAME.map.json beside NAME.jsonl)")
 
 
-def add_names(made: argparse.ArgumentParser) -> None:
+def add_names(parser: argparse.ArgumentParser) -> None:
     """Adds --names to a parser: a file of names of one's own; None where it is not given."""
-    made.add_argument(
+    parser.add_argument(
         "--names",
         metavar="FILE",
         help="names of one's own (.csv with the columns id, of an edge, junction or light, and name), which go before "
@@ -187,16 +189,16 @@ def add_names(made: argparse.ArgumentParser) -> None:
     )
 
 
-def add_jobs(made: argparse.ArgumentParser) -> None:
+def add_jobs(parser: argparse.ArgumentParser) -> None:
     """Adds --jobs to a parser: how many runs go side by side, 1 to 1,024; by default one for each core."""
-    told = "runs side by side (default: one for each core)"
-    made.add_argument("--jobs", type=integer_within(1, 1024), default=CORES, help=told)
+    help_text = "runs side by side (default: one for each core)"
+    parser.add_argument("--jobs", type=integer_within(1, 1024), default=CORES, help=help_text)
 
 
-def add_lost(made: argparse.ArgumentParser) -> None:
+def add_lost(parser: argparse.ArgumentParser) -> None:
     """Adds --lost to a parser: what those do who lose their only lane by road works, "lead", "wait" or "bar"; None
     where it is not given, which stands for "lead"."""
-    made.add_argument(
+    parser.add_argument(
         "--lost",
         choices=["lead", "wait", "bar"],
         help="those whose only lane for a turn is closed are led from the lane beside it; or wait until the works end; "
@@ -204,10 +206,12 @@ def add_lost(made: argparse.ArgumentParser) -> None:
     )
 
 
-def add_rounds(made: argparse.ArgumentParser, default: int | None = ROUNDS, usual: str = "default %(default)s") -> None:
+def add_rounds(
+    parser: argparse.ArgumentParser, default: int | None = ROUNDS, usual: str = "default %(default)s"
+) -> None:
     """Adds --rounds to a parser: how many runs go before the one that counts, 0 to 10, by which vehicles give way
     without a light; usual: what its help says of its default."""
-    made.add_argument(
+    parser.add_argument(
         "--rounds",
         type=integer_within(0, MOST_ROUNDS),
         default=default,
@@ -217,9 +221,9 @@ def add_rounds(made: argparse.ArgumentParser, default: int | None = ROUNDS, usua
     )
 
 
-def add_lights(made: argparse.ArgumentParser) -> None:
+def add_lights(parser: argparse.ArgumentParser) -> None:
     """Adds --lights to a parser: whether detectors drive lights, "actuated" (where it is not given) or "listed"."""
-    made.add_argument(
+    parser.add_argument(
         "--lights",
         choices=["actuated", "listed"],
         default="actuated",
@@ -228,7 +232,7 @@ def add_lights(made: argparse.ArgumentParser) -> None:
     )
 
 
-def paths_in(words: Iterable[str]) -> list[str]:
+def paths_in(texts: Iterable[str]) -> list[str]:
     """The paths of files that words name, each one or several with commas between, as in SUMO; a word that is the name
     of a file that is there, with a comma in it, is that one file."""
-    return [path for word in words for path in ([word] if os.path.exists(word) else filter(None, word.split(",")))]
+    return [path for text in texts for path in ([text] if os.path.exists(text) else filter(None, text.split(",")))]

@@ -10,14 +10,14 @@ from collections.abc import Sequence
 from streetsim.base import program
 from streetsim.base.files import Fault, refuse_foreign, refuse_unwritable, whole_folder
 from streetsim.base.jobs import side_by_side
-from streetsim.base.progress import Meanwhile, Slow
+from streetsim.base.progress import Slow, WorkProgress
 from streetsim.base.report import Report
 from streetsim.base.seeds import seeds_of
 from streetsim.base.words import Parser, add_jobs, add_rounds, integer_within, names_in, paths_in
 from streetsim.cli import demand as demanding
-from streetsim.cli.given import given_words
+from streetsim.cli.given_words import given_words
 from streetsim.cli.import_ import add_options, options_of
-from streetsim.cli.defaults import complete_outputs, name_of_network, words_and_options
+from streetsim.cli.defaults import complete_outputs, name_of_network, args_and_options
 from streetsim.cli.words import add_check, add_files, add_network, add_out
 from streetsim.demand.calibration_criteria import criteria_of
 from streetsim.demand.calibration_field import (
@@ -26,7 +26,7 @@ from streetsim.demand.calibration_field import (
 from streetsim.demand.calibration_fit import Fit, FitResult, classes_of, lines_of, start_of, values_of
 from streetsim.demand.calibration_model import FittedDrivers, MeasuredRun, StreetRuns, ways_of
 from streetsim.demand.calibration_page import (
-    AFTER, BEFORE, FITTED, LAST, OTHER, Calibration, JudgedDay, lines_told, sum_of_input, write_calibration,
+    AFTER, BEFORE, FITTED, LAST_FILE, OTHER, Calibration, JudgedDay, criteria_lines, sum_of_input, write_calibration,
     write_drivers,
 )
 from streetsim.model.sources import Sources, program_digest
@@ -34,20 +34,20 @@ from streetsim.sumo.driver_words import street_class
 from streetsim.sumo.links import link_of
 from streetsim.sumo.net import SumoNet, read_net
 
-FREE = ("dawdle", "speed", "lost")
+FREE_VALUES = ("dawdle", "speed", "lost")
 # Words of the import, which go to streetsim-demand too.
-OWN = {
+OWN_WORDS = {
     "net", "additional", "counts", "times", "saturation", "queues", "routes", "validate", "free", "runs", "seeds",
     "check_seeds", "output", "out", "force", "jobs", "rounds", "program",
 }
 # All files of its folder.
-WRITTEN = {LAST, "segments.csv", "runs.csv", "report.html", f"{FITTED}.rou.xml", f"{OTHER}.rou.xml"}
+WRITTEN_FILES = {LAST_FILE, "segments.csv", "runs.csv", "report.html", f"{FITTED}.rou.xml", f"{OTHER}.rou.xml"}
 
 
 def parser() -> Parser:
     """The parser of the words that streetsim-calibrate takes."""
-    made = Parser(
-        prog="streetsim-calibrate", old={"--check": "--check-seeds"},
+    tool_parser = Parser(
+        prog="streetsim-calibrate", renamed={"--check": "--check-seeds"},
         examples=(
             "streetsim-calibrate net.net.xml --counts day1.csv --times times1.csv -o drivers.json --out fit",
             "streetsim-calibrate net.net.xml --counts day1.csv --times times1.csv --saturation survey.csv "
@@ -57,175 +57,192 @@ def parser() -> Parser:
         "travel times from stop line to stop line and a survey of saturation, and validates on another day. Status 1 "
         "where a criterion does not hold there.",
     )
-    add_network(made)
-    add_files(made, "--counts", "counts of edges and turns, of which the demand is made (CSV, or SUMO's edgeData)")
+    add_network(tool_parser)
+    add_days(tool_parser)
+    add_fit(tool_parser)
+    tool_parser.add_argument(
+        "-o", "--output", required=True, help="the file to write: the drivers, as --drivers takes them"
+    )
+    add_out(tool_parser, "the folder to write to (default: NET-drivers, here)")
+    add_rounds(tool_parser)
+    add_jobs(tool_parser)
+    tool_parser.add_argument("--program", help=program.HELP)
+    add_options(tool_parser)
+    return tool_parser
+
+
+def add_days(tool_parser: argparse.ArgumentParser) -> None:
+    """Adds the words of files with what was measured, on the fitted day and on the other one."""
+    counts = "counts of edges and turns, of which the demand is made (CSV, or SUMO's edgeData)"
+    add_files(tool_parser, "--counts", counts)
     add_files(
-        made, "--times",
+        tool_parser, "--times",
         "travel times of segments and routes: CSV with segment (EDGE>EDGE) or from,to, time, mean, sd, n; SUMO's "
         "tripinfo or vehroute output",
     )
-    made.add_argument(
+    tool_parser.add_argument(
         "--saturation", metavar="FILE",
         help="a survey of full through lanes: CSV with street,flow,vehicles_per_green,green,greens",
     )
-    made.add_argument("--queues", metavar="FILE", help="queues, which are judged: CSV with edge,mean_of_cycles,max")
-    add_files(made, "--routes", "vehicles, flows and routes of the fitted day, in place of one made of its counts")
-    made.add_argument(
+    tool_parser.add_argument(
+        "--queues", metavar="FILE", help="queues, which are judged: CSV with edge,mean_of_cycles,max"
+    )
+    routes = "vehicles, flows and routes of the fitted day, in place of one made of its counts"
+    add_files(tool_parser, "--routes", routes)
+    tool_parser.add_argument(
         "--validate", nargs="+", default=[], metavar="FILE", help="of another day: its counts, times, and maybe queues"
     )
-    made.add_argument("--free", default=",".join(FREE), help="what may be fitted (default %(default)s)")
-    made.add_argument(
+
+
+def add_fit(tool_parser: argparse.ArgumentParser) -> None:
+    """Adds the words that say what is fitted, by how many runs and by which seeds."""
+    tool_parser.add_argument("--free", default=",".join(FREE_VALUES), help="what may be fitted (default %(default)s)")
+    tool_parser.add_argument(
         "--runs", type=integer_within(2, 10_000), default=60, metavar="N",
         help="at most so many runs (default %(default)s)",
     )
-    made.add_argument(
+    tool_parser.add_argument(
         "--seeds", default="1-2", metavar="SEEDS", help="seeds (1-5, or 1,4,7-9) of the fit (default %(default)s)"
     )
-    add_check(made, "101-105", "those of the other day")
-    made.add_argument("-o", "--output", required=True, help="the file to write: the drivers, as --drivers takes them")
-    add_out(made, "the folder to write to (default: NET-drivers, here)")
-    add_rounds(made)
-    add_jobs(made)
-    made.add_argument("--program", help=program.HELP)
-    add_options(made)
-    return made
+    add_check(tool_parser, "101-105", "those of the other day")
 
 
 def main(arguments: list[str]) -> int:
     """Runs streetsim-calibrate; gives status 0 where all criteria hold on the other day, else 1."""
-    made = parser()
-    words, _ = words_and_options(made, arguments, "", ("end",))
-    complete_outputs(words, out=f"{name_of_network(words)}-drivers")
-    check_words(words)
-    words.program = program.find_program(words.program)
+    tool_parser = parser()
+    args, _ = args_and_options(tool_parser, arguments, "", ("end",))
+    complete_outputs(args, out=f"{name_of_network(args)}-drivers")
+    check_words(args)
+    args.program = program.find_program(args.program)
     with tempfile.TemporaryDirectory() as folder:
-        calibration = calibrated(words, given_words(made, words, OWN), folder)
-        with whole_folder(words.out, LAST, WRITTEN) as out:
+        calibration = calibrate_street(args, given_words(tool_parser, args, OWN_WORDS), folder)
+        with whole_folder(args.out, LAST_FILE, WRITTEN_FILES) as out:
             for name in {FITTED, OTHER} & {day.name for day in calibration.days}:
                 if os.path.exists(path := f"{folder}/{name}.rou.xml"):
                     shutil.copy(path, out)
             write_calibration(out, calibration)
-            write_drivers(words.output, calibration)
-    print(*lines_of(calibration.result, calibration.days[0].day), *lines_told(calibration), sep="\n")
+            write_drivers(args.output, calibration)
+    print(*lines_of(calibration.result, calibration.days[0].day), *criteria_lines(calibration), sep="\n")
     return 0 if calibration.is_valid() else 1
 
 
-def check_words(words: argparse.Namespace) -> None:
+def check_words(args: argparse.Namespace) -> None:
     """Fault for words that do not fit to each other, before anything is read."""
-    words.additional = paths_in(words.additional)
+    args.additional = paths_in(args.additional)
     for name in ("counts", "times", "routes", "validate"):
-        setattr(words, name, paths_in(getattr(words, name)))
-    if not words.times:
+        setattr(args, name, paths_in(getattr(args, name)))
+    if not args.times:
         raise Fault("--times: no travel times (what may be given: streetsim-calibrate --help)")
-    if not (words.counts or words.routes):
+    if not (args.counts or args.routes):
         raise Fault("the demand: give --counts, of which it is made, or --routes")
-    if words.validate and len(words.validate) not in (2, 3):
+    if args.validate and len(args.validate) not in (2, 3):
         raise Fault("--validate: the counts, the times, and maybe the queues of another day: two or three files")
-    if unknown := [name for name in names_in(words.free) if name not in FREE]:
-        raise Fault(f"--free: {unknown[0]!r} is none of {', '.join(FREE)}")
-    if {*seeds_of(words.seeds, "--seeds")} & {*seeds_of(words.check_seeds, "--check-seeds")}:
-        raise Fault(f"--seeds {words.seeds} and --check-seeds {words.check_seeds} overlap")
-    refuse_unwritable(words.out, {"-o": words.output}, inputs_of(words))
-    refuse_foreign(words.out, words.force, [words.output, *WRITTEN])
+    if unknown := [name for name in names_in(args.free) if name not in FREE_VALUES]:
+        raise Fault(f"--free: {unknown[0]!r} is none of {', '.join(FREE_VALUES)}")
+    if {*seeds_of(args.seeds, "--seeds")} & {*seeds_of(args.check_seeds, "--check-seeds")}:
+        raise Fault(f"--seeds {args.seeds} and --check-seeds {args.check_seeds} overlap")
+    refuse_unwritable(args.out, {"-o": args.output}, inputs_of(args))
+    refuse_foreign(args.out, args.force, [args.output, *WRITTEN_FILES])
 
 
-def inputs_of(words: argparse.Namespace) -> list[str]:
+def inputs_of(args: argparse.Namespace) -> list[str]:
     """The paths of all files that are read."""
-    more = [path for path in (words.saturation, words.queues, words.drivers) if path]
-    return [words.net, *words.additional, *words.counts, *words.times, *words.routes, *words.validate, *more]
+    more = [path for path in (args.saturation, args.queues, args.drivers) if path]
+    return [args.net, *args.additional, *args.counts, *args.times, *args.routes, *args.validate, *more]
 
 
-def calibrated(words: argparse.Namespace, options: list[str], folder: str) -> Calibration:
+def calibrate_street(args: argparse.Namespace, options: list[str], folder: str) -> Calibration:
     """Reads, fits and judges; folder: for files in between. options: words of the import that were given."""
     notes: list[str] = []
-    with Slow(f"reading {words.net}"):
-        net = read_net(words.net, options_of(words).classes, Report())
-    day = field_day(words, net, folder, notes)
-    routes = words.routes or [demand_of(words, options, day.counts, folder, FITTED)]
-    street = street_runs(words, day, routes)
-    seeds, check = seeds_of(words.seeds, "--seeds"), seeds_of(words.check_seeds, "--check-seeds")
-    meanwhile = Meanwhile("runs", words.runs)
+    with Slow(f"reading {args.net}"):
+        net = read_net(args.net, options_of(args).classes, Report())
+    day = field_day(args, net, folder, notes)
+    routes = args.routes or [demand_of(args, options, day.counts, folder, FITTED)]
+    street = street_runs(args, day, routes)
+    seeds, check = seeds_of(args.seeds, "--seeds"), seeds_of(args.check_seeds, "--check-seeds")
+    meanwhile = WorkProgress("runs", args.runs)
 
-    def measure(all_: Sequence[FittedDrivers]) -> list[list[MeasuredRun]]:
+    def measure(drivers_list: Sequence[FittedDrivers]) -> list[list[MeasuredRun]]:
         """The runs of some drivers by the common seeds."""
-        found = runs_of(words, street, all_, seeds)
-        meanwhile.show(fit.runs + len(seeds) * len(all_))
-        return found
+        runs = runs_of(args, street, drivers_list, seeds)
+        meanwhile.show(fit.runs + len(seeds) * len(drivers_list))
+        return runs
 
-    fit = Fit(day, start_of(day), measure, words.runs, len(seeds))
+    fit = Fit(day, start_of(day), measure, args.runs, len(seeds))
     classes = classes_of(day, {name: street_class(edge.lanes[0].speed) for name, edge in net.edges.items()})
-    result = fit.solve(values_of(day, classes, names_in(words.free)))
+    result = fit.solve(values_of(day, classes, names_in(args.free)))
     meanwhile.end()
-    usual = FittedDrivers(dawdle=options_of(words).dawdle / 1000)
+    usual = FittedDrivers(dawdle=options_of(args).dawdle / 1000)
     both = {BEFORE: usual, AFTER: result.drivers}
-    days = [judged_day(words, FITTED, day, street, both, seeds)]
-    if words.validate:
-        other = other_day(words, net, folder, notes, day)
-        made = demand_of(words, options, other.counts, folder, OTHER)
-        days.append(judged_day(words, OTHER, other, street_runs(words, other, [made]), both, check))
-    sums = {path: sum_of_input(path) for path in inputs_of(words)}
-    digest = program_digest(words.program) or "unknown"
-    shares = options_of(words).shares
-    return Calibration(result, days, words.seeds, words.check_seeds, digest, shares, notes, sums)
+    days = [judged_day(args, FITTED, day, street, both, seeds)]
+    if args.validate:
+        validation_day = other_day(args, net, folder, notes, day)
+        other_demand = demand_of(args, options, validation_day.counts, folder, OTHER)
+        other_street = street_runs(args, validation_day, [other_demand])
+        days.append(judged_day(args, OTHER, validation_day, other_street, both, check))
+    sums = {path: sum_of_input(path) for path in inputs_of(args)}
+    digest = program_digest(args.program) or "unknown"
+    shares = options_of(args).shares
+    return Calibration(result, days, args.seeds, args.check_seeds, digest, shares, notes, sums)
 
 
-def field_day(words: argparse.Namespace, net: SumoNet, folder: str, notes: list[str]) -> FieldDay:
+def field_day(args: argparse.Namespace, net: SumoNet, folder: str, notes: list[str]) -> FieldDay:
     """The day that is fitted; Fault where a file is wrong or names an edge that the network does not have."""
     os.mkdir(f"{folder}/{FITTED}")
-    day = FieldDay(counts_as_demand(words.counts, f"{folder}/{FITTED}", notes), read_times(words.times, notes))
-    dawdle = options_of(words).dawdle / 1000
+    day = FieldDay(counts_as_demand(args.counts, f"{folder}/{FITTED}", notes), read_times(args.times, notes))
+    dawdle = options_of(args).dawdle / 1000
     numbers = {name: 0 for edge in net.edges.values() for name in (edge.begin, edge.end)}
     limits = {name: link_of(edge, edge.lanes, numbers, dawdle, False).limit for name, edge in net.edges.items()}
-    day.lanes = read_lanes(words.saturation, limits) if words.saturation else []
-    day.queues = read_queues(words.queues) if words.queues else []
+    day.lanes = read_lanes(args.saturation, limits) if args.saturation else []
+    day.queues = read_queues(args.queues) if args.queues else []
     refuse_unknown(day, net.edges, "--times and --queues")
     return day
 
 
-def other_day(words: argparse.Namespace, net: SumoNet, folder: str, notes: list[str], fitted: FieldDay) -> FieldDay:
+def other_day(args: argparse.Namespace, net: SumoNet, folder: str, notes: list[str], fitted: FieldDay) -> FieldDay:
     """The day of --validate, with the survey of the fitted one; Fault as of field_day."""
     os.mkdir(f"{folder}/{OTHER}")
-    counts, times, *queues = words.validate
+    counts, times, *queues = args.validate
     day = FieldDay(counts_as_demand([counts], f"{folder}/{OTHER}", notes), read_times([times], notes), fitted.lanes)
     day.queues = read_queues(queues[0]) if queues else []
     refuse_unknown(day, net.edges, "--validate")
     return day
 
 
-def demand_of(words: argparse.Namespace, options: list[str], counts: Sequence[str], folder: str, name: str) -> str:
+def demand_of(args: argparse.Namespace, options: list[str], counts: Sequence[str], folder: str, name: str) -> str:
     """Makes the demand of a day of its counts, by streetsim-demand with two runs; gives the path of its vehicles."""
-    made = f"{folder}/{name}.rou.xml"
-    own = [words.net, *words.additional, "--counts", *counts, "--runs", "2", "-o", made]
-    own += ["--out", f"{folder}/{name}-demand"]
+    vehicles_path = f"{folder}/{name}.rou.xml"
+    arguments = [args.net, *args.additional, "--counts", *counts, "--runs", "2", "-o", vehicles_path]
+    arguments += ["--out", f"{folder}/{name}-demand"]
     with Slow(f"making the demand of the {name} day"), contextlib.redirect_stdout(io.StringIO()):
         with contextlib.redirect_stderr(io.StringIO()):
-            demanding.main([*own, "--rounds", str(words.rounds), "--program", words.program, *options])
-    return made
+            demanding.main([*arguments, "--rounds", str(args.rounds), "--program", args.program, *options])
+    return vehicles_path
 
 
-def street_runs(words: argparse.Namespace, day: FieldDay, routes: Sequence[str]) -> StreetRuns:
+def street_runs(args: argparse.Namespace, day: FieldDay, routes: Sequence[str]) -> StreetRuns:
     """How the runs of a day are made."""
-    sources = Sources(words.net, list(words.additional), list(routes))
-    return StreetRuns(words.program, sources, options_of(words), words.rounds, day.window(), ways_of(day))
+    sources = Sources(args.net, list(args.additional), list(routes))
+    return StreetRuns(args.program, sources, options_of(args), args.rounds, day.window(), ways_of(day))
 
 
 def runs_of(
-    words: argparse.Namespace, street: StreetRuns, all_: Sequence[FittedDrivers], seeds: Sequence[int]
+    args: argparse.Namespace, street: StreetRuns, drivers_list: Sequence[FittedDrivers], seeds: Sequence[int]
 ) -> list[list[MeasuredRun]]:
     """The runs of some drivers with each of some seeds."""
-    tasks = [(drivers, seed) for drivers in all_ for seed in seeds]
-    found = side_by_side(street.measured, tasks, words.jobs)
-    return [found[at : at + len(seeds)] for at in range(0, len(found), len(seeds))]
+    tasks = [(drivers, seed) for drivers in drivers_list for seed in seeds]
+    runs = side_by_side(street.measured, tasks, args.jobs)
+    return [runs[at : at + len(seeds)] for at in range(0, len(runs), len(seeds))]
 
 
 def judged_day(
-    words: argparse.Namespace, name: str, day: FieldDay, street: StreetRuns, both: dict[str, FittedDrivers],
+    args: argparse.Namespace, name: str, day: FieldDay, street: StreetRuns, both: dict[str, FittedDrivers],
     seeds: Sequence[int],
 ) -> JudgedDay:
     """A day with its runs, without and with calibration, and its criteria."""
     with Slow(f"judging the {name} day"):
-        runs = dict(zip(both, runs_of(words, street, [*both.values()], seeds), strict=True))
-    criteria = {drivers: list(criteria_of(day, runs[drivers], one)) for drivers, one in both.items()}
+        runs = dict(zip(both, runs_of(args, street, [*both.values()], seeds), strict=True))
+    criteria = {drivers: list(criteria_of(day, runs[drivers], fitted)) for drivers, fitted in both.items()}
     return JudgedDay(name, day, runs, criteria)
 
 

@@ -15,10 +15,10 @@ from streetsim.base.progress import Slow
 from streetsim.base.unpacking import TooMuch, lifted
 from streetsim.base.words import Parser, add_jobs
 from streetsim.cli import report as report_words
-from streetsim.cli.checking import folder_again, run_again, study_again, write_files
-from streetsim.cli.given import refuse_other_words
-from streetsim.cli.report import text_again
-from streetsim.cli.study import MADE
+from streetsim.cli.checking import remake_folder, remake_run, remake_study, write_files
+from streetsim.cli.given_words import refuse_other_words
+from streetsim.cli.report import remake_text
+from streetsim.cli.study import ORIGIN_FILE
 from streetsim.cli.words import add_simulator
 from streetsim.model.folder import LIGHTS
 from streetsim.model.sources import program_digest
@@ -27,13 +27,13 @@ from streetsim.report.page_elements import Mismatch, numbers_in, page_mismatches
 from streetsim.report.page_seal import COUNTS, NAMES, Seal, seal_of, sealed_files
 from streetsim.report.page_sealing import sealed_again, tools_sum
 
-MOST = 3  # differences that the line names
-MOST_PAGE = 1 << 28  # bytes of a page
+NAMED_AT_MOST = 3  # differences that the line names
+PAGE_BYTES_AT_MOST = 1 << 28  # bytes of a page
 
 
 def parser() -> Parser:
     """The parser of the words that streetsim-check takes."""
-    made = Parser(
+    tool_parser = Parser(
         prog="streetsim-check",
         examples=(
             "streetsim-check report.html",
@@ -44,19 +44,19 @@ def parser() -> Parser:
         "numbers are the simulation's, not that the street will do so. Status 1 where one is not, 2 where it could not "
         "be checked.",
     )
-    made.add_argument("target", metavar="PAGE|DIR", help="the page (.html), or the folder")
-    add_simulator(made)
-    add_jobs(made)
-    made.add_argument("--study", metavar="FILE", help="of a study's folder: the study that it was made of")
-    return made
+    tool_parser.add_argument("target", metavar="PAGE|DIR", help="the page (.html), or the folder")
+    add_simulator(tool_parser)
+    add_jobs(tool_parser)
+    tool_parser.add_argument("--study", metavar="FILE", help="of a study's folder: the study that it was made of")
+    return tool_parser
 
 
 def main(arguments: list[str]) -> int:
     """Runs streetsim-check: makes the runs again and prints one line; gives 0 where each number is that of a run, 1
     where one is not, and 2 where nobody reads the line. Fault where it could not be checked, whatever it was."""
-    words = parser().parse_args(arguments)
+    args = parser().parse_args(arguments)
     try:
-        status = checked(words)
+        status = check_target(args)
         sys.stdout.flush()
         return status
     except BrokenPipeError:
@@ -65,18 +65,18 @@ def main(arguments: list[str]) -> int:
     except Fault:
         raise
     except Exception as fault:
-        raise Fault(f"{words.target}: could not be checked: {type(fault).__name__}: {fault}") from None
+        raise Fault(f"{args.target}: could not be checked: {type(fault).__name__}: {fault}") from None
 
 
-def checked(words: argparse.Namespace) -> int:
+def check_target(args: argparse.Namespace) -> int:
     """Checks what the words name, and prints the result; gives 0 where it is that of a run, else 1."""
-    words.program = program.find_program(words.program)
-    study = os.path.exists(f"{words.target}/{MADE}")
-    if words.study and not study:
+    args.program = program.find_program(args.program)
+    study = os.path.exists(f"{args.target}/{ORIGIN_FILE}")
+    if args.study and not study:
         raise Fault("--study is of a study's folder")
-    if os.path.isdir(words.target):
-        return check_folder(words, study)
-    return check_page(words)
+    if os.path.isdir(args.target):
+        return check_folder(args, study)
+    return check_page(args)
 
 
 @contextlib.contextmanager
@@ -86,86 +86,86 @@ def silent() -> Iterator[None]:
         yield
 
 
-def check_page(words: argparse.Namespace) -> int:
+def check_page(args: argparse.Namespace) -> int:
     """Checks a sealed page, and prints the result; gives the status as `main` does. Fault where it is not sealed, its
     seal was changed, or it cannot be made again."""
-    text = page_text(words.target)
-    seal = seal_of(words.target, text)
-    with Slow(f"running again what made {words.target}"):
-        anew = page_again(words, seal)
-    found = page_mismatches(text, anew)
+    text = page_text(args.target)
+    seal = seal_of(args.target, text)
+    with Slow(f"running again what made {args.target}"):
+        page_anew = remake_page(args, seal)
+    mismatches = page_mismatches(text, page_anew)
     note = ""
     if seal.content["tools"] != tools_sum():
-        note = "; the page names other tools than these" + (", so that words may differ, too" if found else "")
+        note = "; the page names other tools than these" + (", so that words may differ, too" if mismatches else "")
     runs = sum(len(plan["seeds"]) for plan in seal.content["plans"])
-    same = all(plan["program"] == program_digest(words.program) for plan in seal.content["plans"])
-    which = "the program that made it" if same else "another program than the one that made it"
-    again = f"{runs} run{'s' * (runs != 1)} made again by {which}"
-    good = f"each of the {numbers_in(anew):,} numbers on the page is that of a run ({again})"
-    return tell_result(words.target, found, good, note)
+    same_program = all(plan["program"] == program_digest(args.program) for plan in seal.content["plans"])
+    program_text = "the program that made it" if same_program else "another program than the one that made it"
+    again = f"{runs} run{'s' * (runs != 1)} made again by {program_text}"
+    good = f"each of the {numbers_in(page_anew):,} numbers on the page is that of a run ({again})"
+    return tell_result(args.target, mismatches, good, note)
 
 
 def page_text(path: str) -> str:
-    """The text of a page, with all that is in its file; Fault where it cannot be read, has more than MOST_PAGE bytes or
-    is no UTF-8."""
+    """The text of a page, with all that is in its file; Fault where it cannot be read, has more than PAGE_BYTES_AT_MOST
+    bytes or is no UTF-8."""
     with reading(path), open(path, "rb") as file:
-        content = file.read(-1 if lifted() else MOST_PAGE + 1)
-        if len(content) > MOST_PAGE and not lifted():
-            raise TooMuch(f"has more than {MOST_PAGE:,} bytes")
+        content = file.read(-1 if lifted() else PAGE_BYTES_AT_MOST + 1)
+        if len(content) > PAGE_BYTES_AT_MOST and not lifted():
+            raise TooMuch(f"has more than {PAGE_BYTES_AT_MOST:,} bytes")
         return content.decode()
 
 
-def tell_result(target: str, found: Sequence[Mismatch], good: str, note: str = "") -> int:
+def tell_result(target: str, mismatches: Sequence[Mismatch], good: str, note: str = "") -> int:
     """Prints the one line of the result; gives the status. good: what to say where nothing differs; note: what to add
     in any case."""
-    if not found:
+    if not mismatches:
         print(f"{target}: {good}{note}")
         return 0
-    told = "; ".join(one.told() for one in found[:MOST])
-    more = f"; and {len(found) - MOST:,} more" if len(found) > MOST else ""
-    places = "1 place is" if len(found) == 1 else f"{len(found):,} places are"
-    print(f"{target}: {places} not what the runs give: {told}{more}{note}")
+    named = "; ".join(mismatch.told() for mismatch in mismatches[:NAMED_AT_MOST])
+    more = f"; and {len(mismatches) - NAMED_AT_MOST:,} more" if len(mismatches) > NAMED_AT_MOST else ""
+    places_text = "1 place is" if len(mismatches) == 1 else f"{len(mismatches):,} places are"
+    print(f"{target}: {places_text} not what the runs give: {named}{more}{note}")
     return 1
 
 
-def page_again(words: argparse.Namespace, seal: Seal) -> str:
+def remake_page(args: argparse.Namespace, seal: Seal) -> str:
     """The page that the sealed files and words give now, with a seal of its own; Fault where they give none."""
     with tempfile.TemporaryDirectory() as temporary:
         try:
-            write_files(temporary, sealed_files(seal, words.target))
-            return made_again(words, seal, temporary)
+            write_files(temporary, sealed_files(seal, args.target))
+            return remake_from_files(args, seal, temporary)
         except (Fault, LookupError, TypeError, ValueError, AttributeError, OSError) as fault:
-            told = str(fault).removeprefix(f"{words.target}: ").replace(f"{temporary}/", "")
-            raise Fault(f"{words.target}: what is sealed in it gives no such page: {told}") from None
+            reason = str(fault).removeprefix(f"{args.target}: ").replace(f"{temporary}/", "")
+            raise Fault(f"{args.target}: what is sealed in it gives no such page: {reason}") from None
 
 
-def made_again(words: argparse.Namespace, seal: Seal, temporary: str) -> str:
+def remake_from_files(args: argparse.Namespace, seal: Seal, temporary: str) -> str:
     """The page, of sealed files that were unpacked into the folder `temporary`; runs are written there too. Where they
-    give none it raises one of the exceptions that page_again tells as a Fault."""
+    give none it raises one of the exceptions that remake_page tells as a Fault."""
     plans, needed = seal.content["plans"], ["x", "-o", "x"]
-    refuse_other_words(report_words.parser(), seal.content["words"], needed, report_words.ELSEWHERE, words.target)
+    refuse_other_words(report_words.parser(), seal.content["words"], needed, report_words.ELSEWHERE, args.target)
     folders = [f"{temporary}/out-{at}" for at in range(len(plans))]
     for plan, folder in zip(plans, folders, strict=True):
         with silent():
-            run_again(words, plan, temporary, folder)
+            remake_run(args, plan, temporary, folder)
         if os.path.exists(lights := f"{temporary}/{os.path.dirname(plan['run'])}/{LIGHTS}"):
             shutil.copy(lights, folder)
-    others = {name: f"{temporary}/{name}" for name in seal.content["files"] if "/" not in name}
-    names = ["--names", others[NAMES]] if NAMES in others else []
-    counts = [others[name] for name in sorted(others.keys() - {NAMES}, key=lambda name: int(name[len(COUNTS) :]))]
-    given = [*folders, *seal.content["words"], *names, *(["--counts", *counts] if counts else [])]
-    called = ["--plans", *(plan["name"] for plan in plans)]
-    sealing = partial(sealed_again, said=seal, page=words.target, others=others)
-    return text_again([*given, *called, "-o", words.target], sealing)
+    files = {name: f"{temporary}/{name}" for name in seal.content["files"] if "/" not in name}
+    names = ["--names", files[NAMES]] if NAMES in files else []
+    counts = [files[name] for name in sorted(files.keys() - {NAMES}, key=lambda name: int(name[len(COUNTS) :]))]
+    arguments = [*folders, *seal.content["words"], *names, *(["--counts", *counts] if counts else [])]
+    plan_names = ["--plans", *(plan["name"] for plan in plans)]
+    sealing = partial(sealed_again, said=seal, page=args.target, others=files)
+    return remake_text([*arguments, *plan_names, "-o", args.target], sealing)
 
 
-def check_folder(words: argparse.Namespace, study: bool) -> int:
+def check_folder(args: argparse.Namespace, study: bool) -> int:
     """Checks a folder of a run, or of a study, and prints the result; gives the status as `main` does. Fault where the
     folder does not keep what made it, or cannot be made again."""
     counts = ComparedNumbers()
-    with tempfile.TemporaryDirectory() as temporary, Slow(f"running again what made {words.target}"):
+    with tempfile.TemporaryDirectory() as temporary, Slow(f"running again what made {args.target}"):
         with silent():
-            anew = (study_again if study else folder_again)(words, f"{temporary}/out")
-        found = [Mismatch(*one) for one in folder_differences(words.target, anew, counts)]
+            folder_anew = (remake_study if study else remake_folder)(args, f"{temporary}/out")
+        mismatches = [Mismatch(*difference) for difference in folder_differences(args.target, folder_anew, counts)]
     good = f"each of the {counts.numbers:,} numbers in {counts.files} files is that of a run"
-    return tell_result(words.target, found, good)
+    return tell_result(args.target, mismatches, good)

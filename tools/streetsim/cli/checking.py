@@ -1,4 +1,4 @@
-"""Runs again what a page, or a folder of a run or of a study, keeps, for streetsim-check. No word that is kept there
+"""Makes again, for streetsim-check, what a page or a folder of a run or of a study keeps. No word that is kept there
 names a host, a program or a path outside of what is made for the check."""
 import argparse
 import json
@@ -8,11 +8,11 @@ from collections.abc import Iterable, Sequence
 from pathlib import Path
 
 from streetsim.base.files import Fault, Json, read_json
-from streetsim.base.seeds import seeds_told
+from streetsim.base.seeds import seeds_text
 from streetsim.cli import run as run_words, study as study_words
-from streetsim.cli.given import given_words, refuse_other_words
+from streetsim.cli.given_words import given_words, refuse_other_words
 from streetsim.cli.run import main as run
-from streetsim.cli.study import MADE, main as study
+from streetsim.cli.study import ORIGIN_FILE, main as study
 from streetsim.model.folder import NAME
 from streetsim.model.sources import sum_of
 from streetsim.report.page_sealing import sealed_plan
@@ -21,12 +21,12 @@ from streetsim.report.run_tables import read_folders
 
 def seeds_words(seeds: Sequence[int]) -> list[str]:
     """The words of streetsim-run that name seeds, one at least."""
-    return [f"--seeds={seeds_told(sorted(seeds))}"]
+    return [f"--seeds={seeds_text(sorted(seeds))}"]
 
 
-def machine_words(words: argparse.Namespace) -> list[str]:
+def machine_words(args: argparse.Namespace) -> list[str]:
     """The words that name the program and how many runs go side by side, as they were given."""
-    return ["--program", words.program, "--jobs", str(words.jobs)]
+    return ["--program", args.program, "--jobs", str(args.jobs)]
 
 
 def write_files(top: str, files: Iterable[tuple[str, bytes]]) -> None:
@@ -37,17 +37,17 @@ def write_files(top: str, files: Iterable[tuple[str, bytes]]) -> None:
         path.write_bytes(content)
 
 
-def run_again(words: argparse.Namespace, plan: Json, top: str, out: str) -> None:
+def remake_run(args: argparse.Namespace, plan: Json, top: str, out: str) -> None:
     """Makes the runs of a plan again, as sealed_plan tells it, of its files below the folder `top`, into `out`. The
     files of the import, which its map names, are not looked for. Fault where its words are not those that a run keeps
     or do not fit to each other, its seeds do not follow each other, or a run fails. Prints what streetsim-run does."""
-    refuse_run_words(plan, words.target)
+    refuse_run_words(plan, args.target)
     mapped = f"{top}/{plan['map']}"
     value = read_json(mapped, ("sources",))
     write_files(top, [(plan["map"], json.dumps({**value, "sources": {}}).encode())])
-    own = [f"{top}/{plan['run']}", "--map", mapped, *plan["again"]]
+    arguments = [f"{top}/{plan['run']}", "--map", mapped, *plan["again"]]
     seeds = seeds_words(plan["seeds"]) if plan["several"] else []
-    run([*own, *seeds, *machine_words(words), "--workers", str(words.workers), "--out", out])
+    run([*arguments, *seeds, *machine_words(args), "--workers", str(args.workers), "--out", out])
     for path in Path(out).rglob(NAME):
         setting = read_json(path, ("map",))
         setting["map"]["sources"] = value["sources"]
@@ -65,28 +65,28 @@ def refuse_run_words(plan: Json, where: str) -> None:
         raise Fault(f"{where}: the words of a run and those by which it is made again differ: it was changed")
 
 
-def folder_again(words: argparse.Namespace, out: str) -> str:
+def remake_folder(args: argparse.Namespace, out: str) -> str:
     """Makes the runs of the folder `words.target` again, and writes them into `out`; gives the folder that stands for
     the target: `out`, or below it that of the seed where the target is of one seed of several. Fault where the target
-    does not keep what made it, and as of run_again. Prints what streetsim-run does."""
-    plan, files = sealed_plan(read_folders(words.target), 1)
+    does not keep what made it, and as of remake_run. Prints what streetsim-run does."""
+    plan, files = sealed_plan(read_folders(args.target), 1)
     with tempfile.TemporaryDirectory() as top:
         write_files(top, files.items())
-        run_again(words, plan, top, out)
-    is_seed = plan["several"] and os.path.exists(f"{words.target}/{NAME}")
+        remake_run(args, plan, top, out)
+    is_seed = plan["several"] and os.path.exists(f"{args.target}/{NAME}")
     return f"{out}/seed-{plan['seeds'][0]}" if is_seed else out
 
 
-def study_again(words: argparse.Namespace, out: str) -> str:
+def remake_study(args: argparse.Namespace, out: str) -> str:
     """Makes the study of the folder `words.target` again, into `out`, which it gives; Fault where --study does not name
     its file, as a check takes no path from a folder, or that has changed since, and where a run fails. Prints what
     streetsim-study does."""
-    made = read_json(f"{words.target}/{MADE}", ("study", "sum", "words"))
-    if not words.study:
-        told = f"name the study that it was made of by --study FILE; the folder says {made['study']}"
-        raise Fault(f"{words.target}: {told}")
-    if sum_of(words.study) != made["sum"]:
-        raise Fault(f"{words.study}: has changed since the study was made, or is another one")
-    refuse_other_words(study_words.parser(), made["words"], ["x", "--out", "x"], study_words.ELSEWHERE, words.target)
-    study([words.study, *made["words"], *machine_words(words), "--out", out])
+    origin = read_json(f"{args.target}/{ORIGIN_FILE}", ("study", "sum", "words"))
+    if not args.study:
+        hint = f"name the study that it was made of by --study FILE; the folder says {origin['study']}"
+        raise Fault(f"{args.target}: {hint}")
+    if sum_of(args.study) != origin["sum"]:
+        raise Fault(f"{args.study}: has changed since the study was made, or is another one")
+    refuse_other_words(study_words.parser(), origin["words"], ["x", "--out", "x"], study_words.ELSEWHERE, args.target)
+    study([args.study, *origin["words"], *machine_words(args), "--out", out])
     return out

@@ -12,7 +12,7 @@ TYPE_CHECKING = False  # of what mypy alone reads, as the module typing takes a 
 if TYPE_CHECKING:
     from typing import NoReturn
 
-ENDINGS = (signal.SIGTERM, signal.SIGHUP)
+END_SIGNALS = (signal.SIGTERM, signal.SIGHUP)
 # New objects after which Python looks for those that hold each other: hardly any of the tools' do.
 BEFORE_A_LOOK = 50_000
 
@@ -31,7 +31,7 @@ def run_command(module: str, package: str = "cli") -> "NoReturn":
     gc.set_threshold(BEFORE_A_LOOK)
     # A command that a script has put into the background does not hear interrupts, and one of nohup no SIGHUP.
     hears = signal.getsignal(signal.SIGINT) is signal.default_int_handler
-    for number in (*ENDINGS, *([signal.SIGINT] if hears else [])):
+    for number in (*END_SIGNALS, *([signal.SIGINT] if hears else [])):
         if signal.getsignal(number) is not signal.SIG_IGN:
             signal.signal(number, end_at_once)
     from streetsim.base.files import interrupt, run_tool
@@ -39,15 +39,15 @@ def run_command(module: str, package: str = "cli") -> "NoReturn":
 
     main = import_module(f"streetsim.{package}.{module}").main
 
-    def begun(words: list[str]) -> int:
+    def run_main(arguments: list[str]) -> int:
         """Takes Ctrl-C over, runs the tool, and says where it wrote what no word named; gives its status."""
         if hears:
             signal.signal(signal.SIGINT, interrupt)
-        status = main(words)
+        status = main(arguments)
         tell_completed()
         return status
 
-    run_tool(begun)
+    run_tool(run_main)
 
 
 import_ = partial(run_command, "import_")

@@ -8,11 +8,11 @@ from streetsim.base.progress import Slow
 from streetsim.base.words import Parser, paths_in
 from streetsim.cli.words import add_attribute, add_files, add_out
 from streetsim.demand.compared_times import are_close, compared_times, lines_of_times, read_compared
-from streetsim.demand.judging import judged
+from streetsim.demand.judging import judge_counts
 from streetsim.demand.pictures import draw_fit
 from streetsim.demand.reading import read_counts
 from streetsim.demand.seen import passed_in
-from streetsim.demand.writing import LAST, write_judged
+from streetsim.demand.writing import LAST_FILE, write_judged
 from streetsim.model import trust
 from streetsim.model.folder import read_folder
 from streetsim.model.replications import is_drawn
@@ -23,7 +23,7 @@ from streetsim.report.beside_sumo import (
 
 def parser() -> argparse.ArgumentParser:
     """The parser of the words that streetsim-compare takes."""
-    made = Parser(
+    tool_parser = Parser(
         prog="streetsim-compare",
         examples=(
             "streetsim-compare zero --sumo trips.xml edges.xml",
@@ -31,34 +31,35 @@ def parser() -> argparse.ArgumentParser:
         ),
         description="Compares a run with SUMO's tripinfo and, if given, edgeData of the same periods; or with counts.",
     )
-    made.add_argument("folder", metavar="FOLDER", help="what streetsim-run wrote")
+    tool_parser.add_argument("folder", metavar="FOLDER", help="what streetsim-run wrote")
     files = "tripinfo.xml, and edgedata.xml made with freq=900 (or the run's period)"
-    add_files(made, "--sumo", f"what SUMO wrote of the same demand: {files}")
-    add_files(made, "--counts", "counts of edges and turns, as of streetsim-demand; a column group names screen lines")
+    add_files(tool_parser, "--sumo", f"what SUMO wrote of the same demand: {files}")
+    counts = "counts of edges and turns, as of streetsim-demand; a column group names screen lines"
+    add_files(tool_parser, "--counts", counts)
     times = "travel times of segments and routes, as of streetsim-calibrate; SUMO's tripinfo or edgeData"
-    add_files(made, "--times", times)
-    add_attribute(made)
-    add_out(made, "the folder to write to, of tables and pictures of --counts", is_required=False)
-    return made
+    add_files(tool_parser, "--times", times)
+    add_attribute(tool_parser)
+    add_out(tool_parser, "the folder to write to, of tables and pictures of --counts", is_required=False)
+    return tool_parser
 
 
 def main(arguments: list[str]) -> int:
     """Runs streetsim-compare: prints the comparison, and writes the folder of --out where it is given; gives its
     status, as `with_sumo`, `with_counts` or `with_times` says."""
-    words = parser().parse_args(arguments)
-    sumo, counts, times = (paths_in(files) for files in (words.sumo, words.counts, words.times))
+    args = parser().parse_args(arguments)
+    sumo, counts, times = (paths_in(files) for files in (args.sumo, args.counts, args.times))
     if not (sumo or counts or times):
-        what = "what to compare with: --sumo tripinfo.xml .., --counts FILE .., or --times FILE .."
-        raise Fault(f"{what} (what may be given: streetsim-compare --help)")
+        missing = "what to compare with: --sumo tripinfo.xml .., --counts FILE .., or --times FILE .."
+        raise Fault(f"{missing} (what may be given: streetsim-compare --help)")
     if sum(map(bool, (sumo, counts, times))) > 1:
         raise Fault("--sumo, --counts and --times are comparisons of their own: one at a time")
-    if (words.out or words.attribute) and not counts:
-        raise Fault(f"--{'out' if words.out else 'attribute'} is of --counts: give it too")
-    if words.out:
-        refuse_foreign(words.out, words.force)
+    if (args.out or args.attribute) and not counts:
+        raise Fault(f"--{'out' if args.out else 'attribute'} is of --counts: give it too")
+    if args.out:
+        refuse_foreign(args.out, args.force)
     if times:
-        return with_times(words.folder, times)
-    return with_counts(words.folder, counts, words.attribute, words.out) if counts else with_sumo(words.folder, sumo)
+        return with_times(args.folder, times)
+    return with_counts(args.folder, counts, args.attribute, args.out) if counts else with_sumo(args.folder, sumo)
 
 
 def with_sumo(path: str, files: list[str]) -> int:
@@ -70,10 +71,10 @@ def with_sumo(path: str, files: list[str]) -> int:
         folder = read_folder(path)
         if is_drawn(folder.made):
             raise Fault(f"{path}: its departures were drawn, and SUMO had those of the file: --departures listed")
-        here, names = trip_times_of(folder), [row["id"] for row in folder.trips()]
+        run_times, names = trip_times_of(folder), [row["id"] for row in folder.trips()]
         shown.text = f"reading {files[0]}"
-        there = read_tripinfo(files[0])
-        lines, common = list(compare_trips(here, there, names)), bool(here.keys() & there.keys())
+        sumo_times = read_tripinfo(files[0])
+        lines, common = list(compare_trips(run_times, sumo_times, names)), bool(run_times.keys() & sumo_times.keys())
         if len(files) == 2:
             shown.text = f"reading {files[1]}"
             edges, sumo = edge_values_of(folder), read_edges(files[1])
@@ -90,12 +91,12 @@ def with_times(path: str, files: list[str]) -> int:
     fewer than 85 % of a kind are within 15 % (routes and trips also within a minute), else 0."""
     with Slow(f"reading {path}"):
         folder, notes = read_folder(path), list[str]()
-        found = compared_times(folder, read_compared(files, notes))
+        comparisons = compared_times(folder, read_compared(files, notes))
     print(*notes, sep="\n", end="\n" if notes else "", file=sys.stderr)
-    print(*lines_of_times(found), sep="\n")
+    print(*lines_of_times(comparisons), sep="\n")
     if folder.doubts:
         print(trust.verdict(folder.doubts))
-    return 0 if are_close(found) else 1
+    return 0 if are_close(comparisons) else 1
 
 
 def with_counts(path: str, files: list[str], attribute: str | None, out: str | None) -> int:
@@ -106,11 +107,11 @@ def with_counts(path: str, files: list[str], attribute: str | None, out: str | N
         folder = read_folder(path)
         counts = read_counts(files, attribute)
         shown.text = f"comparing with {len(counts):,} counts"
-        fit = judged(counts, passed_in(folder, counts))
+        fit = judge_counts(counts, passed_in(folder, counts))
         if out:
-            with whole_folder(out, LAST, COMPARED) as made:
-                write_judged(made, fit)
-                draw_fit(made, fit, folder.mapping.links, "passed in the run")
+            with whole_folder(out, LAST_FILE, COMPARED) as out_folder:
+                write_judged(out_folder, fit)
+                draw_fit(out_folder, fit, folder.mapping.links, "passed in the run")
     print(*fit.lines(), *folder.notes, sep="\n")
     if folder.doubts:
         print(trust.verdict(folder.doubts))

@@ -12,7 +12,7 @@ from streetsim.base.words import FALSE, Parser
 from streetsim.sumo.configuration import DEFAULTS, files_named, read_configuration
 
 COMPLETED: list[str] = []  # words that were not given, with the paths that they got, of this process
-ENDINGS = re.compile(r"\.(jsonl|net\.xml|sumocfg|sumo\.cfg|rou\.xml|toml|xml)(\.gz)?$|/+$")
+FILE_ENDINGS = re.compile(r"\.(jsonl|net\.xml|sumocfg|sumo\.cfg|rou\.xml|toml|xml)(\.gz)?$|/+$")
 CONFIGURATION = re.compile(r"\.(sumocfg|sumo\.cfg)(\.gz)?$")
 
 
@@ -23,7 +23,7 @@ def is_configuration(path: str | None) -> bool:
 
 def stem_of(path: str) -> str:
     """The name of a file, without its folder and what ends it as its kind's do: zero of day/zero.jsonl.gz."""
-    return os.path.basename(ENDINGS.sub("", path)) or path
+    return os.path.basename(FILE_ENDINGS.sub("", path)) or path
 
 
 def map_beside(run: str) -> str:
@@ -31,19 +31,19 @@ def map_beside(run: str) -> str:
     return os.path.join(os.path.dirname(run), f"{stem_of(run)}.map.json")
 
 
-def complete_run(words: argparse.Namespace) -> None:
+def complete_run(args: argparse.Namespace) -> None:
     """Gives --map, where it is missing, its place beside the run. Fault where no file is there."""
-    if words.map is None:
-        words.map = map_beside(words.run)
-        if not os.path.exists(words.map):
-            raise Fault(f"{words.run}: there is no map {words.map} beside it: give --map")
+    if args.map is None:
+        args.map = map_beside(args.run)
+        if not os.path.exists(args.map):
+            raise Fault(f"{args.run}: there is no map {args.map} beside it: give --map")
 
 
-def complete_outputs(words: argparse.Namespace, **usual: str) -> None:
+def complete_outputs(args: argparse.Namespace, **usual: str) -> None:
     """Gives words of outputs that are missing the paths that are usual for them; `tell_completed` tells which."""
     for word, path in usual.items():
-        if getattr(words, word) is None:
-            setattr(words, word, path)
+        if getattr(args, word) is None:
+            setattr(args, word, path)
             COMPLETED.append(f"--{word} {path}")
 
 
@@ -53,32 +53,32 @@ def tell_completed() -> None:
         print(f"written: {', '.join(COMPLETED)}", file=sys.stderr)
 
 
-def words_and_options(
-    made: Parser, arguments: Sequence[str], routes: str, drops: tuple[str, ...] = ()
+def args_and_options(
+    tool_parser: Parser, arguments: Sequence[str], routes: str, drops: tuple[str, ...] = ()
 ) -> tuple[argparse.Namespace, dict[str, str]]:
     """The words of a command with a network (net) and additional files, where no word is given completed by the
     configuration that stands for the network, or that -c names; and the options of that configuration, empty where
     there is none; `configuration` is then its path. routes: the attribute that gets the files of routes, where it has
     none and no trips are given, empty for none; drops: options of the configuration that are no defaults here."""
-    words = made.parse_args(arguments)
-    path = getattr(words, "configuration", None) or (words.net if is_configuration(words.net) else None)
+    args = tool_parser.parse_args(arguments)
+    path = getattr(args, "configuration", None) or (args.net if is_configuration(args.net) else None)
     if path is None:
-        return words, {}
+        return args, {}
     options = read_configuration(path)
     known: dict[str, Any] = {name.replace("-", "_"): options[name] for name in DEFAULTS if options.get(name)}
-    given = {name: value for name, value in known.items() if name not in drops}
-    if given.get("end", "").startswith("-"):
-        del given["end"]  # SUMO's -1: none
-    if "ignore_route_errors" in given:
-        given["ignore_route_errors"] = given["ignore_route_errors"].lower() not in FALSE
-    made.set_defaults(**given)
-    words = made.parse_args(arguments)
+    defaults = {name: value for name, value in known.items() if name not in drops}
+    if defaults.get("end", "").startswith("-"):
+        del defaults["end"]  # SUMO's -1: none
+    if "ignore_route_errors" in defaults:
+        defaults["ignore_route_errors"] = defaults["ignore_route_errors"].lower() not in FALSE
+    tool_parser.set_defaults(**defaults)
+    args = tool_parser.parse_args(arguments)
     net, additional, files = files_named(path, options)
-    words.configuration, words.net = path, net if is_configuration(words.net) else words.net or net
-    words.additional = words.additional or additional
-    if routes and not words.trips:
-        setattr(words, routes, getattr(words, routes) or files)
-    return words, options
+    args.configuration, args.net = path, net if is_configuration(args.net) else args.net or net
+    args.additional = args.additional or additional
+    if routes and not args.trips:
+        setattr(args, routes, getattr(args, routes) or files)
+    return args, options
 
 
 def plan_files(path: str) -> list[str]:
@@ -90,9 +90,9 @@ def plan_files(path: str) -> list[str]:
     return [net, *additional]
 
 
-def name_of_network(words: argparse.Namespace) -> str:
+def name_of_network(args: argparse.Namespace) -> str:
     """The name of the network of a command, or of the configuration that stands for it, as outputs are called."""
-    return stem_of(getattr(words, "configuration", None) or words.net)
+    return stem_of(getattr(args, "configuration", None) or args.net)
 
 
 def end_of(options: dict[str, str]) -> int:

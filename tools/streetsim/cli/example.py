@@ -12,7 +12,7 @@ from streetsim.base.words import Parser
 
 def parser() -> Parser:
     """The parser of the words that streetsim-example takes."""
-    made = Parser(
+    tool_parser = Parser(
         prog="streetsim-example",
         examples=(
             "streetsim-example corridor",
@@ -20,19 +20,21 @@ def parser() -> Parser:
         ),
         description="Puts the files of an example into a folder; without a name, says which examples there are.",
     )
-    made.add_argument("name", metavar="NAME", nargs="?", help="the example, such as corridor")
-    made.add_argument("--out", metavar="DIR", help="the folder to write to (default: of the example's name, here)")
-    return made
+    tool_parser.add_argument("name", metavar="NAME", nargs="?", help="the example, such as corridor")
+    tool_parser.add_argument(
+        "--out", metavar="DIR", help="the folder to write to (default: of the example's name, here)"
+    )
+    return tool_parser
 
 
 def target_paths(example: Path, folder: Path) -> dict[Path, Path]:
     """{file of an example: where it goes in a folder}; Fault where something else of that name is there already."""
     begin = example if example.is_dir() else example.parent
-    found = {path: folder / path.relative_to(begin) for path in example_files(example)}
-    for path, target in found.items():
+    targets = {path: folder / path.relative_to(begin) for path in example_files(example)}
+    for path, target in targets.items():
         if os.path.lexists(target) and not is_same(path, target):
             raise Fault(f"{target} is there, and is another file; give another folder by --out")
-    return found
+    return targets
 
 
 def is_same(path: Path, target: Path) -> bool:
@@ -43,19 +45,19 @@ def is_same(path: Path, target: Path) -> bool:
 def copy_example(example: Path, folder: Path) -> int:
     """Copies an example into a folder, which is made, and gives how many files it has; Fault where that fails, before
     any is copied where one is there already, else with those left that were copied."""
-    found = target_paths(example, folder)
+    targets = target_paths(example, folder)
     try:
-        for path, target in found.items():
+        for path, target in targets.items():
             if target.exists():
                 continue
             target.parent.mkdir(parents=True, exist_ok=True)
             shutil.copy(path, target)
     except OSError as fault:
         raise Fault(f"{fault.filename}: {fault.strerror}") from None
-    return len(found)
+    return len(targets)
 
 
-def files_told(files: int) -> str:
+def count_of_files(files: int) -> str:
     """A number of files in words, such as '3 files'."""
     return f"{files} file{'' if files == 1 else 's'}"
 
@@ -63,14 +65,14 @@ def files_told(files: int) -> str:
 def main(arguments: list[str]) -> int:
     """Runs streetsim-example: copies the files of the example and prints how many, or prints which examples there are;
     gives status 0."""
-    words = parser().parse_args(arguments)
+    args = parser().parse_args(arguments)
     known = examples()
-    if words.name is None:
-        print(*(f"{name}: {files_told(len(example_files(path)))}" for name, path in known.items()), sep="\n")
+    if args.name is None:
+        print(*(f"{name}: {count_of_files(len(example_files(path)))}" for name, path in known.items()), sep="\n")
         return 0
-    if words.name not in known:
-        told = f"there is no example {words.name!r}, but {', '.join(known) or 'none'}"
-        raise Fault(told + nearest(words.name, known))
-    folder = Path(words.out or words.name)
-    print(f"{files_told(copy_example(known[words.name], folder))} in {folder}")
+    if args.name not in known:
+        message = f"there is no example {args.name!r}, but {', '.join(known) or 'none'}"
+        raise Fault(message + nearest(args.name, known))
+    folder = Path(args.out or args.name)
+    print(f"{count_of_files(copy_example(known[args.name], folder))} in {folder}")
     return 0

@@ -11,7 +11,7 @@ from streetsim.report.run_tables import read_with_any_tables
 
 def parser() -> Parser:
     """The parser of the words that streetsim-export takes."""
-    made = Parser(
+    tool_parser = Parser(
         prog="streetsim-export",
         examples=(
             "streetsim-export zero -o zero.geojson",
@@ -21,27 +21,27 @@ def parser() -> Parser:
         "v/c and queues by interval, in WGS84: GeoJSON, or a GeoPackage by GDAL's ogr2ogr. "
         "With --seeds means over the seeds.",
     )
-    made.add_argument("run", metavar="FOLDER", help="what streetsim-run wrote, or one with seeds")
-    made.add_argument("-o", "--output", required=True, help="the file to write (.geojson, .gpkg)")
-    made.add_argument("--projection", help="of a network that tells none: EPSG:25832, '+proj=utm +zone=32', ..")
-    add_names(made)
-    return made
+    tool_parser.add_argument("run", metavar="FOLDER", help="what streetsim-run wrote, or one with seeds")
+    tool_parser.add_argument("-o", "--output", required=True, help="the file to write (.geojson, .gpkg)")
+    tool_parser.add_argument("--projection", help="of a network that tells none: EPSG:25832, '+proj=utm +zone=32', ..")
+    add_names(tool_parser)
+    return tool_parser
 
 
 def main(arguments: list[str]) -> int:
     """Runs streetsim-export: writes the file, and prints what is in it; gives status 0."""
-    words = parser().parse_args(arguments)
-    ending = os.path.splitext(words.output)[1].lower()
+    args = parser().parse_args(arguments)
+    ending = os.path.splitext(args.output)[1].lower()
     if ending not in (".geojson", ".gpkg"):
-        raise Fault(f"{words.output}: an export's name ends with .geojson or .gpkg")
+        raise Fault(f"{args.output}: an export's name ends with .geojson or .gpkg")
     if ending == ".gpkg":
         find_ogr2ogr()
-    checked_output_path(words.output)
-    runs = read_with_any_tables(words.run)
+    checked_output_path(args.output)
+    runs = read_with_any_tables(args.run)
     mapping = runs.first.mapping
-    if words.names:
-        read_own(words.names, mapping)
-    found = list(features(runs, converter_of(mapping.location, words.projection, runs.first.path)))
-    (write_package if ending == ".gpkg" else write_geojson)(words.output, found)
-    print(export_told(words.output, runs, found))
+    if args.names:
+        read_own(args.names, mapping)
+    map_features = list(features(runs, converter_of(mapping.location, args.projection, runs.first.path)))
+    (write_package if ending == ".gpkg" else write_geojson)(args.output, map_features)
+    print(export_told(args.output, runs, map_features))
     return 0

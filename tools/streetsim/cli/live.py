@@ -24,12 +24,13 @@ from streetsim.model.mapping import Map
 from streetsim.model.replications import LISTED
 from streetsim.model.runs import Run, read_with_map
 
-PAST = ("rescue", "merge", "stops", "lights", "priority", "seen", "rounds", "joint")  # words that a kept session is of
+# Words that a kept session is of.
+SESSION_WORDS = ("rescue", "merge", "stops", "lights", "priority", "seen", "rounds", "joint")
 
 
 def parser() -> Parser:
     """The parser of the words that streetsim-live takes."""
-    made = Parser(
+    tool_parser = Parser(
         prog="streetsim-live",
         examples=(
             "streetsim-live zero.jsonl --map zero.map.json",
@@ -38,33 +39,33 @@ def parser() -> Parser:
         description="A page that runs a simulation: watch it, change signal plans, close lanes, take vehicles out, "
         "read detectors; what was done is saved as lines. It is served on this machine alone until Ctrl-C.",
     )
-    add_run(made)
-    made.add_argument(
+    add_run(tool_parser)
+    tool_parser.add_argument(
         "--joint", default="", metavar="NAMES",
         help="edges or lanes, with commas between, whose links are made joint, so that they can be closed",
     )
-    made.add_argument(
+    tool_parser.add_argument(
         "--port", type=integer_within(0, 65_535), default=0, help="of the address (default: one that is free)"
     )
-    made.add_argument("--no-open", action="store_true", help="start no browser; the address is printed")
-    made.add_argument(
+    tool_parser.add_argument("--no-open", action="store_true", help="start no browser; the address is printed")
+    tool_parser.add_argument(
         "--keep", metavar="FILE",
         help="keep the session in this file, and the page's in FILE.page, and go on where it was left, whatever ended",
     )
-    add_departures(made, f"default: {LISTED}")
-    add_rescue(made)
-    add_merge(made)
-    add_lights(made)
-    add_buses(made)
-    add_rounds(made)
-    add_simulator(made)
-    return made
+    add_departures(tool_parser, f"default: {LISTED}")
+    add_rescue(tool_parser)
+    add_merge(tool_parser)
+    add_lights(tool_parser)
+    add_buses(tool_parser)
+    add_rounds(tool_parser)
+    add_simulator(tool_parser)
+    return tool_parser
 
 
-def asked_of(words: argparse.Namespace, run: Run, mapping: Map) -> Settings:
+def page_settings(args: argparse.Namespace, run: Run, mapping: Map) -> Settings:
     """What the words ask of the run of a page, which has no end."""
-    settings = Settings(limits.CLOCK, 0, rescue=words.rescue, merging=words.merge == "turns")
-    return with_lights_and_buses(words, run, mapping, settings)
+    settings = Settings(limits.CLOCK, 0, rescue=args.rescue, merging=args.merge == "turns")
+    return with_lights_and_buses(args, run, mapping, settings)
 
 
 def serve(bridge: Bridge, opens: bool) -> None:
@@ -78,29 +79,30 @@ def serve(bridge: Bridge, opens: bool) -> None:
 
 def main(arguments: list[str]) -> int:
     """Runs streetsim-live: serves the page until Ctrl-C; gives status 0."""
-    words = parser().parse_args(arguments)
-    complete_run(words)
-    if words.keep:
-        outputs = {"--keep": words.keep, "its page": f"{words.keep}.page"}
-        refuse_equal(outputs, (words.run, words.map))
-    run, mapping = read_with_map(words.run, words.map)
-    program = find_program(words.program)
+    args = parser().parse_args(arguments)
+    complete_run(args)
+    if args.keep:
+        outputs = {"--keep": args.keep, "its page": f"{args.keep}.page"}
+        refuse_equal(outputs, (args.run, args.map))
+    run, mapping = read_with_map(args.run, args.map)
+    program = find_program(args.program)
     proved = Path(program).resolve() == TOP / BUILT
-    names, rounds = tuple(names_in(words.joint)), words.rounds if mapping.yields else 0
+    names, rounds = tuple(names_in(args.joint)), args.rounds if mapping.yields else 0
     joining = Joining(
-        run, mapping, words.map, program, partial(asked_of, words), proved, names, rounds, words.workers,
-        words.departures or LISTED,
+        run, mapping, args.map, program, partial(page_settings, args), proved, names, rounds, args.workers,
+        args.departures or LISTED,
     )
-    of, told = joining.page_run()
-    print(*told, sep="\n", end="\n" if told else "", file=sys.stderr)
-    page = joining.page(of)
-    kept = SessionFiles(Path(words.keep), of.run, [getattr(words, name) for name in PAST]) if words.keep else None
-    session = PageSession(of, kept)
+    page_run, messages = joining.page_run()
+    print(*messages, sep="\n", end="\n" if messages else "", file=sys.stderr)
+    page = joining.page(page_run)
+    past = [getattr(args, name) for name in SESSION_WORDS]
+    session_files = SessionFiles(Path(args.keep), page_run.run, past) if args.keep else None
+    session = PageSession(page_run, session_files)
     try:
-        with Bridge(session, page, words.port, None if kept else joining.join) as bridge:
-            serve(bridge, not words.no_open)
+        with Bridge(session, page, args.port, None if session_files else joining.join) as bridge:
+            serve(bridge, not args.no_open)
     except OSError as fault:
-        raise Fault(f"--port {words.port} of {HOST}: {fault.strerror}") from None
+        raise Fault(f"--port {args.port} of {HOST}: {fault.strerror}") from None
     finally:
         session.close()
     return 0

@@ -78,7 +78,7 @@ def main(arguments: list[str]) -> int:
         return run_tool("live", [path, *(["--no-open"] if words.no_open else []), *given])
     folder = path if kind == "folder" else made_run(words, path, given)
     page = words.output or f"{stem_of(words.target)}.html"
-    from streetsim.cli.opened import write_page  # which loads what draws
+    from streetsim.cli.open_page import write_page  # which loads what draws
 
     with Slow(f"writing {page}"):
         write_page(page, folder, path if kind != "folder" else "")

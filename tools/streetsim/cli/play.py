@@ -13,7 +13,7 @@ from streetsim.report.player import FOLDER, MOST_BYTES, player_data
 
 def parser() -> Parser:
     """The parser of the words that streetsim-play takes."""
-    made = Parser(
+    tool_parser = Parser(
         prog="streetsim-play",
         examples=(
             "streetsim-play zero --first 1800 --last 2400 -o zero.html",
@@ -23,34 +23,34 @@ def parser() -> Parser:
         "or of two side by side. Open it at a step with page.html#300, and at a place (metres) with "
         "page.html#300,75,0.",
     )
-    made.add_argument(
+    tool_parser.add_argument(
         "folders", nargs="+", metavar="FOLDER", help="what streetsim-run wrote; with --every 1 vehicles move smoothly"
     )
-    made.add_argument("-o", "--output", help="the file to write: the page (default: FOLDER.play.html, here)")
-    add_clock(made, "--first", "the first second shown", default=0)
-    add_clock(made, "--last", "the last second shown", default=limits.CLOCK)
-    return made
+    tool_parser.add_argument("-o", "--output", help="the file to write: the page (default: FOLDER.play.html, here)")
+    add_clock(tool_parser, "--first", "the first second shown", default=0)
+    add_clock(tool_parser, "--last", "the last second shown", default=limits.CLOCK)
+    return tool_parser
 
 
 def main(arguments: list[str]) -> int:
     """Runs streetsim-play: writes the page, and prints how many steps it has and how large it is; gives status 0."""
-    words = parser().parse_args(arguments)
-    if len(words.folders) > 2:
+    args = parser().parse_args(arguments)
+    if len(args.folders) > 2:
         raise Fault("a page plays one run, or two side by side")
-    complete_outputs(words, output=f"{stem_of(words.folders[0])}.play.html")
-    data = [player_data(read_folder(path), words.first, words.last) for path in words.folders]
-    for path, run in zip(words.folders, data, strict=True):
+    complete_outputs(args, output=f"{stem_of(args.folders[0])}.play.html")
+    data = [player_data(read_folder(path), args.first, args.last) for path in args.folders]
+    for path, run in zip(args.folders, data, strict=True):
         if not run["frames"]:
-            raise Fault(f"{path}: nothing was polled from {words.first} to {words.last} s")
+            raise Fault(f"{path}: nothing was polled from {args.first} to {args.last} s")
     if len(data) == 2 and data[0]["name"] == data[1]["name"]:
-        data[0]["name"], data[1]["name"] = words.folders
+        data[0]["name"], data[1]["name"] = args.folders
     packed = base64.b64encode(gzip.compress(json.dumps(data, separators=(",", ":")).encode(), mtime=0)).decode()
     if len(packed) > MOST_BYTES:
-        raise Fault(f"{words.folders[0]}: {len(packed):,} bytes are too much for a page: choose --first and --last")
+        raise Fault(f"{args.folders[0]}: {len(packed):,} bytes are too much for a page: choose --first and --last")
     page = (FOLDER / "player.html").read_text(encoding="utf-8").replace("@DATA@", packed)
     for name in ("drawing", "charts", "player"):
         page = page.replace(f"/*{name.upper()}*/", (FOLDER / f"{name}.js").read_text(encoding="utf-8"))
-    with whole_file(words.output) as file:
+    with whole_file(args.output) as file:
         file.write(page)
     print(f"{len(data[0]['frames']):,} steps, {len(page.encode()):,} bytes")
     return 0

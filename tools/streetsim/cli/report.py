@@ -8,9 +8,9 @@ from streetsim.base.files import Fault, refuse_unwritable, whole_file
 from streetsim.base.report import first_few
 from streetsim.base.words import Parser, add_names, integer_within, names_in, paths_in
 from streetsim.cli.defaults import complete_outputs, stem_of
-from streetsim.cli.given import given_words
+from streetsim.cli.given_words import given_words
 from streetsim.cli.words import add_attribute, add_clock, add_files
-from streetsim.demand.judging import judged
+from streetsim.demand.judging import judge_counts
 from streetsim.demand.reading import read_counts
 from streetsim.demand.reporting import counts_section
 from streetsim.demand.seen import passed_in
@@ -30,17 +30,17 @@ from streetsim.report.run_series import way_back
 from streetsim.report.run_tables import Runs, read_runs
 from streetsim.report.timing_sheets import Timings, changed, clashes, sheets
 
-ALL = "all"  # --sheets without a value
+ALL_LIGHTS = "all"  # --sheets without a value
 # Words that say where a page is and what it is of; plans' names, --names and --counts are sealed beside the words.
 ELSEWHERE = ("runs", "output", "csv", "names", "plan_names", "sealed", "counts")
 DETAIL = 8  # junctions told with all movements
-PICTURE = {"first": 0, "last": 600}  # seconds of the corridor's picture
+PICTURE_SECONDS = {"first": 0, "last": 600}  # seconds of the corridor's picture
 
 
 def parser() -> Parser:
     """The parser of the words that streetsim-report takes."""
-    made = Parser(
-        prog="streetsim-report", old={"--plans": "--plan-names", "--begin": "--interval"},
+    tool_parser = Parser(
+        prog="streetsim-report", renamed={"--plans": "--plan-names", "--begin": "--interval"},
         examples=(
             "streetsim-report zero-seeds -o report.html",
             'streetsim-report zero-seeds wave-seeds --plan-names "all at once" "green wave" --sealed -o report.html',
@@ -49,145 +49,155 @@ def parser() -> Parser:
         "--junctions: first a page for a council with what was asked, a map, the verdict, what it costs whom and what "
         "is doubted; behind it junctions by level of service, queues, before and after, what was run.",
     )
-    made.add_argument(
+    tool_parser.add_argument(
         "runs", nargs="+", metavar="FOLDER",
         help="what streetsim-run wrote; a second one is the plan after it"
     )
-    made.add_argument("-o", "--output", help="the file to write: the page (default: FOLDER.report.html, here)")
-    made.add_argument("--title", default="Junction report", help="(default: %(default)s)")
-    made.add_argument("--question", default="", metavar="TEXT", help="what was asked, at the head of the page")
-    made.add_argument(
+    tool_parser.add_argument("-o", "--output", help="the file to write: the page (default: FOLDER.report.html, here)")
+    tool_parser.add_argument("--title", default="Junction report", help="(default: %(default)s)")
+    tool_parser.add_argument("--question", default="", metavar="TEXT", help="what was asked, at the head of the page")
+    tool_parser.add_argument(
         "--plan-names", nargs="+", default=[], metavar="NAME", help="what each plan is called (default: its folder)"
     )
-    made.add_argument("--short", action="store_true", help="the first page alone, without the appendix")
-    made.add_argument(
+    tool_parser.add_argument("--short", action="store_true", help="the first page alone, without the appendix")
+    tool_parser.add_argument(
         "--detail", type=integer_within(0, 10_000), metavar="N",
         help=f"junctions told with all movements, first those that change or are worse than D (default {DETAIL})",
     )
-    made.add_argument(
+    tool_parser.add_argument(
         "--sealed", action="store_true",
         help="put into the page what made it, so that streetsim-check can run it again and compare each number",
     )
-    made.add_argument(
-        "--sheets", nargs="?", const=ALL, default="", metavar="LIGHTS",
+    add_appendix(tool_parser)
+    return tool_parser
+
+
+def add_appendix(tool_parser: argparse.ArgumentParser) -> None:
+    """Adds the words that say what the appendix shows, and when."""
+    tool_parser.add_argument(
+        "--sheets", nargs="?", const=ALL_LIGHTS, default="", metavar="LIGHTS",
         help="a signal timing sheet for each of these lights, with commas between (default: all that plans change, or "
         "all of one plan)",
     )
-    add_files(made, "--counts", "counts of edges and turns, beside the first plan, as of streetsim-compare")
-    add_attribute(made)
-    made.add_argument("--csv", metavar="FILE", help="also write all junctions and movements, before and after (.csv)")
-    add_clock(made, "--interval", "the interval shown, by its begin (default: the busiest; of works, while they last)")
-    add_names(made)
-    made.add_argument("--corridor", default="", metavar="EDGES", help="a path to draw, of a run with --every 1 (to 5)")
-    for name, default in PICTURE.items():
-        add_clock(made, f"--{name}", f"the {name} second shown, of the corridor's picture (default {default})")
-    return made
+    add_files(tool_parser, "--counts", "counts of edges and turns, beside the first plan, as of streetsim-compare")
+    add_attribute(tool_parser)
+    tool_parser.add_argument(
+        "--csv", metavar="FILE", help="also write all junctions and movements, before and after (.csv)"
+    )
+    interval = "the interval shown, by its begin (default: the busiest; of works, while they last)"
+    add_clock(tool_parser, "--interval", interval)
+    add_names(tool_parser)
+    tool_parser.add_argument(
+        "--corridor", default="", metavar="EDGES", help="a path to draw, of a run with --every 1 (to 5)"
+    )
+    for name, default in PICTURE_SECONDS.items():
+        add_clock(tool_parser, f"--{name}", f"the {name} second shown, of the corridor's picture (default {default})")
 
 
 def main(arguments: list[str]) -> int:
     """Runs streetsim-report: writes the page, what is sealed beside it and the table of --csv, and prints how large the
     page is; gives status 0."""
-    made = parser()
-    words = made.parse_args(arguments)
-    given = given_words(made, words, ELSEWHERE)
-    complete_outputs(words, output=f"{stem_of(words.runs[-1])}.report.html")
-    refuse_clashing_words(words)
-    beside = {f"{COUNTS}{at}": path for at, path in enumerate(paths_in(words.counts), 1)}
-    beside |= {NAMES: words.names} if words.names else {}
-    refuse_unwritable(".", {"-o": words.output, "--csv": words.csv}, beside.values())
-    plans = read_plans(words)
-    shown = interval_of(plans, words)
+    tool_parser = parser()
+    args = tool_parser.parse_args(arguments)
+    kept_words = given_words(tool_parser, args, ELSEWHERE)
+    complete_outputs(args, output=f"{stem_of(args.runs[-1])}.report.html")
+    refuse_clashing_words(args)
+    beside = {f"{COUNTS}{at}": path for at, path in enumerate(paths_in(args.counts), 1)}
+    beside |= {NAMES: args.names} if args.names else {}
+    refuse_unwritable(".", {"-o": args.output, "--csv": args.csv}, beside.values())
+    plans = read_plans(args)
+    shown = interval_of(plans, args)
     seal: Seal | None = None
     large: dict[str, bytes] = {}
-    if words.sealed:
-        seal, large = seal_for(plans, given, words.output, beside)
-    text = report_of(plans, shown, wishes_of(plans, words, seal))
-    write_beside(words.output, large)
-    with whole_file(words.output) as file:
+    if args.sealed:
+        seal, large = seal_for(plans, kept_words, args.output, beside)
+    text = report_of(plans, shown, wishes_of(plans, args, seal))
+    write_beside(args.output, large)
+    with whole_file(args.output) as file:
         file.write(text)
-    if words.csv:
-        write_table(words.csv, CHANGES, change_rows(plans, shown))
+    if args.csv:
+        write_table(args.csv, CHANGES, change_rows(plans, shown))
     count = len(ranked_rows(plans, shown))
-    more = f", and {beside_of(words.output)} beside it" if large else ""
-    print(f"{words.output}: {count} junctions, {len(text.encode()):,} bytes{more}")
+    more = f", and {beside_of(args.output)} beside it" if large else ""
+    print(f"{args.output}: {count} junctions, {len(text.encode()):,} bytes{more}")
     return 0
 
 
-def text_again(arguments: list[str], sealing: Callable[[list[Runs]], Seal]) -> str:
+def remake_text(arguments: list[str], sealing: Callable[[list[Runs]], Seal]) -> str:
     """The text of a page by the words that made it, with the seal that `sealing` gives of its plans. Fault where they
     give none."""
-    words = parser().parse_args(arguments)
-    refuse_clashing_words(words)
-    plans = read_plans(words)
+    args = parser().parse_args(arguments)
+    refuse_clashing_words(args)
+    plans = read_plans(args)
     seal = sealing(plans)
-    return report_of(plans, interval_of(plans, words), wishes_of(plans, words, seal))
+    return report_of(plans, interval_of(plans, args), wishes_of(plans, args, seal))
 
 
-def refuse_clashing_words(words: argparse.Namespace) -> None:
+def refuse_clashing_words(args: argparse.Namespace) -> None:
     """Fault for words that do not fit to each other."""
-    if len(words.runs) > 2:
+    if len(args.runs) > 2:
         raise Fault("a report is of one run, or of two: before and after")
-    if words.plan_names and len(words.plan_names) != len(words.runs):
-        raise Fault(f"--plan-names: {len(words.plan_names)} names for {len(words.runs)} runs")
-    if words.attribute and not words.counts:
+    if args.plan_names and len(args.plan_names) != len(args.runs):
+        raise Fault(f"--plan-names: {len(args.plan_names)} names for {len(args.runs)} runs")
+    if args.attribute and not args.counts:
         raise Fault("--attribute is of --counts: give it too")
     for name in ("corridor", "sheets", "counts", "detail"):
-        if words.short and getattr(words, name) not in (None, "", []):
+        if args.short and getattr(args, name) not in (None, "", []):
             raise Fault(f"--{name} is of the appendix, which --short leaves out")
-    if given := [name for name in PICTURE if getattr(words, name) is not None and not words.corridor]:
-        raise Fault(f"--{given[0]} is of the corridor's picture: give --corridor too")
+    if names := [name for name in PICTURE_SECONDS if getattr(args, name) is not None and not args.corridor]:
+        raise Fault(f"--{names[0]} is of the corridor's picture: give --corridor too")
 
 
-def read_plans(words: argparse.Namespace) -> list[Runs]:
+def read_plans(args: argparse.Namespace) -> list[Runs]:
     """The runs of each plan, one or two, with their names and those of --names put into their maps. Two of one name are
     called by their paths, and all as --plans says where it is given. Fault where one cannot be read, or where one has
     drawn departures and the other one listed ones."""
-    plans = [read_runs(path) for path in words.runs]
+    plans = [read_runs(path) for path in args.runs]
     alike = len({runs.name for runs in plans}) < len(plans)
-    for runs, name in zip(plans, words.plan_names or (map(os.path.normpath, words.runs) if alike else ())):
+    for runs, name in zip(plans, args.plan_names or (map(os.path.normpath, args.runs) if alike else ())):
         runs.name = name
     if len({runs.is_drawn for runs in plans}) > 1:
         listed, drawn = sorted((runs.is_drawn, runs.name) for runs in plans)
-        told = f"departures of {listed[1]!r} are as listed, those of {drawn[1]!r} drawn"
-        raise Fault(f"{told}: other vehicles drive there")
-    for runs in plans if words.names else ():
-        read_own(words.names, runs.first.mapping)
+        message = f"departures of {listed[1]!r} are as listed, those of {drawn[1]!r} drawn"
+        raise Fault(f"{message}: other vehicles drive there")
+    for runs in plans if args.names else ():
+        read_own(args.names, runs.first.mapping)
     return plans
 
 
-def wishes_of(plans: Sequence[Runs], words: argparse.Namespace, seal: Seal | None) -> PageWishes:
+def wishes_of(plans: Sequence[Runs], args: argparse.Namespace, seal: Seal | None) -> PageWishes:
     """What the words ask of a page, with the sections and pictures that they add to its appendix. seal: none where the
     page is not sealed. Fault where one of them cannot be made."""
     pictures = []
-    if words.corridor:
-        pictures.append(Section("corridor", "Corridor", "".join(corridor_told(runs, words) for runs in plans)))
-    if words.counts:
-        pictures.append(Section("counts", "Beside counts", counts_told(plans[0], words)))
+    if args.corridor:
+        pictures.append(Section("corridor", "Corridor", "".join(corridor_html(runs, args) for runs in plans)))
+    if args.counts:
+        pictures.append(Section("counts", "Beside counts", counts_html(plans[0], args)))
     timings = [timings_of(runs) for runs in plans]
-    if words.sheets:
-        pictures.append(Section("sheets", "Signal timing sheets", sheets_told(plans, timings, words.sheets)))
-    last, doubts = seal.html() if seal else "", clashes(timings[-1], plans[-1])
-    detail = DETAIL if words.detail is None else words.detail
-    return PageWishes(words.title, words.question, detail, words.short, doubts, pictures, last=last)
+    if args.sheets:
+        pictures.append(Section("sheets", "Signal timing sheets", sheets_html(plans, timings, args.sheets)))
+    seal_html, doubts = seal.html() if seal else "", clashes(timings[-1], plans[-1])
+    detail = DETAIL if args.detail is None else args.detail
+    return PageWishes(args.title, args.question, detail, args.short, doubts, pictures, last=seal_html)
 
 
-def counts_told(runs: Runs, words: argparse.Namespace) -> str:
+def counts_html(runs: Runs, args: argparse.Namespace) -> str:
     """How the first seed of a plan meets the counts of --counts, as HTML. Fault where these cannot be read, or as of
     passed_in."""
-    counts = read_counts(paths_in(words.counts), words.attribute)
-    return counts_section(runs.name, judged(counts, passed_in(runs.first, counts)), runs.first.mapping)
+    counts = read_counts(paths_in(args.counts), args.attribute)
+    return counts_section(runs.name, judge_counts(counts, passed_in(runs.first, counts)), runs.first.mapping)
 
 
-def sheets_told(plans: Sequence[Runs], timings: Sequence[Timings], asked: str) -> str:
-    """The timing sheets of lights, as HTML. timings: by plan; asked: lights with commas between, or ALL: all of one
-    plan, or those that change from the first of two, with a sentence where none does. Fault where a run does not keep
-    their programs, or a light is not among those of the last."""
-    for runs, own in zip(plans, timings, strict=True):
-        if not own:
+def sheets_html(plans: Sequence[Runs], timings: Sequence[Timings], light_names: str) -> str:
+    """The timing sheets of lights, as HTML. timings: by plan; light_names: lights with commas between, or ALL_LIGHTS:
+    all of one plan, or those that change from the first of two, with a sentence where none does. Fault where a run does
+    not keep their programs, or a light is not among those of the last."""
+    for runs, plan_timings in zip(plans, timings, strict=True):
+        if not plan_timings:
             why = "the files of the import were gone or had changed when it was run"
             raise Fault(f"{runs.first.path}: no program of its lights is kept, as {why}")
-    lights = names_in(asked)
-    if asked == ALL:
+    lights = names_in(light_names)
+    if light_names == ALL_LIGHTS:
         lights = changed(timings[0], timings[-1]) if len(plans) == 2 else sorted(timings[-1])
     if unknown := [light for light in lights if light not in timings[-1]]:
         raise Fault(
@@ -195,31 +205,35 @@ def sheets_told(plans: Sequence[Runs], timings: Sequence[Timings], asked: str) -
         )
     if not lights:
         return "<p>No light shows anything else with the second plan.</p>"
-    return sheets([(runs.name, own) for runs, own in zip(plans, timings, strict=True)], lights, plans[-1].names)
+    named = [(runs.name, plan_timings) for runs, plan_timings in zip(plans, timings, strict=True)]
+    return sheets(named, lights, plans[-1].names)
 
 
-def interval_of(all_runs: Sequence[Runs], words: argparse.Namespace) -> tuple[int, int]:
+def interval_of(all_runs: Sequence[Runs], args: argparse.Namespace) -> tuple[int, int]:
     """The interval (begin, end), in seconds, that is shown and that all plans have: the one of --interval, else the
     busiest of the first plan, of those in which road works last where there are any. Fault where there is none."""
     common = set(all_runs[0].intervals()).intersection(*(runs.intervals() for runs in all_runs))
     if not common:
         raise Fault("the runs have no interval in common")
-    if words.interval is None:
-        spans = [seen.span() for runs in all_runs for seen in seen_in(runs)]
-        works = {one for one in common if any(begin < one[1] and one[0] < end for begin, end in spans)}
-        return all_runs[0].busiest(works or common)
-    if words.interval not in (found := dict(sorted(common))):
-        raise Fault(f"--interval {words.interval}: no interval begins there, of {', '.join(map(str, found))}")
-    return words.interval, found[words.interval]
+    if args.interval is None:
+        spans = [works_seen.span() for runs in all_runs for works_seen in seen_in(runs)]
+        of_works = {
+            (first, last) for first, last in common if any(begin < last and first < end for begin, end in spans)
+        }
+        return all_runs[0].busiest(of_works or common)
+    if args.interval not in (ends := dict(sorted(common))):
+        raise Fault(f"--interval {args.interval}: no interval begins there, of {', '.join(map(str, ends))}")
+    return args.interval, ends[args.interval]
 
 
-def corridor_told(runs: Runs, words: argparse.Namespace) -> str:
+def corridor_html(runs: Runs, args: argparse.Namespace) -> str:
     """The corridor's picture of a plan's first seed, as HTML; in both directions where edges lead back. Fault where it
     cannot be drawn, as of corridor_picture."""
-    folder, ways = runs.first, path_and_way_back(runs.first, names_in(words.corridor))
-    first, last = (usual if getattr(words, name) is None else getattr(words, name) for name, usual in PICTURE.items())
-    text = f"Ways of the vehicles along {words.corridor}{', and back' if len(ways) == 2 else ''}: {runs.name}"
-    picture = corridor_picture(folder, ways, first, last, text)
+    folder, paths = runs.first, path_and_way_back(runs.first, names_in(args.corridor))
+    clocks = ((getattr(args, name), usual) for name, usual in PICTURE_SECONDS.items())
+    first, last = (usual if clock is None else clock for clock, usual in clocks)
+    text = f"Ways of the vehicles along {args.corridor}{', and back' if len(paths) == 2 else ''}: {runs.name}"
+    picture = corridor_picture(folder, paths, first, last, text)
     return f"<figure>{picture}<figcaption>{escape(text)}</figcaption></figure>"
 
 

@@ -11,7 +11,7 @@ from streetsim.base.seeds import seeds_of
 from streetsim.base.words import (
     Parser, add_lights, add_lost, add_rounds, integer_within, names_in, paths_in, share_of, time_within,
 )
-from streetsim.cli.defaults import complete_outputs, name_of_network, words_and_options
+from streetsim.cli.defaults import complete_outputs, name_of_network, args_and_options
 from streetsim.cli.import_ import add_options, options_of
 from streetsim.cli.run import add_priority
 from streetsim.cli.words import (
@@ -30,7 +30,7 @@ from streetsim.search.route_watching import RunGround
 from streetsim.sumo.trips import connected_trips, read_trips
 
 # Words that the setting keeps.
-KEPT = (
+SETTING_WORDS = (
     "net", "additional", "trips", "anew", "slice", "iterations", "gap", "share", "tried", "rounds", "seeds",
     "check_seeds", "priority", "seen",
 )
@@ -38,8 +38,8 @@ KEPT = (
 
 def parser() -> Parser:
     """The parser of the words that streetsim-route takes."""
-    made = Parser(
-        prog="streetsim-route", old={"--check": "--check-seeds"},
+    tool_parser = Parser(
+        prog="streetsim-route", renamed={"--check": "--check-seeds"},
         examples=(
             "streetsim-route town.net.xml --trips town.trips.xml -o town.rou.xml --out ways",
             "streetsim-route town.net.xml --trips town.rou.xml --close A_0:0-100:600-1800 -o round.rou.xml --out ways",
@@ -47,73 +47,73 @@ def parser() -> Parser:
         description="Finds routes for trips by feedback between a router and runs, until nobody gains much by another "
         "way, and tells by seeds that the search did not see how much that is.",
     )
-    add_network(made)
-    made.add_argument(
+    add_network(tool_parser)
+    tool_parser.add_argument(
         "--trips", nargs="+", metavar="FILE",
         help="trips, flows with from and to, and vehicles, whose routes are first ways (default: the routes of the "
         "configuration)",
     )
-    made.add_argument(
+    tool_parser.add_argument(
         "-o", "--output", help="the file to write: the routes found (.rou.xml; default: NET.found.rou.xml, here)"
     )
-    add_made_run(made, "routes")
-    add_out(made, "the folder to write to (default: NET-routes, here)")
-    add_search(made)
-    add_works(made)
-    add_machines(made)
-    add_options(made)
-    return made
+    add_made_run(tool_parser, "routes")
+    add_out(tool_parser, "the folder to write to (default: NET-routes, here)")
+    add_search(tool_parser)
+    add_works(tool_parser)
+    add_machines(tool_parser)
+    add_options(tool_parser)
+    return tool_parser
 
 
-def add_search(made: argparse.ArgumentParser) -> None:
+def add_search(tool_parser: argparse.ArgumentParser) -> None:
     """Adds the words that say how routes are searched and judged."""
-    made.add_argument("--anew", action="store_true", help="forget the routes that vehicles have")
+    tool_parser.add_argument("--anew", action="store_true", help="forget the routes that vehicles have")
     until = f"the clock at the end (default: {AFTER:,} s after the last departure)"
-    add_clock(made, "--until", until, least=1)
-    made.add_argument(
+    add_clock(tool_parser, "--until", until, least=1)
+    tool_parser.add_argument(
         "--slice", type=time_within(60, 86_400), default=300, metavar="S",
         help="seconds over which costs are means (default %(default)s)",
     )
-    made.add_argument(
+    tool_parser.add_argument(
         "--iterations", type=integer_within(0, 1000), default=15, metavar="N", help="at most (default %(default)s)"
     )
-    made.add_argument(
+    tool_parser.add_argument(
         "--gap", type=share_of, default=0.02,
         help="what all could gain by other ways, of the seconds of the shortest ways (default %(default)s)",
     )
-    made.add_argument(
+    tool_parser.add_argument(
         "--share", type=share_of, default=0.2, help="of the trips, that change their way at first (default %(default)s)"
     )
-    made.add_argument(
+    tool_parser.add_argument(
         "--tried", type=integer_within(1, 8), default=1, metavar="N",
         help="shares tried side by side in an iteration: the share, half of it, a quarter, .. (default %(default)s)",
     )
-    add_rounds(made)
-    add_lights(made)
-    add_priority(made)
-    made.add_argument(
+    add_rounds(tool_parser)
+    add_lights(tool_parser)
+    add_priority(tool_parser)
+    tool_parser.add_argument(
         "--seeds", default="1", metavar="SEEDS", help="seeds (1-5, or 1,4,7-9) of the search (default %(default)s)"
     )
-    add_check(made, "101-103", "those of the routes")
+    add_check(tool_parser, "101-103", "those of the routes")
 
 
-def add_works(made: argparse.ArgumentParser) -> None:
+def add_works(tool_parser: argparse.ArgumentParser) -> None:
     """Adds the words that say what is closed, and who knows of it."""
-    made.add_argument(
+    tool_parser.add_argument(
         "--close", action="extend", nargs="+", default=[], metavar="LANE:METRES-METRES:S-S",
         help="road works, as of streetsim-run; where all lanes of an edge are closed, those who know of it take "
         "another way from their begin on, and the others turn off before it",
     )
-    made.add_argument(
+    tool_parser.add_argument(
         "--knowing", type=shares_of, metavar="SHARES",
         help="of drivers who know of the works, with commas between: each is tried (default 1)",
     )
-    made.add_argument(
+    tool_parser.add_argument(
         "--sign", nargs="+", default=[], metavar="EDGE",
         help="edges on which the others are told (default: the last before the works)",
     )
-    add_lost(made)
-    made.add_argument(
+    add_lost(tool_parser)
+    tool_parser.add_argument(
         "--before", metavar="FILE",
         help="routes without the works (.rou.xml; default: those of --trips, or else they are searched first)",
     )
@@ -127,72 +127,72 @@ def shares_of(text: str) -> list[float]:
 def main(arguments: Sequence[str]) -> int:
     """Runs streetsim-route: searches, writes the routes and tables, and prints what was found; gives the greatest
     status that `tell_found` gives for one of the shares of drivers who know."""
-    words, _ = words_and_options(parser(), arguments, "trips")
-    if not words.trips:
+    args, _ = args_and_options(parser(), arguments, "trips")
+    if not args.trips:
         raise Fault("no trips: give --trips FILE (what may be given: streetsim-route --help)")
-    complete_outputs(words, output=f"{name_of_network(words)}.found.rou.xml", out=f"{name_of_network(words)}-routes")
-    check_words(words)
-    with Slow(f"reading {words.net}"):
-        job = job_of(words)
-    with team(job.ground, words.jobs, words.cluster) as workers, Stopping() as stopping:
-        all_ = search_routes(job, workers, stopping)
-    write_found(job, all_)
-    for one in all_[len(all_) > 1 :]:
-        tell_stops(job, one)
-    status = max([tell_found(job, one, all_[0]) for one in all_[len(all_) > 1 :]])
-    if named := list(dict.fromkeys(text for one in all_ for text in one.named_doubts())):
+    complete_outputs(args, output=f"{name_of_network(args)}.found.rou.xml", out=f"{name_of_network(args)}-routes")
+    check_words(args)
+    with Slow(f"reading {args.net}"):
+        job = job_of(args)
+    with team(job.ground, args.jobs, args.cluster) as workers, Stopping() as stopping:
+        results = search_routes(job, workers, stopping)
+    write_found(job, results)
+    for result in results[len(results) > 1 :]:
+        tell_stops(job, result)
+    status = max([tell_found(job, result, results[0]) for result in results[len(results) > 1 :]])
+    if named := list(dict.fromkeys(text for result in results for text in result.named_doubts())):
         print(trust.verdict(named))
     return status
 
 
-def check_words(words: argparse.Namespace) -> None:
+def check_words(args: argparse.Namespace) -> None:
     """Fault for words that do not fit to each other, or outputs that cannot be written, before anything is read."""
-    refuse_half_run(words)
-    seeds_to_check(words)
-    outputs = {"-o": words.output, "--run": words.run, "--map": words.map}
-    read = [words.net, *paths_in([*words.additional, *words.trips]), *filter(None, [words.before])]
-    refuse_unwritable(words.out, outputs, read)
-    refuse_foreign(words.out, words.force, outputs.values())
-    if words.seen is not None and not words.priority:
+    refuse_half_run(args)
+    seeds_to_check(args)
+    outputs = {"-o": args.output, "--run": args.run, "--map": args.map}
+    read = [args.net, *paths_in([*args.additional, *args.trips]), *filter(None, [args.before])]
+    refuse_unwritable(args.out, outputs, read)
+    refuse_foreign(args.out, args.force, outputs.values())
+    if args.seen is not None and not args.priority:
         raise Fault("--seen is of vehicles with --priority")
     for name in ("knowing", "sign", "before", "lost"):
-        if getattr(words, name) and not words.close:
+        if getattr(args, name) and not args.close:
             raise Fault(f"--{name} is of road works: give --close too")
 
 
-def job_of(words: argparse.Namespace) -> Job:
+def job_of(args: argparse.Namespace) -> Job:
     """The search that the words ask for, with its files read and checked; prints what is left out or changed in them.
     Fault where something in them cannot be used."""
-    report, simulator = Report(), program.find_program(words.program)
-    files = {"additional": paths_in(words.additional), "trips": paths_in(words.trips)}
-    town = read_town(words.net, files["additional"], options_of(words), report)
+    report, simulator = Report(), program.find_program(args.program)
+    files = {"additional": paths_in(args.additional), "trips": paths_in(args.trips)}
+    town = read_town(args.net, files["additional"], options_of(args), report)
     trips = read_trips(files["trips"], town.net, town.graph, town.types, town.options, report)
     if back := sum(not trip.changes for trip in trips.all):
         report.warn(f"{back:,} vehicles have a route back to the edge where it begins, which they keep")
-    if words.anew:
-        for trip in (one for one in trips.all if one.changes):
+    if args.anew:
+        for trip in (trip for trip in trips.all if trip.changes):
             trip.path = ()
     trips.all = connected_trips(trips.all, town.net, town.graph, town.options.ignore_route_errors, report)
-    if words.before:
-        before = read_trips([words.before], town.net, town.graph, town.types, town.options, Report())
-        give_ways_of_file(trips.all, before, town.graph, words.before)
+    if args.before:
+        before = read_trips([args.before], town.net, town.graph, town.types, town.options, Report())
+        give_ways_of_file(trips.all, before, town.graph, args.before)
     print(*report.lines(), sep="\n", end="\n" if any(report.lines()) else "", file=sys.stderr)
     last = int(trips.all[-1].depart)
-    until = min(limits.CLOCK, last + AFTER) if words.until is None else words.until
+    until = min(limits.CLOCK, last + AFTER) if args.until is None else args.until
     if until <= last:
         raise Fault(f"--until {until}: the last trip departs at {last:,} s")
-    closed = [one for text in words.close for one in names_in(text)]
-    check_works(closed, words.sign, trips.all, town, until)
+    closed = [works for text in args.close for works in names_in(text)]
+    check_works(closed, args.sign, trips.all, town, until)
     return Job(
         town,
         trips,
         ground=RunGround(
-            simulator, program_digest(simulator), town.graph, words.slice, until, words.rounds,
-            words.lights == "actuated", tuple(names_in(words.priority)), words.seen,
+            simulator, program_digest(simulator), town.graph, args.slice, until, args.rounds,
+            args.lights == "actuated", tuple(names_in(args.priority)), args.seen,
         ),
-        asked=RouteSettings(words.iterations, words.gap, words.share, seeds_of(words.seeds, "--seeds"), words.tried),
-        check=seeds_to_check(words),
-        works=RouteWorks(closed, words.sign, words.lost or "lead", words.knowing or [1.0], words.before),
-        target=RouteFiles(words.output, words.run, words.map, words.out),
-        words={**{name: getattr(words, name) for name in KEPT}, **files},
+        asked=RouteSettings(args.iterations, args.gap, args.share, seeds_of(args.seeds, "--seeds"), args.tried),
+        check=seeds_to_check(args),
+        works=RouteWorks(closed, args.sign, args.lost or "lead", args.knowing or [1.0], args.before),
+        target=RouteFiles(args.output, args.run, args.map, args.out),
+        words={**{name: getattr(args, name) for name in SETTING_WORDS}, **files},
     )

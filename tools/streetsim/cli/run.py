@@ -6,7 +6,7 @@ from streetsim.base.words import (
     Parser, add_jobs, add_lights, add_lost, add_rounds, add_run, integer_within, time_within,
 )
 from streetsim.cli.defaults import complete_outputs, complete_run, stem_of
-from streetsim.cli.given import given_words
+from streetsim.cli.given_words import given_words
 from streetsim.cli.words import add_clock, add_departures, add_out, add_simulator
 from streetsim.control.bus_planned import MOST_SEEN, SEEN
 from streetsim.model.folder import POLLS
@@ -91,8 +91,8 @@ def add_lanes(made: argparse.ArgumentParser) -> None:
     those do who lose their only lane, and which limit holds along the works."""
     made.add_argument(
         "--close", action="append", default=[], metavar="LANE:METRES-METRES:S-S",
-        help="road works: close a lane (edge_index) between two places, from one second to another; "
-        "several with commas between, or by the word again",
+        help="road works: close a lane (edge_index) between two places (metres from the begin of the lane, as in "
+        "SUMO), from one time to another (S or HH:MM(:SS)); several with commas between, or by the word again",
     )
     add_merge(made)
     add_lost(made)

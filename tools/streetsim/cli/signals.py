@@ -8,15 +8,16 @@ from time import monotonic
 
 from streetsim.base import limits, program
 from streetsim.base.files import Fault, refuse_foreign, refuse_unwritable
-from streetsim.base.progress import Meanwhile, Slow
+from streetsim.base.progress import Slow, WorkProgress
 from streetsim.base.seeds import seeds_for, seeds_of
 from streetsim.base.words import Parser, add_rounds, add_run, integer_within, names_in, paths_in
 from streetsim.cli.defaults import complete_outputs, complete_run, plan_files, stem_of
+from streetsim.cli.plan_commands import plan_commands
 from streetsim.cli.words import add_check, add_clock, add_machines, add_out, seeds_to_check
 from streetsim.control.ending import after_departures
 from streetsim.model.folder import Folder
 from streetsim.model.runs import read_with_map
-from streetsim.observe.making import Making
+from streetsim.observe.run_making import RunOptions
 from streetsim.report.picture_files import load_pyplot
 from streetsim.report.picture_plots import Corridor, refuse_broken
 from streetsim.search.run_machines import machines
@@ -40,7 +41,7 @@ RESERVE = 80  # a chance of slowing down, of 1,000, by which a tenth fewer pass 
 def parser() -> Parser:
     """The parser of the words that streetsim-signals takes."""
     made = Parser(
-        prog="streetsim-signals", old={"--change": "--vary", "--keep": "--fixed", "--check": "--check-seeds"},
+        prog="streetsim-signals", renamed={"--change": "--vary", "--keep": "--fixed", "--check": "--check-seeds"},
         examples=(
             "streetsim-signals zero.jsonl --plans corridor.net.xml.gz --until 4500",
             "streetsim-signals zero.jsonl --plans corridor.net.xml.gz --until 4500 --vary splits,cycle --budget 200",
@@ -131,7 +132,8 @@ def main(arguments: list[str]) -> int:
     check_cycles(words, town)
     if words.bounds:
         return find_bounds(words, reading, town, check)
-    making = Making(reading.program, words.rounds)
+    making = RunOptions(reading.program, words.rounds)
+    warn_of_gaps(words, town)
     target = PlanFiles(words.output, words.out, corridor_of(words, town), making, words.until)
     in_sumo = sumo_for(reading, town.mapping, town.run) if words.verify_sumo else None
     with runner_of(words, town, check) as runner:
@@ -141,7 +143,23 @@ def main(arguments: list[str]) -> int:
     sumo = verified(in_sumo, town, texts, check, words.jobs) if in_sumo else None
     rows, doubts = before_after_rows(town, before, after, sumo), list(doubts_of(town, before, after, sumo))
     write_found(target, town, search, rows, doubts)
-    return tell_found(town, search, rows, stopped, doubts, sumo)
+    status = tell_found(town, search, rows, stopped, doubts, sumo)
+    tell_next(words, town)
+    return status
+
+
+def warn_of_gaps(words: argparse.Namespace, town: SignalTown) -> None:
+    """Warns on standard error, before the search, where its result will not be trusted without --verify-sumo."""
+    if gaps := "" if words.verify_sumo else town.gaps_told():
+        print(f"warning: the result will not be trusted without --verify-sumo: {gaps}", file=sys.stderr)
+
+
+def tell_next(words: argparse.Namespace, town: SignalTown) -> None:
+    """Prints, on standard error, the commands that show what was found beside what was given."""
+    if lines := plan_commands(words, town.mapping):
+        what = "bounds" if words.bounds else "plan"
+        told = f"the {what} found beside the {what} given, by five days each:"
+        print(told, *(f"$ {line}" for line in lines), sep="\n", file=sys.stderr)
 
 
 def complete_words(words: argparse.Namespace) -> None:
@@ -171,7 +189,9 @@ def find_bounds(words: argparse.Namespace, reading: Reading, town: SignalTown, c
     texts = [bounds_text(town.mapping, one, PROGRAM_ID) for one in (ground.given, search.best[1])]
     sumo = verified(in_sumo, town, texts, check, words.jobs) if in_sumo else None
     found = FoundBounds(search, stopped, before, after, beside, sumo)
-    return write_found_bounds(words.output, words.out, ground, found)
+    status = write_found_bounds(words.output, words.out, ground, found)
+    tell_next(words, town)
+    return status
 
 
 def refuse_unused(words: argparse.Namespace) -> None:
@@ -286,7 +306,7 @@ def search_seeds(words: argparse.Namespace, runner: Runner, check: Sequence[int]
     """The seeds of the search: those of --seeds, else of tried_seeds as many as the spread of runs of the given plan
     asks for. Makes these runs in both cases; prints how many seeds, and why. Fault where --budget is below them."""
     tried = tried_seeds(check)
-    means, shown = [], Meanwhile("runs of the given plan", len(tried), abreast=words.jobs)
+    means, shown = [], WorkProgress("runs of the given plan", len(tried), abreast=words.jobs)
     for mean in runner.mean_trips([runner.town.plan], tried):
         means.append(mean)
         shown.show(len(means))

@@ -7,10 +7,10 @@ from itertools import accumulate, cycle
 
 from streetsim.base import program
 from streetsim.base.files import refuse_foreign, refuse_unwritable, whole_file, whole_folder
-from streetsim.base.progress import Meanwhile, Slow
+from streetsim.base.progress import Slow, WorkProgress
 from streetsim.base.words import ROUNDS, Parser, add_rounds
 from streetsim.cli.defaults import complete_outputs, stem_of
-from streetsim.cli.given import given_words
+from streetsim.cli.given_words import given_words
 from streetsim.cli.words import add_departures, add_machines, add_out
 from streetsim.model import trust
 from streetsim.model.replications import DRAWN
@@ -25,15 +25,15 @@ from streetsim.search.study_telling import (
 )
 from streetsim.search.study_variants import Study, read_study
 
-LAST = "differences.csv"
-MADE = "made.json"  # by what a study is made again
+LAST_FILE = "differences.csv"
+ORIGIN_FILE = "made.json"  # by what a study is made again
 # Words that say where and on what a study is made, and change no number of it.
 ELSEWHERE = ("study", "out", "force", "program", "jobs", "cluster")
 
 
 def parser() -> Parser:
     """The parser of the words that streetsim-study takes."""
-    made = Parser(
+    tool_parser = Parser(
         prog="streetsim-study",
         examples=(
             "streetsim-study study.toml --out answer",
@@ -42,16 +42,16 @@ def parser() -> Parser:
         description="Runs each variant of a study with each seed, and writes the differences of their mean trips with "
         "95 % intervals, and how many runs a precision needs.",
     )
-    made.add_argument("study", help="the study (.toml)")
-    add_machines(made)
-    add_rounds(made, None, f"default: rounds of the study, else {ROUNDS}")
-    add_departures(made, f"default: departures of the study, else {DRAWN}")
-    made.add_argument(
+    tool_parser.add_argument("study", help="the study (.toml)")
+    add_machines(tool_parser)
+    add_rounds(tool_parser, None, f"default: rounds of the study, else {ROUNDS}")
+    add_departures(tool_parser, f"default: departures of the study, else {DRAWN}")
+    tool_parser.add_argument(
         "--precision", type=percent, default=1.0, metavar="PERCENT",
         help="half the width that intervals are to have, of the base's mean trip (default %(default)s)",
     )
-    add_out(made, "the folder to write to (default: NAME-answer of NAME.toml, here)")
-    return made
+    add_out(tool_parser, "the folder to write to (default: NAME-answer of NAME.toml, here)")
+    return tool_parser
 
 
 def percent(text: str) -> float:
@@ -67,24 +67,24 @@ def percent(text: str) -> float:
 
 def main(arguments: list[str]) -> int:
     """Runs streetsim-study: makes the runs, writes the folder of --out, and prints the differences; gives status 0."""
-    made = parser()
-    words = made.parse_args(arguments)
-    complete_outputs(words, out=f"{stem_of(words.study)}-answer")
-    refuse_unwritable(words.out, {}, ())
-    refuse_foreign(words.out, words.force)
-    words.program = program.find_program(words.program)
-    with Slow(f"reading {words.study}"):
-        study = read_study(words.study, words.program, words.rounds, words.departures)
-    results = run_all(words, study)
-    rows = differences(study, results, words.precision)
-    found = {name: list(doubts(study, name, results[name])) for name in study.variants}
-    named = [f"{name}: {text}" for name, texts in found.items() for text in texts]
-    with whole_folder(words.out, LAST) as folder:
+    tool_parser = parser()
+    args = tool_parser.parse_args(arguments)
+    complete_outputs(args, out=f"{stem_of(args.study)}-answer")
+    refuse_unwritable(args.out, {}, ())
+    refuse_foreign(args.out, args.force)
+    args.program = program.find_program(args.program)
+    with Slow(f"reading {args.study}"):
+        study = read_study(args.study, args.program, args.rounds, args.departures)
+    results = run_all(args, study)
+    rows = differences(study, results, args.precision)
+    doubts_by_variant = {name: list(doubts(study, name, results[name])) for name in study.variants}
+    named = [f"{name}: {text}" for name, texts in doubts_by_variant.items() for text in texts]
+    with whole_folder(args.out, LAST_FILE) as folder:
         write_table(f"{folder}/runs.csv", RUNS, run_rows(study, results))
-        told = (cell_values((*astuple(row), "; ".join(found[row.variant]))) for row in rows)
-        write_table(f"{folder}/{LAST}", DIFFERENCES, told)
-        trust.write_doubts(folder, named, words.program)
-        write_made(words, given_words(made, words, ELSEWHERE), folder)
+        cells = (cell_values((*astuple(row), "; ".join(doubts_by_variant[row.variant]))) for row in rows)
+        write_table(f"{folder}/{LAST_FILE}", DIFFERENCES, cells)
+        trust.write_doubts(folder, named, args.program)
+        write_made(args, given_words(tool_parser, args, ELSEWHERE), folder)
         draw_differences(study, rows, f"{folder}/differences.png")
     tell_differences(rows)
     tell_ends(study, results)
@@ -95,33 +95,34 @@ def main(arguments: list[str]) -> int:
     return 0
 
 
-def write_made(words: argparse.Namespace, given: list[str], folder: str) -> None:
+def write_made(args: argparse.Namespace, kept_words: list[str], folder: str) -> None:
     """Writes by what the study is made again: its file, as a path from the folder of --out, its SHA-256, and the words
     that change numbers (given). folder: where the file is written until it is whole."""
-    path = os.path.relpath(os.path.realpath(words.study), os.path.realpath(words.out))
-    with whole_file(f"{folder}/{MADE}") as file:
-        made = {"study": path, "sum": sum_of(words.study), "words": given}
-        json.dump(made | program.proof_note(words.program), file)
+    path = os.path.relpath(os.path.realpath(args.study), os.path.realpath(args.out))
+    with whole_file(f"{folder}/{ORIGIN_FILE}") as file:
+        content = {"study": path, "sum": sum_of(args.study), "words": kept_words}
+        json.dump(content | program.proof_note(args.program), file)
 
 
-def run_all(words: argparse.Namespace, study: Study) -> dict[str, list[Outcome]]:
+def run_all(args: argparse.Namespace, study: Study) -> dict[str, list[Outcome]]:
     """Runs each variant with each seed; gives {variant: outcomes in the order of the seeds}. Fault where one fails."""
     sessions = [session for variant in study.variants.values() for session in variant.sessions]
-    first = dict(zip(study.variants, accumulate((len(one.sessions) for one in study.variants.values()), initial=0)))
+    counts = (len(variant.sessions) for variant in study.variants.values())
+    first_sessions = dict(zip(study.variants, accumulate(counts, initial=0)))
     total = len(study.variants) * len(study.seeds)
-    meanwhile = Meanwhile("runs", total)
+    meanwhile = WorkProgress("runs", total)
     results: dict[str, list[Outcome]] = {}
-    with machines(words.jobs, words.cluster, sessions) as workers:
+    with machines(args.jobs, args.cluster, sessions) as workers:
         tasks = [
-            (f"variant {name!r}, seed {seed}", outcome_giving_way, first[name] + own, variant.signals, seed)
+            (f"variant {name!r}, seed {seed}", outcome_giving_way, first_sessions[name] + index, variant.signals, seed)
             for name, variant in study.variants.items()
-            for seed, own in zip(study.seeds, cycle(range(len(variant.sessions))))
+            for seed, index in zip(study.seeds, cycle(range(len(variant.sessions))))
         ]
-        found = workers.ordered(tasks)
+        outcomes = workers.ordered(tasks)
         for name in study.variants:
             results[name] = []
             for _ in study.seeds:
-                results[name].append(next(found))
+                results[name].append(next(outcomes))
                 meanwhile.show(sum(map(len, results.values())))
     meanwhile.end()
     return results

@@ -1,6 +1,6 @@
 """What a light shows here of a phase whose end is not known yet: what the import's rules show of a plan in which each
 phase has the mean length that it had so far, as who gives way and what starts late depends on how long a green is.
-Where a phase lasts longer its last second goes on."""
+Where a phase lasts longer its last second goes on; where it may end earlier, who gives way is let go in time."""
 from collections.abc import Iterator, Mapping, Sequence
 from dataclasses import replace
 from itertools import groupby
@@ -10,16 +10,18 @@ from streetsim.base import limits
 from streetsim.base.report import Report
 from streetsim.control.actuated_kept import NodeOf
 from streetsim.control.actuated_lights import Driven
-from streetsim.control.actuated_logic import Actuated
+from streetsim.control.actuated_logic import Actuated, ActuatedPhase
 from streetsim.model.mapping import Map
 from streetsim.model.runs import Command
-from streetsim.sumo.crossing import CrossingMovement, movements_of
+from streetsim.sumo.crossing import OPEN, CrossingMovement, movements_of
 from streetsim.sumo.driver_words import measured_of
+from streetsim.sumo.greens import green_here
 from streetsim.sumo.net import LightProgram
 from streetsim.sumo.signals import Green, LitNode, green_seconds, phases_that_fit
-from streetsim.sumo.yielding import settle
+from streetsim.sumo.yielding import SNEAKERS, settle
 
 WEIGHT = 0.2  # of the newest length in a phase's mean, chosen at eight rows of four networks
+LAST = green_here(SNEAKERS, 1)  # seconds, 2, in which one vehicle passes
 Lengths = tuple[int, ...]  # seconds of each phase of a cycle
 
 
@@ -58,7 +60,11 @@ class NodesOfLight:
                 self.rows[at, lengths] = self.greens_by_second(kept, node, lengths)
             key = at, lengths, logic.at, left
             if key not in self.phases:
-                self.phases[key] = phases_of(self.rows[at, lengths][end - left : end])
+                phase = self.light.phases[logic.at]
+                rows: Sequence[Green] = self.rows[at, lengths][end - left : end]
+                if phase.detectors and left == lengths[logic.at]:
+                    rows = let_go_in_time(rows, phase.shortest, yielding(node, phase))
+                self.phases[key] = phases_of(rows)
             yield command_of(node.node, self.phases[key], now)
 
     def greens_by_second(self, kept: NodeOf, node: LitNode, lengths: Lengths) -> list[Green]:
@@ -67,6 +73,27 @@ class NodesOfLight:
         states = [phase.state for phase, length in pairs for _ in range(length)]
         own = settled(node, kept, states, self.limits)
         return green_seconds(own, states, own.shown_seconds(states), 1, True)
+
+
+def yielding(node: LitNode, phase: ActuatedPhase) -> Green:
+    """The turns of a node that are green in a phase and give way."""
+    return frozenset(
+        (link, lane, following)
+        for link, lane, following, turn in node.turns
+        if turn.light == node.light and phase.state[turn.index] in OPEN
+    )
+
+
+def let_go_in_time(rows: Sequence[Green], least: int, turns: Green) -> Sequence[Green]:
+    """The green turns in each second of a phase that may end after `least` seconds. Of some turns those that are green
+    at its end, and not before its least end, have their first seconds (LAST; not the phase's last one) before that:
+    whatever comes, one vehicle passes in a green, and would else hold up the only lane of an edge for a cycle."""
+    late, moved = (rows[-1] & turns).difference(*rows[:least]), min(LAST, least)
+    if not late:
+        return rows
+    begins = {turn: next(at for at, row in enumerate(rows) if turn in row) for turn in late}
+    after = [row - {turn for turn in late if at < begins[turn] + moved} for at, row in enumerate(rows)]
+    return [*rows[: least - moved], *(row | late for row in rows[least - moved : least]), *after[least:-1], rows[-1]]
 
 
 def settled(node: LitNode, kept: NodeOf, states: Sequence[str], limits_of: Mapping[str, int]) -> LitNode:

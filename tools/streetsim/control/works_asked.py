@@ -8,6 +8,7 @@ from streetsim.base.files import Fault
 from streetsim.base.report import first_few
 from streetsim.base.words import names_in, whole_seconds
 from streetsim.model.mapping import Map
+from streetsim.model.names import EDGES
 
 FORM = re.compile(r"(.+):(\d+)-(\d+):([\d:.]+)-([\d:.]+)")
 HOURS = re.compile(r"(\d{1,2}):([0-5]\d)")
@@ -59,12 +60,22 @@ def works_of(text: str, mapping: Map) -> AskedWorks:
         raise Fault(f"--close {text!r}: expected LANE:METRES-METRES:S-S, whole numbers that rise")
     place = mapping.place_of(found[1])
     if place is None:
-        lanes = [mapping.lane_name(*place) for place in mapping.lanes(mapping.links_of.get(found[1], ()))]
-        raise Fault(f"--close {text!r}: the map has no lane {found[1]!r}{f', but {first_few(lanes)}' if lanes else ''}")
+        raise Fault(f"--close {text!r}: the map has no lane {found[1]!r}{meant(found[1], mapping)}")
     metres = mapping.links[place[0]].metres
     if int(found[3]) > math.ceil(metres):
         raise Fault(f"--close {text!r}: the lane ends at {metres:g} m")
     return AskedWorks(text, found[1], int(found[2]), int(found[3]), clocks[0], clocks[1])
+
+
+def meant(name: str, mapping: Map) -> str:
+    """What may be meant by a name that is no lane's, as the end of a sentence: the lanes of an edge of this name, else
+    the edges of a street of this name; empty where there are neither."""
+    lanes = [mapping.lane_name(*place) for place in mapping.lanes(mapping.links_of.get(name, ()))]
+    if lanes:
+        return f", but {first_few(lanes)}"
+    streets = mapping.names.get(EDGES, {})
+    edges = [edge for edge in mapping.links_of if streets.get(edge) == name]
+    return f": {name} is the name of edges {first_few(edges)}" if edges else ""
 
 
 def clock_of(text: str) -> int | None:

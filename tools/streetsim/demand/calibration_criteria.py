@@ -1,4 +1,5 @@
-"""What authorities ask of a base, and more: counts, routes, segments, saturation and queues of a day, within marks."""
+"""The criteria that a calibrated base must meet: counts (GEH), routes, segments, saturation and queues of a day.
+streetsim-calibrate reckons them before and after the fit."""
 from __future__ import annotations
 
 from collections import defaultdict
@@ -26,15 +27,15 @@ class Criterion:
 
     name: str
     share: float
-    wanted: float
+    share_needed: float
     of: int
 
     @property
     def is_met(self) -> bool:
         """Whether enough meets it."""
-        return self.share >= self.wanted - 1e-9
+        return self.share >= self.share_needed - 1e-9
 
-    def told(self) -> str:
+    def share_text(self) -> str:
         """Its share, in percent, and of how many."""
         return f"{100 * self.share:.0f} % of {self.of:,}"
 
@@ -49,35 +50,38 @@ def criteria_of(
         good = [abs(flow_here(drivers.dawdle, one.limit) / one.flow - 1) <= SATURATION_MARK for one in day.lanes]
         yield Criterion("saturation within 5 %", fmean(good), SHARE, len(good))
     if pairs := [(mean_queue(runs, one.edge), one.mean) for one in day.queues if one.mean > LEAST_QUEUE]:
-        here, there = (sum(side) for side in zip(*pairs, strict=True))
-        off = abs(here / there - 1)
+        modelled, observed = (sum(side) for side in zip(*pairs, strict=True))
+        off = abs(modelled / observed - 1)
         yield Criterion("mean queue of the cycles within 25 %", float(off <= QUEUE_MARK), 1.0, len(pairs))
 
 
 def mean_queue(runs: Iterable[MeasuredRun], edge: str) -> float:
     """The mean over runs of the queue of an edge, m."""
-    return fmean(one.queues.get(edge, (0.0, 0.0))[0] for one in runs)
+    return fmean(run.queues.get(edge, (0.0, 0.0))[0] for run in runs)
 
 
 def count_criteria(day: FieldDay, runs: Sequence[MeasuredRun]) -> Iterator[Criterion]:
     """GEH below 5, and the flow of an approach within 15 % (100 an hour below 700, 400 above 2,700), of the counts that
     lie within the window of the times."""
-    there: defaultdict[tuple[str, ...], float] = defaultdict(float)
+    observed_counts: defaultdict[tuple[str, ...], float] = defaultdict(float)
     begin, end = day.window()
-    for one in read_counts(day.counts):
-        if begin <= one.begin and one.end <= end:
-            there[one.edges[:2]] += one.vehicles
-    if not there:
+    for count in read_counts(day.counts):
+        if begin <= count.begin and count.end <= end:
+            observed_counts[count.edges[:2]] += count.vehicles
+    if not observed_counts:
         return
     hours = (end - begin) / 3600
-    hourly = {key: (fmean(run.counts.get(key, 0) for run in runs) / hours, own / hours) for key, own in there.items()}
+    hourly = {
+        key: (fmean(run.counts.get(key, 0) for run in runs) / hours, observed / hours)
+        for key, observed in observed_counts.items()
+    }
     good = [geh(*pair) < 5 for pair in hourly.values()]
     yield Criterion("GEH below 5", fmean(good), SHARE, len(good))
     flows: defaultdict[str, list[float]] = defaultdict(lambda: [0.0, 0.0])
     for key, pair in hourly.items():
         for side in (0, 1):
             flows[key[0]][side] += pair[side]
-    fits = [abs(here - own) <= flow_mark(own) for here, own in flows.values()]
+    fits = [abs(modelled - observed) <= flow_mark(observed) for modelled, observed in flows.values()]
     yield Criterion("flows within 15 %", fmean(fits), SHARE, len(fits))
 
 
@@ -88,11 +92,11 @@ def flow_mark(hourly: float) -> float:
 
 def time_criteria(day: FieldDay, runs: Sequence[MeasuredRun]) -> Iterator[Criterion]:
     """Routes and trips within 15 % or a minute, where the field has some; segments within 15 %, without the minute."""
-    here = pooled_runs(runs)
+    model_times = pooled_runs(runs)
     routes, segments = [], []
     for key, (mean, _, count) in pooled(day.times).items():
         if count >= LEAST_SEEN:
-            off = abs(here[key][0] - mean) if key in here else float("inf")
+            off = abs(model_times[key][0] - mean) if key in model_times else float("inf")
             if len(key) > 2 or key[0] == TRIP:
                 routes.append(off <= max(TIME_MARK * mean, MINUTE))
             else:

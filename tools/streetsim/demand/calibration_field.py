@@ -1,5 +1,5 @@
-"""What a planner measured on a day: travel times from stop line to stop line, a survey of saturation, queues and
-counts, in the spellings of the field's usual files. Fault, one line, for what cannot be read."""
+"""Reads what a planner measured on a day: tables of travel times (also SUMO's tripinfo and vehroute), saturation
+surveys, queues and counts, in the column names of usual files. Fault, one line, for what cannot be read."""
 from __future__ import annotations
 
 import csv
@@ -73,22 +73,22 @@ class FieldDay:
 
     def window(self) -> tuple[int, int]:
         """The (begin, end) of the times, in seconds."""
-        return min(one.begin for one in self.times), max(one.end for one in self.times)
+        return min(time.begin for time in self.times), max(time.end for time in self.times)
 
 
 def read_times(paths: Iterable[str], notes: list[str]) -> list[TravelTime]:
     """The travel times of files: tables, and SUMO's tripinfo and vehroute output (with exit times). notes: gets how
     columns were read."""
-    found: list[TravelTime] = []
+    travel_times: list[TravelTime] = []
     for path in paths:
         if begins_with(path, "<"):
-            own = list(grouped(records_of_sumo(path)))
+            file_times = list(grouped(records_of_sumo(path)))
         else:
-            own = times_of_table(path, notes)
-        if not own:
+            file_times = times_of_table(path, notes)
+        if not file_times:
             raise Fault(f"{path}: no travel time is in it")
-        found += own
-    return found
+        travel_times += file_times
+    return travel_times
 
 
 class Columns:
@@ -106,20 +106,20 @@ class Columns:
             raise Fault(f"{path}: a column twice")
         for line, values in rows[1:]:
             if len(values) != len(self.names):
-                told = f"{len(values)} values, and the first line has {len(self.names)} columns"
-                raise Fault(f"{path}: line {line}: {told}")
+                fault = f"{len(values)} values, and the first line has {len(self.names)} columns"
+                raise Fault(f"{path}: line {line}: {fault}")
         self.rows = [TableRow(path, line, dict(zip(self.names, values, strict=True))) for line, values in rows[1:]]
 
     def find(self, *spellings: Sequence[str]) -> str | None:
         """The first column that is there, of some spellings; none where no one is."""
         return next((name for some in spellings for name in some if name in self.names), None)
 
-    def need(self, what: str, *spellings: Sequence[str]) -> str:
-        """As find; Fault where there is none; what: it is."""
-        if (found := self.find(*spellings)) is None:
-            told = ", ".join(name for some in spellings for name in some[:3])
-            raise Fault(f"{self.path}: no column of {what} (as {told}); it has {','.join(self.names)}")
-        return found
+    def need(self, quantity: str, *spellings: Sequence[str]) -> str:
+        """As find; Fault where there is none; quantity: what it holds."""
+        if (column := self.find(*spellings)) is None:
+            examples = ", ".join(name for spelling in spellings for name in spelling[:3])
+            raise Fault(f"{self.path}: no column of {quantity} (as {examples}); it has {','.join(self.names)}")
+        return column
 
 
 def times_of_table(path: str, notes: list[str]) -> list[TravelTime]:
@@ -127,26 +127,27 @@ def times_of_table(path: str, notes: list[str]) -> list[TravelTime]:
     time is that at the end of the way."""
     table = Columns(path)
     time, mean = table.need("time", TIME), table.need("travel time", MEAN, MINUTES)
-    way = way_of(table)
+    edges_in = way_of(table)
     scale = 60.0 if mean in MINUTES else 1.0
     deviation, count, ends = table.find(DEVIATION), table.find(NUMBER), table.find(ENDS)
     unit = "minutes" if scale > 1 else "seconds"
     notes.append(f"{path}: {mean} in {unit}, {f'of {count} vehicles' if count else 'of single vehicles'}")
     if count is None:
-        singles = ((way(row), row.get(time, clock_of), scale * row.get(mean, positive), False) for row in table.rows)
-        return list(grouped(singles))
+        ends_and_means = ((row, row.get(time, clock_of), scale * row.get(mean, positive)) for row in table.rows)
+        return list(grouped((edges_in(row), end, seconds, False) for row, end, seconds in ends_and_means))
     period = period_in([row.get(time, clock_of) for row in table.rows])
-    found = []
+    travel_times = []
     for row in table.rows:
         begin = row.get(time, clock_of)
         end = row.get(ends, clock_of) if ends else begin + period
         if end <= begin:
-            raise Fault(f"{row.where}: the period ends at {end:,} s, and begins at {begin:,} s")
-        spread = scale * row.get(deviation, at_least_nothing) if deviation else 0.0
+            raise Fault(f"{row.location}: the period ends at {end:,} s, and begins at {begin:,} s")
+        spread = scale * row.get(deviation, not_negative) if deviation else 0.0
         vehicles = row.get(count, whole)
         if vehicles:
-            found.append(TravelTime(way(row), begin, end, scale * row.get(mean, positive), spread, vehicles))
-    return found
+            seconds = scale * row.get(mean, positive)
+            travel_times.append(TravelTime(edges_in(row), begin, end, seconds, spread, vehicles))
+    return travel_times
 
 
 def way_of(table: Columns) -> Callable[[TableRow], tuple[str, ...]]:
@@ -174,7 +175,7 @@ def positive(text: str) -> float:
     return value
 
 
-def at_least_nothing(text: str) -> float:
+def not_negative(text: str) -> float:
     """A number from 0 on; 0 where the text is empty; ValueError otherwise."""
     value = number(text) if text else 0.0
     if value < 0:
@@ -192,8 +193,8 @@ def whole(text: str) -> int:
 
 def period_in(times: Iterable[int]) -> int:
     """The seconds of the periods of a table: the least between its times, QUARTER where it has one alone."""
-    some = sorted({*times})
-    return min((later - sooner for sooner, later in zip(some, some[1:])), default=QUARTER)
+    clocks = sorted({*times})
+    return min((later - sooner for sooner, later in zip(clocks, clocks[1:])), default=QUARTER)
 
 
 Single = tuple[tuple[str, ...], float, float, bool]  # edges, clock at the end, seconds, whether it is a trip
@@ -201,13 +202,14 @@ Single = tuple[tuple[str, ...], float, float, bool]  # edges, clock at the end, 
 
 def grouped(singles: Iterable[Single]) -> Iterator[TravelTime]:
     """The travel times of single vehicles, by quarters of an hour."""
-    found: defaultdict[tuple[tuple[str, ...], bool, int], list[float]] = defaultdict(list)
+    durations_of: defaultdict[tuple[tuple[str, ...], bool, int], list[float]] = defaultdict(list)
     for edges, clock, duration, is_trip in singles:
-        found[edges, is_trip, int(clock // QUARTER)].append(duration)
-    for (edges, is_trip, quarter), some in sorted(found.items()):
-        mean = fmean(some)
-        spread = sqrt(sum((one - mean) ** 2 for one in some) / (len(some) - 1)) if len(some) > 1 else 0.0
-        yield TravelTime(edges, QUARTER * quarter, QUARTER * (quarter + 1), mean, spread, len(some), is_trip)
+        durations_of[edges, is_trip, int(clock // QUARTER)].append(duration)
+    for (edges, is_trip, quarter), durations in sorted(durations_of.items()):
+        mean = fmean(durations)
+        squares = sum((value - mean) ** 2 for value in durations)
+        spread = sqrt(squares / (len(durations) - 1)) if len(durations) > 1 else 0.0
+        yield TravelTime(edges, QUARTER * quarter, QUARTER * (quarter + 1), mean, spread, len(durations), is_trip)
 
 
 def records_of_sumo(path: str) -> Iterator[Single]:
@@ -233,7 +235,7 @@ def read_lanes(path: str, limits_of: Mapping[str, int]) -> list[SurveyedLane]:
     street, flow = table.need("a street", ("street", "edge", "lane")), table.need("a flow", ("flow", "saturation_flow"))
     full = table.need("vehicles a green", ("vehicles_per_green", "veh_per_green"))
     green, greens = table.need("seconds of green", ("green", "green_s")), table.need("greens", ("greens", "cycles"))
-    found = []
+    lanes = []
     for row in table.rows:
         name = row.get(street, name_of)
         lane = SurveyedLane(
@@ -241,13 +243,13 @@ def read_lanes(path: str, limits_of: Mapping[str, int]) -> list[SurveyedLane]:
             limits_of.get(name, 2),
         )
         if not 300 <= lane.flow <= 3600:
-            raise Fault(f"{row.where}: a lane has no saturation flow of {lane.flow:g} vehicles an hour")
+            raise Fault(f"{row.location}: a lane has no saturation flow of {lane.flow:g} vehicles an hour")
         if lane.per_green > lane.green:
-            raise Fault(f"{row.where}: {lane.per_green:g} vehicles in a green of {lane.green:g} s")
-        found.append(lane)
-    if not found:
+            raise Fault(f"{row.location}: {lane.per_green:g} vehicles in a green of {lane.green:g} s")
+        lanes.append(lane)
+    if not lanes:
         raise Fault(f"{path}: no lane is in it")
-    return found
+    return lanes
 
 
 def read_queues(path: str) -> list[FieldQueue]:
@@ -255,29 +257,29 @@ def read_queues(path: str) -> list[FieldQueue]:
     table = Columns(path)
     edge, mean = table.need("an edge", ("edge", "link")), table.need("a mean", ("mean_of_cycles", "mean", "mean_m"))
     most = table.find(("max", "max_m", "longest"))
-    found = []
+    queues = []
     for row in table.rows:
-        longest = row.get(most, at_least_nothing) if most else 0.0
-        found.append(FieldQueue(row.get(edge, name_of), row.get(mean, at_least_nothing), longest))
-    return found
+        longest = row.get(most, not_negative) if most else 0.0
+        queues.append(FieldQueue(row.get(edge, name_of), row.get(mean, not_negative), longest))
+    return queues
 
 
 def counts_as_demand(paths: Iterable[str], folder: str, notes: list[str]) -> list[str]:
     """Paths of counts as streetsim-demand reads them: files of its own columns, and SUMO's, as they are; tables in
     other spellings anew, in a folder. notes: gets how columns were read."""
-    found = []
-    for place, path in enumerate(paths):
+    demand_paths = []
+    for index, path in enumerate(paths):
         if begins_with(path, "<"):
-            found.append(path)
+            demand_paths.append(path)
             continue
         table = Columns(path)
         if {*COUNT_COLUMNS} <= {*table.names}:
-            found.append(path)
+            demand_paths.append(path)
         else:
-            made = Path(folder) / f"counts-{place}.csv"
-            made.write_text(rewritten_counts(table, notes), encoding="utf-8")
-            found.append(str(made))
-    return found
+            table_path = Path(folder) / f"counts-{index}.csv"
+            table_path.write_text(rewritten_counts(table, notes), encoding="utf-8")
+            demand_paths.append(str(table_path))
+    return demand_paths
 
 
 def rewritten_counts(table: Columns, notes: list[str]) -> str:
@@ -294,7 +296,7 @@ def rewritten_counts(table: Columns, notes: list[str]) -> str:
         begin = row.get(time, clock_of)
         end = row.get(ends, clock_of) if ends else begin + period
         if end <= begin:
-            raise Fault(f"{row.where}: the period ends at {end:,} s, and begins at {begin:,} s")
+            raise Fault(f"{row.location}: the period ends at {end:,} s, and begins at {begin:,} s")
         vehicles = row.get(count, vehicle_number) * ((end - begin) / 3600 if hourly else 1)
         write([begin, end, row.get(edge, name_of), row.text(to) if to else "", f"{vehicles:g}"])
     return text.getvalue()
@@ -302,20 +304,21 @@ def rewritten_counts(table: Columns, notes: list[str]) -> str:
 
 def pooled(times: Iterable[TravelTime]) -> dict[tuple[str, ...], tuple[float, float, int]]:
     """By way (mean, standard deviation of one vehicle, vehicles) over all periods."""
-    some: defaultdict[tuple[str, ...], list[TravelTime]] = defaultdict(list)
-    for one in times:
-        some[one.key].append(one)
-    found = {}
-    for key, own in some.items():
-        vehicles = sum(one.vehicles for one in own)
-        mean = sum(one.mean * one.vehicles for one in own) / vehicles
-        square = sum(one.vehicles * (one.deviation**2 + (one.mean - mean) ** 2) for one in own) / vehicles
-        found[key] = mean, sqrt(square), vehicles
-    return found
+    groups: defaultdict[tuple[str, ...], list[TravelTime]] = defaultdict(list)
+    for time in times:
+        groups[time.key].append(time)
+    pooled_times = {}
+    for key, group in groups.items():
+        vehicles = sum(time.vehicles for time in group)
+        mean = sum(time.mean * time.vehicles for time in group) / vehicles
+        square = sum(time.vehicles * (time.deviation**2 + (time.mean - mean) ** 2) for time in group) / vehicles
+        pooled_times[key] = mean, sqrt(square), vehicles
+    return pooled_times
 
 
-def refuse_unknown(day: FieldDay, edges: Collection[str], where: str) -> None:
-    """Fault where a way or a queue is of an edge that the network does not have; where: of which day."""
-    named = [name for one in day.times for name in one.edges] + [one.edge for one in day.queues]
+def refuse_unknown(day: FieldDay, edges: Collection[str], day_name: str) -> None:
+    """Fault where a way or a queue is of an edge that the network does not have; day_name: of which day."""
+    of_times = [name for travel_time in day.times for name in travel_time.edges]
+    named = of_times + [queue.edge for queue in day.queues]
     if unknown := next((name for name in named if name not in edges), None):
-        raise Fault(f"{where}: the network has no edge {unknown!r}")
+        raise Fault(f"{day_name}: the network has no edge {unknown!r}")

@@ -1,5 +1,5 @@
-"""Fits the drivers of a street to what was measured there: Gauss-Newton with common seeds, and what is known before, as
-a survey of saturation tells it, as a prior."""
+"""The fit of streetsim-calibrate: Gauss-Newton finds the drivers of a street whose travel times are those of the field.
+Runs have common seeds; a survey of saturation is the prior."""
 from __future__ import annotations
 
 from collections import Counter
@@ -20,7 +20,7 @@ LEAST_WAYS = 5  # of a class of street, for a factor of its own
 ROUNDS = 4
 ENOUGH = 0.15  # of a step, below which the fit ends
 PARTS = (1.0, 0.5, 0.25)  # of a step that is tried
-TOLD = 0.5  # of what is known before anything is measured: the greatest error of a value that data tell
+MAX_SHARE_OF_PRIOR = 0.5  # of what is known before anything is measured: the greatest error of a value that data tell
 DAWDLE, CUT, SPEED = "dawdle", "seconds cut", "speed factor"
 
 
@@ -42,26 +42,27 @@ class FittedValue:
 def values_of(day: FieldDay, classes: Sequence[str], free: Sequence[str]) -> list[FittedValue]:
     """The values that are fitted to a day: dawdle and cut where saturation was surveyed, and a speed factor for each of
     the classes. free: of dawdle, speed, lost, those that may move."""
-    found = []
+    values = []
     if day.lanes:
         dawdle, cut = surveyed_drivers(day.lanes)
         if "dawdle" in free:
-            found.append(FittedValue(DAWDLE, round(dawdle, 3), 0.03, 0.08, 0.03, 0.0, 0.45))
+            values.append(FittedValue(DAWDLE, round(dawdle, 3), 0.03, 0.08, 0.03, 0.0, 0.45))
         if "lost" in free:
-            found.append(FittedValue(CUT, round(cut, 2), 0.5, 1.5, 1.0, -3.0, 5.0))
+            values.append(FittedValue(CUT, round(cut, 2), 0.5, 1.5, 1.0, -3.0, 5.0))
     if "speed" in free:
-        found += [FittedValue(SPEED, 1.0, 0.1, 0.1, 0.04, 0.6, 1.4, street) for street in classes]
-    return found
+        values += [FittedValue(SPEED, 1.0, 0.1, 0.1, 0.04, 0.6, 1.4, street) for street in classes]
+    return values
 
 
 def classes_of(day: FieldDay, class_of: Mapping[str, str]) -> list[str]:
     """The classes of street that get a factor of their own: with five ways seen often enough; and all others as one.
     class_of: by edge. A way is of the class of its last edge."""
     often = [key for key, (_, _, count) in pooled(day.times).items() if count >= LEAST_SEEN]
-    seen = Counter(class_of.get(key[-1], ALL) for key in often)
-    own = sorted(name for name, ways in seen.items() if ways >= LEAST_WAYS)
-    others = sum(seen.values()) - sum(seen[name] for name in own)
-    return own if len(own) > 1 and not others else [ALL, *(own if len(own) > 1 else [])]
+    class_counts = Counter(class_of.get(key[-1], ALL) for key in often)
+    class_names = sorted(name for name, ways in class_counts.items() if ways >= LEAST_WAYS)
+    unclassed = sum(class_counts.values()) - sum(class_counts[name] for name in class_names)
+    several = class_names if len(class_names) > 1 else []
+    return several if several and not unclassed else [ALL, *several]
 
 
 def start_of(day: FieldDay) -> FittedDrivers:
@@ -78,13 +79,13 @@ Measure = Callable[[Sequence[FittedDrivers]], list[list[MeasuredRun]]]  # runs o
 @dataclass(slots=True)
 class FitResult:
     """What a fit found. errors: standard errors by value, greater where the fit is worse than the errors of its data;
-    told: the same without that, by which data tell a value or not; correlations: between values; runs: that were
-    made."""
+    unscaled_errors: the same without that, by which data tell a value or not; correlations: between values; runs: how
+    many were made."""
 
     drivers: FittedDrivers
     values: list[FittedValue]
     errors: list[float]
-    told: list[float]
+    unscaled_errors: list[float]
     correlations: list[list[float]]
     untold: list[FittedValue]  # that stay at their prior
     runs: int
@@ -96,72 +97,73 @@ class Fit:
 
     def __init__(self, day: FieldDay, start: FittedDrivers, measure: Measure, most: int, seeds: int) -> None:
         """measure: makes runs; most: of them; seeds: runs of each trial."""
-        self.wanted = {key: one for key, one in pooled(day.times).items() if one[2] >= LEAST_SEEN}
+        self.field_times = {key: values for key, values in pooled(day.times).items() if values[2] >= LEAST_SEEN}
         self.start, self.measure, self.most, self.seeds = start, measure, most, seeds
-        self.known: dict[FittedDrivers, list[MeasuredRun]] = {}
+        self.measured_runs: dict[FittedDrivers, list[MeasuredRun]] = {}
         self.trials: list[tuple[int, FittedDrivers, float]] = []
 
     @property
     def runs(self) -> int:
         """How many runs were made."""
-        return self.seeds * len(self.known)
+        return self.seeds * len(self.measured_runs)
 
-    def take(self, all_: Sequence[FittedDrivers]) -> bool:
+    def run_missing(self, all_drivers: Sequence[FittedDrivers]) -> bool:
         """Makes the runs of drivers that are not known; gives whether their number allowed it."""
-        new = [one for one in dict.fromkeys(all_) if one not in self.known]
-        if self.runs + self.seeds * len(new) > self.most:
+        missing = [drivers for drivers in dict.fromkeys(all_drivers) if drivers not in self.measured_runs]
+        if self.runs + self.seeds * len(missing) > self.most:
             return False
-        self.known |= zip(new, self.measure(new), strict=True) if new else ()
+        self.measured_runs |= zip(missing, self.measure(missing), strict=True) if missing else ()
         return True
 
     def residuals(self, drivers: FittedDrivers) -> Array:
         """Model less field of each way, over its error; a way that nobody drove in the runs counts nothing."""
-        here = pooled_runs(self.known[drivers])
-        found = []
-        for key, (mean, deviation, count) in sorted(self.wanted.items()):
+        model_times = pooled_runs(self.measured_runs[drivers])
+        residuals = []
+        for key, (mean, deviation, count) in sorted(self.field_times.items()):
             error = hypot(deviation / sqrt(count), MODEL_ERROR * mean)
-            found.append((here[key][0] - mean) / error if key in here else 0.0)
-        return np.array(found)
+            residuals.append((model_times[key][0] - mean) / error if key in model_times else 0.0)
+        return np.array(residuals)
 
     def solve(self, values: Sequence[FittedValue]) -> FitResult:
         """Fits values, and then again without those that the data do not tell, which stay where they began."""
-        found = self.climb(values)
-        untold = [one for one, error in zip(values, found.told) if error > TOLD * one.usual_spread]
+        result = self.climb(values)
+        limits = [MAX_SHARE_OF_PRIOR * value.usual_spread for value in values]
+        untold = [value for value, error, most in zip(values, result.unscaled_errors, limits) if error > most]
         if untold and len(untold) < len(values):
-            again = self.climb([one for one in values if one not in untold])
+            again = self.climb([value for value in values if value not in untold])
             return replace(again, untold=untold)
         if untold:
             return FitResult(self.start, [], [], [], [], untold, self.runs, self.trials)
-        return found
+        return result
 
     def climb(self, values: Sequence[FittedValue]) -> FitResult:
         """Gauss-Newton from where the values begin, with the covariance where it ends."""
-        x = np.array([one.center for one in values])
-        prior = np.diag([1 / one.spread**2 for one in values])
-        center, covariance, spread = x.copy(), np.diag([one.spread**2 for one in values]), 1.0
+        x = np.array([value.center for value in values])
+        prior = np.diag([1 / value.spread**2 for value in values])
+        center, covariance, spread = x.copy(), np.diag([value.spread**2 for value in values]), 1.0
         for _ in range(ROUNDS if values else 0):
-            moves = [moved(x, values, at) for at in range(len(values))]
-            if not self.take([self.drivers(values, one) for one in (x, *(there for there, _ in moves))]):
+            moves = [step_value(x, values, index) for index in range(len(values))]
+            if not self.run_missing([self.drivers(values, point) for point in (x, *(moved_x for moved_x, _ in moves))]):
                 break
-            here = self.residuals(self.drivers(values, x))
-            slopes = [(self.residuals(self.drivers(values, there)) - here) / step for there, step in moves]
-            jacobian = np.array(slopes).T.reshape(len(here), len(values))
+            residuals = self.residuals(self.drivers(values, x))
+            slopes = [(self.residuals(self.drivers(values, moved_x)) - residuals) / step for moved_x, step in moves]
+            jacobian = np.array(slopes).T.reshape(len(residuals), len(values))
             normal = jacobian.T @ jacobian + prior
-            spread = max(1.0, float(here @ here) / max(1, len(here) - len(values)))
+            spread = max(1.0, float(residuals @ residuals) / max(1, len(residuals) - len(values)))
             covariance = np.linalg.inv(normal)
-            step = -np.linalg.solve(normal, jacobian.T @ here + prior @ (x - center))
+            step = -np.linalg.solve(normal, jacobian.T @ residuals + prior @ (x - center))
             best = self.best_part(values, x, step, center)
             if best is None:
                 break
-            shift = np.abs(best - x) / [one.step for one in values]
+            shift = np.abs(best - x) / [value.step for value in values]
             x = best
             if shift.max() < ENOUGH:
                 break
-        self.take([self.drivers(values, x)])
-        told = np.sqrt(np.diag(covariance)) if values else np.array([])
-        correlations = (covariance / np.outer(told, told)).tolist() if values else []
-        drivers, errors = self.drivers(values, x), (told * sqrt(spread)).tolist()
-        return FitResult(drivers, list(values), errors, told.tolist(), correlations, [], self.runs, self.trials)
+        self.run_missing([self.drivers(values, x)])
+        deviations = np.sqrt(np.diag(covariance)) if values else np.array([])
+        correlations = (covariance / np.outer(deviations, deviations)).tolist() if values else []
+        drivers, errors = self.drivers(values, x), (deviations * sqrt(spread)).tolist()
+        return FitResult(drivers, list(values), errors, deviations.tolist(), correlations, [], self.runs, self.trials)
 
     def best_part(
         self, values: Sequence[FittedValue], x: Array, step: Array, center: Array
@@ -169,69 +171,70 @@ class Fit:
         """The first part of a step by which the cost falls; none where no part does, or the runs are used up."""
         before = self.cost(values, x, center)
         for part in PARTS:
-            there = clipped(values, x + part * step)
-            if not self.take([self.drivers(values, there)]):
+            candidate = clipped(values, x + part * step)
+            if not self.run_missing([self.drivers(values, candidate)]):
                 return None
-            if self.cost(values, there, center) < before:
-                return there
+            if self.cost(values, candidate, center) < before:
+                return candidate
         return None
 
     def cost(self, values: Sequence[FittedValue], x: Array, center: Array) -> float:
         """The sum of squares of residuals, and of what is off what is known."""
         drivers = self.drivers(values, x)
-        own = self.residuals(drivers)
-        off = (x - center) / [one.spread for one in values]
-        found = float(own @ own + off @ off)
-        if all(one[1] != drivers for one in self.trials):
-            self.trials.append((self.runs, drivers, found))
-        return found
+        residuals = self.residuals(drivers)
+        off = (x - center) / [value.spread for value in values]
+        total = float(residuals @ residuals + off @ off)
+        if all(trial[1] != drivers for trial in self.trials):
+            self.trials.append((self.runs, drivers, total))
+        return total
 
     def drivers(self, values: Sequence[FittedValue], x: Array) -> FittedDrivers:
         """The drivers with some values; all others are those before any run."""
-        found, speeds = self.start, dict(self.start.speeds)
-        for one, value in zip(values, np.round(x, 3).tolist(), strict=True):
-            if one.name == DAWDLE:
-                found = replace(found, dawdle=value)
-            elif one.name == CUT:
-                found = replace(found, cut=value)
+        result, speeds = self.start, dict(self.start.speeds)
+        for fitted, value in zip(values, np.round(x, 3).tolist(), strict=True):
+            if fitted.name == DAWDLE:
+                result = replace(result, dawdle=value)
+            elif fitted.name == CUT:
+                result = replace(result, cut=value)
             else:
-                speeds[one.street] = value
-        return replace(found, speeds=tuple(sorted(speeds.items())))
+                speeds[fitted.street] = value
+        return replace(result, speeds=tuple(sorted(speeds.items())))
 
 
-def moved(x: Array, values: Sequence[FittedValue], at: int) -> tuple[Array, float]:
+def step_value(x: Array, values: Sequence[FittedValue], index: int) -> tuple[Array, float]:
     """(values with one of them a step away, the step): upward, where its range allows it."""
-    step = values[at].step if x[at] + values[at].step <= values[at].most else -values[at].step
-    there = x.copy()
-    there[at] += step
-    return there, step
+    step = values[index].step if x[index] + values[index].step <= values[index].most else -values[index].step
+    moved_x = x.copy()
+    moved_x[index] += step
+    return moved_x, step
 
 
 def clipped(values: Sequence[FittedValue], x: Array) -> Array:
     """Values within their ranges, with three decimals."""
-    return np.round(np.clip(x, [one.least for one in values], [one.most for one in values]), 3)
+    return np.round(np.clip(x, [value.least for value in values], [value.most for value in values]), 3)
 
 
-def told_by(one: FittedValue, day: FieldDay) -> str:
+def data_behind(value: FittedValue, day: FieldDay) -> str:
     """By which data a value is told."""
-    if one.name == SPEED:
-        return f"times of streets of {one.street} km/h" if one.street else "times"
+    if value.name == SPEED:
+        return f"times of streets of {value.street} km/h" if value.street else "times"
     return "survey of saturation, and times" if day.lanes else "nothing"
 
 
-def value_in(drivers: FittedDrivers, one: FittedValue) -> float:
+def value_in(drivers: FittedDrivers, value: FittedValue) -> float:
     """A value of some drivers."""
-    if one.name == DAWDLE:
+    if value.name == DAWDLE:
         return drivers.dawdle
-    return drivers.cut if one.name == CUT else dict(drivers.speeds).get(one.street, 1.0)
+    return drivers.cut if value.name == CUT else dict(drivers.speeds).get(value.street, 1.0)
 
 
 def lines_of(result: FitResult, day: FieldDay) -> Iterator[str]:
     """What a fit found, a line for each value."""
-    for one, error in zip(result.values, result.errors, strict=True):
-        street = f" of {one.street} km/h" if one.street else ""
-        yield f"{one.name}{street}: {value_in(result.drivers, one):.3f} +- {error:.3f}, told by {told_by(one, day)}"
-    for one in result.untold:
-        yield f"{one.name}: not told by these data; it stays at {value_in(result.drivers, one):.3f}"
+    for value, error in zip(result.values, result.errors, strict=True):
+        street = f" of {value.street} km/h" if value.street else ""
+        fitted = f"{value_in(result.drivers, value):.3f} +- {error:.3f}"
+        yield f"{value.name}{street}: {fitted}, told by {data_behind(value, day)}"
+    for value in result.untold:
+        yield f"{value.name}: not told by these data; it stays at {value_in(result.drivers, value):.3f}"
     if not day.lanes:
         yield "saturation was not surveyed: dawdle and cut stay as they are, and capacity is not calibrated"

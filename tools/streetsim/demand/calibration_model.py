@@ -1,4 +1,5 @@
-"""The street in the machine with some drivers: imported, run, and measured as the field is measured."""
+"""Imports and runs the street with the drivers of one trial, and measures the run as the field is measured. The fit and
+the criteria of streetsim-calibrate ask it."""
 from __future__ import annotations
 
 import json
@@ -80,13 +81,13 @@ class StreetRuns:
     def imported(self, drivers: FittedDrivers) -> tuple[Run, Map]:
         """The run and map with some drivers."""
         report, options = Report(), drivers.options(self.options)
-        own = self.sources
+        sources = self.sources
         lines, mapping = run_and_map(
-            convert(own.net, own.additional, own.routes, options, report, own.trips), report
+            convert(sources.net, sources.additional, sources.routes, options, report, sources.trips), report
         )
-        return run_of_texts(own.net, lines), mapping
+        return run_of_texts(sources.net, lines), mapping
 
-    def measured(self, task: tuple[FittedDrivers, int], told: object = None) -> MeasuredRun:
+    def measured(self, task: tuple[FittedDrivers, int], progress: object = None) -> MeasuredRun:
         """What a run with (drivers, seed) gives."""
         run, mapping = self.imported(task[0])
         run = with_load(run, seed=task[1])
@@ -102,16 +103,16 @@ class StreetRuns:
 
     def measures(self, run: Run, mapping: Map, segments: Segments, trips: TripsTable, queues: Queues) -> MeasuredRun:
         """What observers of a run saw, as the field is measured."""
-        ends, number = segments.ends(), {edge: at for at, edge in enumerate(mapping.links_of)}
+        ends, number = segments.ends(), {edge: index for index, edge in enumerate(mapping.links_of)}
         departs = np.array([line.command["depart"] for line in run.enters], np.int64)
         begin, end = self.window
-        seen = trips.arrival > 0
-        judged = seen & (departs >= begin)
+        has_arrived = trips.arrival > 0
+        judged = has_arrived & (departs >= begin)
         mean = float((trips.arrival - departs)[judged].mean()) if judged.any() else 0.0
         times = dict(times_by_way(ends, number, self.ways, self.window))
         times |= dict(trip_times(run, mapping, trips.arrival, departs, self.ways, self.window))
-        found = dict(longest_queues(queues, run, mapping, self.window))
-        return MeasuredRun(times, turn_counts(ends, list(number), self.window), found, mean, int(judged.sum()))
+        queue_lengths = dict(longest_queues(queues, run, mapping, self.window))
+        return MeasuredRun(times, turn_counts(ends, list(number), self.window), queue_lengths, mean, int(judged.sum()))
 
 
 def sums_of(seconds: Array) -> tuple[float, float, int]:
@@ -127,14 +128,14 @@ def times_by_way(
     for way in ways:
         if way[0] == TRIP:
             continue
-        last = np.arange(len(way) - 1, len(ends.owner))
-        first = last - (len(way) - 1)
-        fits = (ends.clock[last] >= window[0]) & (ends.clock[last] < window[1])
-        fits &= ends.owner[first] == ends.owner[last]
+        last_row = np.arange(len(way) - 1, len(ends.owner))
+        first_row = last_row - (len(way) - 1)
+        fits = (ends.clock[last_row] >= window[0]) & (ends.clock[last_row] < window[1])
+        fits &= ends.owner[first_row] == ends.owner[last_row]
         for step, edge in enumerate(way):
-            fits &= ends.edge[first + step] == number[edge]
+            fits &= ends.edge[first_row + step] == number[edge]
         if fits.any():
-            yield tuple(way), sums_of((ends.clock[last] - ends.clock[first])[fits])
+            yield tuple(way), sums_of((ends.clock[last_row] - ends.clock[first_row])[fits])
 
 
 def trip_times(
@@ -142,27 +143,27 @@ def trip_times(
 ) -> Iterator[tuple[tuple[str, ...], tuple[float, float, int]]]:
     """By trip, from an edge to another, that somebody made ((TRIP, edge, edge), as of sums_of), of those who arrived
     in the window."""
-    wanted = {tuple(way) for way in ways if way[0] == TRIP}
-    found: defaultdict[tuple[str, ...], list[int]] = defaultdict(list)
-    for at in np.flatnonzero((arrival >= window[0]) & (arrival < window[1]) & (arrival > 0)).tolist():
-        plan = run.enters[at].command["plan"]
+    trip_keys = {tuple(way) for way in ways if way[0] == TRIP}
+    seconds_by_trip: defaultdict[tuple[str, ...], list[int]] = defaultdict(list)
+    for vehicle in np.flatnonzero((arrival >= window[0]) & (arrival < window[1]) & (arrival > 0)).tolist():
+        plan = run.enters[vehicle].command["plan"]
         key = (TRIP, mapping.links[plan[0]].edge, mapping.links[plan[-1]].edge)
-        if key in wanted:
-            found[key].append(int(arrival[at] - departs[at]))
-    yield from ((key, sums_of(np.array(some))) for key, some in found.items())
+        if key in trip_keys:
+            seconds_by_trip[key].append(int(arrival[vehicle] - departs[vehicle]))
+    yield from ((key, sums_of(np.array(seconds))) for key, seconds in seconds_by_trip.items())
 
 
 def turn_counts(ends: SegmentEnds, edges: Sequence[str], window: tuple[int, int]) -> dict[tuple[str, ...], int]:
     """Vehicles that passed the stop line of an edge in the window, by edge (one name), and by edge and the next one."""
     inside = (ends.clock >= window[0]) & (ends.clock < window[1]) & (ends.edge >= 0)
-    found: dict[tuple[str, ...], int] = {}
+    counts: dict[tuple[str, ...], int] = {}
     for edge, count in enumerate(np.bincount(ends.edge[inside], minlength=len(edges)).tolist()):
-        found[edges[edge],] = count
-    here = np.flatnonzero(inside[:-1] & (ends.owner[1:] == ends.owner[:-1]) & (ends.edge[1:] >= 0))
-    pairs = ends.edge[here].astype(np.int64) * len(edges) + ends.edge[here + 1]
-    for pair, count in zip(*(one.tolist() for one in np.unique(pairs, return_counts=True)), strict=True):
-        found[edges[pair // len(edges)], edges[pair % len(edges)]] = count
-    return found
+        counts[edges[edge],] = count
+    rows = np.flatnonzero(inside[:-1] & (ends.owner[1:] == ends.owner[:-1]) & (ends.edge[1:] >= 0))
+    pairs = ends.edge[rows].astype(np.int64) * len(edges) + ends.edge[rows + 1]
+    for pair, count in zip(*(values.tolist() for values in np.unique(pairs, return_counts=True)), strict=True):
+        counts[edges[pair // len(edges)], edges[pair % len(edges)]] = count
+    return counts
 
 
 def longest_queues(
@@ -170,23 +171,23 @@ def longest_queues(
 ) -> Iterator[tuple[str, tuple[float, float]]]:
     """By edge (edge, (mean over the cycles of its light of the longest queue of a lane, the longest)), m."""
     cycles = {command["node"]: sum(phase[0] for phase in command["phases"]) for _, command in run.signals()}
-    found: defaultdict[str, dict[int, float]] = defaultdict(dict)
+    longest: defaultdict[str, dict[int, float]] = defaultdict(dict)
     nodes = {edge: mapping.links[links[0]].end for edge, links in mapping.links_of.items()}
     cycle_of = {edge: max(1, cycles.get(node, CYCLE)) for edge, node in nodes.items()}
     for clock, edge, _, _, metres, *_ in queues.rows():
         if window[0] <= clock < window[1]:
-            own, place = found[edge], int(clock // cycle_of[edge])
-            own[place] = max(own.get(place, 0.0), metres)
-    for edge, own in found.items():
+            by_cycle, cycle = longest[edge], int(clock // cycle_of[edge])
+            by_cycle[cycle] = max(by_cycle.get(cycle, 0.0), metres)
+    for edge, by_cycle in longest.items():
         count = max(1.0, (window[1] - window[0]) / cycle_of[edge])
-        yield edge, (sum(own.values()) / count, max(own.values()))
+        yield edge, (sum(by_cycle.values()) / count, max(by_cycle.values()))
 
 
 def pooled_runs(runs: Iterable[MeasuredRun]) -> dict[tuple[str, ...], tuple[float, float, int]]:
     """By way (mean, standard deviation of one vehicle, vehicles) over runs."""
     sums: dict[tuple[str, ...], Array] = {}
-    for one in runs:
-        for key, values in one.times.items():
+    for run in runs:
+        for key, values in run.times.items():
             sums[key] = sums.get(key, 0) + np.array(values)
     return {
         key: (total / count, float(np.sqrt(max(0.0, square / count - (total / count) ** 2))), int(count))
@@ -196,4 +197,4 @@ def pooled_runs(runs: Iterable[MeasuredRun]) -> dict[tuple[str, ...], tuple[floa
 
 def ways_of(day: FieldDay) -> tuple[tuple[str, ...], ...]:
     """The ways of a day's times."""
-    return tuple(sorted({one.key for one in day.times}))
+    return tuple(sorted({time.key for time in day.times}))

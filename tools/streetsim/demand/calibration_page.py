@@ -1,4 +1,4 @@
-"""The files of a calibration: drivers, segments, criteria, runs, and a page of them."""
+"""Writes the files of streetsim-calibrate: drivers, segments.csv, criteria.csv, runs.csv and the page report.html."""
 from __future__ import annotations
 
 import hashlib
@@ -14,7 +14,7 @@ from streetsim.base.files import Json, whole_file
 from streetsim.base.seeds import mean_and_half_width
 from streetsim.demand.calibration_criteria import Criterion
 from streetsim.demand.calibration_field import TRIP, FieldDay, pooled
-from streetsim.demand.calibration_fit import LEAST_SEEN, FitResult, told_by, value_in
+from streetsim.demand.calibration_fit import LEAST_SEEN, FitResult, data_behind, value_in
 from streetsim.demand.calibration_model import FittedDrivers, MeasuredRun
 from streetsim.model.tables import Entry, write_table
 from streetsim.report.page_markup import Section, bullets, facts, page, table
@@ -27,7 +27,7 @@ SEGMENTS = (
 RUNS = ("runs", "dawdle", "cut_s", "speed_factors", "cost")
 FITTED, OTHER = "fitted", "other"
 BEFORE, AFTER = "uncalibrated", "calibrated"
-LAST = "criteria.csv"
+LAST_FILE = "criteria.csv"
 NOT_TOLD = (
     "Lefts that give way on an approach that a plan or a treatment makes the bottleneck: nothing in a base tells how "
     "many of them pass. Above 0.85 of its capacity such an approach wants a survey: --permissive EDGE=SHARE.",
@@ -67,7 +67,7 @@ class Calibration:
     def is_valid(self) -> bool:
         """Whether there is another day, and all criteria hold there."""
         last = self.last_day()
-        return last.name == OTHER and all(one.is_met for one in last.criteria[AFTER])
+        return last.name == OTHER and all(criterion.is_met for criterion in last.criteria[AFTER])
 
     def drivers(self) -> Json:
         """What the file of --drivers gets."""
@@ -80,19 +80,19 @@ def sum_of_input(path: str) -> str:
     return hashlib.sha256(Path(path).read_bytes()).hexdigest()
 
 
-def write_calibration(folder: str, made: Calibration) -> None:
+def write_calibration(folder: str, calibration: Calibration) -> None:
     """Writes all files but the drivers into a folder."""
-    write_table(f"{folder}/segments.csv", SEGMENTS, segment_rows(made.days))
-    write_table(f"{folder}/runs.csv", RUNS, map(trial_row, made.result.trials))
+    write_table(f"{folder}/segments.csv", SEGMENTS, segment_rows(calibration.days))
+    write_table(f"{folder}/runs.csv", RUNS, map(trial_row, calibration.result.trials))
     with whole_file(f"{folder}/report.html") as file:
-        file.write(page_of(made))
-    write_table(f"{folder}/{LAST}", CRITERIA, criteria_rows(made.days))
+        file.write(page_of(calibration))
+    write_table(f"{folder}/{LAST_FILE}", CRITERIA, criteria_rows(calibration.days))
 
 
-def write_drivers(path: str, made: Calibration) -> None:
+def write_drivers(path: str, calibration: Calibration) -> None:
     """Writes the file of --drivers."""
     with whole_file(path) as file:
-        json.dump(made.drivers(), file, indent=1)
+        json.dump(calibration.drivers(), file, indent=1)
         file.write("\n")
 
 
@@ -106,13 +106,14 @@ def trial_row(trial: tuple[int, FittedDrivers, float]) -> Entry:
 def criteria_rows(days: Iterable[JudgedDay]) -> Iterator[Entry]:
     """The rows of criteria.csv."""
     for day in days:
-        for drivers, all_ in day.criteria.items():
-            for one in all_:
-                share, wanted = f"{100 * one.share:.1f}", f"{100 * one.wanted:.0f}"
-                yield one.name, day.name, drivers, share, one.of, wanted, "yes" if one.is_met else "no"
+        for drivers, criteria in day.criteria.items():
+            for criterion in criteria:
+                share, share_needed = f"{100 * criterion.share:.1f}", f"{100 * criterion.share_needed:.0f}"
+                is_met = "yes" if criterion.is_met else "no"
+                yield criterion.name, day.name, drivers, share, criterion.of, share_needed, is_met
 
 
-def way_told(key: Sequence[str]) -> str:
+def way_name(key: Sequence[str]) -> str:
     """A way by its edges; of a trip, from which edge to which."""
     return f"{key[1]} .. {key[2]}" if key[0] == TRIP else ">".join(key)
 
@@ -124,14 +125,14 @@ def segment_rows(days: Iterable[JudgedDay]) -> Iterator[Entry]:
             if count >= LEAST_SEEN:
                 before, after = (seed_means(day.runs[drivers], key) for drivers in (BEFORE, AFTER))
                 half = f"{1.96 * deviation / sqrt(count):.1f}" if deviation else ""
-                told = [way_told(key), day.name, count, f"{mean:.1f}", half, mean_or_none(before), *interval(after)]
+                cells = [way_name(key), day.name, count, f"{mean:.1f}", half, mean_or_none(before), *interval(after)]
                 off = f"{100 * (fmean(after) / mean - 1):+.1f}" if after else ""
-                yield (*told, off)
+                yield (*cells, off)
 
 
 def seed_means(runs: Iterable[MeasuredRun], key: tuple[str, ...]) -> list[float]:
     """The mean seconds of a way in each run in which somebody drove it."""
-    return [one.times[key][0] / one.times[key][2] for one in runs if key in one.times]
+    return [run.times[key][0] / run.times[key][2] for run in runs if key in run.times]
 
 
 def mean_or_none(values: Sequence[float]) -> str:
@@ -145,48 +146,51 @@ def interval(values: Sequence[float]) -> tuple[str, str]:
     return mean_or_none(values), "" if half is None else f"{half:.1f}"
 
 
-def page_of(made: Calibration) -> str:
+def page_of(calibration: Calibration) -> str:
     """The page, as HTML: criteria, segments, values, what is not vouched for, seeds and sums."""
-    told = "The base is validated on another day." if made.is_valid() else why_not_valid(made)
+    verdict = "The base is validated on another day." if calibration.is_valid() else why_not_valid(calibration)
     sections = [
-        Section("criteria", "Criteria", criteria_table(made.days)),
-        Section("segments", "Travel times, field and model", segments_table(made.days)),
-        Section("values", "What was fitted", values_table(made)),
+        Section("criteria", "Criteria", criteria_table(calibration.days)),
+        Section("segments", "Travel times, field and model", segments_table(calibration.days)),
+        Section("values", "What was fitted", values_table(calibration)),
         Section("vouched", "What the calibration does not vouch for", bullets(NOT_TOLD)),
-        Section("run", "Seeds and sums", facts(run_facts(made))),
+        Section("run", "Seeds and sums", facts(run_facts(calibration))),
     ]
-    return page("A calibrated base", f"<p>{escape(told)}</p>", sections, [])
+    return page("A calibrated base", f"<p>{escape(verdict)}</p>", sections, [])
 
 
-def why_not_valid(made: Calibration) -> str:
+def why_not_valid(calibration: Calibration) -> str:
     """Why a base is not validated, as a sentence."""
-    last = made.last_day()
-    if last.name != OTHER:
+    last_day = calibration.last_day()
+    if last_day.name != OTHER:
         return "The base is fitted, and not validated: no other day was given."
-    missed = [f"{one.name} ({one.told()})" for one in last.criteria[AFTER] if not one.is_met]
+    criteria = (criterion for criterion in last_day.criteria[AFTER] if not criterion.is_met)
+    missed = [f"{criterion.name} ({criterion.share_text()})" for criterion in criteria]
     return f"The base is not validated: on the other day it does not meet {', '.join(missed)}."
 
 
 def criteria_table(days: Sequence[JudgedDay]) -> str:
     """The criteria of both days, without and with calibration, as HTML."""
     columns = [(day, drivers) for day in days for drivers in (BEFORE, AFTER)]
-    found: dict[str, dict[tuple[str, str], Criterion]] = {}
+    by_name: dict[str, dict[tuple[str, str], Criterion]] = {}
     for day, drivers in columns:
-        for one in day.criteria[drivers]:
-            found.setdefault(one.name, {})[day.name, drivers] = one
+        for criterion in day.criteria[drivers]:
+            by_name.setdefault(criterion.name, {})[day.name, drivers] = criterion
     rows = []
-    for name, own in found.items():
-        wanted = next(iter(own.values())).wanted
-        cells = [mark_told(own.get((day.name, drivers))) for day, drivers in columns]
-        rows.append([escape(name), f"{100 * wanted:.0f} %", *cells])
+    for name, by_column in by_name.items():
+        share_needed = next(iter(by_column.values())).share_needed
+        cells = [criterion_cell(by_column.get((day.name, drivers))) for day, drivers in columns]
+        rows.append([escape(name), f"{100 * share_needed:.0f} %", *cells])
     head = ["criterion", "wanted", *(f"{day.name} day, {drivers}" for day, drivers in columns)]
     note = "Counts fit by construction where the demand was made of them; segments without the minute tell more."
     return table(head, rows) + f'<p class="small">{escape(note)}</p>'
 
 
-def mark_told(one: Criterion | None) -> str:
+def criterion_cell(criterion: Criterion | None) -> str:
     """How a criterion is met, as HTML; empty where the day has no data for it."""
-    return "" if one is None else escape(f"{one.told()}: {'held' if one.is_met else 'not held'}")
+    if criterion is None:
+        return ""
+    return escape(f"{criterion.share_text()}: {'held' if criterion.is_met else 'not held'}")
 
 
 def segments_table(days: Sequence[JudgedDay]) -> str:
@@ -196,18 +200,19 @@ def segments_table(days: Sequence[JudgedDay]) -> str:
     return table(head, rows, 2)
 
 
-def values_table(made: Calibration) -> str:
+def values_table(calibration: Calibration) -> str:
     """The values that were fitted, with their errors, by which data each is told, and how they go together, as HTML."""
-    result, day = made.result, made.days[0].day
+    result, day = calibration.result, calibration.days[0].day
     rows = []
-    for at, (one, error) in enumerate(zip(result.values, result.errors, strict=True)):
-        pairs = zip(result.values, result.correlations[at], strict=True)
-        together = ", ".join(f"{other.name} {value:+.2f}" for other, value in pairs if other is not one)
-        cells = [value_name(one.name, one.street), f"{value_in(result.drivers, one):.3f}", f"{error:.3f}"]
-        cells += [f"{one.center:g} ± {one.spread:g}", told_by(one, day), together]
+    for index, (fitted, error) in enumerate(zip(result.values, result.errors, strict=True)):
+        pairs = zip(result.values, result.correlations[index], strict=True)
+        together = ", ".join(f"{other.name} {value:+.2f}" for other, value in pairs if other is not fitted)
+        cells = [value_name(fitted.name, fitted.street), f"{value_in(result.drivers, fitted):.3f}", f"{error:.3f}"]
+        cells += [f"{fitted.center:g} ± {fitted.spread:g}", data_behind(fitted, day), together]
         rows.append([escape(text) for text in cells])
-    for one in result.untold:
-        cells = [value_name(one.name, one.street), f"{value_in(result.drivers, one):.3f}", "", f"{one.center:g}"]
+    for fitted in result.untold:
+        name, known = value_name(fitted.name, fitted.street), f"{fitted.center:g}"
+        cells = [name, f"{value_in(result.drivers, fitted):.3f}", "", known]
         rows.append([escape(text) for text in (*cells, "not told by these data", "")])
     if not day.lanes:
         rows.append(["dawdle, seconds cut", "as they are", "", "", "not surveyed: capacity is not calibrated", ""])
@@ -220,23 +225,24 @@ def value_name(name: str, street: str) -> str:
     return f"{name}, streets of {street} km/h" if street else name
 
 
-def run_facts(made: Calibration) -> Iterator[tuple[str, str]]:
+def run_facts(calibration: Calibration) -> Iterator[tuple[str, str]]:
     """What was run, of which files, as HTML."""
-    yield "runs of the fit", f"{made.result.runs:,}, seeds {escape(made.seeds)}"
-    if made.last_day().name == OTHER:
-        yield "runs of the other day", f"seeds {escape(made.check)}"
+    yield "runs of the fit", f"{calibration.result.runs:,}, seeds {escape(calibration.seeds)}"
+    if calibration.last_day().name == OTHER:
+        yield "runs of the other day", f"seeds {escape(calibration.check)}"
     yield "departures", "as counted on each day"
-    yield "program", escape(made.program)
-    for path, known in made.sums.items():
+    yield "program", escape(calibration.program)
+    for path, known in calibration.sums.items():
         yield escape(path), f"SHA-256 {known}"
-    for note in made.notes:
+    for note in calibration.notes:
         yield "read", escape(note)
 
 
-def lines_told(made: Calibration) -> Iterator[str]:
+def criteria_lines(calibration: Calibration) -> Iterator[str]:
     """How the criteria are met, a line each, for the terminal; the last says whether the base is validated."""
-    for day in made.days:
+    for day in calibration.days:
         for before, after in zip(day.criteria[BEFORE], day.criteria[AFTER], strict=True):
             held = "held" if after.is_met else "not held"
-            yield f"{day.name} day: {after.name}: {after.told()}, {held} (uncalibrated {100 * before.share:.0f} %)"
-    yield "validated on another day" if made.is_valid() else why_not_valid(made).rstrip(".")
+            uncalibrated = f"uncalibrated {100 * before.share:.0f} %"
+            yield f"{day.name} day: {after.name}: {after.share_text()}, {held} ({uncalibrated})"
+    yield "validated on another day" if calibration.is_valid() else why_not_valid(calibration).rstrip(".")

@@ -1,4 +1,4 @@
-"""A survey of saturated lanes, and the drivers that it tells."""
+"""Drivers (dawdle and lost seconds) by a saturation survey of lanes; the prior of the calibration's fit."""
 from __future__ import annotations
 
 from collections.abc import Iterable, Sequence
@@ -9,7 +9,7 @@ from streetsim.base.arrays import numpy as np
 from streetsim.model.saturation import DAWDLES, GREEN, table_of
 
 SKIPPED = 3  # vehicles of a green, from behind which on headways count
-LEAST = 6  # vehicles of a green whose headways count
+LEAST_VEHICLES = 6  # vehicles of a green whose headways count
 SPREAD = (0.4, 0.3)  # of a green's headway from the fourth vehicle on (s), and of its vehicles less those, usual ones
 
 
@@ -31,10 +31,10 @@ def discharge(times: Iterable[float], begins: Iterable[float], cycle: float) -> 
     always full passed its stop line, in the cycles that begin at some seconds; (nan, nan) where no green has six."""
     passed, heads, full = np.sort(np.array(list(times), float)), [], []
     for begin in begins:
-        own = passed[(passed >= begin - 1) & (passed < begin + cycle - 1)]
-        if len(own) >= LEAST:
-            full.append(len(own))
-            heads.append((own[-1] - own[SKIPPED]) / (len(own) - SKIPPED - 1))
+        passages = passed[(passed >= begin - 1) & (passed < begin + cycle - 1)]
+        if len(passages) >= LEAST_VEHICLES:
+            full.append(len(passages))
+            heads.append((passages[-1] - passages[SKIPPED]) / (len(passages) - SKIPPED - 1))
     return (float(np.mean(heads)), float(np.mean(full))) if full else (float("nan"), float("nan"))
 
 
@@ -43,14 +43,14 @@ def drivers_of(lane: SurveyedLane) -> tuple[float, float]:
     as many in a green, at the same headways."""
     table, headway = table_of(lane.limit), 3600 / lane.flow
     dawdle = float(np.interp(headway, table[:, 0], DAWDLES))
-    own = np.interp(dawdle, DAWDLES, table[:, 0]) * np.interp(dawdle, DAWDLES, table[:, 1])
-    return dawdle, float(lane.green - lane.per_green * headway - (GREEN - own))
+    per_green = np.interp(dawdle, DAWDLES, table[:, 0]) * np.interp(dawdle, DAWDLES, table[:, 1])
+    return dawdle, float(lane.green - lane.per_green * headway - (GREEN - per_green))
 
 
 def surveyed_drivers(lanes: Sequence[SurveyedLane]) -> tuple[float, float]:
     """The mean of what lanes tell, as of drivers_of; one lane at least."""
-    found = np.array([drivers_of(one) for one in lanes])
-    return float(found[:, 0].mean()), float(found[:, 1].mean())
+    values = np.array([drivers_of(lane) for lane in lanes])
+    return float(values[:, 0].mean()), float(values[:, 1].mean())
 
 
 def flow_error(lane: SurveyedLane) -> float:

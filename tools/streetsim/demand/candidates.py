@@ -1,4 +1,5 @@
-"""The ways that a demand may take: the shortest by time between entries, exits and zones, several for a pair."""
+"""Candidate ways (routes) of a demand: the shortest by time between entries, exits or zones, several for each pair, and
+routes of files. Called where the inputs of streetsim-demand are read (demanding)."""
 import random
 from collections import Counter, defaultdict
 from collections.abc import Iterable, Iterator, Mapping, Sequence
@@ -69,29 +70,29 @@ def pairs_of_edges(graph: Graph, net: SumoNet, everywhere: bool) -> list[Pair]:
     `everywhere` says that trips begin and end on any edge. Pairs of an edge with itself, and of two of which one turns
     back to the other, are left out."""
     entries, exits = entries_and_exits(graph)
-    begins, ends = (expected_ends(graph, net, some) for some in (entries, exits))
+    begins, ends = (expected_ends(graph, net, outside) for outside in (entries, exits))
     if everywhere or not entries or not exits:
         entries = exits = list(range(len(graph.edges)))
     back = graph.turns_back
-    reverse = {way for at, way in enumerate(graph.movements) if way[1] != END and back[at]}
+    reverse = {way for movement, way in enumerate(graph.movements) if way[1] != END and back[movement]}
     return [
-        Pair(graph.edges[one], graph.edges[other], {one: 1.0}, {other: 1.0}, begins[one], ends[other])
-        for one in entries for other in exits
-        if one != other and (one, other) not in reverse and (other, one) not in reverse
+        Pair(graph.edges[source], graph.edges[sink], {source: 1.0}, {sink: 1.0}, begins[source], ends[sink])
+        for source in entries for sink in exits
+        if source != sink and (source, sink) not in reverse and (sink, source) not in reverse
     ]  # fmt: skip
 
 
 def expected_ends(graph: Graph, net: SumoNet, outside: Iterable[int]) -> list[End]:
     """For each edge what is expected of it as an end: weight by how many lanes it has where it is one of `outside`
     (edges by number), else by the metres of its lanes, as for the houses along it."""
-    there, lanes = set(outside), [net.edges[name].lanes for name in graph.edges]
+    outside_edges, lanes = set(outside), [net.edges[name].lanes for name in graph.edges]
     return [
-        End(float(len(some)), True) if edge in there else End(sum(lane.metres for lane in some))
-        for edge, some in enumerate(lanes)
+        End(float(len(of_edge)), True) if edge in outside_edges else End(sum(lane.metres for lane in of_edge))
+        for edge, of_edge in enumerate(lanes)
     ]
 
 
-def pairs_of_zones(graph: Graph, zones: Mapping[str, Zone], wanted: Iterable[tuple[str, str]]) -> list[Pair]:
+def pairs_of_zones(graph: Graph, zones: Mapping[str, Zone], zone_pairs: Iterable[tuple[str, str]]) -> list[Pair]:
     """The pairs of zones that are wanted, (source, target) by name, in their order; edges of weight 0 are left out, so
     that a pair may have none."""
 
@@ -100,20 +101,21 @@ def pairs_of_zones(graph: Graph, zones: Mapping[str, Zone], wanted: Iterable[tup
         return {graph.number[name]: weight for name, weight in weights.items() if weight}
 
     return [
-        Pair(source, target, numbers(zones[source].sources), numbers(zones[target].sinks)) for source, target in wanted
+        Pair(source, target, numbers(zones[source].sources), numbers(zones[target].sinks))
+        for source, target in zone_pairs
     ]
 
 
-def thinned_pairs(pairs: Sequence[Pair], ways: int, most: int, seed: int) -> tuple[list[Pair], int]:
-    """(pairs to search, how many ways from each first to each last edge of a pair: at most `ways`), so that there are
-    about `most` ways in all. First there are fewer ways of each, as pairs that are left out cost more; where even one
-    way of each is too many, a seed draws some pairs. One pair of those given, and one way, are kept at least."""
+def thinned_pairs(pairs: Sequence[Pair], most_each: int, most: int, seed: int) -> tuple[list[Pair], int]:
+    """(pairs to search, how many ways from each first to each last edge of a pair: at most `most_each`), so that there
+    are about `most` ways in all. First there are fewer ways of each, as pairs that are left out cost more; where even
+    one way of each is too many, a seed draws some pairs. One pair of those given, and one way, are kept at least."""
     count = sum(len(pair.sources) * len(pair.sinks) for pair in pairs)
-    each = max(1, min(ways, most // max(1, count)))
+    number_each = max(1, min(most_each, most // max(1, count)))
     if count <= most:
-        return list(pairs), each
-    kept = sorted(random.Random(f"pairs {seed}").sample(range(len(pairs)), max(1, most * len(pairs) // count)))
-    return [pairs[at] for at in kept], each
+        return list(pairs), number_each
+    drawn = sorted(random.Random(f"pairs {seed}").sample(range(len(pairs)), max(1, most * len(pairs) // count)))
+    return [pairs[index] for index in drawn], number_each
 
 
 @dataclass(frozen=True, slots=True)
@@ -131,24 +133,24 @@ def ways_between(graph: Graph, pairs: Sequence[Pair], times: Times, most: int, s
     more than 1.5 times the seconds of the first, both with the waits, is left out. What turning back costs is in all
     seconds."""
     numpy, _ = numpy_and_scipy()
-    both = [numpy.array(flat_costs(graph, some).means) for some in (times.whole, times.driven)]
-    found: dict[tuple[int, int], dict[Path, float]] = {}
-    wanted = ends_wanted(pairs)
+    mean_seconds = [numpy.array(flat_costs(graph, values).means) for values in (times.whole, times.driven)]
+    paths_by_ends: dict[tuple[int, int], dict[Path, float]] = {}
+    targets = ends_wanted(pairs)
     generator = numpy.random.default_rng(seed)
     for draw in range(1 + DRAWS * (most - 1)):
         noise = numpy.exp(SPREAD * generator.standard_normal(len(graph.edges)))
-        seconds = both[draw % 2]
+        seconds = mean_seconds[draw % 2]
         drawn = seconds if draw < 2 else seconds * noise[[edge for edge, _ in graph.movements]]
-        for origin, target, path in shortest_paths(graph, drawn, wanted):
-            ways = found.setdefault((origin, target), {})
-            if path not in ways and len(ways) < most:
-                time = path_seconds(graph, both[0], path)
-                if not ways or time <= LONGEST * next(iter(ways.values())):
-                    ways[path] = time
-    made = [way for at, pair in enumerate(pairs) for way in ways_of_pair(at, pair, found)]
-    made = [replace(way, driven=path_seconds(graph, both[1], way.path)) for way in made]
-    shares = shares_by_habit(made, HABITS[0])
-    return [replace(way, share=float(share)) for way, share in zip(made, shares, strict=True)]
+        for origin, target, path in shortest_paths(graph, drawn, targets):
+            paths = paths_by_ends.setdefault((origin, target), {})
+            if path not in paths and len(paths) < most:
+                time = path_seconds(graph, mean_seconds[0], path)
+                if not paths or time <= LONGEST * next(iter(paths.values())):
+                    paths[path] = time
+    ways = [way for index, pair in enumerate(pairs) for way in ways_of_pair(index, pair, paths_by_ends)]
+    ways = [replace(way, driven=path_seconds(graph, mean_seconds[1], way.path)) for way in ways]
+    shares = shares_by_habit(ways, HABITS[0])
+    return [replace(way, share=float(share)) for way, share in zip(ways, shares, strict=True)]
 
 
 @dataclass(frozen=True, slots=True)
@@ -179,27 +181,27 @@ def shares_by_habit(ways: Sequence[Way], habit: Habit) -> Array:
 
 def ends_wanted(pairs: Iterable[Pair]) -> dict[int, list[int]]:
     """{edge on which trips begin: edges on which they end, sorted}, by number; an edge is no end of itself."""
-    wanted: dict[int, set[int]] = {}
+    targets: dict[int, set[int]] = {}
     for pair in pairs:
         for source in pair.sources:
-            wanted.setdefault(source, set()).update(pair.sinks)
-    return {source: sorted(sinks - {source}) for source, sinks in sorted(wanted.items())}
+            targets.setdefault(source, set()).update(pair.sinks)
+    return {source: sorted(sinks - {source}) for source, sinks in sorted(targets.items())}
 
 
-def shortest_paths(graph: Graph, costs: Array, wanted: Mapping[int, Sequence[int]]) -> Iterator[tuple[int, int, Path]]:
+def shortest_paths(graph: Graph, costs: Array, targets: Mapping[int, Sequence[int]]) -> Iterator[tuple[int, int, Path]]:
     """The shortest path, (origin, target, path), from each edge to those wanted for it, all by number; pairs without a
     path are left out. costs: seconds of each movement, as an array."""
     numpy, scipy = numpy_and_scipy()
-    ways = graph.movements[: len(graph.movements) - len(graph.edges)]
-    ends = numpy.array(ways, int).reshape(-1, 2)
+    turns = graph.movements[: len(graph.movements) - len(graph.edges)]
+    ends = numpy.array(turns, int).reshape(-1, 2)
     size = len(graph.edges)
-    table = scipy.sparse.csr_matrix((costs[: len(ways)], (ends[:, 0], ends[:, 1])), shape=(size, size))
-    origins = list(wanted)
-    for at in range(0, len(origins), BATCH):
-        some = origins[at : at + BATCH]
-        _, before = scipy.sparse.csgraph.dijkstra(table, indices=some, return_predecessors=True)
-        for origin, row in zip(some, before.tolist(), strict=True):
-            for target in wanted[origin]:
+    table = scipy.sparse.csr_matrix((costs[: len(turns)], (ends[:, 0], ends[:, 1])), shape=(size, size))
+    origins = list(targets)
+    for start in range(0, len(origins), BATCH):
+        batch = origins[start : start + BATCH]
+        _, before = scipy.sparse.csgraph.dijkstra(table, indices=batch, return_predecessors=True)
+        for origin, row in zip(batch, before.tolist(), strict=True):
+            for target in targets[origin]:
                 if path := traced_path(row, origin, target):
                     yield origin, target, path
 
@@ -219,19 +221,21 @@ def path_seconds(graph: Graph, costs: Array, path: Path) -> float:
     return float(sum(costs[graph.movement_of[way]] for way in pairwise((*path, END))))
 
 
-def ways_of_pair(at: int, pair: Pair, found: Mapping[tuple[int, int], Mapping[Path, float]]) -> Iterator[Way]:
+def ways_of_pair(
+    pair_index: int, pair: Pair, paths_by_ends: Mapping[tuple[int, int], Mapping[Path, float]]
+) -> Iterator[Way]:
     """The ways of a pair, by its index among the pairs, with the share of its vehicles that their ends have
     (ends_share), among those ends alone that some way joins; their shares are still 0, their driven seconds None.
-    found: by (first edge, last edge) seconds of each path."""
+    paths_by_ends: by (first edge, last edge) seconds of each path."""
     ends = {
-        (source, sink): weight * other
-        for source, weight in pair.sources.items() for sink, other in pair.sinks.items()
-        if (source, sink) in found
+        (source, sink): weight * sink_weight
+        for source, weight in pair.sources.items() for sink, sink_weight in pair.sinks.items()
+        if (source, sink) in paths_by_ends
     }  # fmt: skip
     total = sum(ends.values())
     for key, weight in ends.items():
-        for path, seconds in found[key].items():
-            yield Way(at, path, seconds, 0.0, None, weight / total)
+        for path, seconds in paths_by_ends[key].items():
+            yield Way(pair_index, path, seconds, 0.0, None, weight / total)
 
 
 def with_given_routes(
@@ -241,20 +245,25 @@ def with_given_routes(
     is a way already is left out. A route belongs to the last pair that has its ends, else to a new pair with these. The
     routes of files have half of their pair's vehicles together, or all where it had no way: each in proportion to how
     often it stands in the files. free: seconds of each movement, without what turning back costs."""
-    many = Counter(tuple(graph.number[name] for name in edges) for edges in routes)
+    occurrences = Counter(tuple(graph.number[name] for name in edges) for edges in routes)
     all_pairs, known = list(pairs), {way.path for way in ways}
-    pair_of = {(one, other): at for at, pair in enumerate(pairs) for one in pair.sources for other in pair.sinks}
-    found: defaultdict[int, list[tuple[Path, int]]] = defaultdict(list)
-    for path, count in many.items():
+    pair_of = {
+        (source, sink): pair_index
+        for pair_index, pair in enumerate(pairs) for source in pair.sources for sink in pair.sinks
+    }  # fmt: skip
+    routes_of_pair: defaultdict[int, list[tuple[Path, int]]] = defaultdict(list)
+    for path, count in occurrences.items():
         ends = path[0], path[-1]
         if ends not in pair_of:
             pair_of[ends] = len(all_pairs)
             all_pairs.append(Pair(graph.edges[ends[0]], graph.edges[ends[1]], {ends[0]: 1.0}, {ends[1]: 1.0}))
         if path not in known:
-            found[pair_of[ends]].append((path, count))
+            routes_of_pair[pair_of[ends]].append((path, count))
     has, costs = {way.pair for way in ways}, flat_costs(graph, free).means
-    halved = [replace(way, share=way.share / 2) if way.pair in found else way for way in ways]
-    for at, some in found.items():
-        total = sum(count for _, count in some) * (2 if at in has else 1)
-        halved += [Way(at, path, path_seconds(graph, costs, path), count / total) for path, count in some]
+    halved = [replace(way, share=way.share / 2) if way.pair in routes_of_pair else way for way in ways]
+    for pair_index, counted_paths in routes_of_pair.items():
+        total = sum(count for _, count in counted_paths) * (2 if pair_index in has else 1)
+        halved += [
+            Way(pair_index, path, path_seconds(graph, costs, path), count / total) for path, count in counted_paths
+        ]
     return all_pairs, halved

@@ -1,4 +1,5 @@
-"""Tables as planners keep them: CSV with commas, semicolons or tabs, whose rows know their line."""
+"""Reads CSV tables of planners, with commas, semicolons or tabs; each row knows its line. All readers of tables here
+use it: counts, matrices, zones, travel times."""
 import csv
 from codecs import BOM_UTF8
 from collections.abc import Callable, Collection, Iterator, Mapping, Sequence
@@ -25,7 +26,7 @@ class TableRow:
     cells: Mapping[str, str]
 
     @property
-    def where(self) -> str:
+    def location(self) -> str:
         """The file and its line, as faults name it."""
         return f"{self.path}: line {self.line}"
 
@@ -36,7 +37,7 @@ class TableRow:
         try:
             return convert(text)
         except ValueError as fault:
-            raise Fault(f"{self.where}: {name} {text!r} {fault}") from None
+            raise Fault(f"{self.location}: {name} {text!r} {fault}") from None
 
     def text(self, name: str) -> str:
         """What a column has, without blanks around it; empty where the table does not have the column."""
@@ -68,7 +69,7 @@ def values_in(path: FilePath, file: IO[str]) -> Iterator[tuple[int, list[str]]]:
     for line, text in lines:
         if not text.strip() or text.startswith("#"):
             continue
-        separator = separator or next((one for one in SEPARATORS if one in text), ",")
+        separator = separator or next((mark for mark in SEPARATORS if mark in text), ",")
         row = chain([text], (further for _, further in lines))  # as many lines as its quotes span
         try:
             values = next(csv.reader(row, delimiter=separator, strict=True))
@@ -78,17 +79,18 @@ def values_in(path: FilePath, file: IO[str]) -> Iterator[tuple[int, list[str]]]:
             yield line, values
 
 
-def check_columns(where: str, names: Sequence[str], needed: Sequence[str], more: Collection[str]) -> None:
+def check_columns(location: str, names: Sequence[str], needed: Sequence[str], more: Collection[str]) -> None:
     """Fault for a table without a needed column, with one that is neither needed nor one of `more`, or with one twice.
-    where: the file and the line of its columns; names: these."""
+    location: the file and the line of its columns; names: these."""
     if missing := [name for name in needed if name not in names]:
-        raise Fault(f"{where}: no column {missing[0]!r}; it has {','.join(names)}")
-    all_ = [*needed, *more]
-    if unknown := [name for name in names if name not in all_]:
-        near = get_close_matches(unknown[0], all_, 1)
-        raise Fault(f"{where}: column {unknown[0]!r} is none of {','.join(all_)}{f': {near[0]!r}?' if near else ''}")
+        raise Fault(f"{location}: no column {missing[0]!r}; it has {','.join(names)}")
+    known = [*needed, *more]
+    if unknown := [name for name in names if name not in known]:
+        near = get_close_matches(unknown[0], known, 1)
+        hint = f": {near[0]!r}?" if near else ""
+        raise Fault(f"{location}: column {unknown[0]!r} is none of {','.join(known)}{hint}")
     if len(set(names)) < len(names):
-        raise Fault(f"{where}: a column twice")
+        raise Fault(f"{location}: a column twice")
 
 
 def clock_of(text: str) -> int:
@@ -121,10 +123,10 @@ def name_of(text: str) -> str:
     return text
 
 
-def period_of(begin: int, end: int, where: str) -> tuple[int, int]:
-    """(begin, end) in seconds; Fault, with where it stands, if the end is not after the begin."""
+def period_of(begin: int, end: int, location: str) -> tuple[int, int]:
+    """(begin, end) in seconds; Fault, with its location, if the end is not after the begin."""
     if end <= begin:
-        raise Fault(f"{where}: the period ends at {end:,} s, and begins at {begin:,} s")
+        raise Fault(f"{location}: the period ends at {end:,} s, and begins at {begin:,} s")
     return begin, end
 
 

@@ -1,4 +1,5 @@
-"""Checks counts against the network and against each other: what is wrong is told with its line."""
+"""Checks counts against the network (edges, connections, periods) and against each other (contradictions). Each Fault
+names the line of the file."""
 from collections import defaultdict
 from collections.abc import Iterable, Iterator, Mapping, Sequence, Set
 from difflib import get_close_matches
@@ -26,27 +27,27 @@ class Contradiction(NamedTuple):
     street: str
     begin: int
     end: int
-    words: str  # what each number is, with {} for both
+    template: str  # what each number is, with {} for both
     first: float
     second: float
-    where: str  # files and lines, as `lines_told` has them
+    location: str  # files and lines, as `locations_of` has them
 
     def line(self) -> str:
         """The contradiction in one line, with the lines of files that tell the numbers."""
-        what = self.words.format(f"{self.first:g}", f"{self.second:g}")
-        return f"{self.street}, {self.begin:,} to {self.end:,} s: {what} ({self.where})"
+        what = self.template.format(f"{self.first:g}", f"{self.second:g}")
+        return f"{self.street}, {self.begin:,} to {self.end:,} s: {what} ({self.location})"
 
 
-def check_edges(names: Iterable[str], where: str, net: SumoNet) -> None:
+def check_edges(names: Iterable[str], location: str, net: SumoNet) -> None:
     """Fault, with where they stand, for names of edges that the network does not have, or on which none of the classes
     may drive."""
     for name in names:
         if name in net.edges:
             continue
         if name in net.dropped:
-            raise Fault(f"{where}: edge {name!r} has no lane for the classes (--classes)")
+            raise Fault(f"{location}: edge {name!r} has no lane for the classes (--classes)")
         near = get_close_matches(name, net.edges, 1)
-        raise Fault(f"{where}: the network has no edge {name!r}{f': {near[0]!r}?' if near else ''}")
+        raise Fault(f"{location}: the network has no edge {name!r}{f': {near[0]!r}?' if near else ''}")
 
 
 def check_counts(counts: Sequence[Count], net: SumoNet, graph: Graph) -> None:
@@ -54,25 +55,25 @@ def check_counts(counts: Sequence[Count], net: SumoNet, graph: Graph) -> None:
     overlap, of more than a vehicle a second and lane of the edge with the fewest (and one vehicle beyond); and where
     all are 0. counts: one at least."""
     for count in counts:
-        check_edges(count.edges, count.where, net)
+        check_edges(count.edges, count.location, net)
         for source, target in pairwise(count.edges):
             if (graph.number[source], graph.number[target]) not in graph.movement_of:
-                raise Fault(f"{count.where}: no connection leads from edge {source!r} to edge {target!r}")
+                raise Fault(f"{count.location}: no connection leads from edge {source!r} to edge {target!r}")
         lanes = min(len(net.edges[edge].lanes) for edge in count.edges)
         if count.vehicles > MOST_A_LANE * lanes * count.hours + 1:
-            told = f"{count.vehicles:,.0f} vehicles in {count.end - count.begin:,} s"
-            raise Fault(f"{count.where}: {told} are more than one a second and lane")
+            vehicles = f"{count.vehicles:,.0f} vehicles in {count.end - count.begin:,} s"
+            raise Fault(f"{count.location}: {vehicles} are more than one a second and lane")
     check_periods(counts)
     if not any(count.vehicles for count in counts):
-        raise Fault(f"{counts[0].where} and {len(counts) - 1:,} more: all counts are 0")
+        raise Fault(f"{counts[0].location} and {len(counts) - 1:,} more: all counts are 0")
 
 
 def check_periods(counts: Sequence[Count]) -> None:
     """Fault for two counts of the same edges and class whose periods overlap."""
-    for first, second in overlapping_pairs(counts, lambda one: (one.edges, one.kind)):
-        same = (first.begin, first.end) == (second.begin, second.end)
-        how = "counted a second time in this period" if same else f"counted already until {first.end:,} s"
-        raise Fault(f"{second.where}: {second.edges_told()} is {how} (as {first.where})")
+    for first, second in overlapping_pairs(counts, lambda count: (count.edges, count.kind)):
+        same_period = (first.begin, first.end) == (second.begin, second.end)
+        how = "counted a second time in this period" if same_period else f"counted already until {first.end:,} s"
+        raise Fault(f"{second.location}: {second.edge_names()} is {how} (as {first.location})")
 
 
 def contradictions(counts: Sequence[Count], graph: Graph, begins: Set[int], ends: Set[int]) -> list[Contradiction]:
@@ -83,27 +84,28 @@ def contradictions(counts: Sequence[Count], graph: Graph, begins: Set[int], ends
     sums: defaultdict[Key, dict[tuple[str, ...], Count]] = defaultdict(dict)
     for count in counts:
         sums[count.begin, count.end, count.kind][count.edges] = count
-    found = []
-    for (begin, end, _), there in sums.items():
-        sides = *sides_of_edges(there, graph, begins, ends), *sides_of_junctions(there, graph, begins, ends)
-        for street, words, first, second in sides:
-            one, other = sum(count.vehicles for count in first), sum(count.vehicles for count in second)
-            if abs(one - other) > max(LEAST_APART, APART * max(one, other)):
-                found.append(Contradiction(street, begin, end, words, one, other, lines_told([*first, *second])))
-    return found
+    result = []
+    for (begin, end, _), by_edges in sums.items():
+        sides = *sides_of_edges(by_edges, graph, begins, ends), *sides_of_junctions(by_edges, graph, begins, ends)
+        for street, text, first, second in sides:
+            first_sum, second_sum = sum(count.vehicles for count in first), sum(count.vehicles for count in second)
+            if abs(first_sum - second_sum) > max(LEAST_APART, APART * max(first_sum, second_sum)):
+                lines = locations_of([*first, *second])
+                result.append(Contradiction(street, begin, end, text, first_sum, second_sum, lines))
+    return result
 
 
 Sides = tuple[str, str, list[Count], list[Count]]  # street, words with two {}, and counts whose sums should be equal
-There = Mapping[tuple[str, ...], Count]  # the counts of one period and class, by edges
+CountByEdges = Mapping[tuple[str, ...], Count]  # the counts of one period and class, by edges
 
 
-def sides_of_edges(there: There, graph: Graph, begins: Set[int], ends: Set[int]) -> Iterator[Sides]:
+def sides_of_edges(by_edges: CountByEdges, graph: Graph, begins: Set[int], ends: Set[int]) -> Iterator[Sides]:
     """Of each edge what should be equal: its count and all its turns, its count and all turns into it, or these two
     where it has no count; as far as all of a side are counted. begins, ends: as `contradictions` has them."""
     for edge, name in enumerate(graph.edges):
-        out = counts_if_all(there, ((name, graph.edges[following]) for following, _ in graph.out[edge]))
-        into = counts_if_all(there, ((graph.edges[before], name) for before, _ in graph.into[edge]))
-        whole = [there[(name,)]] if (name,) in there else []
+        out = counts_of_all(by_edges, ((name, graph.edges[following]) for following, _ in graph.out[edge]))
+        into = counts_of_all(by_edges, ((graph.edges[before], name) for before, _ in graph.into[edge]))
+        whole = [by_edges[(name,)]] if (name,) in by_edges else []
         if whole and out and edge not in ends:
             yield f"edge {name}", "{} counted on it, {} turn at its end", whole, out
         if whole and into and edge not in begins:
@@ -112,36 +114,36 @@ def sides_of_edges(there: There, graph: Graph, begins: Set[int], ends: Set[int])
             yield f"edge {name}", "{} turn into it, {} turn at its end", into, out
 
 
-def sides_of_junctions(there: There, graph: Graph, begins: Set[int], ends: Set[int]) -> Iterator[Sides]:
+def sides_of_junctions(by_edges: CountByEdges, graph: Graph, begins: Set[int], ends: Set[int]) -> Iterator[Sides]:
     """Of junctions all of whose edges are counted (by themselves, not by turns) what comes in and what goes out; those
     where trips end on an edge that comes in, or begin on one that goes out (ends, begins), are left out. A junction is
     known by the edges that lead to the same ones."""
-    seen = set()
+    known = set()
     for edge in range(len(graph.edges)):
         targets = {following for following, _ in graph.out[edge]}
         sources = {before for target in targets for before, _ in graph.into[target]}
         targets = {following for source in sources for following, _ in graph.out[source]}
         key = frozenset(sources)
-        if not targets or key in seen or sources & ends or targets & begins:
+        if not targets or key in known or sources & ends or targets & begins:
             continue
-        seen.add(key)
-        names = (((graph.edges[one],) for one in sorted(some)) for some in (sources, targets))
-        first, second = (counts_if_all(there, some) for some in names)
+        known.add(key)
+        names = (((graph.edges[number],) for number in sorted(edges)) for edges in (sources, targets))
+        first, second = (counts_of_all(by_edges, edges) for edges in names)
         if first and second:
             yield f"junction of {graph.edges[min(sources)]}", "{} come in, {} go out", first, second
 
 
-def counts_if_all(there: There, keys: Iterable[tuple[str, ...]]) -> list[Count]:
+def counts_of_all(by_edges: CountByEdges, keys: Iterable[tuple[str, ...]]) -> list[Count]:
     """The counts of some keys, edges each; empty where one of them has no count, or there are none."""
-    wanted = list(keys)
-    return [there[key] for key in wanted] if all(key in there for key in wanted) else []
+    key_list = list(keys)
+    return [by_edges[key] for key in key_list] if all(key in by_edges for key in key_list) else []
 
 
-def lines_told(counts: Sequence[Count]) -> str:
+def locations_of(counts: Sequence[Count]) -> str:
     """Where some counts stand: each file once, with at most four of its lines and how many further ones there are."""
     lines_of: defaultdict[str, list[str]] = defaultdict(list)
     for count in counts:
-        path, _, line = count.where.rpartition(": line ")
+        path, _, line = count.location.rpartition(": line ")
         lines_of[path].append(line)
     return "; ".join(
         f"{path}: line{'s' * (len(lines) > 1)} {first_few(lines, MOST_LINES)}" for path, lines in lines_of.items()

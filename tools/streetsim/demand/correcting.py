@@ -1,11 +1,14 @@
-"""The fit in the simulation: runs of a demand, each corrected by the one before, until one fits or no run is left."""
+"""Runs a demand, corrects the counts that the next fit is to meet by what passed in the run, and so on, until a run
+fits or no run is left. What streetsim-demand --runs does."""
 from collections.abc import Iterator, Sequence
 from dataclasses import dataclass
 
 from streetsim.base.report import first_few
-from streetsim.demand.demanding import Basis, DemandInputs, Fitted, Told, fit_to_counts, passing_by_class, trips_of_fit
+from streetsim.demand.demanding import (
+    Basis, DemandInputs, Fitted, ReportStage, fit_to_counts, passing_by_class, trips_of_fit,
+)  # fmt: skip
 from streetsim.demand.fitting import counted_vehicles
-from streetsim.demand.judging import ComparedCount, JudgedCounts, judged, worst_fits
+from streetsim.demand.judging import ComparedCount, JudgedCounts, judge_counts, worst_fits
 from streetsim.demand.running import Ran, movement_delays, passed_by_count, run_demand
 from streetsim.demand.science import Array, numpy_and_scipy
 from streetsim.demand.values import Count
@@ -17,7 +20,7 @@ from streetsim.sumo.way_costs import Costs, costs_of
 from streetsim.sumo.way_graph import Graph
 
 HALF = 0.5  # of what a run and the fit differ by, that the next fit makes up for
-FULL = 120.0  # seconds of delay on an edge, from which on it is taken to be full: more than a cycle
+FULL_DELAY_S = 120.0  # seconds of delay on an edge, from which on it is taken to be full: more than a cycle
 AFTER = 7200  # seconds that a run may last after the last departure
 LATE = 0.1  # of a count, that does not pass though the vehicles for it are there
 
@@ -56,7 +59,7 @@ class Attempt:
 
 
 def try_demands(
-    basis: Basis, asked: DemandInputs, ground: RunGround, runs: int, fitted: Fitted, told: Told
+    basis: Basis, inputs: DemandInputs, ground: RunGround, runs: int, fitted: Fitted, report_stage: ReportStage
 ) -> Iterator[Attempt]:
     """Runs a demand, of one count at least, at most `runs` times, and gives each attempt as it ends: the first of the
     fit on paper (fitted), the others of what the run before corrects. Ends after one that fits. Fault where a fit has
@@ -64,48 +67,48 @@ def try_demands(
     graph = basis.town.graph
     counted = made_up = counted_vehicles(basis.counts)
     for number in range(1, runs + 1):
-        told(f"run {number} of {runs}")
-        one = try_demand(basis, asked, ground, number, fitted)
-        yield one
-        if one.judged.meets_criteria or number == runs:
+        report_stage(f"run {number} of {runs}")
+        attempt = try_demand(basis, inputs, ground, number, fitted)
+        yield attempt
+        if attempt.judged.meets_criteria or number == runs:
             return
-        costs = costs_of(graph, list(one.loaded.free), one.ran.observed, ground.width)
-        told(f"fit after run {number} of {runs}")
-        made_up = corrected_counts(basis, one, costs, counted, made_up)
-        fitted = fit_to_counts(basis, asked, costs, made_up)
+        costs = costs_of(graph, list(attempt.loaded.free), attempt.ran.observed, ground.width)
+        report_stage(f"fit after run {number} of {runs}")
+        made_up = corrected_counts(basis, attempt, costs, counted, made_up)
+        fitted = fit_to_counts(basis, inputs, costs, made_up)
 
 
-def try_demand(basis: Basis, asked: DemandInputs, ground: RunGround, number: int, fitted: Fitted) -> Attempt:
+def try_demand(basis: Basis, inputs: DemandInputs, ground: RunGround, number: int, fitted: Fitted) -> Attempt:
     """Runs the vehicles of a fit, and judges by what passed; number: of the run, from 1. Fault where the fit has no
     vehicle, or the run cannot be made."""
-    trips, town = trips_of_fit(basis, asked, fitted), basis.town
+    trips, town = trips_of_fit(basis, inputs, fitted), basis.town
     loaded = town.loaded(trips)
-    done = run_demand(ground, loaded, asked.seed)
+    ran = run_demand(ground, loaded, inputs.seed)
     kinds = [trip.type if trip.type in basis.kinds else "" for trip in trips]
-    got = passed_by_count(basis.by_edges, [trip.path for trip in trips], kinds, done.left)
-    full = full_edges(town.graph, movement_delays(town.graph, done.observed, loaded.free))
-    return Attempt(number, trips, fitted, judged(basis.counts, got), loaded, done, got, full)
+    passed = passed_by_count(basis.by_edges, [trip.path for trip in trips], kinds, ran.exit_clocks)
+    full = full_edges(town.graph, movement_delays(town.graph, ran.observed, loaded.free))
+    return Attempt(number, trips, fitted, judge_counts(basis.counts, passed), loaded, ran, passed, full)
 
 
-def corrected_counts(basis: Basis, one: Attempt, costs: Costs, counted: Array, before: Array) -> Array:
+def corrected_counts(basis: Basis, attempt: Attempt, costs: Costs, counted: Array, before: Array) -> Array:
     """What the next fit is to meet, an array by count: the mean of what the last fit was to meet (before) and of what
     was counted, less half of what passed in the run beyond what would pass by the seconds that it showed (costs); 0 at
     least. At full edges and next after them it is what was counted: more demand would only make the queue longer."""
     numpy, _ = numpy_and_scipy()
-    shown = passing_by_class(basis, costs) @ one.fitted.whole
-    apart = numpy.array(one.passed) - shown
-    behind = numpy.array([is_at_or_after_full(count, one.full, basis.town.graph) for count in basis.counts])
+    shown = passing_by_class(basis, costs) @ attempt.fitted.whole
+    apart = numpy.array(attempt.passed) - shown
+    behind = numpy.array([is_at_or_after_full(count, attempt.full, basis.town.graph) for count in basis.counts])
     return numpy.where(behind, counted, numpy.maximum(0.0, 0.5 * (before + counted) - HALF * apart))
 
 
 def full_edges(graph: Graph, lost: Sequence[float]) -> dict[int, float]:
     """By number the edges that are full, with the most seconds that one of their movements loses, where these are more
     than 120. lost: seconds by movement, as `movement_delays` gives them."""
-    found: dict[int, float] = {}
+    delays: dict[int, float] = {}
     for (edge, _), seconds in zip(graph.movements, lost, strict=True):
-        if seconds > FULL:
-            found[edge] = max(seconds, found.get(edge, 0.0))
-    return found
+        if seconds > FULL_DELAY_S:
+            delays[edge] = max(seconds, delays.get(edge, 0.0))
+    return delays
 
 
 def is_at_or_after_full(count: Count, full: dict[int, float], graph: Graph) -> bool:
@@ -115,46 +118,46 @@ def is_at_or_after_full(count: Count, full: dict[int, float], graph: Graph) -> b
     return edge in full or any(before in full for before, _ in graph.into[edge])
 
 
-def misfits_told(basis: Basis, one: Attempt) -> Iterator[str]:
+def misfit_lines(basis: Basis, attempt: Attempt) -> Iterator[str]:
     """Sentences on the counts that fit worst (five at most), and why as far as the run shows it; and on counts at full
     edges, which do not tell how many want to pass."""
     graph = basis.town.graph
-    for each in worst_fits(one.judged):
-        figures = f"{each.passed:,.0f} passed of {each.counted:,.0f}, GEH {each.geh:.1f}"
-        street = " to ".join((*each.edges[:1], *each.edges[1:][-1:]))
-        yield f"{street}, {each.begin:,} to {each.end:,} s: {figures}{why_misfit(basis, one, each)}"
-    if behind := [count for count in basis.counts if is_at_or_after_full(count, one.full, graph)]:
-        many = len({count.edges for count in behind})
-        edges = first_few((graph.edges[edge] for edge in sorted(one.full, key=lambda edge: -one.full[edge])), 3)
+    for misfit in worst_fits(attempt.judged):
+        figures = f"{misfit.passed:,.0f} passed of {misfit.counted:,.0f}, GEH {misfit.geh:.1f}"
+        street = " to ".join((*misfit.edges[:1], *misfit.edges[1:][-1:]))
+        yield f"{street}, {misfit.begin:,} to {misfit.end:,} s: {figures}{why_misfit(basis, attempt, misfit)}"
+    if behind := [count for count in basis.counts if is_at_or_after_full(count, attempt.full, graph)]:
+        places = len({count.edges for count in behind})
+        edges = first_few((graph.edges[edge] for edge in sorted(attempt.full, key=lambda edge: -attempt.full[edge])), 3)
         yield (
-            f"{many:,} counted places lie at or behind edges that are full in the run ({edges}): what was counted "
+            f"{places:,} counted places lie at or behind edges that are full in the run ({edges}): what was counted "
             "there is what these let pass, and more may want to"
         )
 
 
-def why_misfit(basis: Basis, one: Attempt, each: ComparedCount) -> str:
+def why_misfit(basis: Basis, attempt: Attempt, misfit: ComparedCount) -> str:
     """How a sentence on a count that does not fit ends, from its colon on: a queue holds its vehicles, or other counts
     speak against it, or no way fits; empty where it is not known."""
     planned = sum(
         value
-        for count, value in zip(basis.counts, one.fitted.passed_by_count(), strict=True)
-        if count.edges == each.edges and count.kind == each.kind and each.begin <= count.begin < each.end
+        for count, value in zip(basis.counts, attempt.fitted.passed_by_count(), strict=True)
+        if count.edges == misfit.edges and count.kind == misfit.kind and misfit.begin <= count.begin < misfit.end
     )
-    if each.passed < each.counted and planned > (1 + LATE) * each.passed:
+    if misfit.passed < misfit.counted and planned > (1 + LATE) * misfit.passed:
         return f": {planned:,.0f} were on their way there, and a queue holds them"
-    if abs(planned - each.counted) > abs(each.passed - each.counted) / 2:
+    if abs(planned - misfit.counted) > abs(misfit.passed - misfit.counted) / 2:
         return ": other counts speak against it, or no way fits"
     return ""
 
 
-def doubts_of(one: Attempt) -> list[str]:
+def doubts_of(attempt: Attempt) -> list[str]:
     """Why the run of a demand is not to be trusted, each in some words; empty where it is."""
-    rescues, (waiting, clock) = one.ran.rescues, one.ran.most_waiting
-    found = [*one.ran.at_works]
-    if rescues > max(1, trust.MOST_RESCUES * len(one.trips)):
-        found.append(f"{rescues:,} rescues of {len(one.trips):,} vehicles")
-    if waiting > trust.MOST_WAITING * len(one.trips):
-        found.append(f"{waiting:,} vehicles waited to enter at {clock:,} s")
-    if one.arrived < (1 - trust.MOST_LATE) * len(one.trips):
-        found.append(f"{len(one.trips) - one.arrived:,} of {len(one.trips):,} vehicles have not arrived")
-    return found
+    rescues, (waiting, clock) = attempt.ran.rescues, attempt.ran.most_waiting
+    doubts = [*attempt.ran.at_works]
+    if rescues > max(1, trust.MOST_RESCUES * len(attempt.trips)):
+        doubts.append(f"{rescues:,} rescues of {len(attempt.trips):,} vehicles")
+    if waiting > trust.MOST_WAITING * len(attempt.trips):
+        doubts.append(f"{waiting:,} vehicles waited to enter at {clock:,} s")
+    if attempt.arrived < (1 - trust.MOST_LATE) * len(attempt.trips):
+        doubts.append(f"{len(attempt.trips) - attempt.arrived:,} of {len(attempt.trips):,} vehicles have not arrived")
+    return doubts

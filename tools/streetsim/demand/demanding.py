@@ -1,4 +1,5 @@
-"""Makes a demand from what a planner has: inputs read and checked, candidate ways, and the fit."""
+"""The steps of streetsim-demand before any run: reads and checks the inputs, finds candidate ways, and fits vehicles to
+counts (Basis, Fitted)."""
 from bisect import bisect_right
 from collections import defaultdict
 from collections.abc import Callable, Iterable, Mapping, Sequence
@@ -26,7 +27,7 @@ from streetsim.sumo.way_costs import Costs, flat_costs
 from streetsim.sumo.way_seconds import free_seconds
 from streetsim.sumo.way_unloaded import map_without_routes, times_and_capacities_without_routes
 
-Told = Callable[[str], object]  # takes what is done just now, in words
+ReportStage = Callable[[str], object]  # takes what is done just now, in words
 
 
 @dataclass(frozen=True, slots=True)
@@ -49,8 +50,8 @@ class DemandInputs:
 
 @dataclass(frozen=True, slots=True)
 class Basis:
-    """What a fit stands on. kinds: vehicle classes that are told apart, empty for all others; given: by class the
-    vehicles of a matrix or of turn ratios, an array in one row, at index way * slices + slice; free: seconds of
+    """What a fit stands on. kinds: vehicle classes that are told apart, empty for all others; given_vehicles: by class
+    the vehicles of a matrix or of turn ratios, an array in one row, at index way * slices + slice; free: seconds of
     each movement without other traffic, with the mean waits at signals."""
 
     town: RouteTown
@@ -61,7 +62,7 @@ class Basis:
     ways: list[Way]
     slices: Slices
     by_edges: CountsByEdges
-    given: Mapping[str, Array]
+    given_vehicles: Mapping[str, Array]
     free: Sequence[float]
     kept_pairs: tuple[int, int]  # pairs that were kept, of how many
 
@@ -87,26 +88,26 @@ class Fitted:
         return (self.passing @ self.whole).tolist()
 
 
-def basis_of(town: RouteTown, asked: DemandInputs, told: Told) -> Basis:
+def basis_of(town: RouteTown, inputs: DemandInputs, report_stage: ReportStage) -> Basis:
     """Reads and checks what was asked for, and finds the candidate ways. Classes of counts and matrices, and types of
     files of candidates, are added to the vehicle types of the town. Fault for what cannot be used and without SciPy."""
     numpy_and_scipy()
-    check_asked(asked)
-    told("reading counts")
-    counts = read_counts(asked.counts, asked.attribute)
+    check_inputs(inputs)
+    report_stage("reading counts")
+    counts = read_counts(inputs.counts, inputs.attribute)
     if counts:
         checking.check_counts(counts, town.net, town.graph)
     free = list(times_and_capacities_without_routes(town.net, town.graph, town.options)[0])
     driven = free_seconds(town.graph, map_without_routes(town.net, town.options), [], town.dawdle)
-    zones, cells = read_matrix(asked, counts, town)
+    zones, cells = read_matrix(inputs, counts, town)
     kinds = kinds_of(counts, cells)
     add_types(kinds, town.types)
-    told("finding ways")
-    if asked.flows:
-        pairs, ways, departs = ways_by_ratios(town, asked, free)
+    report_stage("finding ways")
+    if inputs.flows:
+        pairs, ways, departs = ways_by_ratios(town, inputs, free)
         thinned = len(pairs), len(pairs)
     else:
-        pairs, ways, thinned = ways_of_pairs(town, asked, Times(free, driven), zones, cells)
+        pairs, ways, thinned = ways_of_pairs(town, inputs, Times(free, driven), zones, cells)
         departs = []
     if not ways:
         raise Fault("no way leads from any place where trips begin to one where they end")
@@ -115,46 +116,48 @@ def basis_of(town: RouteTown, asked: DemandInputs, told: Told) -> Basis:
     if slices.bounds[0] < town.options.begin:
         raise Fault(f"--begin {town.options.begin}: what is given begins sooner, at {slices.bounds[0]:,} s")
     by_edges = CountsByEdges(counts, town.graph)
-    given = cell_vehicles(cells, pairs, ways, slices) if cells else departing_vehicles(departs, slices, len(ways))
-    begins, ends = {one for pair in pairs for one in pair.sources}, {one for pair in pairs for one in pair.sinks}
+    of_departures = departing_vehicles(departs, slices, len(ways))
+    given_vehicles = cell_vehicles(cells, pairs, ways, slices) if cells else of_departures
+    begins, ends = {edge for pair in pairs for edge in pair.sources}, {edge for pair in pairs for edge in pair.sinks}
     apart = checking.contradictions(counts, town.graph, begins, ends)
-    return Basis(town, counts, apart, kinds, pairs, ways, slices, by_edges, given, free, thinned)
+    return Basis(town, counts, apart, kinds, pairs, ways, slices, by_edges, given_vehicles, free, thinned)
 
 
-def check_asked(asked: DemandInputs) -> None:
+def check_inputs(inputs: DemandInputs) -> None:
     """Fault where nothing is given that a demand could be made of, files that do not go together are given, or ways are
     neither searched nor given."""
-    if not (asked.counts or asked.matrices or asked.flows):
+    if not (inputs.counts or inputs.matrices or inputs.flows):
         raise Fault("nothing to make a demand of: give --counts, --matrix or --flows with --ratios")
-    if bool(asked.flows) != bool(asked.ratios):
+    if bool(inputs.flows) != bool(inputs.ratios):
         raise Fault("--flows and --ratios are given together or not at all")
-    if asked.flows and (asked.matrices or asked.zones or asked.candidates or asked.ways is not None):
+    if inputs.flows and (inputs.matrices or inputs.zones or inputs.candidates or inputs.ways is not None):
         raise Fault("--flows have ways by their ratios: give no --matrix, --zones, --candidates or --ways beside")
-    if asked.attribute and not asked.counts:
+    if inputs.attribute and not inputs.counts:
         raise Fault("--attribute is of --counts: give it too")
-    if asked.ways == 0 and not asked.candidates:
+    if inputs.ways == 0 and not inputs.candidates:
         raise Fault("--ways 0 leaves no candidates: give files of routes after --candidates")
 
 
 def read_matrix(
-    asked: DemandInputs, counts: Sequence[Count], town: RouteTown
+    inputs: DemandInputs, counts: Sequence[Count], town: RouteTown
 ) -> tuple[dict[str, Zone], list[MatrixCell]]:
     """({name: zone}, cells of the matrix between zones); without zones a matrix is between edges, each of which is then
     a zone. Cells without a period have that from the first begin to the last end of counts. Fault for files that cannot
     be read, zones or edges that are not known, and a matrix without a vehicle."""
-    zones = read_zones(asked.zones)
+    zones = read_zones(inputs.zones)
     for zone in zones.values():
-        checking.check_edges([*zone.sources, *zone.sinks], zone.where, town.net)
-    period = (min(one.begin for one in counts), max(one.end for one in counts)) if counts else None
-    cells = matrices.read_matrices(asked.matrices, period)
+        checking.check_edges([*zone.sources, *zone.sinks], zone.location, town.net)
+    period = (min(count.begin for count in counts), max(count.end for count in counts)) if counts else None
+    cells = matrices.read_matrices(inputs.matrices, period)
     if cells and not zones:
         names = {name for cell in cells for name in (cell.source, cell.target)}
         if unknown := sorted(names - town.net.edges.keys()):
-            raise Fault(f"{cells[0].where}: there is no zone {unknown[0]!r}: give zones as lists of edges by --zones")
+            lacks = f"there is no zone {unknown[0]!r}: give zones as lists of edges by --zones"
+            raise Fault(f"{cells[0].location}: {lacks}")
         zones = {name: Zone(name, {name: 1.0}, {name: 1.0}, "") for name in names}
     matrices.check_zones(cells, zones)
     if cells and not any(cell.vehicles for cell in cells):
-        raise Fault(f"{cells[0].where} and {len(cells) - 1:,} more: the matrix is empty")
+        raise Fault(f"{cells[0].location} and {len(cells) - 1:,} more: the matrix is empty")
     return zones, cells
 
 
@@ -162,10 +165,10 @@ def kinds_of(counts: Iterable[Count], cells: Iterable[MatrixCell]) -> tuple[str,
     """The classes that are told apart by counts and matrix, sorted; empty stands for all others, which are cars, and is
     alone where none is told apart. Fault for one that SUMO does not have."""
     dated: list[Count | MatrixCell] = [*counts, *cells]
-    for one in dated:
-        if one.kind and one.kind not in CLASSES:
-            raise Fault(f"{one.where}: SUMO has no vehicle class {one.kind!r}; it has {', '.join(CLASSES)}")
-    return tuple(sorted({one.kind for one in dated})) or ("",)
+    for value in dated:
+        if value.kind and value.kind not in CLASSES:
+            raise Fault(f"{value.location}: SUMO has no vehicle class {value.kind!r}; it has {', '.join(CLASSES)}")
+    return tuple(sorted({value.kind for value in dated})) or ("",)
 
 
 def add_types(kinds: Iterable[str], types: Types) -> None:
@@ -175,69 +178,69 @@ def add_types(kinds: Iterable[str], types: Types) -> None:
 
 
 def ways_of_pairs(
-    town: RouteTown, asked: DemandInputs, times: Times, zones: Mapping[str, Zone], cells: Sequence[MatrixCell]
+    town: RouteTown, inputs: DemandInputs, times: Times, zones: Mapping[str, Zone], cells: Sequence[MatrixCell]
 ) -> tuple[list[Pair], list[Way], tuple[int, int]]:
     """(pairs of a matrix, else of zones, else as of pairs_of_edges, and those of route files; their ways; (pairs that
-    were kept, of how many)). Without a matrix pairs and ways are thinned to about `asked.most` ways. Where no ways are
-    searched (asked.ways), all are of the route files. Fault as of given_routes."""
+    were kept, of how many)). Without a matrix pairs and ways are thinned to about `inputs.most` ways. Where no ways are
+    searched (inputs.ways), all are of the route files. Fault as of given_routes."""
     graph = town.graph
-    count = (0 if asked.candidates else 3) if asked.ways is None else asked.ways
+    count = (0 if inputs.candidates else 3) if inputs.ways is None else inputs.ways
     if cells:
-        wanted = list(dict.fromkeys((cell.source, cell.target) for cell in cells if cell.vehicles))
-        pairs = candidates.pairs_of_zones(graph, zones, wanted)
+        zone_pairs = list(dict.fromkeys((cell.source, cell.target) for cell in cells if cell.vehicles))
+        pairs = candidates.pairs_of_zones(graph, zones, zone_pairs)
     elif zones:
-        pairs = candidates.pairs_of_zones(graph, zones, [(one, other) for one in zones for other in zones])
+        pairs = candidates.pairs_of_zones(graph, zones, [(source, target) for source in zones for target in zones])
     elif count:
-        pairs = candidates.pairs_of_edges(graph, town.net, asked.everywhere)
+        pairs = candidates.pairs_of_edges(graph, town.net, inputs.everywhere)
     else:
         pairs = []
-    kept = pairs
+    kept_pairs = pairs
     if count and not cells:
-        kept, count = candidates.thinned_pairs(pairs, count, asked.most, asked.seed)
-    ways = candidates.ways_between(graph, kept, times, count, asked.seed) if count else []
-    if asked.candidates:
-        routes = given_routes(town, asked)
-        kept, ways = candidates.with_given_routes(graph, kept, ways, routes, times.whole)
-    return kept, ways, (len(kept), max(len(pairs), len(kept)))
+        kept_pairs, count = candidates.thinned_pairs(pairs, count, inputs.most, inputs.seed)
+    ways = candidates.ways_between(graph, kept_pairs, times, count, inputs.seed) if count else []
+    if inputs.candidates:
+        routes = given_routes(town, inputs)
+        kept_pairs, ways = candidates.with_given_routes(graph, kept_pairs, ways, routes, times.whole)
+    return kept_pairs, ways, (len(kept_pairs), max(len(pairs), len(kept_pairs)))
 
 
-def given_routes(town: RouteTown, asked: DemandInputs) -> list[tuple[str, ...]]:
+def given_routes(town: RouteTown, inputs: DemandInputs) -> list[tuple[str, ...]]:
     """The edges, by name, of each route of the files of candidates: as often as vehicles have it, once where none has.
     Routes of one edge are left out, so that it may be empty; and those with edges without a connection where the
     options ignore them, which is reported. The vehicle types of the files are added to the town's. Fault where the
     files have no route, or else no connection leads from an edge to the next."""
-    demand = Demand(town.net, town.types, asked.seed, Report())
-    for path in asked.candidates:
+    demand = Demand(town.net, town.types, inputs.seed, Report())
+    for path in inputs.candidates:
         demand.read_file(path)
     driven = [vehicle.edges for vehicle in demand.completed_vehicles()]
-    taken = set(driven)
-    found = [*driven, *(edges for edges in demand.routes.values() if edges not in taken)]
-    if not found:
-        raise Fault(f"{', '.join(asked.candidates)}: no route is in it")
+    driven_set = set(driven)
+    routes = [*driven, *(edges for edges in demand.routes.values() if edges not in driven_set)]
+    if not routes:
+        raise Fault(f"{', '.join(inputs.candidates)}: no route is in it")
     number, movement_of = town.graph.number.get, town.graph.movement_of
-    ways = ((edges, one, other) for edges in found for one, other in pairwise(edges))
-    apart = [way for way in ways if (number(way[1]), number(way[2])) not in movement_of]
+    steps = ((edges, edge, next_edge) for edges in routes for edge, next_edge in pairwise(edges))
+    apart = [step for step in steps if (number(step[1]), number(step[2])) not in movement_of]
     if apart and not town.options.ignore_route_errors:
         _, source, target = apart[0]
-        raise Fault(f"{', '.join(asked.candidates)}: no connection leads from edge {source!r} to {target!r}")
-    lost = {edges for edges, *_ in apart}
-    if lost:
-        town.types.report.warn(f"{len(lost):,} routes have edges without a connection, and are no candidates")
-    return [edges for edges in found if len(edges) > 1 and edges not in lost]
+        raise Fault(f"{', '.join(inputs.candidates)}: no connection leads from edge {source!r} to {target!r}")
+    broken = {edges for edges, *_ in apart}
+    if broken:
+        town.types.report.warn(f"{len(broken):,} routes have edges without a connection, and are no candidates")
+    return [edges for edges in routes if len(edges) > 1 and edges not in broken]
 
 
 def ways_by_ratios(
-    town: RouteTown, asked: DemandInputs, free: Sequence[float]
+    town: RouteTown, inputs: DemandInputs, free: Sequence[float]
 ) -> tuple[list[Pair], list[Way], list[tuple[float, int]]]:
     """(pairs that turn ratios give, their ways, (departure in seconds, index of its way among these) of each vehicle).
     free: seconds of each movement. Fault for a file that is wrong, and where the ratios lead to no end."""
-    found, sinks = ratios.read_ratios(asked.ratios)
-    inflows = ratios.read_inflows(asked.flows, asked.seed, town.types.report)
-    turns = walking.Turns(found, sinks, town.net, town.graph)
-    walks = list(walking.walks_of(inflows, turns, free, town.net, asked.seed))
+    turn_ratios, sinks = ratios.read_ratios(inputs.ratios)
+    inflows = ratios.read_inflows(inputs.flows, inputs.seed, town.types.report)
+    turns = walking.Turns(turn_ratios, sinks, town.net, town.graph)
+    walks = list(walking.walks_of(inflows, turns, free, town.net, inputs.seed))
     routes = [town.graph.names(path) for _, path in walks]
     pairs, ways = candidates.with_given_routes(town.graph, [], [], routes, free)
-    index = {way.path: at for at, way in enumerate(ways)}
+    index = {way.path: number for number, way in enumerate(ways)}
     return pairs, ways, [(depart, index[path]) for depart, path in walks]
 
 
@@ -246,7 +249,7 @@ def slice_bounds(
 ) -> list[int]:
     """The begins and ends of slices in seconds, rising: of counts and of cells, and of departures (second, index of the
     way) the first one and the second after the last, where these are sooner and later. Fault where there are none."""
-    periods = [*((one.begin, one.end) for one in counts), *((one.begin, one.end) for one in cells)]
+    periods = [*((value.begin, value.end) for value in counts), *((value.begin, value.end) for value in cells)]
     bounds = {bound for period in periods for bound in period}
     if departs:
         seconds = [int(depart) for depart, _ in departs]
@@ -263,26 +266,26 @@ def cell_vehicles(
     the slices of its period, evenly, and over the ways of its pair by their shares. Cells whose pair is not among
     `pairs`, or has no way, are left out."""
     numpy, _ = numpy_and_scipy()
-    pair_of = {(pair.source, pair.target): at for at, pair in enumerate(pairs)}
+    pair_of = {(pair.source, pair.target): pair_index for pair_index, pair in enumerate(pairs)}
     of_pair: dict[str, Array] = {}
     for cell in cells:
         rows = of_pair.setdefault(cell.kind, numpy.zeros((len(pairs), len(slices))))
-        if (at := pair_of.get((cell.source, cell.target))) is not None:
-            rows[at] += [cell.vehicles * share_between(cell, *bounds) for bounds in pairwise(slices.bounds)]
+        if (pair_index := pair_of.get((cell.source, cell.target))) is not None:
+            rows[pair_index] += [cell.vehicles * share_between(cell, *bounds) for bounds in pairwise(slices.bounds)]
     pair, shares = numpy.array([way.pair for way in ways]), numpy.array([[way.share] for way in ways])
     return {kind: (rows[pair] * shares).ravel() for kind, rows in of_pair.items()}
 
 
-def departing_vehicles(departs: Sequence[tuple[float, int]], slices: Slices, ways: int) -> dict[str, Array]:
+def departing_vehicles(departs: Sequence[tuple[float, int]], slices: Slices, way_count: int) -> dict[str, Array]:
     """{"": the vehicles, an array in one row, at index way * slices + slice}, of departures (second, index of the
-    way), all within the slices; an empty dict where there are none. ways: how many there are."""
+    way), all within the slices; an empty dict where there are none. way_count: how many ways."""
     if not departs:
         return {}
     numpy, _ = numpy_and_scipy()
-    found = numpy.zeros((ways, len(slices)))
+    vehicles = numpy.zeros((way_count, len(slices)))
     for depart, way in departs:
-        found[way, bisect_right(slices.bounds, depart) - 1] += 1
-    return {"": found.ravel()}
+        vehicles[way, bisect_right(slices.bounds, depart) - 1] += 1
+    return {"": vehicles.ravel()}
 
 
 def passing_by_class(basis: Basis, costs: Costs) -> Sparse:
@@ -291,11 +294,11 @@ def passing_by_class(basis: Basis, costs: Costs) -> Sparse:
     in all. costs: seconds of movements."""
     numpy, scipy = numpy_and_scipy()
     base = passing_matrix(basis.town.graph, basis.ways, basis.slices, basis.by_edges, costs)
-    masks = [numpy.array([float(one.kind in ("", kind)) for one in basis.counts]) for kind in basis.kinds]
+    masks = [numpy.array([float(count.kind in ("", kind)) for count in basis.counts]) for kind in basis.kinds]
     return scipy.sparse.hstack([scipy.sparse.diags(mask) @ base for mask in masks]).tocsr()
 
 
-def fit_to_counts(basis: Basis, asked: DemandInputs, costs: Costs, counted: Array = None) -> Fitted:
+def fit_to_counts(basis: Basis, inputs: DemandInputs, costs: Costs, counted: Array = None) -> Fitted:
     """The vehicles that fit the counts best; without counts those that are expected. costs: seconds of movements, by
     which it is known who passes when; counted: an array of the vehicles to be met, by count, where a run has corrected
     them; None: what was counted. Fault where there are counts, and too many ways and slices (passing_matrix)."""
@@ -304,39 +307,42 @@ def fit_to_counts(basis: Basis, asked: DemandInputs, costs: Costs, counted: Arra
     passing = passing_by_class(basis, costs) if basis.counts else scipy.sparse.csr_matrix((0, len(basis.kinds) * size))
     counted = counted_vehicles(basis.counts) if counted is None else counted
     parts = [
-        expected_vehicles(basis, asked, kind, passing[:, at * size : (at + 1) * size], counted)
-        for at, kind in enumerate(basis.kinds)
+        expected_vehicles(basis, inputs, kind, passing[:, number * size : (number + 1) * size], counted)
+        for number, kind in enumerate(basis.kinds)
     ]
     vehicles = expected = numpy.concatenate(parts)
     if basis.counts:
-        deviation = deviations(counted, asked.error) / fitting.FIRM**0.5
+        deviation = deviations(counted, inputs.error) / fitting.FIRM**0.5
         vehicles, _ = fitting.least_squares(Problem(passing, expected, counted, deviation))
-    return Fitted(passing, expected, vehicles, whole_vehicles(vehicles, passing, asked.seed, asked.error))
+    return Fitted(passing, expected, vehicles, whole_vehicles(vehicles, passing, inputs.seed, inputs.error))
 
 
-def expected_vehicles(basis: Basis, asked: DemandInputs, kind: str, base: Sparse, counted: Array) -> Array:
+def expected_vehicles(basis: Basis, inputs: DemandInputs, kind: str, base: Sparse, counted: Array) -> Array:
     """The vehicles of a class that are expected of each way and slice, an array in one row: of a matrix or of ratios,
     else by the counts of the class; for the empty class by those of all vehicles, less those of classes that are
     counted there in that time; else 0. base: the class's columns of passing_by_class; counted: vehicles by count."""
     numpy, _ = numpy_and_scipy()
-    if kind in basis.given:
-        return basis.given[kind]
-    rows = [at for at, one in enumerate(basis.counts) if one.kind == kind]
+    if kind in basis.given_vehicles:
+        return basis.given_vehicles[kind]
+    rows = [row for row, count in enumerate(basis.counts) if count.kind == kind]
     if not rows:
         return numpy.zeros(base.shape[1])
-    others: defaultdict[tuple[str, ...], list[Count]] = defaultdict(list)
-    for one in basis.counts:
-        if one.kind and not kind:
-            others[one.edges].append(one)
-    whole = [basis.counts[at] for at in rows]
-    less = [sum(some.vehicles * share_between(some, one.begin, one.end) for some in others[one.edges]) for one in whole]
-    own = numpy.maximum(counted[rows] - numpy.array(less), 0.0)
-    return Expecting(basis.ways, basis.pairs, basis.slices, asked.error).vehicles_by_counts(base[rows], own)
+    of_classes: defaultdict[tuple[str, ...], list[Count]] = defaultdict(list)
+    for count in basis.counts:
+        if count.kind and not kind:
+            of_classes[count.edges].append(count)
+    whole = [basis.counts[row] for row in rows]
+    less = [
+        sum(part.vehicles * share_between(part, count.begin, count.end) for part in of_classes[count.edges])
+        for count in whole
+    ]
+    remaining = numpy.maximum(counted[rows] - numpy.array(less), 0.0)
+    return Expecting(basis.ways, basis.pairs, basis.slices, inputs.error).vehicles_by_counts(base[rows], remaining)
 
 
-def trips_of_fit(basis: Basis, asked: DemandInputs, fitted: Fitted) -> list[Trip]:
+def trips_of_fit(basis: Basis, inputs: DemandInputs, fitted: Fitted) -> list[Trip]:
     """The trips of a fit, by departure; Fault where it has no vehicle."""
-    trips = trips_of(fitted.whole, basis.kinds, basis.ways, basis.slices, asked.seed)
+    trips = trips_of(fitted.whole, basis.kinds, basis.ways, basis.slices, inputs.seed)
     if not trips:
         raise Fault("nobody drives: the fit has no vehicle")
     return trips

@@ -1,4 +1,4 @@
-"""Trips with their departures, from how many vehicles each way and slice has."""
+"""Trips with their departures, drawn from how many vehicles each way and slice has after the fit."""
 import random
 from collections import defaultdict
 from collections.abc import Sequence
@@ -16,18 +16,18 @@ def trips_of(whole: Array, kinds: Sequence[str], ways: Sequence[Way], slices: Sl
     index (class * ways + way) * slices + slice; kinds: the classes, an empty text for the usual one."""
     count = len(slices)
     begun: defaultdict[tuple[int, int], list[tuple[str, Way]]] = defaultdict(list)
-    for at in whole.nonzero()[0].tolist():
-        kind, way = kinds[at // (len(ways) * count)], ways[at // count % len(ways)]
-        begun[at % count, way.path[0]] += [(kind, way)] * int(whole[at])
+    for index in whole.nonzero()[0].tolist():
+        kind, way = kinds[index // (len(ways) * count)], ways[index // count % len(ways)]
+        begun[index % count, way.path[0]] += [(kind, way)] * int(whole[index])
     draws = random.Random(f"departures {seed}")
-    found: list[tuple[float, str, Way]] = []
-    for (slice_, _), some in sorted(begun.items()):
-        draws.shuffle(some)
-        width = (slices.bounds[slice_ + 1] - slices.bounds[slice_]) / len(some)
-        for at, (kind, way) in enumerate(some):
-            found.append((slices.bounds[slice_] + width * (at + draws.random()), kind, way))
-    found.sort(key=lambda one: one[0])
+    departures: list[tuple[float, str, Way]] = []
+    for (slice_, _), group in sorted(begun.items()):
+        draws.shuffle(group)
+        width = (slices.bounds[slice_ + 1] - slices.bounds[slice_]) / len(group)
+        for index, (kind, way) in enumerate(group):
+            departures.append((slices.bounds[slice_] + width * (index + draws.random()), kind, way))
+    departures.sort(key=lambda departure: departure[0])
     return [
-        Trip(str(at), depart, way.path[0], way.path[-1], kind or DEFAULT, way.path, depart)
-        for at, (depart, kind, way) in enumerate(found)
+        Trip(str(index), depart, way.path[0], way.path[-1], kind or DEFAULT, way.path, depart)
+        for index, (depart, kind, way) in enumerate(departures)
     ]

@@ -1,4 +1,5 @@
-"""Finds the vehicles of each way and slice that fit counts best: sparse least squares with bounds."""
+"""The least squares of streetsim-demand: vehicles of each way and slice, none below 0, that fit the counts best. All
+matrices are sparse."""
 from collections.abc import Sequence
 from dataclasses import dataclass
 
@@ -13,7 +14,7 @@ FIRM = 10.0  # how many times as much as their deviations say counts weigh in th
 ENDS_ROUNDS = 6  # in which the trips that begin and end on each edge, or in each zone, are estimated
 OUTSIDE = (0, 2, 4)  # times doubled, that an end outside has more than one within: what fits best
 HALF = 0.5  # of what is expected of a way, by how many begin and how many end where it does
-LEAST = 1e-6  # vehicles that are expected of a way and slice at least, so that it is not ruled out
+LEAST_EXPECTED = 1e-6  # vehicles that are expected of a way and slice at least, so that it is not ruled out
 STEPS = 500  # of the search for the least squares, at most
 
 
@@ -39,10 +40,10 @@ def deviations(counted: Array, error: float) -> Array:
 def least_squares(problem: Problem) -> tuple[Array, float]:
     """(the vehicles of each column, 0 at least, as an array; the sum of squares, which is least for them): of what the
     counts differ by over their deviations (above 0), and of what the vehicles differ by from those expected over the
-    root of these. Fewer than LEAST that are expected count as LEAST, so that no column is ruled out. After STEPS steps
-    what is found until then is given, and nothing is said."""
+    root of these. Fewer than LEAST_EXPECTED that are expected count as so many, so that no column is
+    ruled out. After STEPS steps what is found until then is given, and nothing is said."""
     numpy, scipy = numpy_and_scipy()
-    root = numpy.sqrt(numpy.maximum(problem.expected, LEAST))
+    root = numpy.sqrt(numpy.maximum(problem.expected, LEAST_EXPECTED))
     scaled = (scipy.sparse.diags(1 / problem.deviation) @ problem.passing @ scipy.sparse.diags(root)).tocsr()
     across = scaled.T.tocsr()
     target = problem.counted / problem.deviation
@@ -52,11 +53,11 @@ def least_squares(problem: Problem) -> tuple[Array, float]:
         apart, from_expected = scaled @ of - target, of - root
         return 0.5 * float(apart @ apart + from_expected @ from_expected), across @ apart + from_expected
 
-    found = scipy.optimize.minimize(
+    solution = scipy.optimize.minimize(
         half_squares, root, jac=True, method="L-BFGS-B", bounds=scipy.optimize.Bounds(0, numpy.inf),
         options={"maxiter": STEPS, "maxfun": 2 * STEPS, "maxcor": 20, "ftol": 1e-10, "gtol": 1e-5},
     )  # fmt: skip
-    return found.x * root, 2 * float(found.fun)
+    return solution.x * root, 2 * float(solution.fun)
 
 
 class TripEnds:
@@ -66,7 +67,7 @@ class TripEnds:
     def __init__(self, names: Sequence[str], ends: Sequence[End]) -> None:
         """names: where each way begins, or ends; ends: what is expected of that; both in the ways' order."""
         numpy, _ = numpy_and_scipy()
-        numbers = {name: at for at, name in enumerate(dict.fromkeys(names))}
+        numbers = {name: number for number, name in enumerate(dict.fromkeys(names))}
         self.of_way = numpy.array([numbers[name] for name in names])
         known = dict(zip(names, ends, strict=True))
         self.weight = numpy.array([known[name].weight for name in numbers])
@@ -76,11 +77,11 @@ class TripEnds:
         """For each way, as an array, how many vehicles begin, or end, where it does: half of them as the ways have
         them, half as all outside, or all within, would by their weights. vehicles: of each way, as an array."""
         numpy, _ = numpy_and_scipy()
-        own = numpy.bincount(self.of_way, vehicles, len(self.weight))
-        rates = numpy.bincount(self.outside, own, 2) / numpy.maximum(
-            numpy.bincount(self.outside, self.weight, 2), LEAST
+        by_end = numpy.bincount(self.of_way, vehicles, len(self.weight))
+        rates = numpy.bincount(self.outside, by_end, 2) / numpy.maximum(
+            numpy.bincount(self.outside, self.weight, 2), LEAST_EXPECTED
         )
-        return (HALF * own + (1 - HALF) * rates[self.outside] * self.weight)[self.of_way]
+        return (HALF * by_end + (1 - HALF) * rates[self.outside] * self.weight)[self.of_way]
 
 
 class Expecting:
@@ -91,9 +92,9 @@ class Expecting:
         """error: share of a count by which it is taken to be wrong."""
         numpy, _ = numpy_and_scipy()
         self.slices, self.error, self.ways = slices, error, ways
-        own = [pairs[way.pair] for way in ways]
-        self.begins = TripEnds([pair.source for pair in own], [pair.begins for pair in own])
-        self.ends = TripEnds([pair.target for pair in own], [pair.ends for pair in own])
+        way_pairs = [pairs[way.pair] for way in ways]
+        self.begins = TripEnds([pair.source for pair in way_pairs], [pair.begins for pair in way_pairs])
+        self.ends = TripEnds([pair.target for pair in way_pairs], [pair.ends for pair in way_pairs])
         outside = (ends.outside[ends.of_way] for ends in (self.begins, self.ends))
         self.outside = 2.0 ** sum(outside)  # doubles for each end of a way that lies outside
 
@@ -106,16 +107,16 @@ class Expecting:
         deviation, share = deviations(counted, self.error), numpy.array([way.share for way in self.ways])
         if all(way.ends_share is not None for way in self.ways):
             habits = [shares_by_habit(self.ways, habit) for habit in HABITS]
-            share = min(habits, key=lambda one: self.misfit(passing, counted, self.vehicles_by_ends(one, one)))
+            share = min(habits, key=lambda shares: self.misfit(passing, counted, self.vehicles_by_ends(shares, shares)))
         starts = [self.vehicles_by_ends(share * self.outside**exponent, share) for exponent in OUTSIDE]
-        start = min(starts, key=lambda one: self.misfit(passing, counted, one))
+        start = min(starts, key=lambda vehicles: self.misfit(passing, counted, vehicles))
         base, rates = self.ways_and_slices(passing, counted, start)
         for _ in range(ENDS_ROUNDS):
-            found = least_squares(Problem(pooled_columns(passing, rates), base, counted, deviation))[0]
-            mixed = HALF * self.vehicles_by_ends(found, share) + (1 - HALF) * found
+            fitted = least_squares(Problem(pooled_columns(passing, rates), base, counted, deviation))[0]
+            mixed = HALF * self.vehicles_by_ends(fitted, share) + (1 - HALF) * fitted
             base, rates = self.ways_and_slices(passing, counted, mixed)
         base = least_squares(Problem(pooled_columns(passing, rates), base, counted, deviation))[0]
-        return numpy.outer(numpy.maximum(base, LEAST), rates).ravel()
+        return numpy.outer(numpy.maximum(base, LEAST_EXPECTED), rates).ravel()
 
     def misfit(self, passing: Sparse, counted: Array, base: Array) -> float:
         """How far counts and what is expected stay apart in a fit, by the sum of squares, so that the best of several
@@ -133,8 +134,8 @@ class Expecting:
     def vehicles_by_ends(self, vehicles: Array, share: Array) -> Array:
         """The vehicles of each way, as an array, in proportion to how many begin and how many end where it does and to
         its share; their sum is that of `vehicles`, of each way."""
-        made = self.begins.vehicles_at(vehicles) * self.ends.vehicles_at(vehicles) * share
-        return made * (vehicles.sum() / max(made.sum(), LEAST))
+        weighted = self.begins.vehicles_at(vehicles) * self.ends.vehicles_at(vehicles) * share
+        return weighted * (vehicles.sum() / max(weighted.sum(), LEAST_EXPECTED))
 
     def slice_rates(self, passing: Sparse, counted: Array, base: Array) -> Array:
         """By slice, as an array, how many vehicles it has for one vehicle of `base`, which has a number for each way.
@@ -151,7 +152,7 @@ class Expecting:
             table = table[:, 1:]
         deviation = deviations(counted, self.error)[:, None]
         rates, _ = scipy.optimize.nnls(table / deviation, counted / deviation[:, 0])
-        rates = numpy.maximum(rates, 1e-3 * max(rates.max(), LEAST))
+        rates = numpy.maximum(rates, 1e-3 * max(rates.max(), LEAST_EXPECTED))
         return numpy.concatenate(([rates[0] * widths[0] / widths[1]], rates)) if self.slices.leads_in else rates
 
 

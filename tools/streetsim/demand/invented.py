@@ -1,5 +1,5 @@
-"""A demand that nobody counted, for a network without routes: so many vehicles an hour from edge to edge, where the
-network begins and ends. It is called invented wherever it shows."""
+"""A demand that nobody counted, for a network without routes: so many vehicles an hour between edges at its border.
+streetsim-open makes it, and calls it invented wherever it shows."""
 from bisect import bisect
 from collections.abc import Sequence
 from itertools import accumulate
@@ -18,12 +18,12 @@ TRIES = 100  # draws of an edge to begin on, before it is said that nothing lead
 
 def reached_from(graph: Graph, edge: int) -> list[int]:
     """The numbers of the edges to which an edge leads, itself left out, rising."""
-    found, left = {edge}, [edge]
-    while left:
-        new = [following for following, _ in graph.out[left.pop()] if following not in found]
-        found.update(new)
-        left += new
-    return sorted(found - {edge})
+    reached, queue = {edge}, [edge]
+    while queue:
+        added = [following for following, _ in graph.out[queue.pop()] if following not in reached]
+        reached.update(added)
+        queue += added
+    return sorted(reached - {edge})
 
 
 def invented_trips(net: SumoNet, hourly: int) -> list[tuple[str, str]]:
@@ -36,18 +36,18 @@ def invented_trips(net: SumoNet, hourly: int) -> list[tuple[str, str]]:
     lanes = [len(net.edges[name].lanes) for name in graph.edges]
     ends: set[int] = {*exits}
     goals: dict[int, list[int]] = {}
-    found: list[tuple[str, str]] = []
+    trips: list[tuple[str, str]] = []
     for _ in range(hourly * TRIES):
-        if len(found) == hourly:
-            return found
+        if len(trips) == hourly:
+            return trips
         begin = drawn(entries, lanes, draws)
         if begin not in goals:
             goals[begin] = [edge for edge in reached_from(graph, begin) if edge in ends]
         if goals[begin]:
-            found.append((graph.edges[begin], graph.edges[drawn(goals[begin], lanes, draws)]))
-    if len(found) < hourly:
+            trips.append((graph.edges[begin], graph.edges[drawn(goals[begin], lanes, draws)]))
+    if len(trips) < hourly:
         raise Fault("no demand can be invented: no edge at the border leads to another one")
-    return found
+    return trips
 
 
 def drawn(edges: Sequence[int], lanes: Sequence[int], draws: Random) -> int:
@@ -62,8 +62,8 @@ def write_invented(path: str, net: SumoNet, hourly: int, begin: int) -> None:
     trips = invented_trips(net, hourly)
     with whole_file(path) as file:
         file.write("<routes>\n")
-        for at, (source, target) in enumerate(trips):
-            depart = f"{begin + at * HOUR / hourly:.2f}"
-            known = {"id": f"{INVENTED}{at}", "depart": depart, "departLane": "best", "from": source, "to": target}
+        for number, (source, target) in enumerate(trips):
+            depart = f"{begin + number * HOUR / hourly:.2f}"
+            known = {"id": f"{INVENTED}{number}", "depart": depart, "departLane": "best", "from": source, "to": target}
             file.write(f"    <trip{attributes_of(known)}/>\n")
         file.write("</routes>\n")

@@ -1,4 +1,5 @@
-"""How well vehicles that passed, in a run or on paper, fit those that were counted: GEH, totals, r and slope."""
+"""How well vehicles that passed, in a run or on paper, fit the counts: GEH, totals, r and slope. streetsim-demand,
+streetsim-compare and the page of streetsim-report show it."""
 from collections import defaultdict
 from collections.abc import Iterable, Iterator, Sequence
 from dataclasses import dataclass, replace
@@ -47,8 +48,8 @@ class ComparedCount:
 
     def fit_row(self) -> tuple[object, ...]:
         """The row of fit.csv that stands for it, as FIT has the columns."""
-        source, *others = self.edges
-        ends = source, " ".join(others)
+        source, *later_edges = self.edges
+        ends = source, " ".join(later_edges)
         values = f"{self.counted:g}", f"{self.passed:g}", f"{self.geh:.2f}"
         return (self.begin, self.end, *ends, self.kind, self.group, *values)
 
@@ -94,8 +95,8 @@ class CountSums:
 
     def hour_row(self) -> tuple[object, ...]:
         """The row of hours.csv that stands for it, as HOURS has the columns."""
-        told = "passed" if self.meets_criteria else "not passed"
-        return (self.begin, self.end, self.counts, self.good, f"{100 * self.good_share:.1f}", *self.totals(), told)
+        verdict = "passed" if self.meets_criteria else "not passed"
+        return (self.begin, self.end, self.counts, self.good, f"{100 * self.good_share:.1f}", *self.totals(), verdict)
 
     def group_row(self) -> tuple[object, ...]:
         """The row of groups.csv that stands for it, as GROUPS has the columns."""
@@ -104,10 +105,11 @@ class CountSums:
 
 @dataclass(frozen=True, slots=True)
 class JudgedCounts:
-    """How well a run, or a fit, meets counts, of which there is one at least. each: by count; hourly: by edges, class
-    and hour of the clock, as one count each; hours: sums of these, by hour; groups: sums by screen line and hour."""
+    """How well a run, or a fit, meets counts, of which there is one at least. compared: by count; hourly: by edges,
+    class and hour of the clock, as one count each; hours: sums of these, by hour; groups: sums by screen line and
+    hour."""
 
-    each: list[ComparedCount]
+    compared: list[ComparedCount]
     hourly: list[ComparedCount]
     hours: list[CountSums]
     groups: list[CountSums]
@@ -115,84 +117,87 @@ class JudgedCounts:
     @property
     def meets_criteria(self) -> bool:
         """Whether each hour meets the criteria."""
-        return all(one.meets_criteria for one in self.hours)
+        return all(sums.meets_criteria for sums in self.hours)
 
     @property
     def good_share(self) -> float:
         """The share, 0 to 1, of the counts of all hours whose GEH is below 5."""
-        return sum(one.good for one in self.hours) / sum(one.counts for one in self.hours)
+        return sum(sums.good for sums in self.hours) / sum(sums.counts for sums in self.hours)
 
     @property
     def greatest_difference(self) -> float:
         """The greatest difference of an hour's total from what was counted, as a share."""
-        return max(abs(one.relative_difference) for one in self.hours)
+        return max(abs(sums.relative_difference) for sums in self.hours)
 
     def lines(self) -> Iterator[str]:
         """Lines for the terminal: the criteria hour by hour, then screen lines, r and slope."""
-        for one in self.hours:
+        for sums in self.hours:
             yield (
-                f"{one.begin:,} to {one.end:,} s: "
-                f"GEH below 5 for {100 * one.good_share:.1f} % of {one.counts:,} counts, "
-                f"{one.passed:,.0f} passed of {one.counted:,.0f} counted ({100 * one.relative_difference:+.1f} %): "
-                f"{'fits' if one.meets_criteria else f'does not fit ({one.criteria_missed()})'}"
+                f"{sums.begin:,} to {sums.end:,} s: "
+                f"GEH below 5 for {100 * sums.good_share:.1f} % of {sums.counts:,} counts, "
+                f"{sums.passed:,.0f} passed of {sums.counted:,.0f} counted ({100 * sums.relative_difference:+.1f} %): "
+                f"{'fits' if sums.meets_criteria else f'does not fit ({sums.criteria_missed()})'}"
             )
-        for one in self.groups:
+        for sums in self.groups:
             yield (
-                f"screen line {one.group}, {one.begin:,} to {one.end:,} s: {one.passed:,.0f} passed of "
-                f"{one.counted:,.0f} counted ({100 * one.relative_difference:+.1f} %)"
+                f"screen line {sums.group}, {sums.begin:,} to {sums.end:,} s: {sums.passed:,.0f} passed of "
+                f"{sums.counted:,.0f} counted ({100 * sums.relative_difference:+.1f} %)"
             )
-        if (line := correlation_and_slope(self.each)) is not None:
-            yield f"all {len(self.each):,} counts: r = {line[0]:.3f}, slope {line[1]:.3f}"
+        if (line := correlation_and_slope(self.compared)) is not None:
+            yield f"all {len(self.compared):,} counts: r = {line[0]:.3f}, slope {line[1]:.3f}"
 
 
-def judged(counts: Sequence[Count], passed: Sequence[float]) -> JudgedCounts:
+def judge_counts(counts: Sequence[Count], passed: Sequence[float]) -> JudgedCounts:
     """How well numbers of vehicles that passed, one for each count, meet the counts, of which there must be one at
     least."""
-    each = [
-        ComparedCount(one.begin, one.end, one.edges, one.kind, one.group, one.vehicles, value, one.end - one.begin)
-        for one, value in zip(counts, passed, strict=True)
-    ]
-    hourly = merged_by_hour(each)
-    hours = sums_by_hour(replace(one, group="") for one in hourly)
-    return JudgedCounts(each, hourly, hours, sums_by_hour(one for one in hourly if one.group))
+    compared = [
+        ComparedCount(
+            count.begin, count.end, count.edges, count.kind, count.group, count.vehicles, value, count.end - count.begin
+        )
+        for count, value in zip(counts, passed, strict=True)
+    ]  # fmt: skip
+    hourly = merged_by_hour(compared)
+    hours = sums_by_hour(replace(count, group="") for count in hourly)
+    return JudgedCounts(compared, hourly, hours, sums_by_hour(count for count in hourly if count.group))
 
 
-def merged_by_hour(each: Iterable[ComparedCount]) -> list[ComparedCount]:
+def merged_by_hour(compared: Iterable[ComparedCount]) -> list[ComparedCount]:
     """The counts of the same edges and class whose begins lie in one hour of the clock, as one with their sums, from
     the first begin to the last end, with the screen line of the first; sorted by begin, end, edges and class."""
-    found: defaultdict[tuple[object, ...], list[ComparedCount]] = defaultdict(list)
-    for one in each:
-        found[one.begin // HOUR, one.edges, one.kind].append(one)
-    made = (
+    groups: defaultdict[tuple[object, ...], list[ComparedCount]] = defaultdict(list)
+    for count in compared:
+        groups[count.begin // HOUR, count.edges, count.kind].append(count)
+    merged = (
         replace(
-            some[0], begin=min(one.begin for one in some), end=max(one.end for one in some),
-            counted=sum(one.counted for one in some), passed=sum(one.passed for one in some),
-            seconds=sum(one.seconds for one in some),
+            group[0], begin=min(count.begin for count in group), end=max(count.end for count in group),
+            counted=sum(count.counted for count in group), passed=sum(count.passed for count in group),
+            seconds=sum(count.seconds for count in group),
         )
-        for some in found.values()
+        for group in groups.values()
     )  # fmt: skip
-    return sorted(made, key=lambda one: (one.begin, one.end, one.edges, one.kind))
+    return sorted(merged, key=lambda count: (count.begin, count.end, count.edges, count.kind))
 
 
 def sums_by_hour(hourly: Iterable[ComparedCount]) -> list[CountSums]:
     """Sums of counts by hour of the clock (of their begin) and screen line."""
-    found: defaultdict[tuple[int, str], list[ComparedCount]] = defaultdict(list)
-    for one in hourly:
-        found[one.begin // HOUR, one.group].append(one)
+    groups: defaultdict[tuple[int, str], list[ComparedCount]] = defaultdict(list)
+    for count in hourly:
+        groups[count.begin // HOUR, count.group].append(count)
     return [
         CountSums(
-            min(one.begin for one in some), max(one.end for one in some), group, len(some),
-            sum(one.geh < GOOD for one in some), sum(one.counted for one in some), sum(one.passed for one in some),
-            geh(*(sum(volumes) for volumes in zip(*(one.volumes for one in some)))),
+            min(count.begin for count in members), max(count.end for count in members), group, len(members),
+            sum(count.geh < GOOD for count in members), sum(count.counted for count in members),
+            sum(count.passed for count in members),
+            geh(*(sum(volumes) for volumes in zip(*(count.volumes for count in members)))),
         )
-        for (_, group), some in sorted(found.items())
+        for (_, group), members in sorted(groups.items())
     ]  # fmt: skip
 
 
-def correlation_and_slope(each: Sequence[ComparedCount]) -> tuple[float, float] | None:
+def correlation_and_slope(compared: Sequence[ComparedCount]) -> tuple[float, float] | None:
     """(Pearson's r of what passed with what was counted, slope of the regression of the former on the latter); none
-    where one of both does not vary. each: one at least."""
-    counted, passed = [one.counted for one in each], [one.passed for one in each]
+    where one of both does not vary. compared: one at least."""
+    counted, passed = [count.counted for count in compared], [count.passed for count in compared]
     r = correlation(counted, passed)
     return None if r is None else (r, r * pstdev(passed) / pstdev(counted))
 
@@ -209,27 +214,31 @@ def without_parts(hourly: Iterable[ComparedCount]) -> list[ComparedCount]:
     """Counts of hours without those that others replace (is_part_of), so that sums by first edge have none twice: of a
     time in which all vehicles are counted those of a class are left out, and those of turns where their edge is."""
     hourly = list(hourly)
-    keys = [[(one.edges[0], hour) for hour in range(one.begin // HOUR, -(-one.end // HOUR))] for one in hourly]
+    keys = [[(count.edges[0], hour) for hour in range(count.begin // HOUR, -(-count.end // HOUR))] for count in hourly]
     beside: defaultdict[tuple[str, int], list[ComparedCount]] = defaultdict(list)
-    for key, one in ((key, one) for one, own in zip(hourly, keys, strict=True) for key in own):
-        beside[key].append(one)
-    others = ((other for key in own for other in beside[key]) for own in keys)
-    return [one for one, some in zip(hourly, others, strict=True) if not any(is_part_of(one, other) for other in some)]
+    for key, count in ((key, count) for count, hours in zip(hourly, keys, strict=True) for key in hours):
+        beside[key].append(count)
+    competing = ((other for key in hours for other in beside[key]) for hours in keys)
+    return [
+        count
+        for count, others in zip(hourly, competing, strict=True)
+        if not any(is_part_of(count, other) for other in others)
+    ]
 
 
-def is_part_of(one: ComparedCount, other: ComparedCount) -> bool:
-    """Whether `one` is left out beside `other`, with a time and, as far as both go, the edges in common: if it is of a
-    class and `other` of all vehicles, even along more edges, or both are of the same and `other` has fewer edges."""
-    size = min(len(one.edges), len(other.edges))
-    if one.edges[:size] != other.edges[:size] or one.end <= other.begin or other.end <= one.begin:
+def is_part_of(count: ComparedCount, other: ComparedCount) -> bool:
+    """Whether `count` is left out beside `other`, with a time and, as far as both go, the edges in common: if it is of
+    a class and `other` of all vehicles, even along more edges, or both are of the same and `other` has fewer edges."""
+    size = min(len(count.edges), len(other.edges))
+    if count.edges[:size] != other.edges[:size] or count.end <= other.begin or other.end <= count.begin:
         return False
-    return len(other.edges) < len(one.edges) if other.kind == one.kind else not other.kind
+    return len(other.edges) < len(count.edges) if other.kind == count.kind else not other.kind
 
 
 def counted_seconds(hourly: Iterable[ComparedCount]) -> int:
     """The seconds of all periods, those in common once."""
     total = last = 0
-    for begin, end in sorted((one.begin, one.end) for one in hourly):
+    for begin, end in sorted((count.begin, count.end) for count in hourly):
         total += max(0, end - max(begin, last))
         last = max(last, end)
     return total
@@ -239,13 +248,13 @@ def differences_of(hourly: Sequence[ComparedCount]) -> dict[str, float]:
     """How many vehicles an hour more (above 0) or fewer passed than were counted, by edge: of the edge itself, else of
     its turns together; of all vehicles, else of the classes together. It is a mean over all the time in which anything
     is counted: where the edge is not, it is 0. Edges of which nothing is counted are left out."""
-    found: defaultdict[str, float] = defaultdict(float)
+    differences: defaultdict[str, float] = defaultdict(float)
     hours = counted_seconds(hourly) / HOUR
-    for one in without_parts(hourly):
-        found[one.edges[0]] += (one.passed - one.counted) / hours
-    return dict(found)
+    for count in without_parts(hourly):
+        differences[count.edges[0]] += (count.passed - count.counted) / hours
+    return dict(differences)
 
 
 def worst_fits(fit: JudgedCounts) -> list[ComparedCount]:
     """Of the edges and hours with a GEH of 5 or more the worst, five at most."""
-    return nlargest(WORST, (one for one in fit.hourly if one.geh >= GOOD), key=lambda one: one.geh)
+    return nlargest(WORST, (count for count in fit.hourly if count.geh >= GOOD), key=lambda count: count.geh)

@@ -1,4 +1,5 @@
-"""Makes a demand from its basis to its files: fitted, run as often as asked for, written, and told."""
+"""Makes a demand from its Basis to its files: runs, the best of them, files, and lines for the terminal. streetsim-
+demand calls these functions one after another."""
 import sys
 from collections.abc import Callable, Sequence
 from dataclasses import asdict, dataclass
@@ -9,7 +10,7 @@ from streetsim.demand import correcting, demanding
 from streetsim.demand.correcting import Attempt
 from streetsim.demand.demanding import Basis, DemandInputs, Fitted
 from streetsim.demand.fitting import unreachable_counts
-from streetsim.demand.judging import JudgedCounts, judged
+from streetsim.demand.judging import JudgedCounts, judge_counts
 from streetsim.demand.pictures import draw_fit
 from streetsim.demand.writing import write_demand, write_judged
 from streetsim.model import trust
@@ -44,7 +45,7 @@ class DemandRuns:
 
 
 @dataclass(frozen=True, slots=True)
-class Made:
+class MadeDemand:
     """A demand, with all runs that were tried. judged: how it meets the counts, none where there are none; trips: its
     vehicles; best: the run that it is of, none where nothing was run."""
 
@@ -56,56 +57,57 @@ class Made:
     best: Attempt | None
 
 
-def run_and_tell(
-    basis: Basis, asked: DemandInputs, wanted: DemandRuns, fitted: Fitted, ends: Callable[[], bool],
-    told: demanding.Told,
+def run_attempts(
+    basis: Basis, inputs: DemandInputs, settings: DemandRuns, fitted: Fitted, ends: Callable[[], bool],
+    report_stage: demanding.ReportStage,
 ) -> list[Attempt]:
     """Runs until the demand fits, all runs are used up, or the user asks for an end (which `ends` tells); prints a line
     on standard error after each, and gives them all. Each run ends correcting.AFTER seconds after the last slice at the
     latest. Fault where a run cannot be made."""
     until = min(limits.CLOCK, basis.slices.bounds[-1] + correcting.AFTER)
-    ground = RunGround(wanted.program, program_digest(wanted.program), basis.town.graph, SLICE, until, wanted.rounds)
-    found: list[Attempt] = []
-    for one in correcting.try_demands(basis, asked, ground, wanted.runs, fitted, told):
-        print(one.line(), file=sys.stderr, flush=True)
-        found.append(one)
+    digest = program_digest(settings.program)
+    ground = RunGround(settings.program, digest, basis.town.graph, SLICE, until, settings.rounds)
+    attempts: list[Attempt] = []
+    for attempt in correcting.try_demands(basis, inputs, ground, settings.runs, fitted, report_stage):
+        print(attempt.line(), file=sys.stderr, flush=True)
+        attempts.append(attempt)
         if ends():
             break
-    return found
+    return attempts
 
 
-def best_demand(basis: Basis, asked: DemandInputs, fitted: Fitted, tried: list[Attempt]) -> Made:
+def best_demand(basis: Basis, inputs: DemandInputs, fitted: Fitted, tried: list[Attempt]) -> MadeDemand:
     """The demand of the run that fits best, or of the fit on paper where nothing was run. Fault where that has no
     vehicle."""
     if tried:
         best = max(tried, key=Attempt.rank)  # the first of equal ones
-        return Made(basis, best.fitted, tried, best.judged, best.trips, best)
-    on_paper = judged(basis.counts, fitted.passed_by_count()) if basis.counts else None
-    return Made(basis, fitted, [], on_paper, demanding.trips_of_fit(basis, asked, fitted), None)
+        return MadeDemand(basis, best.fitted, tried, best.judged, best.trips, best)
+    on_paper = judge_counts(basis.counts, fitted.passed_by_count()) if basis.counts else None
+    return MadeDemand(basis, fitted, [], on_paper, demanding.trips_of_fit(basis, inputs, fitted), None)
 
 
-def tell_inputs(basis: Basis, fitted: Fitted) -> None:
+def print_input_notes(basis: Basis, fitted: Fitted) -> None:
     """Prints on standard error what is noticed before anything runs: what is reported of the files, counts that
     contradict each other, counts that no way passes, pairs of a matrix without a way, and how many of the pairs were
     kept, where not all were."""
     for line in basis.town.types.report.lines():
         print(line, file=sys.stderr)
-    apart = [f"counts contradict each other: {one.line()}" for one in basis.contradictions]
+    apart = [f"counts contradict each other: {contradiction.line()}" for contradiction in basis.contradictions]
     warn(apart, "{:,} more contradictions: contradictions.csv")
     none = [
-        f"no way passes {one.edges_told()} from {one.begin:,} to {one.end:,} s: {one.where}"
-        for one in unreachable_counts(fitted.passing, basis.counts)
+        f"no way passes {count.edge_names()} from {count.begin:,} to {count.end:,} s: {count.location}"
+        for count in unreachable_counts(fitted.passing, basis.counts)
     ]
     warn(none, "no way passes {:,} more counts")
     joined = {way.pair for way in basis.ways}
-    lost = [pair for at, pair in enumerate(basis.pairs) if basis.given and at not in joined]
+    lost = [pair for index, pair in enumerate(basis.pairs) if basis.given_vehicles and index not in joined]
     warn(
-        [f"no way leads from {one.source} to {one.target}: vehicles of the matrix are left out" for one in lost],
+        [f"no way leads from {pair.source} to {pair.target}: vehicles of the matrix are left out" for pair in lost],
         "no way leads from one to the other zone of {:,} more pairs",
     )
-    kept, all_ = basis.kept_pairs
-    if kept < all_:
-        print(f"{kept:,} of {all_:,} pairs are drawn, for {len(basis.ways):,} ways (--most)", file=sys.stderr)
+    kept_count, total = basis.kept_pairs
+    if kept_count < total:
+        print(f"{kept_count:,} of {total:,} pairs are drawn, for {len(basis.ways):,} ways (--most)", file=sys.stderr)
 
 
 def warn(texts: Sequence[str], more: str) -> None:
@@ -115,52 +117,52 @@ def warn(texts: Sequence[str], more: str) -> None:
         print(f"warning: {text}", file=sys.stderr)
 
 
-def write_made(paths: DemandOutputs, made: Made, setting: Json) -> None:
+def write_result(paths: DemandOutputs, demand: MadeDemand, setting: Json) -> None:
     """Writes the vehicles, the tables and pictures, and the run with its map where they are asked for; setting: what
     goes into setting.json. Fault where a file cannot be written, and without runs as of RouteTown.loaded."""
-    basis = made.basis
-    loaded = made.best.loaded if made.best else basis.town.loaded(made.trips)
+    basis = demand.basis
+    loaded = demand.best.loaded if demand.best else basis.town.loaded(demand.trips)
     types = [f'<vType id="{kind}" vClass="{kind}"/>' for kind in basis.kinds if kind]
-    write_routes(paths.routes, Trips(list(made.trips), types), basis.town.graph)
+    write_routes(paths.routes, Trips(list(demand.trips), types), basis.town.graph)
     if paths.run and paths.mapping:
         write_loaded(loaded, basis.town, paths.routes, paths.run, paths.mapping)
     with whole_folder(paths.folder, NAME) as folder:
-        write_demand(folder, basis, made.fitted, made.tried)
-        if made.judged:
-            write_judged(folder, made.judged)
-            what = "passed in the run" if made.tried else "fitted on paper"
-            draw_fit(folder, made.judged, loaded.mapping.links, what)
+        write_demand(folder, basis, demand.fitted, demand.tried)
+        if demand.judged:
+            write_judged(folder, demand.judged)
+            how_passed = "passed in the run" if demand.tried else "fitted on paper"
+            draw_fit(folder, demand.judged, loaded.mapping.links, how_passed)
         write_setting(folder, setting)
 
 
-def setting_of(asked: DemandInputs, made: Made, runs: int) -> Json:
+def setting_of(inputs: DemandInputs, demand: MadeDemand, runs: int) -> Json:
     """What a demand was made of and came to, for setting.json; runs: how many were allowed."""
     return {
-        **asdict(asked),
+        **asdict(inputs),
         "runs": runs,
-        "close": [*made.basis.town.works],
-        "begin": made.basis.slices.bounds[0],
-        "vehicles": len(made.trips),
-        "not_trusted": correcting.doubts_of(made.best) if made.best else [],
+        "close": [*demand.basis.town.works],
+        "begin": demand.basis.slices.bounds[0],
+        "vehicles": len(demand.trips),
+        "not_trusted": correcting.doubts_of(demand.best) if demand.best else [],
     }
 
 
-def tell_result(made: Made) -> int:
+def print_result(demand: MadeDemand) -> int:
     """Prints what was made, how well it fits and why it is not to be trusted; gives the status: 1 where counts do not
     fit, else 0."""
-    slices, ways = made.basis.slices, made.basis.ways
+    slices, ways = demand.basis.slices, demand.basis.ways
     print(
-        f"{len(made.trips):,} vehicles from {slices.bounds[0]:,} to {slices.bounds[-1]:,} s on "
-        f"{len({trip.path for trip in made.trips}):,} of {len(ways):,} ways of {len(made.basis.pairs):,} pairs"
+        f"{len(demand.trips):,} vehicles from {slices.bounds[0]:,} to {slices.bounds[-1]:,} s on "
+        f"{len({trip.path for trip in demand.trips}):,} of {len(ways):,} ways of {len(demand.basis.pairs):,} pairs"
     )
-    if not made.judged:
+    if not demand.judged:
         return 0
-    if not made.best:
+    if not demand.best:
         print("on paper, by seconds without other traffic (--runs N judges in the simulation):")
-    print(*made.judged.lines(), sep="\n")
-    if made.best:
-        for line in correcting.misfits_told(made.basis, made.best):
+    print(*demand.judged.lines(), sep="\n")
+    if demand.best:
+        for line in correcting.misfit_lines(demand.basis, demand.best):
             print(line)
-        if doubts := correcting.doubts_of(made.best):
+        if doubts := correcting.doubts_of(demand.best):
             print(trust.verdict(doubts))
-    return 0 if made.judged.meets_criteria else 1
+    return 0 if demand.judged.meets_criteria else 1

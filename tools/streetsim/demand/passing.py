@@ -1,4 +1,4 @@
-"""When vehicles of a way pass where was counted: the matrix by which a demand is fitted to counts."""
+"""When vehicles of a way pass the places of counts: the matrix (counts by ways and slices) on which the fit stands."""
 from bisect import bisect_right
 from collections import defaultdict
 from collections.abc import Iterable, Iterator, Sequence
@@ -38,10 +38,10 @@ def slices_of(bounds: Iterable[int], lead: float, begin: int) -> Slices:
     """Slices between bounds in seconds, two at least, and before them one that leads in, for those who are on their way
     when counting begins: as long as `lead` seconds need, in whole widths of the narrowest slice, but not before the
     clock `begin`; none where this leaves it no second."""
-    found = sorted(set(bounds))
-    width = min(later - sooner for sooner, later in pairwise(found))
-    early = max(begin, found[0] - ceil(lead / width) * width)
-    return Slices((early, *found), True) if early < found[0] else Slices(tuple(found), False)
+    period_bounds = sorted(set(bounds))
+    width = min(later - sooner for sooner, later in pairwise(period_bounds))
+    early = max(begin, period_bounds[0] - ceil(lead / width) * width)
+    return Slices((early, *period_bounds), True) if early < period_bounds[0] else Slices(tuple(period_bounds), False)
 
 
 class CountsByEdges:
@@ -51,42 +51,42 @@ class CountsByEdges:
         """counts: all of them, in the order by which others name them; those of the same edges and class must not
         overlap (check_periods)."""
         self.counts = counts
-        found: defaultdict[tuple[Path, str], list[int]] = defaultdict(list)
-        for at in sorted(range(len(counts)), key=lambda at: counts[at].begin):
-            found[tuple(graph.number[name] for name in counts[at].edges), counts[at].kind].append(at)
+        groups: defaultdict[tuple[Path, str], list[int]] = defaultdict(list)
+        for index in sorted(range(len(counts)), key=lambda index: counts[index].begin):
+            groups[tuple(graph.number[name] for name in counts[index].edges), counts[index].kind].append(index)
         self.by_edges: defaultdict[Path, list[list[int]]] = defaultdict(list)  # by edges: of each class, by begin
-        for (edges, _), some in found.items():
-            self.by_edges[edges].append(some)
+        for (edges, _), indices in groups.items():
+            self.by_edges[edges].append(indices)
         self.sizes = sorted({len(edges) for edges in self.by_edges})
 
     def counts_along(self, path: Path) -> Iterator[tuple[list[int], int]]:
         """(counts of the same edges and class, by their begins; index in the way of the edge at whose end they are
         counted) for all counted edges that a way passes, and each time that it does."""
         for size in self.sizes:
-            for at in range(len(path) - size + 1):
-                for some in self.by_edges.get(path[at : at + size], ()):
-                    yield some, at + max(0, size - 2)
+            for index in range(len(path) - size + 1):
+                for indices in self.by_edges.get(path[index : index + size], ()):
+                    yield indices, index + max(0, size - 2)
 
-    def shares_in_periods(self, some: Sequence[int], begin: float, end: float) -> Iterator[tuple[int, float]]:
+    def shares_in_periods(self, indices: Sequence[int], begin: float, end: float) -> Iterator[tuple[int, float]]:
         """Of some counts of the same edges and class (as `counts_along` gives them) those in whose period vehicles pass
         that go by evenly from one clock to another, for a second at least: (index of the count, share, 0 to 1, of these
         vehicles)."""
         end = max(end, begin + 1)
-        for at in some[bisect_right(some, begin, key=lambda one: self.counts[one].end) :]:
-            count = self.counts[at]
+        for index in indices[bisect_right(indices, begin, key=lambda number: self.counts[number].end) :]:
+            count = self.counts[index]
             if count.begin >= end:
                 break
-            yield at, (min(end, count.end) - max(begin, count.begin)) / (end - begin)
+            yield index, (min(end, count.end) - max(begin, count.begin)) / (end - begin)
 
 
 def end_clocks(graph: Graph, table: Table, path: Path, depart: float) -> list[float]:
     """For each edge of a way the clock at which a vehicle that departs at a clock passes its end; table: seconds of
     movements by time."""
-    found, clock = [], depart
+    clocks, clock = [], depart
     for way in pairwise((*path, END)):
         clock += table.at(graph.movement_of[way], clock)
-        found.append(clock)
-    return found
+        clocks.append(clock)
+    return clocks
 
 
 def passing_matrix(graph: Graph, ways: Sequence[Way], slices: Slices, by_edges: CountsByEdges, costs: Costs) -> Sparse:
@@ -103,16 +103,16 @@ def passing_matrix(graph: Graph, ways: Sequence[Way], slices: Slices, by_edges: 
     rows: list[int] = []
     columns: list[int] = []
     shares: list[float] = []
-    for at, way in enumerate(ways):
+    for way_index, way in enumerate(ways):
         along = list(by_edges.counts_along(way.path))
         if not along:
             continue
         clocks = [end_clocks(graph, table, way.path, bound) for bound in slices.bounds]
         for slice_, (sooner, later) in enumerate(pairwise(clocks)):
-            for some, edge in along:
-                for row, share in by_edges.shares_in_periods(some, sooner[edge], later[edge]):
+            for indices, edge in along:
+                for row, share in by_edges.shares_in_periods(indices, sooner[edge], later[edge]):
                     rows.append(row)
-                    columns.append(at * count + slice_)
+                    columns.append(way_index * count + slice_)
                     shares.append(share)
     shape = len(by_edges.counts), len(ways) * count
     return scipy.sparse.csr_matrix((shares, (rows, columns)), shape=shape)

@@ -21,10 +21,10 @@ def read_inflows(paths: Iterable[FilePath], seed: int, report: Report) -> list[I
     """Flows that have a `from` alone, each with its departures; their attributes that are not in READ, and vehicle
     types, are reported as ignored. Fault where a file cannot be read or has no flow, for a flow with one of ENDS, and
     for another element. seed: of departures by chance."""
-    found: list[Inflow] = []
+    inflows: list[Inflow] = []
     draws = random.Random(f"inflows {seed}")
     for path in paths:
-        before = len(found)
+        before = len(inflows)
         for element in route_elements(path, FLOWS):
             if element.tag in TAGS:
                 report.ignored[f"<{element.tag}> of files of flows"] += 1
@@ -32,44 +32,45 @@ def read_inflows(paths: Iterable[FilePath], seed: int, report: Report) -> list[I
             if element.tag != "flow" or not element.get("from"):
                 raise Fault(f"{element_told(path, element)}: expected a <flow> with from, which turn ratios lead on")
             if ends := [name for name in ENDS if element.get(name) or element.find(name) is not None]:
-                told = f"it has an end ({ends[0]}): give it to --candidates or streetsim-route --trips"
-                raise Fault(f"{element_told(path, element)}: {told}")
+                reason = f"it has an end ({ends[0]}): give it to --candidates or streetsim-route --trips"
+                raise Fault(f"{element_told(path, element)}: {reason}")
             for name in set(element.keys()) - READ:
                 report.ignored[f"{name} of flows"] += 1
             times = departs(path, element, draws)
-            found.append(Inflow(element.get("from", ""), times, element_told(path, element)))
-        if len(found) == before:
+            inflows.append(Inflow(element.get("from", ""), times, element_told(path, element)))
+        if len(inflows) == before:
             raise Fault(f"{path}: no flow is in it")
-    return found
+    return inflows
 
 
 def read_ratios(paths: Iterable[FilePath]) -> tuple[list[Ratio], set[str]]:
     """(turn ratios, names of the edges that are said to be sinks, where vehicles end); Fault where a file cannot be
     read, has no ratio, or another element. Ratios in no interval hold at any time, as in SUMO's jtrrouter."""
-    found: list[Ratio] = []
+    ratios: list[Ratio] = []
     sinks: set[str] = set()
     for path in paths:
-        before = len(found)
+        before = len(ratios)
         source = ""
         for tag in read_tags(path, TURNS):
             if "interval" not in tag.inside:
                 begin, end = 0, MOST_SECONDS
             if tag.name == "interval":
-                begin, end = period_of(tag.get("begin", clock_of), tag.get("end", clock_of), tag.where)
+                begin, end = period_of(tag.get("begin", clock_of), tag.get("end", clock_of), tag.location)
             elif tag.name == "fromEdge":
                 source = tag.get("id", name_of)
             elif tag.name == "toEdge" and "fromEdge" in tag.inside:
-                found.append(Ratio(begin, end, source, tag.get("id", name_of), weight_of(tag), tag.where))
+                ratios.append(Ratio(begin, end, source, tag.get("id", name_of), weight_of(tag), tag.location))
             elif tag.name == "edgeRelation":
                 ends = tag.get("from", name_of), tag.get("to", name_of)
-                found.append(Ratio(begin, end, *ends, weight_of(tag), tag.where))
+                ratios.append(Ratio(begin, end, *ends, weight_of(tag), tag.location))
             elif tag.name == "sink":
                 sinks.update(tag.get("edges", name_of).split())
             else:
-                raise Fault(f"{tag.where}: <{tag.name}> is no turn ratio: <edgeRelation>, or <toEdge> in a <fromEdge>")
-        if len(found) == before:
+                expected = "<edgeRelation>, or <toEdge> in a <fromEdge>"
+                raise Fault(f"{tag.location}: <{tag.name}> is no turn ratio: {expected}")
+        if len(ratios) == before:
             raise Fault(f"{path}: no turn ratio is in it")
-    return found, sinks
+    return ratios, sinks
 
 
 def weight_of(tag: Tag) -> float:

@@ -1,4 +1,5 @@
-"""Reads counts of edges and turns, from CSV and from SUMO's edgeData and edgeRelation files."""
+"""Reads counts of edges and turns, from CSV and from SUMO's edgeData and edgeRelation files; other modules read
+matrices, zones and ratios."""
 from collections.abc import Iterable, Iterator
 
 from streetsim.base.files import Fault, FilePath
@@ -7,7 +8,7 @@ from streetsim.demand.tags import Tag, read_tags
 from streetsim.demand.values import Count
 
 COLUMNS = ("begin", "end", "from", "to", "vehicles")
-MORE = ("class", "group")
+OPTIONAL_COLUMNS = ("class", "group")
 ROOTS = ("meandata", "data", "edgeRelations", "turns", "edgeData")
 # What a count of an edge is, of those attributes that there are; two are added.
 BY_EDGE = (("left", "arrived"), ("entered", "departed"), ("count",), ("vehicles",))
@@ -17,23 +18,23 @@ BY_TURN = (("count",), ("vehicles",))
 def read_counts(paths: Iterable[FilePath], attribute: str | None = None) -> list[Count]:
     """The counts of files, in their order; Fault where a file cannot be read, is no file of counts, or has none.
     attribute: of SUMO's files, the one that is the count; none: the usual ones."""
-    found: list[Count] = []
+    counts: list[Count] = []
     for path in paths:
-        own = list(counts_in_sumo(path, attribute) if begins_with(path, "<") else counts_in_table(path))
-        if not own:
+        file_counts = list(counts_in_sumo(path, attribute) if begins_with(path, "<") else counts_in_table(path))
+        if not file_counts:
             raise Fault(f"{path}: no count is in it")
-        found += own
-    return found
+        counts += file_counts
+    return counts
 
 
 def counts_in_table(path: FilePath) -> Iterator[Count]:
     """The counts of a CSV table with begin,end,from,to,vehicles and maybe class,group: `to` is empty for an edge, and
     has several edges, with blanks between, for a way. Fault for other columns or values."""
-    for row in table_rows(path, COLUMNS, MORE):
-        begin, end = period_of(row.get("begin", clock_of), row.get("end", clock_of), row.where)
+    for row in table_rows(path, COLUMNS, OPTIONAL_COLUMNS):
+        begin, end = period_of(row.get("begin", clock_of), row.get("end", clock_of), row.location)
         edges = (row.get("from", name_of), *row.text("to").split())
         vehicles = row.get("vehicles", vehicle_number)
-        yield Count(begin, end, edges, vehicles, row.where, row.text("class"), row.text("group"))
+        yield Count(begin, end, edges, vehicles, row.location, row.text("class"), row.text("group"))
 
 
 def counts_in_sumo(path: FilePath, attribute: str | None) -> Iterator[Count]:
@@ -42,16 +43,16 @@ def counts_in_sumo(path: FilePath, attribute: str | None) -> Iterator[Count]:
     begin = end = 0
     for tag in read_tags(path, ROOTS):
         if tag.name == "interval":
-            begin, end = period_of(tag.get("begin", clock_of), tag.get("end", clock_of), tag.where)
+            begin, end = period_of(tag.get("begin", clock_of), tag.get("end", clock_of), tag.location)
         elif tag.name in ("edge", "edgeRelation") and "interval" not in tag.inside:
-            raise Fault(f"{tag.where}: <{tag.name}> stands in no <interval>")
+            raise Fault(f"{tag.location}: <{tag.name}> stands in no <interval>")
         elif tag.name == "edge":
-            yield Count(begin, end, (tag.get("id", name_of),), vehicles_of_tag(tag, BY_EDGE, attribute), tag.where)
+            yield Count(begin, end, (tag.get("id", name_of),), vehicles_of_tag(tag, BY_EDGE, attribute), tag.location)
         elif tag.name == "edgeRelation":
             edges = (tag.get("from", name_of), *tag.attributes.get("via", "").split(), tag.get("to", name_of))
-            yield Count(begin, end, edges, vehicles_of_tag(tag, BY_TURN, attribute), tag.where)
+            yield Count(begin, end, edges, vehicles_of_tag(tag, BY_TURN, attribute), tag.location)
         elif tag.name != "lane":
-            raise Fault(f"{tag.where}: <{tag.name}> is no count: <edge> or <edgeRelation> in an <interval>")
+            raise Fault(f"{tag.location}: <{tag.name}> is no count: <edge> or <edgeRelation> in an <interval>")
 
 
 def vehicles_of_tag(tag: Tag, usual: Iterable[tuple[str, ...]], attribute: str | None) -> float:
@@ -59,8 +60,8 @@ def vehicles_of_tag(tag: Tag, usual: Iterable[tuple[str, ...]], attribute: str |
     first attribute it has; Fault where it has none."""
     if attribute:
         return tag.get(attribute, vehicle_number)
-    names = next((some for some in usual if some[0] in tag.attributes), None)
+    names = next((choice for choice in usual if choice[0] in tag.attributes), None)
     if names is None:
-        wanted = ", ".join(some[0] for some in usual)
-        raise Fault(f"{tag.where}: <{tag.name}> has no count: none of {wanted} (--attribute names another one)")
+        expected = ", ".join(choice[0] for choice in usual)
+        raise Fault(f"{tag.location}: <{tag.name}> has no count: none of {expected} (--attribute names another one)")
     return sum(tag.get(name, vehicle_number) for name in names if name in tag.attributes)

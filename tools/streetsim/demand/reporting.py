@@ -1,4 +1,5 @@
-"""Counts beside a run on a page, as HTML: by hour, screen lines, scatter, map of the differences, and the worst."""
+"""The section on counts of a page of streetsim-report, as HTML: by hour, screen lines, scatter, map of the differences,
+worst fits."""
 from html import escape
 
 from streetsim.base.colours import LINE, OTHER_LINE
@@ -19,12 +20,12 @@ POINTS = 40  # of the curves of GEH
 def counts_section(name: str, fit: JudgedCounts, mapping: Map) -> str:
     """How well what passed in a plan's first seed meets the counts, as HTML; name: of the plan."""
     names = Names(mapping)
-    line = correlation_and_slope(fit.each)
-    more = f"; all {len(fit.each):,} counts: r = {line[0]:.3f}, slope {line[1]:.3f}" if line else ""
+    line = correlation_and_slope(fit.compared)
+    more = f"; all {len(fit.compared):,} counts: r = {line[0]:.3f}, slope {line[1]:.3f}" if line else ""
     shares = f"GEH is below 5 for {100 * fit.good_share:.1f} % of the counts by hour"
     criteria = "which passes the usual criteria" if fit.meets_criteria else "which does not pass the usual criteria"
-    told = f"{name}, its first seed: {shares}, {criteria}{more}."
-    parts = [f"<p>{escape(told)}</p>", hours_table(fit), groups_table(fit), worst_table(fit, names)]
+    summary = f"{name}, its first seed: {shares}, {criteria}{more}."
+    parts = [f"<p>{escape(summary)}</p>", hours_table(fit), groups_table(fit), worst_table(fit, names)]
     pictures = f'<div class="whole">{scatter(fit)}{differences_map(fit, mapping)}</div>'
     return "".join([*parts, pictures])
 
@@ -33,11 +34,11 @@ def hours_table(fit: JudgedCounts) -> str:
     """A table of the criteria by hour, as HTML."""
     rows = [
         [
-            f"{time_of_day(one.begin)} to {time_of_day(one.end)}", str(one.counts), f"{100 * one.good_share:.1f}",
-            f"{one.counted:,.0f}", f"{one.passed:,.0f}", f"{100 * one.relative_difference:+.1f}",
-            "passed" if one.meets_criteria else "not passed",
+            f"{time_of_day(sums.begin)} to {time_of_day(sums.end)}", str(sums.counts), f"{100 * sums.good_share:.1f}",
+            f"{sums.counted:,.0f}", f"{sums.passed:,.0f}", f"{100 * sums.relative_difference:+.1f}",
+            "passed" if sums.meets_criteria else "not passed",
         ]
-        for one in fit.hours
+        for sums in fit.hours
     ]
     head = ["hour", "counts", "GEH below 5, %", "counted", "passed in the run", "difference, %", "criteria"]
     return table(head, rows)
@@ -47,10 +48,10 @@ def groups_table(fit: JudgedCounts) -> str:
     """A table of the screen lines by hour, as HTML; empty where there are none."""
     rows = [
         [
-            escape(one.group), f"{time_of_day(one.begin)} to {time_of_day(one.end)}", f"{one.counted:,.0f}",
-            f"{one.passed:,.0f}", f"{100 * one.relative_difference:+.1f}",
+            escape(sums.group), f"{time_of_day(sums.begin)} to {time_of_day(sums.end)}", f"{sums.counted:,.0f}",
+            f"{sums.passed:,.0f}", f"{100 * sums.relative_difference:+.1f}",
         ]
-        for one in fit.groups
+        for sums in fit.groups
     ]
     return table(["screen line", "hour", "counted", "passed in the run", "difference, %"], rows, 2) if rows else ""
 
@@ -58,31 +59,31 @@ def groups_table(fit: JudgedCounts) -> str:
 def worst_table(fit: JudgedCounts, names: Names) -> str:
     """A table of the counts that fit worst, as HTML; empty where all fit."""
     rows = []
-    for one in worst_fits(fit):
-        called = names.approach(one.edges[0]) if len(one.edges) == 1 else names.movement(*one.edges[:2])
-        numbers = f"{one.counted:,.0f}", f"{one.passed:,.0f}", f"{one.geh:.1f}"
-        rows.append([escape(called), escape(" to ".join(one.edges)), time_of_day(one.begin), *numbers])
+    for count in worst_fits(fit):
+        called = names.approach(count.edges[0]) if len(count.edges) == 1 else names.movement(*count.edges[:2])
+        numbers = f"{count.counted:,.0f}", f"{count.passed:,.0f}", f"{count.geh:.1f}"
+        rows.append([escape(called), escape(" to ".join(count.edges)), time_of_day(count.begin), *numbers])
     return table(["fits worst", "edges", "from", "counted", "passed in the run", "GEH"], rows, 2) if rows else ""
 
 
 def scatter(fit: JudgedCounts) -> str:
     """A picture (SVG) of passed over counted, vehicles an hour, by edges and hour, with the curves on which GEH is
     5."""
-    points = [(*one.volumes, one.geh < GOOD) for one in fit.hourly]
+    points = [(*count.volumes, count.geh < GOOD) for count in fit.hourly]
     most = 1.08 * max([1.0, *(max(counted, passed) for counted, passed, _ in points)])
     scale = (SIDE - EDGE - 10) / most
 
-    def at(counted: float, passed: float) -> str:
+    def pixel(counted: float, passed: float) -> str:
         """The pixels across and down of a point, as the text X,Y."""
         return f"{EDGE + counted * scale:.1f},{SIDE - EDGE - passed * scale:.1f}"
 
-    parts = [f'<polyline points="{at(0, 0)} {at(most, most)}" stroke="#000" fill="none"/>']
+    parts = [f'<polyline points="{pixel(0, 0)} {pixel(most, most)}" stroke="#000" fill="none"/>']
     for sign in (1, -1):
         curve = (most * step / POINTS for step in range(POINTS + 1))
-        way = " ".join(at(counted, min(volume_at_geh_5(counted, sign), most)) for counted in curve)
-        parts.append(f'<polyline points="{way}" stroke="#777" stroke-dasharray="4 3" fill="none"/>')
+        line_points = " ".join(pixel(counted, min(volume_at_geh_5(counted, sign), most)) for counted in curve)
+        parts.append(f'<polyline points="{line_points}" stroke="#777" stroke-dasharray="4 3" fill="none"/>')
     for counted, passed, good in points:
-        x, y = at(counted, passed).split(",")
+        x, y = pixel(counted, passed).split(",")
         square = f'<rect x="{float(x) - 3:.1f}" y="{float(y) - 3:.1f}" width="6" height="6" fill="{OTHER_LINE}"/>'
         parts.append(f'<circle cx="{x}" cy="{y}" r="3" fill="{LINE}"/>' if good else square)
     low = SIDE - EDGE
@@ -101,5 +102,5 @@ def differences_map(fit: JudgedCounts, mapping: Map) -> str:
     together, as HTML."""
     words = (2.0, "more passed than were counted"), (-2.0, "fewer"), (0.0, "as many"), (None, "not counted")
     keys = [line_key(difference_stroke(value, 2.0, ""), text) for value, text in words]
-    told = "Vehicles an hour in the run beside those counted; wider where the difference is greater"
-    return map_figure(difference_map(mapping, differences_of(fit.hourly)), told, keys)
+    caption = "Vehicles an hour in the run beside those counted; wider where the difference is greater"
+    return map_figure(difference_map(mapping, differences_of(fit.hourly)), caption, keys)

@@ -1,4 +1,4 @@
-"""Makes the vehicles of a fit whole, so that their sums stay near those of the fit."""
+"""Makes the vehicles of a fit whole numbers whose sums at counts stay near those of the fit."""
 from streetsim.demand.fitting import deviations
 from streetsim.demand.science import Array, Sparse, numpy_and_scipy
 
@@ -23,8 +23,8 @@ def swapped_to_fit(whole: Array, vehicles: Array, passing: Sparse, error: float)
     what passes the counts comes nearer to that of `vehicles`, at most SWAPS times. passing,
     error: as of `whole_vehicles`."""
     numpy, scipy = numpy_and_scipy()
-    wanted, whole = passing @ vehicles, whole.copy()
-    scaled = (scipy.sparse.diags(1 / deviations(wanted, error)) @ passing).tocsc()
+    targets, whole = passing @ vehicles, whole.copy()
+    scaled = (scipy.sparse.diags(1 / deviations(targets, error)) @ passing).tocsc()
     across, squares = scaled.T.tocsr(), numpy.asarray(scaled.multiply(scaled).sum(axis=0)).ravel()
     low = numpy.floor(vehicles)
     open_ = vehicles > low
@@ -34,11 +34,11 @@ def swapped_to_fit(whole: Array, vehicles: Array, passing: Sparse, error: float)
         more = numpy.where(open_ & (whole == low), slope + 0.5 * squares, numpy.inf)
         less = numpy.where(open_ & (whole > low), -slope + 0.5 * squares, numpy.inf)
         up, down = int(more.argmin()), int(less.argmin())
-        both = scaled[:, up] - scaled[:, down]
-        there = numpy.isfinite(more[up] + less[down])
-        if not there or float((both.T @ apart)[0] + 0.5 * both.multiply(both).sum()) >= -LEAST_GAIN:
+        change = scaled[:, up] - scaled[:, down]
+        possible = numpy.isfinite(more[up] + less[down])
+        if not possible or float((change.T @ apart)[0] + 0.5 * change.multiply(change).sum()) >= -LEAST_GAIN:
             break
         whole[up] += 1
         whole[down] -= 1
-        apart = apart + both.toarray().ravel()
+        apart = apart + change.toarray().ravel()
     return whole

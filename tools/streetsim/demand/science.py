@@ -1,4 +1,4 @@
-"""NumPy and SciPy, which the fit stands on and which may not be installed."""
+"""Imports NumPy and SciPy, on which the fit stands; a Fault says so where they are not installed."""
 from typing import Any
 
 from streetsim.base.arrays import Array, take_one_thread

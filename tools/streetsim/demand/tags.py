@@ -22,7 +22,7 @@ class Tag:
     inside: tuple[str, ...]
 
     @property
-    def where(self) -> str:
+    def location(self) -> str:
         """The file and its line, as faults name it."""
         return f"{self.path}: line {self.line}"
 
@@ -31,17 +31,17 @@ class Tag:
         tells."""
         text = self.attributes.get(name)
         if text is None:
-            raise Fault(f"{self.where}: <{self.name}> has no attribute {name!r}")
+            raise Fault(f"{self.location}: <{self.name}> has no attribute {name!r}")
         try:
             return convert(text)
         except ValueError as fault:
-            raise Fault(f"{self.where}: {name}={text!r} {fault}") from None
+            raise Fault(f"{self.location}: {name}={text!r} {fault}") from None
 
 
 def read_tags(path: FilePath, roots: Collection[str]) -> Iterator[Tag]:
     """All elements of a file below its root, in the order in which they begin; Fault where the file cannot be read or
     is no XML, or the root's name is none of `roots`."""
-    found: list[Tag] = []
+    tags: list[Tag] = []
     inside: list[str] = []
     nesting = Nesting()
     parser = expat.ParserCreate()
@@ -51,7 +51,7 @@ def read_tags(path: FilePath, roots: Collection[str]) -> Iterator[Tag]:
         if not inside and name not in roots:
             raise Fault(f"{path}: the root is <{name}>, expected <{'> or <'.join(roots)}>")
         if inside:
-            found.append(Tag(path, parser.CurrentLineNumber, name, attributes, tuple(inside)))
+            tags.append(Tag(path, parser.CurrentLineNumber, name, attributes, tuple(inside)))
         inside.append(name)
         nesting.begin()
 
@@ -70,5 +70,5 @@ def read_tags(path: FilePath, roots: Collection[str]) -> Iterator[Tag]:
             except expat.ExpatError as fault:
                 raise Fault(f"{path}: not XML: {fault}") from None
             chunks.stretch, chunks.kept = chunks.stretch if nesting.passed == before else 0, 0
-            yield from found
-            found.clear()
+            yield from tags
+            tags.clear()

@@ -1,4 +1,5 @@
-"""What a planner has: counts, zones, matrices, inflows and turn ratios, each with the line that tells it."""
+"""Values that files of planners hold: counts, zones, cells of matrices, inflows and turn ratios, each with its location
+(file and line)."""
 from collections import defaultdict
 from collections.abc import Callable, Iterable, Iterator, Mapping, Sequence
 from dataclasses import dataclass
@@ -15,7 +16,7 @@ class Count:
     end: int  # seconds
     edges: tuple[str, ...]
     vehicles: float
-    where: str  # the file and its line
+    location: str  # the file and its line
     kind: str = ""  # the vehicle class; empty: all vehicles
     group: str = ""  # a screen line
 
@@ -24,7 +25,7 @@ class Count:
         """The length of its period in hours."""
         return (self.end - self.begin) / 3600
 
-    def edges_told(self) -> str:
+    def edge_names(self) -> str:
         """Its edges with blanks between, as the user is told."""
         return " ".join(self.edges)
 
@@ -37,7 +38,7 @@ class Zone:
     name: str
     sources: Mapping[str, float]
     sinks: Mapping[str, float]
-    where: str  # the file and its line
+    location: str  # the file and its line
 
 
 @dataclass(frozen=True, slots=True)
@@ -49,27 +50,27 @@ class MatrixCell:
     source: str
     target: str
     vehicles: float
-    where: str  # the file and its line
+    location: str  # the file and its line
     kind: str = ""  # the vehicle class; empty: a car
 
 
 Dated = TypeVar("Dated", Count, MatrixCell)
 
 
-def overlapping_pairs(some: Iterable[Dated], key: Callable[[Dated], object]) -> Iterator[tuple[Dated, Dated]]:
+def overlapping_pairs(values: Iterable[Dated], key: Callable[[Dated], object]) -> Iterator[tuple[Dated, Dated]]:
     """Pairs of counts, or of cells, of one key whose periods overlap, the one that begins sooner first. Only those that
     follow each other by their begins are compared, so that there is a pair where any two overlap."""
-    found: defaultdict[object, list[Dated]] = defaultdict(list)
-    for one in some:
-        found[key(one)].append(one)
-    for alike in found.values():
-        alike.sort(key=lambda one: (one.begin, one.end))
+    groups: defaultdict[object, list[Dated]] = defaultdict(list)
+    for value in values:
+        groups[key(value)].append(value)
+    for alike in groups.values():
+        alike.sort(key=lambda value: (value.begin, value.end))
         yield from ((first, second) for first, second in pairwise(alike) if second.begin < first.end)
 
 
-def share_between(one: Dated, begin: float, end: float) -> float:
+def share_between(dated: Dated, begin: float, end: float) -> float:
     """The share, 0 to 1, of the period of a count or a cell that lies between two clocks."""
-    return max(0.0, min(end, one.end) - max(begin, one.begin)) / (one.end - one.begin)
+    return max(0.0, min(end, dated.end) - max(begin, dated.begin)) / (dated.end - dated.begin)
 
 
 @dataclass(frozen=True, slots=True)
@@ -78,7 +79,7 @@ class Inflow:
 
     edge: str
     departs: Sequence[float]  # rising
-    where: str  # the file and the element
+    location: str  # the file and the element
 
 
 @dataclass(frozen=True, slots=True)
@@ -91,4 +92,4 @@ class Ratio:
     source: str
     target: str
     weight: float
-    where: str
+    location: str

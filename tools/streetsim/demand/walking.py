@@ -1,4 +1,5 @@
-"""Draws the ways that turn ratios give, as SUMO's jtrrouter does: vehicle by vehicle, turn by turn, until a sink."""
+"""Draws the way of each vehicle by turn ratios, turn by turn until a sink, as SUMO's jtrrouter does. For streetsim-
+demand --flows and --ratios."""
 import random
 from bisect import bisect_left, bisect_right
 from collections import defaultdict
@@ -22,24 +23,25 @@ class Turns:
     def __init__(self, ratios: Sequence[Ratio], sinks: set[str], net: SumoNet, graph: Graph) -> None:
         """ratios: of several for one turn and time the last holds; sinks: names of edges at which ways end. Fault
         where the network lacks an edge or a connection that is named."""
-        found: defaultdict[int, list[Ratio]] = defaultdict(list)
-        for one in ratios:
-            check_edges([one.source, one.target], one.where, net)
-            if (graph.number[one.source], graph.number[one.target]) not in graph.movement_of:
-                raise Fault(f"{one.where}: no connection leads from edge {one.source!r} to edge {one.target!r}")
-            found[graph.number[one.source]].append(one)
+        by_source: defaultdict[int, list[Ratio]] = defaultdict(list)
+        for ratio in ratios:
+            check_edges([ratio.source, ratio.target], ratio.location, net)
+            if (graph.number[ratio.source], graph.number[ratio.target]) not in graph.movement_of:
+                ends = f"from edge {ratio.source!r} to edge {ratio.target!r}"
+                raise Fault(f"{ratio.location}: no connection leads {ends}")
+            by_source[graph.number[ratio.source]].append(ratio)
         check_edges(sinks, "<sink>", net)
         self.graph, self.sinks = graph, {graph.number[name] for name in sinks}
         self.by_edge: defaultdict[int, list[tuple[int, int, Turning]]] = defaultdict(list)
-        for source, some in found.items():
-            bounds = sorted({bound for one in some for bound in (one.begin, one.end)})
+        for source, group in by_source.items():
+            bounds = sorted({bound for ratio in group for bound in (ratio.begin, ratio.end)})
             weights: list[dict[int, float]] = [{} for _ in bounds]
-            for one in some:
-                for own in weights[bisect_left(bounds, one.begin) : bisect_left(bounds, one.end)]:
-                    own[graph.number[one.target]] = one.weight
+            for ratio in group:
+                for targets in weights[bisect_left(bounds, ratio.begin) : bisect_left(bounds, ratio.end)]:
+                    targets[graph.number[ratio.target]] = ratio.weight
             self.by_edge[source] = [
-                (begin, end, (list(own), list(accumulate(own.values()))))
-                for (begin, end), own in zip(pairwise(bounds), weights) if own
+                (begin, end, (list(targets), list(accumulate(targets.values()))))
+                for (begin, end), targets in zip(pairwise(bounds), weights) if targets
             ]  # fmt: skip
 
     def next_edge(self, edge: int, clock: float, draws: random.Random) -> int | None:
@@ -48,17 +50,17 @@ class Turns:
         and no ratio holds."""
         if edge in self.sinks:
             return None
-        given = next((turning for begin, end, turning in self.by_edge[edge] if begin <= clock < end), None)
-        if given is not None:
-            following, sums = given
+        held = next((turning for begin, end, turning in self.by_edge[edge] if begin <= clock < end), None)
+        if held is not None:
+            following, sums = held
             return following[bisect_right(sums, draws.random() * sums[-1])] if sums[-1] else None
-        ways = [target for target, movement in self.graph.out[edge] if not self.graph.turns_back[movement]]
-        if len(ways) > 1:
+        targets = [target for target, movement in self.graph.out[edge] if not self.graph.turns_back[movement]]
+        if len(targets) > 1:
             raise Fault(
-                f"edge {self.graph.edges[edge]!r} leads to {len(ways)} others, and no turn ratio holds there at "
+                f"edge {self.graph.edges[edge]!r} leads to {len(targets)} others, and no turn ratio holds there at "
                 f"{clock:,.0f} s: give one, or name it as <sink edges=..>"
             )
-        return ways[0] if ways else None
+        return targets[0] if targets else None
 
 
 def walks_of(
@@ -69,12 +71,12 @@ def walks_of(
     of each movement, by which it is known which ratio holds; seed: of the draws."""
     graph, draws = turns.graph, random.Random(f"ratios {seed}")
     for flow in inflows:
-        check_edges([flow.edge], flow.where, net)
+        check_edges([flow.edge], flow.location, net)
         for depart in flow.departs:
             path, clock = [graph.number[flow.edge]], depart
             while (following := turns.next_edge(path[-1], clock, draws)) is not None:
                 clock += seconds[graph.movement_of[path[-1], following]]
                 path.append(following)
                 if len(path) > limits.PLAN:
-                    raise Fault(f"{flow.where}: after {limits.PLAN:,} turns by the ratios no sink is reached")
+                    raise Fault(f"{flow.location}: after {limits.PLAN:,} turns by the ratios no sink is reached")
             yield depart, tuple(path)

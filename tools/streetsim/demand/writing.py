@@ -1,4 +1,5 @@
-"""Writes the files of a fitted demand and of a comparison with counts."""
+"""Writes the CSV files of streetsim-demand and streetsim-compare: pairs, counts beside vehicles, contradictions,
+runs."""
 from collections import Counter
 from collections.abc import Iterator, Sequence
 from itertools import pairwise
@@ -15,16 +16,16 @@ from streetsim.sumo.way_graph import Graph
 PAIRS = ("begin", "end", "from", "to", "class", "vehicles")
 RUNS = ("run", "vehicles", "arrived", "rescues", "geh_below_5_percent", "total_difference_percent", "criteria")
 APART = ("place", "begin", "end", "what", "first", "second", "where")
-LAST = "hours.csv"  # of a comparison: away while other files take their places (whole_folder)
+LAST_FILE = "hours.csv"  # of a comparison: away while other files take their places (whole_folder)
 
 
 def write_judged(folder: str, fit: JudgedCounts) -> None:
     """Writes the tables of a comparison with counts to a folder: fit.csv, hours.csv, and groups.csv where there are
     screen lines. Fault where one cannot be written."""
-    write_table(f"{folder}/fit.csv", FIT, (one.fit_row() for one in fit.each))
-    write_table(f"{folder}/{LAST}", HOURS, (one.hour_row() for one in fit.hours))
+    write_table(f"{folder}/fit.csv", FIT, (row.fit_row() for row in fit.compared))
+    write_table(f"{folder}/{LAST_FILE}", HOURS, (row.hour_row() for row in fit.hours))
     if fit.groups:
-        write_table(f"{folder}/groups.csv", GROUPS, (one.group_row() for one in fit.groups))
+        write_table(f"{folder}/groups.csv", GROUPS, (row.group_row() for row in fit.groups))
 
 
 def write_demand(folder: str, basis: Basis, fitted: Fitted, tried: Sequence[Attempt]) -> None:
@@ -41,12 +42,13 @@ def write_demand(folder: str, basis: Basis, fitted: Fitted, tried: Sequence[Atte
 def pair_rows(basis: Basis, fitted: Fitted) -> Iterator[tuple[object, ...]]:
     """(begin, end, from, to, class, vehicles) of each pair, class and slice with vehicles: a matrix that --matrix
     takes."""
-    found: Counter[tuple[int, int, int]] = Counter()
+    totals: Counter[tuple[int, int, int]] = Counter()
     count, size = len(basis.slices), len(basis.ways) * len(basis.slices)
-    for at in fitted.whole.nonzero()[0].tolist():
-        found[at // size, at % count, basis.ways[at // count % len(basis.ways)].pair] += int(fitted.whole[at])
+    for index in fitted.whole.nonzero()[0].tolist():
+        pair = basis.ways[index // count % len(basis.ways)].pair
+        totals[index // size, index % count, pair] += int(fitted.whole[index])
     bounds = list(pairwise(basis.slices.bounds))
-    for (kind, slice_, pair), vehicles in sorted(found.items()):
+    for (kind, slice_, pair), vehicles in sorted(totals.items()):
         ends = basis.pairs[pair].source, basis.pairs[pair].target
         yield (*bounds[slice_], *ends, basis.kinds[kind], vehicles)
 
@@ -56,21 +58,22 @@ def write_candidates(path: str, ways: Sequence[Way], graph: Graph) -> None:
     written."""
     with whole_file(path) as file:
         file.write("<routes>\n")
-        for at, way in enumerate(ways):
-            file.write(f'    <route id="{at}" edges={quoteattr(" ".join(graph.names(way.path)))}/>\n')
+        for number, way in enumerate(ways):
+            file.write(f'    <route id="{number}" edges={quoteattr(" ".join(graph.names(way.path)))}/>\n')
         file.write("</routes>\n")
 
 
-def contradiction_rows(found: Sequence[Contradiction]) -> Iterator[tuple[object, ...]]:
+def contradiction_rows(contradictions: Sequence[Contradiction]) -> Iterator[tuple[object, ...]]:
     """The rows of contradictions.csv, as APART has the columns."""
-    for one in found:
-        values = f"{one.first:g}", f"{one.second:g}"
-        yield one.street, one.begin, one.end, one.words.replace("{} ", ""), *values, one.where
+    for contradiction in contradictions:
+        values = f"{contradiction.first:g}", f"{contradiction.second:g}"
+        period, text = (contradiction.begin, contradiction.end), contradiction.template.replace("{} ", "")
+        yield contradiction.street, *period, text, *values, contradiction.location
 
 
 def run_rows(tried: Sequence[Attempt]) -> Iterator[tuple[object, ...]]:
     """The rows of runs.csv, as RUNS has the columns."""
-    for one in tried:
-        told = "passed" if one.judged.meets_criteria else "not passed"
-        shares = f"{100 * one.judged.good_share:.1f}", f"{100 * one.judged.greatest_difference:.1f}"
-        yield (one.number, len(one.trips), one.arrived, one.ran.rescues, *shares, told)
+    for attempt in tried:
+        verdict = "passed" if attempt.judged.meets_criteria else "not passed"
+        shares = f"{100 * attempt.judged.good_share:.1f}", f"{100 * attempt.judged.greatest_difference:.1f}"
+        yield (attempt.number, len(attempt.trips), attempt.arrived, attempt.ran.rescues, *shares, verdict)

@@ -45,7 +45,7 @@ class Joining:
         if self.rounds and mapping.yields:
             program_settings = self.program, self.workers, settings.lights
             run, yielding = giving_way_of_open_run(run, mapping, self.rounds, *program_settings)
-            notes += [yielding.told()] if yielding.lines else []
+            notes += [yielding.summary()] if yielding.lines else []
             mapping = mapping if yielding.lines else replace(mapping, yields=[])
         return PageRun(run, mapping, settings, self.program, self.workers), notes
 

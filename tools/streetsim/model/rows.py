@@ -10,7 +10,7 @@ from typing import IO, Any
 from streetsim.base.arrays import Array
 from streetsim.base.arrays import numpy as np
 from streetsim.base.files import Fault, FilePath, Json, reading
-from streetsim.base.unpacking import TooMuch, inflated, lifted
+from streetsim.base.unpacking import TooMuch, inflate, lifted
 
 NAME = "rows.bin"
 # Of a part: bytes behind the head, clock of its first second, seconds, stays, rows, and closed stretches.
@@ -72,7 +72,7 @@ def parts_of(file: IO[bytes], path: FilePath, every: int = 1) -> Iterator[RowsPa
                 raise TooMuch(f"has more than {MOST:,} rows or seconds in one part")
             if len(packed_data := file.read(size)) < size:
                 raise ValueError("cut off")
-            data = inflated(packed_data, 16 * (stays + closed) + 7 * rows)
+            data = inflate(packed_data, 16 * (stays + closed) + 7 * rows)
             at, columns = 0, []
             for kinds, count in ((STAYS, stays), (ROWS, rows), (CLOSED, closed)):
                 for kind in kinds:

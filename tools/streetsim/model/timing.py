@@ -54,6 +54,11 @@ class Timing:
         """The pairs of indexes, of one movement and another, whose ways cross or join."""
         return [pair for pair in product(one.indexes, other.indexes) if frozenset(pair) in self.conflicts]
 
+    def has_gaps(self) -> bool:
+        """Whether a movement has a green in which it waits for gaps in another, which may go too."""
+        signs = (zip(self.signs(one), self.signs(other)) for one, other in self.pairs())
+        return any(PERMISSIVE in two and {*two} <= {*OPEN} for pair in signs for two in pair)
+
     def clashes(self) -> Iterator[tuple[SignalMovement, SignalMovement, int]]:
         """(movement, other, seconds) for those of `pairs` that have main greens (G) on conflicting indexes together."""
         states = Counter(self.states())

@@ -28,6 +28,7 @@ MOST_SLOW = 0.15  # of the vehicles, that start slowly at lights
 MOST_RESERVED = 0.05  # of the vehicles, that drive on lanes of their own class
 MOST_CROWDED = 0.1  # of the vehicles, that pass nearly full streets which give way
 NAMED = 3  # edges, or lights
+RESCUED = "(who stood too long and were put down on the next link)"
 RESERVED_OFF = "8 to 13 %"  # of trips of buses in SUMO that drive so (tools/CLOSENESS.md)
 SLOW_OFF = "4 to 15 %"  # of mean trips in SUMO where many start slowly (tools/CLOSENESS.md)
 
@@ -108,7 +109,7 @@ def rescue_doubts(trips: TripsAtEnd, rescues: int) -> Iterator[str]:
     """A doubt where there were more rescues than a hundredth of the vehicles, and more than one. rescues: how many in
     all, so that a vehicle that was rescued twice counts twice."""
     if rescues > max(1, MOST_RESCUES * trips.vehicles):
-        yield f"{rescues:,} rescues of {count_told(trips.vehicles, 'vehicle')}"
+        yield f"{rescues:,} rescues of {count_told(trips.vehicles, 'vehicle')} {RESCUED}"
 
 
 def arrival_doubts(trips: TripsAtEnd) -> Iterator[str]:

@@ -55,7 +55,7 @@ class Counts(Observer):
         self.last_cell = np.repeat(np.array([link.cells - 1 for link in self.links], np.int32), 2)
         self.stay = np.repeat([kernel.map.nodes[link.end][3] for link in self.links], 2)
         self.passes, self.speeds, self.covered = (PeriodSums(2 * len(self.links)) for _ in range(3))
-        self.sampled, self.present, self.moved, self.taken = (PeriodSums(len(self.links)) for _ in range(4))
+        self.sampled, self.present, self.moved, self.taken_out = (PeriodSums(len(self.links)) for _ in range(4))
         self.standing = {self.start: np.zeros(len(self.links), np.int64)}  # by clock: vehicles on the cells of links
 
     def see(self, seconds: Seconds) -> None:
@@ -92,18 +92,19 @@ class Counts(Observer):
 
     def end(self, clock: int) -> None:
         """Notes who is on links at the end, and who was taken out of them."""
-        last = self.kernel.last_second
-        self.note_standing(clock, last.slot[last.cell >= 0])
+        last_second = self.kernel.last_second
+        self.note_standing(clock, last_second.slot[last_second.cell >= 0])
         self.clock, self.periods = clock, -(-(clock - self.start) // self.period)
-        own = [one for one in self.kernel.vehicles.takeouts if one.on_lane]
-        clocks, slots = (np.array([getattr(one, name) for one in own], np.int64) for name in ("clock", "slot"))
-        self.taken.add((clocks - self.start) // self.period, slots // 2)
-        for sums in (self.passes, self.speeds, self.covered, self.sampled, self.present, self.moved, self.taken):
+        takeouts = [takeout for takeout in self.kernel.vehicles.takeouts if takeout.on_lane]
+        clocks = np.array([takeout.clock for takeout in takeouts], np.int64)
+        slots = np.array([takeout.slot for takeout in takeouts], np.int64)
+        self.taken_out.add((clocks - self.start) // self.period, slots // 2)
+        for sums in (self.passes, self.speeds, self.covered, self.sampled, self.present, self.moved, self.taken_out):
             sums.grow(self.periods)
 
-    def row(self, place: Place, at: int) -> Row:
+    def row(self, lane_key: Place, at: int) -> Row:
         """What a lane counted in a period, by its number from 0."""
-        slot, begin = 2 * place[0] + place[1], self.start + at * self.period
+        slot, begin = 2 * lane_key[0] + lane_key[1], self.start + at * self.period
         figures = (int(sums.table[at, slot]) for sums in (self.passes, self.speeds, self.covered))
         return Row(begin, min(self.period, self.clock - begin), *figures)
 
@@ -111,13 +112,13 @@ class Counts(Observer):
         """The rows of counts.csv, (begin, end, edge, link, SUMO's index of the lane, vehicles, vehicles an hour, km/h,
         percentage of time in which its cell is covered), for each period and lane; km/h is empty where nobody
         passed."""
-        for place in self.kernel.map.lanes():
-            link = self.links[place[0]]
+        for lane_key in self.kernel.map.lanes():
+            link = self.links[lane_key[0]]
             for at in range(self.periods):
-                row = self.row(place, at)
-                seen = f"{row.flow * 3600:.1f}", row.kmh(link.cell_metres), f"{row.density * 100:.1f}"
-                head = row.start, row.start + row.steps, link.edge, place[0], link.lanes[place[1]]
-                yield *head, row.passes, *seen
+                row = self.row(lane_key, at)
+                measures = f"{row.flow * 3600:.1f}", row.kmh(link.cell_metres), f"{row.density * 100:.1f}"
+                head = row.start, row.start + row.steps, link.edge, lane_key[0], link.lanes[lane_key[1]]
+                yield *head, row.passes, *measures
 
     def edge_rows(self) -> Iterator[Entry]:
         """The rows of edges.csv, (begin, end, edge, entered, left, vehicles a kilometre, km/h, travel time in seconds),
@@ -125,16 +126,17 @@ class Counts(Observer):
         Who came to an edge are those who left it, who are there at the end and were not at the begin, and who were
         taken out."""
         mapping = self.kernel.map
-        slots = {edge: [2 * link + lane for link, lane in mapping.lanes(own)] for edge, own in mapping.links_of.items()}
+        of_edges = mapping.links_of.items()
+        slots = {edge: [2 * link + lane for link, lane in mapping.lanes(links)] for edge, links in of_edges}
         for at in range(self.periods):
             begin = self.start + at * self.period
             end = min(begin + self.period, self.clock)
-            came = self.standing[end] - self.standing[begin] + self.taken.table[at]
+            change = self.standing[end] - self.standing[begin] + self.taken_out.table[at]
             for edge, links in mapping.links_of.items():
-                left = int(self.passes.table[at, slots[edge]].sum())
-                entered = left + int(came[links].sum()) if self.samples.any else ""
+                exited = int(self.passes.table[at, slots[edge]].sum())
+                entered = exited + int(change[links].sum()) if self.samples.has_samples else ""
                 texts = ("" if value is None else f"{value:.2f}" for value in self.seen_on(mapping, links, at))
-                yield begin, end, edge, entered, left, *texts
+                yield begin, end, edge, entered, exited, *texts
 
     def seen_on(self, mapping: Map, links: Sequence[int], at: int) -> tuple[float | None, float | None, float | None]:
         """(vehicles a kilometre, km/h, seconds of travel) of an edge, by its links, in a period by its number, by the
@@ -142,12 +144,12 @@ class Counts(Observer):
         count = int(self.sampled.table[at, 0])
         if not count:
             return None, None, None
-        own = sorted(set(links))
+        edge_links = sorted(set(links))
         tables = self.present.table, self.moved.table
-        vehicles, speeds = (sum(int(table[at, link]) / count for link in own) for table in tables)
-        first = mapping.links[links[0]]
-        density = vehicles / (first.metres / 1000)
+        vehicles, speeds = (sum(int(table[at, link]) / count for link in edge_links) for table in tables)
+        first_link = mapping.links[links[0]]
+        density = vehicles / (first_link.metres / 1000)
         if not speeds:
             return density, 0.0 if vehicles else None, None
-        seconds = first.cells * vehicles / speeds
-        return density, first.metres / seconds * 3.6, seconds
+        seconds = first_link.cells * vehicles / speeds
+        return density, first_link.metres / seconds * 3.6, seconds

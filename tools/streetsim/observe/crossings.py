@@ -1,4 +1,5 @@
-"""The passages of approaches that go on to another edge, and what they come to in a run."""
+"""The passages that cross a junction, from an approach to another edge: their delays, stops and lanes, summed up by
+movement and interval for the junction tables."""
 from __future__ import annotations
 
 from collections.abc import Iterator, Mapping, Sequence
@@ -17,7 +18,7 @@ from streetsim.observe.log import Columns, Log
 from streetsim.observe.passages import Passages
 from streetsim.sumo.across import AT_SIGN
 
-PART = 1 << 14  # vehicles whose plans are looked through at once
+PLANS_AT_ONCE = 1 << 14  # vehicles whose plans are looked through at once
 
 
 class Movements:
@@ -30,7 +31,7 @@ class Movements:
         self.edges = list(dict.fromkeys(link.edge for link in mapping.links))
         numbers = {edge: number for number, edge in enumerate(self.edges)}
         self.edge_of = np.array([numbers[link.edge] for link in mapping.links])
-        self.own = np.array([numbers[edge] for edge in passages.edges], np.int64)  # by number of an approach
+        self.approach_edges = np.array([numbers[edge] for edge in passages.edges], np.int64)  # by number of an approach
         self.stopping = movements_that_stop(mapping)
         self.losses: dict[int, tuple[float, float]] = {}
 
@@ -54,26 +55,26 @@ class PlanPlaces:
         self.movements, self.plans, count = movements, plans, len(plans.first_places)
         # By vehicle, then by edge: keys of both, places of plans, and how often each was passed, by the key's first.
         self.keys = np.zeros(len(plans.links), np.int64)
-        self.places, self.passed = (np.zeros(len(plans.links), np.int32) for _ in range(2))
-        for first, last in pairwise((*range(0, count, PART), count)):
-            own = slice(plans.first_places[first], plans.end_places[last - 1])
-            keys = plans.vehicles(first, last) * len(movements.edges) + movements.edge_of[plans.links[own]]
+        self.positions, self.passed = (np.zeros(len(plans.links), np.int32) for _ in range(2))
+        for begin, end in pairwise((*range(0, count, PLANS_AT_ONCE), count)):
+            part = slice(plans.first_places[begin], plans.end_places[end - 1])
+            keys = plans.vehicles(begin, end) * len(movements.edges) + movements.edge_of[plans.links[part]]
             order = np.argsort(keys, kind="stable")
-            self.keys[own], self.places[own] = keys[order], order + own.start
+            self.keys[part], self.positions[part] = keys[order], order + part.start
 
     def places_of(self, owner: Array, edge: Array) -> tuple[Array, Array]:
         """(where the edge of each passage stands in its vehicle's plan, whether it stands there): as the edge may stand
         there more than once, the first passage is that of the first place, and so on; those beyond the last place are
         of this one. edge: by number of an approach. Passages are given once, in the order of their ends."""
-        wanted = owner.astype(np.int64) * len(self.movements.edges) + self.movements.own[edge]
-        low, high = (np.searchsorted(self.keys, wanted, side) for side in ("left", "right"))
+        wanted_keys = owner.astype(np.int64) * len(self.movements.edges) + self.movements.approach_edges[edge]
+        low, high = (np.searchsorted(self.keys, wanted_keys, side) for side in ("left", "right"))
         at, several = low.copy(), np.flatnonzero(high - low > 1)
-        several = several[np.argsort(wanted[several], kind="stable")]
-        begins, group = groups_of(wanted[several])
+        several = several[np.argsort(wanted_keys[several], kind="stable")]
+        begins, group = groups_of(wanted_keys[several])
         rank = self.passed[low[several]] + np.arange(len(several)) - begins[group]
         at[several] = np.minimum(low[several] + rank, high[several] - 1)
         np.add.at(self.passed, low[several], 1)
-        return self.places[np.minimum(at, len(self.places) - 1)], high > low
+        return self.positions[np.minimum(at, len(self.positions) - 1)], high > low
 
 
 class Crossings:
@@ -81,26 +82,28 @@ class Crossings:
     alone, before. Those whose plan ends on the approach or does not have its edge are left out, and those that left it
     from an edge before: they arrived, turned back or were rescued there."""
 
-    def __init__(self, planned: PlanPlaces, done: Columns) -> None:
-        """done: as `Passages.done` gives them; they follow those of the Crossings before."""
+    def __init__(self, planned: PlanPlaces, ended: Columns) -> None:
+        """ended: as `Passages.done` gives them; they follow those of the Crossings before."""
         plans, movements = planned.plans, planned.movements
-        rows = np.flatnonzero(movements.edge_of[done["slot"] // 2] == movements.own[done["edge"]])
-        at, there = planned.places_of(done["owner"][rows], done["edge"][rows])
-        going_on = there & (at + 1 < plans.end_places[done["owner"][rows]])
-        done, at = {name: values[rows[going_on]] for name, values in done.items()}, at[going_on]
-        first, floor = at.copy(), plans.first_places[done["owner"]]
-        while (off := (plans.links[first] != done["first"]) & (first > floor)).any():
-            first[off] -= 1
-        first = np.where(plans.links[first] == done["first"], first, at)
+        rows = np.flatnonzero(movements.edge_of[ended["slot"] // 2] == movements.approach_edges[ended["edge"]])
+        at, is_planned = planned.places_of(ended["owner"][rows], ended["edge"][rows])
+        going_on = is_planned & (at + 1 < plans.end_places[ended["owner"][rows]])
+        ended, at = {name: values[rows[going_on]] for name, values in ended.items()}, at[going_on]
+        first_place, floor = at.copy(), plans.first_places[ended["owner"]]
+        while (off := (plans.links[first_place] != ended["first"]) & (first_place > floor)).any():
+            first_place[off] -= 1
+        first_place = np.where(plans.links[first_place] == ended["first"], first_place, at)
         self.following = plans.links[at + 1]
-        self.movement = movements.own[done["edge"]] * len(movements.edges) + movements.edge_of[self.following]
-        self.delay = done["end"] - done["begin"] - plans.seconds_between(first, at) - done["dwell"]
-        self.slot, self.end, self.line, self.before = (done[name] for name in ("slot", "end", "line", "before"))
-        self.stops, self.stood, self.alone = (done[name] for name in ("stops", "stood", "alone"))
-        found, which = np.unique(self.movement, return_inverse=True)
-        of_stop, of_all = np.array([movements.losses_of(one) for one in found.tolist()], float).reshape(-1, 2).T
-        self.delay = self.delay + of_stop[which] * (self.stops > 0)
-        self.delay = self.delay + of_all[which]
+        edge = movements.approach_edges[ended["edge"]]
+        self.movement = edge * len(movements.edges) + movements.edge_of[self.following]
+        self.delay = ended["end"] - ended["begin"] - plans.seconds_between(first_place, at) - ended["dwell"]
+        self.slot, self.end, self.line, self.before = (ended[name] for name in ("slot", "end", "line", "before"))
+        self.stops, self.stood, self.alone = (ended[name] for name in ("stops", "stood", "alone"))
+        distinct, group = np.unique(self.movement, return_inverse=True)
+        losses = [movements.losses_of(number) for number in distinct.tolist()]
+        of_stop, of_all = np.array(losses, float).reshape(-1, 2).T
+        self.delay = self.delay + of_stop[group] * (self.stops > 0)
+        self.delay = self.delay + of_all[group]
 
 
 class Crossed:
@@ -110,36 +113,37 @@ class Crossed:
         self, passages: Passages, plans: Plans, interval: int, stopped: Mapping[int, Sequence[Dwell]]
     ) -> None:
         """plans: of the vehicles; interval, stopped: as of `done` of the passages, which are let go."""
-        self.movements, lanes, start = Movements(passages), len(passages.places), passages.kernel.start
+        self.movements, lanes, start = Movements(passages), len(passages.lane_keys), passages.kernel.start
         self.lost: dict[int, tuple[Array, ...]] = {}  # by interval
         self.log = Log({"line": "i4", "slot": "u2", "before": "i2", "stood": "?"})
         self.passed, self.alone = PeriodSums(lanes), PeriodSums(lanes)  # by interval and lane
-        self.taken = np.zeros(0, np.int64)  # SLOTS times the lane, and the link to which they go, each pair once
+        self.lane_links = np.zeros(0, np.int64)  # SLOTS times the lane, and the link to which they go, each pair once
         planned = PlanPlaces(self.movements, plans)
-        for number, part in passages.done(interval, stopped):
-            one = Crossings(planned, part)
-            self.lost[number] = tuple(self.sums_of(one))
-            lane, at = passages.column[one.slot], (one.line - 1 - start) // interval
-            alone = (one.stood == 0) & (one.alone > 0)
+        for number, part in passages.ended_passages(interval, stopped):
+            crossings = Crossings(planned, part)
+            self.lost[number] = tuple(self.sums_of(crossings))
+            lane, at = passages.column[crossings.slot], (crossings.line - 1 - start) // interval
+            alone = (crossings.stood == 0) & (crossings.alone > 0)
             self.passed.add(at, lane)
             self.alone.add(at[alone], lane[alone])
-            self.taken = np.union1d(self.taken, one.slot.astype(np.int64) * SLOTS + one.following)
-            self.log.add({"line": one.line, "slot": one.slot, "before": one.before, "stood": one.stood > 0})
+            self.lane_links = np.union1d(self.lane_links, crossings.slot.astype(np.int64) * SLOTS + crossings.following)
+            columns = {"line": crossings.line, "slot": crossings.slot, "before": crossings.before}
+            self.log.add({**columns, "stood": crossings.stood > 0})
 
-    def sums_of(self, one: Crossings) -> Iterator[Array]:
+    def sums_of(self, crossings: Crossings) -> Iterator[Array]:
         """Of crossings, by movement: its number, how many, their mean delay, seconds of standing and stops of all; then
         by movement and lane, from the lowest number on, both and how many."""
-        rows = by_number(one.movement)
-        begins, _ = groups_of(one.movement[rows])
+        rows = by_number(crossings.movement)
+        begins, _ = groups_of(crossings.movement[rows])
         bounds = [*begins.tolist(), len(rows)]
-        delays = one.delay[rows].tolist()
-        yield one.movement[rows[begins]].astype(np.int32)
+        delays = crossings.delay[rows].tolist()
+        yield crossings.movement[rows[begins]].astype(np.int32)
         yield np.diff(bounds).astype(np.int32)
-        yield np.array([fsum(delays[first:last]) / (last - first) for first, last in pairwise(bounds)], float)
-        for column in (one.stood, one.stops):
+        yield np.array([fsum(delays[begin:end]) / (end - begin) for begin, end in pairwise(bounds)], float)
+        for column in (crossings.stood, crossings.stops):
             sums = np.append(0, np.cumsum(column[rows], dtype=np.int64))[bounds]
             yield np.diff(sums).astype(np.int32)
-        lanes, counts = np.unique(one.movement * SLOTS + one.slot, return_counts=True)
+        lanes, counts = np.unique(crossings.movement * SLOTS + crossings.slot, return_counts=True)
         yield from ((lanes // SLOTS).astype(np.int32), (lanes % SLOTS).astype(np.uint16), counts.astype(np.int32))
 
     def losses_in(self, number: int) -> tuple[dict[Movement, Losses], dict[Movement, dict[Place, int]]]:
@@ -147,7 +151,7 @@ class Crossed:
         least the seconds of standing."""
         lost: dict[Movement, Losses] = {}
         lanes: dict[Movement, dict[Place, int]] = {}
-        movements, *columns = (one.tolist() for one in self.lost.get(number, [np.zeros(0, np.int32)] * 8))
+        movements, *columns = (column.tolist() for column in self.lost.get(number, [np.zeros(0, np.int32)] * 8))
         names = {movement: self.movements.name(movement) for movement in movements}
         for movement, count, delay, stood, stops in zip(movements, *columns[:4], strict=True):
             lost[names[movement]] = Losses(count, max(stood / count, delay), stood / count, stops / count)

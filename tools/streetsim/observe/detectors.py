@@ -26,8 +26,8 @@ class Detectors(Observer):
     def begin(self, kernel: Kernel) -> None:
         """Nobody has passed."""
         self.kernel = kernel
-        self.loops = [one for one in kernel.map.detectors if one.kind == E1]
-        self.areas = Areas([one for one in kernel.map.detectors if one.kind == E2], kernel.start)
+        self.loops = [detector for detector in kernel.map.detectors if detector.kind == E1]
+        self.areas = Areas([detector for detector in kernel.map.detectors if detector.kind == E2], kernel.start)
         self.tables = [np.zeros((0, 3), np.int64) for _ in self.loops]  # by period: passes, speeds, seconds covered
 
     def see(self, seconds: Seconds) -> None:
@@ -36,7 +36,7 @@ class Detectors(Observer):
             self.see_loops(seconds)
         if self.areas.detectors:
             for second in np.flatnonzero(self.samples.among(seconds.clocks)):
-                self.areas.sample(int(seconds.clocks[second]), lambda place: cells_of(seconds, int(second), place))
+                self.areas.sample(int(seconds.clocks[second]), lambda key: cells_of(seconds, int(second), key))
 
     def see_loops(self, seconds: Seconds) -> None:
         """Looks at each vehicle where its front was a second ago, on this link, and is now; who has left it is beyond
@@ -49,13 +49,13 @@ class Detectors(Observer):
         if len(over.car):
             order = order[np.lexsort((second[order], car[order]))]
         a, b = order[:-1], order[1:]
-        came = (car[a] == car[b]) & (second[b] == second[a] + 1) & (slot[a] // 2 == slot[b] // 2) & (cell[a] != BEYOND)
-        a, b = a[came], b[came]
-        for number, one in enumerate(self.loops):
-            at = 2 * one.link + one.lane
-            passed = b[(slot[b] == at) & (cell[a] <= one.first) & (cell[b] > one.first)]
-            covers = (slot == at) & (cell != BEYOND) & (cell >= one.first) & (cell - size < one.first) & (second > 0)
-            periods = (seconds.clocks - 1 - self.kernel.start) // one.period
+        stays = (car[a] == car[b]) & (second[b] == second[a] + 1) & (slot[a] // 2 == slot[b] // 2) & (cell[a] != BEYOND)
+        a, b = a[stays], b[stays]
+        for number, loop in enumerate(self.loops):
+            at = 2 * loop.link + loop.lane
+            passed = b[(slot[b] == at) & (cell[a] <= loop.first) & (cell[b] > loop.first)]
+            covers = (slot == at) & (cell != BEYOND) & (cell >= loop.first) & (cell - size < loop.first) & (second > 0)
+            periods = (seconds.clocks - 1 - self.kernel.start) // loop.period
             table = grown(self.tables[number], int(periods[-1]) + 1)
             for column, rows, weight in ((0, passed, 1), (1, passed, speed[passed]), (2, np.flatnonzero(covers), 1)):
                 np.add.at(table, (periods[second[rows]], column), weight)
@@ -68,24 +68,24 @@ class Detectors(Observer):
     def loop_rows(self) -> Iterator[Entry]:
         """The rows of detectors.csv, (begin, end, id, vehicles, vehicles an hour, km/h, occupancy in percent), of each
         period of each induction loop (e1); km/h is empty where nobody passed."""
-        for one, table in zip(self.loops, self.tables, strict=True):
+        for loop, table in zip(self.loops, self.tables, strict=True):
             for at, figures in enumerate(table.tolist()):
-                begin = self.kernel.start + at * one.period
-                row = Row(begin, min(one.period, self.clock - begin), *figures)
+                begin = self.kernel.start + at * loop.period
+                row = Row(begin, min(loop.period, self.clock - begin), *figures)
                 flow, density = f"{row.flow * 3600:.1f}", f"{row.density * 100:.1f}"
-                yield begin, begin + row.steps, one.name, row.passes, flow, row.kmh(one.cell_metres), density
+                yield begin, begin + row.steps, loop.name, row.passes, flow, row.kmh(loop.cell_metres), density
 
     def area_rows(self) -> Iterator[Entry]:
         """The rows of areas.csv, (begin, end, id, mean and most vehicles, km/h, occupancy in percent, mean and longest
         jam in vehicles), of each period of each lane area (e2); km/h is empty where nobody was seen."""
-        for one in self.kernel.map.detectors:
-            for (_, begin), area in sorted(item for item in self.areas.seen.items() if item[0][0] == one.name):
-                metres = (one.last - one.first + 1) * one.cell_metres
+        for detector in self.kernel.map.detectors:
+            for (_, begin), area in sorted(item for item in self.areas.seen.items() if item[0][0] == detector.name):
+                metres = (detector.last - detector.first + 1) * detector.cell_metres
                 vehicles = f"{area.vehicles / area.samples:.2f}", area.most
-                speed = f"{area.speeds / area.vehicles * 3.6 * one.cell_metres:.1f}" if area.vehicles else ""
+                speed = f"{area.speeds / area.vehicles * 3.6 * detector.cell_metres:.1f}" if area.vehicles else ""
                 occupancy = f"{area.covered / area.samples / metres * 100:.1f}"
                 jam = f"{area.jams / area.samples:.2f}", area.longest
-                yield begin, min(begin + one.period, self.clock), one.name, *vehicles, speed, occupancy, *jam
+                yield begin, min(begin + detector.period, self.clock), detector.name, *vehicles, speed, occupancy, *jam
 
 
 def columns(seconds: Seconds, over: Arrivals, name: str) -> Array:
@@ -99,11 +99,11 @@ def grown(table: Array, rows: int) -> Array:
     return np.concatenate([table, more]) if len(more) else table
 
 
-def cells_of(seconds: Seconds, second: int, place: Place) -> list[list[int]]:
+def cells_of(seconds: Seconds, second: int, lane_key: Place) -> list[list[int]]:
     """The vehicles on the cells of a lane in a second: car, cell, speed, size; the greatest cell first."""
-    begin, slot = int(seconds.first[second]), 2 * place[0] + place[1]
+    begin, slot = int(seconds.first[second]), 2 * lane_key[0] + lane_key[1]
     slots = seconds.slot[begin : seconds.first[second + 1]]
     low, high = (begin + np.searchsorted(slots, (slot, slot + 1))).tolist()
     rows = slice(low, low + np.count_nonzero(seconds.on[low:high]))
-    found = [one[rows] for one in (seconds.car, seconds.cell, seconds.speed, seconds.size)]
-    return np.array(found).T.tolist()
+    vehicles = [column[rows] for column in (seconds.car, seconds.cell, seconds.speed, seconds.size)]
+    return np.array(vehicles).T.tolist()

@@ -1,4 +1,5 @@
-"""Signals that are green in the gaps between vehicles that go first, where there is no light."""
+"""Makes signal lines for nodes without a light: green in the gaps between vehicles that go first, by when vehicles
+passed in the run before."""
 import math
 from bisect import bisect_left, bisect_right
 from collections import defaultdict
@@ -18,13 +19,13 @@ Times = Mapping[TurnKey, Sequence[float]]  # when vehicles pass, by turn
 # For each second whether it is red: to one who stands at the line, to one who comes while nobody does; what is shown.
 Signals = tuple[bytearray, bytearray, bytearray]
 Stands = Mapping[tuple[TurnKey, float], float]  # {(turn, second): how long the one that passes then stood at the line}
-AROUND = 300  # seconds before and after, in which those that go first are counted
+AROUND_S = 300  # seconds before and after, in which those that go first are counted
 SHOWN, HIDDEN = 3, 2  # seconds in turn, where those that use a gap follow each other slowly
 # Seconds between two of them that may use one gap, and before and after them for what differs from run to run.
-CLOSE = 15
-PATIENCE = 150  # seconds without a gap; then one goes
-TAIL = 30  # seconds after the last vehicle
-FOLLOWING = 2.0  # seconds behind another, after which one is the first of its lane
+CLOSE_S = 15
+PATIENCE_S = 150  # seconds without a gap; then one goes
+TAIL_S = 30  # seconds after the last vehicle
+FOLLOWING_S = 2.0  # seconds behind another, after which one is the first of its lane
 # Seconds that one who gives way stands at the line before it is in the way of others, and for how many it is at most.
 UNSEEN, MOST_SEEN = 3.0, 30.0
 
@@ -37,13 +38,15 @@ def gap_lines(mapping: Map, passed: StopLinePassings, start: int) -> list[tuple[
 
 
 def reds_of(mapping: Map, passed: StopLinePassings, start: int) -> list[tuple[GivingWay, bytearray]]:
-    """(one who gives way, a byte for each second from start to TAIL after the last passing, 1: red) for each GivingWay
-    of a map; those before whom nobody comes, and that have no pace, are left out. Arguments: as of gap_lines."""
-    end = int(max((second for each in passed.values() for second, *_ in each), default=start)) + TAIL
+    """(one who gives way, a byte for each second from start to TAIL_S after the last passing, 1: red) for each
+    GivingWay of a map; those before whom nobody comes, and that have no pace, are left out. Arguments: as of
+    gap_lines."""
+    seconds = (second for lane_passings in passed.values() for second, *_ in lane_passings)
+    end = int(max(seconds, default=start)) + TAIL_S
     times = by_turn(passed)
-    stands = stands_of(passed, {turn for one in mapping.yields for turn in one.turns}, UNSEEN)
-    reds = ((one, red_seconds(one, times, start, end, stands)) for one in mapping.yields)
-    return [(one, red) for one, red in reds if red is not None]
+    stands = stands_of(passed, {turn for yielding in mapping.yields for turn in yielding.turns}, UNSEEN)
+    reds = ((yielding, red_seconds(yielding, times, start, end, stands)) for yielding in mapping.yields)
+    return [(yielding, red) for yielding, red in reds if red is not None]
 
 
 def shown_reds(
@@ -51,17 +54,17 @@ def shown_reds(
 ) -> list[tuple[GivingWay, bytearray]]:
     """What reds_of gave, with those seconds alone red in which somebody stands at the line, or in which one would have
     to stop who comes to it. Arguments: as of gap_lines."""
-    times, found = by_turn(passed), []
-    stands = stands_of(passed, {turn for one in mapping.yields for turn in one.turns}, 0.0)
+    times, shown_by = by_turn(passed), []
+    stands = stands_of(passed, {turn for yielding in mapping.yields for turn in yielding.turns}, 0.0)
     signals: dict[TurnKey, Signals] = {}
-    for one, standing in reds:
-        rolling = standing if one.pace else rolling_seconds(one, times, start, len(standing), stands)
+    for yielding, standing in reds:
+        rolling = standing if yielding.pace else rolling_seconds(yielding, times, start, len(standing), stands)
         shown = bytearray(rolling)
-        signals.update(dict.fromkeys(one.turns, (standing, rolling, shown)))
-        found.append((one, shown))
-    for place in passed.keys() & {(link, lane) for link, lane, _ in signals}:
-        show_to_standing(place, passed[place], signals, start)
-    return found
+        signals.update(dict.fromkeys(yielding.turns, (standing, rolling, shown)))
+        shown_by.append((yielding, shown))
+    for lane_key in passed.keys() & {(link, lane) for link, lane, _ in signals}:
+        show_to_standing(lane_key, passed[lane_key], signals, start)
+    return shown_by
 
 
 def signal_lines(mapping: Map, reds: Iterable[tuple[GivingWay, Sequence[int]]], start: int) -> list[tuple[int, Line]]:
@@ -70,17 +73,17 @@ def signal_lines(mapping: Map, reds: Iterable[tuple[GivingWay, Sequence[int]]], 
     groups_at: defaultdict[int, list[Group]] = defaultdict(list)
     for turn in mapping.turns:
         turns_at[mapping.links[turn.link].end].append((turn.link, turn.lane, turn.next))
-    for one, red in reds:
-        groups_at[one.node].append((one.turns, red))
-    found = [pair for node, groups in groups_at.items() for pair in node_lines(node, turns_at[node], groups, start)]
-    return sorted(found, key=lambda pair: (pair[0], pair[1].command["node"]))
+    for yielding, red in reds:
+        groups_at[yielding.node].append((yielding.turns, red))
+    lines = [pair for node, groups in groups_at.items() for pair in node_lines(node, turns_at[node], groups, start)]
+    return sorted(lines, key=lambda pair: (pair[0], pair[1].command["node"]))
 
 
 def by_turn(passed: StopLinePassings) -> dict[TurnKey, list[float]]:
     """When vehicles passed, by turn and not by lane, {(link, lane, next link): [second]}."""
     times: defaultdict[TurnKey, list[float]] = defaultdict(list)
-    for (link, lane), each in passed.items():
-        for second, following, _ in each:
+    for (link, lane), lane_passings in passed.items():
+        for second, following, _ in lane_passings:
             times[link, lane, following].append(second)
     return times
 
@@ -88,7 +91,7 @@ def by_turn(passed: StopLinePassings) -> dict[TurnKey, list[float]]:
 def stands_of(passed: StopLinePassings, waits: Collection[TurnKey], unseen: float) -> Stands:
     """For how many seconds those who give way stood at their line in the way of others, by turn and second: those
     beyond unseen, MOST_SEEN at most; who stood for no longer is left out. waits: the turns that give way."""
-    stood = ((place, *one) for place, each in passed.items() for one in standing_seconds(each))
+    stood = ((place, *stand) for place, passings in passed.items() for stand in standing_seconds(passings))
     return {
         ((*place, following), second): min(MOST_SEEN, seconds - unseen)
         for place, second, following, seconds in stood
@@ -98,12 +101,12 @@ def stands_of(passed: StopLinePassings, waits: Collection[TurnKey], unseen: floa
 
 def standing_seconds(passing: Iterable[tuple[float, int, float]]) -> Iterator[tuple[float, int, float]]:
     """(second, next link, how many seconds it stood) of each vehicle that passes the line of a lane, by rising seconds:
-    from when it came there, or the one before it was FOLLOWING seconds gone; below 0 where it passes sooner than that.
-    passing: as the values of StopLinePassings."""
+    from when it came there, or the one before it was FOLLOWING_S seconds gone; below 0 where it passes sooner than
+    that. passing: as the values of StopLinePassings."""
     free = -math.inf
     for second, following, due in sorted(passing):
         yield second, following, second - max(due, free)
-        free = second + FOLLOWING
+        free = second + FOLLOWING_S
 
 
 def node_lines(node: int, turns: Sequence[TurnKey], groups: Sequence[Group], start: int) -> Iterator[tuple[int, Line]]:
@@ -121,28 +124,28 @@ def node_lines(node: int, turns: Sequence[TurnKey], groups: Sequence[Group], sta
 
     phases, open_ = phases_of_reds([red for _, red in groups]), (limits.PHASE_STEPS, (0,) * len(groups))
     shown = {state: green(state) for state in {state for _, state in [*phases, open_]}}
-    parts = [phases[first : first + limits.PHASES] for first in range(0, len(phases), limits.PHASES)]
+    parts = [phases[begin : begin + limits.PHASES] for begin in range(0, len(phases), limits.PHASES)]
     clock = start
     for part in [*parts, [open_]]:
         listed = ",".join(f"[{length},[{shown[state][1]}]]" for length, state in part)
         seconds = sum(length for length, _ in part)
         offset = -clock % seconds
         text = f'{{"cmd":"signal","node":{node},"offset":{offset},"phases":[{listed}]}}'
-        told = [(length, shown[state][0]) for length, state in part]
-        yield clock, Line(0, text, {"cmd": "signal", "node": node, "offset": offset, "phases": told})
+        shown_phases = [(length, shown[state][0]) for length, state in part]
+        yield clock, Line(0, text, {"cmd": "signal", "node": node, "offset": offset, "phases": shown_phases})
         clock += seconds
 
 
 def phases_of_reds(reds: Sequence[Sequence[int]]) -> list[tuple[int, State]]:
     """The phases of a node, (seconds, (red or not by group)): each is a stretch of seconds in which no group changes,
     of PHASE_STEPS at most. reds: for each group a byte for each second, 1: red."""
-    made = []
+    phases = []
     for state, run in groupby(zip(*reds, strict=True)):
         length = sum(1 for _ in run)
         while length:
-            made.append((min(limits.PHASE_STEPS, length), state))
-            length -= made[-1][0]
-    return made
+            phases.append((min(limits.PHASE_STEPS, length), state))
+            length -= phases[-1][0]
+    return phases
 
 
 def red_seconds(waiting: GivingWay, times: Times, start: int, end: int, stands: Stands = {}) -> bytearray | None:
@@ -150,7 +153,7 @@ def red_seconds(waiting: GivingWay, times: Times, start: int, end: int, stands: 
     who goes first, so that they use a gap slowly, or to keep their pace; be_patient makes some green. None where nobody
     comes and they have no pace. times: when vehicles pass, by turn; stands: as stands_of gives them."""
     comes = [(second, foe) for foe in waiting.foes for second in times.get((foe.link, foe.lane, foe.next), ())]
-    comes.sort(key=lambda one: one[0])
+    comes.sort(key=lambda coming: coming[0])
     if not comes and waiting.pace is None:
         return None
     red, owed, counts = bytearray(end - start), 0.5, GapCounts(comes)
@@ -160,8 +163,8 @@ def red_seconds(waiting: GivingWay, times: Times, start: int, end: int, stands: 
         stood = stands.get(((foe.link, foe.lane, foe.next), second), 0.0)
         length = foe.gap.before(*counts.flows_around(second, foe)) + stood + foe.gap.after + owed
         owed = length % 1
-        last = round(second + foe.gap.after) - start
-        mark(red, last - int(length), last)
+        red_end = round(second + foe.gap.after) - start
+        mark(red, red_end - int(length), red_end)
     if any(foe.slow for _, foe in comes):
         for sooner, later in followings(sorted(second for turn in waiting.turns for second in times.get(turn, ()))):
             slow_down(red, int(sooner) - start, int(later) - start)
@@ -176,44 +179,44 @@ def rolling_seconds(waiting: GivingWay, times: Times, start: int, length: int, s
     comes to the line while nobody stands there. times, stands: as of red_seconds."""
     red, owed = bytearray(length), 0.5
     comes = ((second, foe) for foe in waiting.foes for second in times.get((foe.link, foe.lane, foe.next), ()))
-    for second, foe in sorted(comes, key=lambda one: one[0]):
+    for second, foe in sorted(comes, key=lambda coming: coming[0]):
         stood = stands.get(((foe.link, foe.lane, foe.next), second), 0.0)
         seconds = foe.gap.rolling + stood + foe.gap.after + owed
         owed = seconds % 1
-        last = round(second + foe.gap.after) - start
-        mark(red, last - int(seconds), last)
+        red_end = round(second + foe.gap.after) - start
+        mark(red, red_end - int(seconds), red_end)
     return red
 
 
 def show_to_standing(
-    place: Place, passing: Iterable[tuple[float, int, float]], signals: Mapping[TurnKey, Signals], start: int
+    lane_key: Place, passing: Iterable[tuple[float, int, float]], signals: Mapping[TurnKey, Signals], start: int
 ) -> None:
-    """Makes red what is shown, as it is to those who stand, while somebody stands at the line of a lane, and CLOSE
+    """Makes red what is shown, as it is to those who stand, while somebody stands at the line of a lane, and CLOSE_S
     seconds longer: who starts behind another, or comes when it is red to those who come, until it is green to those who
     stand. passing: as the values of StopLinePassings; signals: by turn, of those who give way; start: the clock of the
     first byte."""
-    gone = -int(FOLLOWING)
+    previous = -int(FOLLOWING_S)
     for _, following, due in sorted(passing):
-        came = max(0, int(due) - start)
-        at = max(came, gone + int(FOLLOWING))
-        if own := signals.get((*place, following)):
-            standing, rolling, shown = own
-            if at > came or rolling[at : at + 1] == b"\1":
-                first = gone + 1 if at > came else at
+        due_byte = max(0, int(due) - start)
+        at = max(due_byte, previous + int(FOLLOWING_S))
+        if turn_signals := signals.get((*lane_key, following)):
+            standing, rolling, shown = turn_signals
+            if at > due_byte or rolling[at : at + 1] == b"\1":
+                begin = previous + 1 if at > due_byte else at
                 free = standing.find(0, at)
                 at = len(shown) if free < 0 else free
-                shown[max(0, first) : at + CLOSE] = standing[max(0, first) : at + CLOSE]
-        gone = at
+                shown[max(0, begin) : at + CLOSE_S] = standing[max(0, begin) : at + CLOSE_S]
+        previous = at
 
 
 def near_passings(waiting: GivingWay, times: Times, start: int, length: int) -> bytearray:
-    """A byte for each of length seconds from the start, 1 where somebody passes then, or up to CLOSE seconds before or
-    after, on a lane of its turns. All of a lane count, wherever they turn, as they wait for one another."""
+    """A byte for each of length seconds from the start, 1 where somebody passes then, or up to CLOSE_S seconds before
+    or after, on a lane of its turns. All of a lane count, wherever they turn, as they wait for one another."""
     lanes = {(link, lane) for link, lane, _ in waiting.turns}
     near = bytearray(length)
     for (link, lane, _), seconds in times.items():
         for second in seconds if (link, lane) in lanes else ():
-            mark(near, int(second) - CLOSE - start, int(second) + CLOSE - start)
+            mark(near, int(second) - CLOSE_S - start, int(second) + CLOSE_S - start)
     return near
 
 
@@ -252,37 +255,37 @@ class GapCounts:
 
 
 def hourly_around(times: Sequence[float], second: float) -> float:
-    """Vehicles an hour within AROUND seconds before and after a second; times: seconds that rise."""
-    count = bisect_right(times, second + AROUND) - bisect_left(times, second - AROUND)
-    return count * 3600 / (2 * AROUND)
+    """Vehicles an hour within AROUND_S before and after a second; times: seconds that rise."""
+    count = bisect_right(times, second + AROUND_S) - bisect_left(times, second - AROUND_S)
+    return count * 3600 / (2 * AROUND_S)
 
 
-def mark(seconds: bytearray, first: int, last: int) -> None:
+def mark(seconds: bytearray, begin: int, end: int) -> None:
     """Makes the bytes from first to before last 1, as far as there are any."""
-    first, last = max(0, first), max(0, min(len(seconds), last))
-    seconds[first:last] = b"\1" * (last - first)
+    begin, end = max(0, begin), max(0, min(len(seconds), end))
+    seconds[begin:end] = b"\1" * (end - begin)
 
 
 def followings(seconds: Sequence[float]) -> Iterator[tuple[float, float]]:
-    """The stretches of time in which vehicles follow each other closely, (first second, last second), with CLOSE
+    """The stretches of time in which vehicles follow each other closely, (first second, last second), with CLOSE_S
     seconds before and after; they may overlap, and one vehicle alone has none. seconds: when they pass, rising."""
-    first = 0
+    begin = 0
     for at in range(1, len(seconds) + 1):
-        if at == len(seconds) or seconds[at] - seconds[at - 1] > CLOSE:
-            if at - first > 1:
-                yield seconds[first] - CLOSE, seconds[at - 1] + CLOSE
-            first = at
+        if at == len(seconds) or seconds[at] - seconds[at - 1] > CLOSE_S:
+            if at - begin > 1:
+                yield seconds[begin] - CLOSE_S, seconds[at - 1] + CLOSE_S
+            begin = at
 
 
-def slow_down(red: bytearray, first: int, last: int) -> None:
+def slow_down(red: bytearray, begin: int, end: int) -> None:
     """Makes some seconds of red red in each gap between the seconds first and last from its begin: HIDDEN after every
     SHOWN, so that no more vehicles use the gap than can. Those of a gap that goes on may lie after last."""
-    at = red.find(0, max(0, first), max(0, last))
+    at = red.find(0, max(0, begin), max(0, end))
     while at >= 0:
         mark(red, at + SHOWN, at + SHOWN + HIDDEN)
-        at = red.find(0, at + SHOWN + HIDDEN, last)
+        at = red.find(0, at + SHOWN + HIDDEN, end)
 
 
 def be_patient(red: bytearray) -> None:
-    """Makes the last one of each PATIENCE seconds that are red without a break green, so that one vehicle goes."""
-    red[:] = red.replace(b"\1" * PATIENCE, b"\1" * (PATIENCE - 1) + b"\0")
+    """Makes the last one of each PATIENCE_S that are red without a break green, so that one vehicle goes."""
+    red[:] = red.replace(b"\1" * PATIENCE_S, b"\1" * (PATIENCE_S - 1) + b"\0")

@@ -33,49 +33,51 @@ class Yielding:
     lines: int = 0  # signals that were sent
     crowded: dict[str, int] = field(default_factory=dict)  # by nearly full edge: vehicles that pass it then
 
-    def told(self) -> str:
+    def summary(self) -> str:
         """How many junctions give way by how many signal lines, for the user; empty where there are none."""
         if not self.lines:
             return ""
         return f"{self.junctions:,} junctions without a light give way by {self.lines:,} signal lines"
 
 
-def made_round(
-    start_program: ProgramStart, run: Run, mapping: Map, settings: Settings, tell: ReportProgress
+def run_round(
+    start_program: ProgramStart, run: Run, mapping: Map, settings: Settings, report_progress: ReportProgress
 ) -> StopLinePassings:
     """When vehicles pass stop lines in a run that is made to see that; it ends when all vehicles have ended, or at its
-    last clock. tell: gets the clock and a count. Fault where a line is refused."""
+    last clock. report_progress: gets the clock and a count. Fault where a line is refused."""
     passings, controllers = Passings(), Steering(run, mapping, settings, True).controllers
     with start_program() as program:
-        Kernel(program, run, mapping, controllers, [passings, ProgressReports(tell)]).go(settings.until)
+        Kernel(program, run, mapping, controllers, [passings, ProgressReports(report_progress)]).go(settings.until)
     return passings.passed()
 
 
 def giving_way(
-    run: Run, mapping: Map, settings: Settings, rounds: int, start_program: ProgramStart, tell: ReportProgress
+    run: Run, mapping: Map, settings: Settings, rounds: int, start_program: ProgramStart,
+    report_progress: ReportProgress,
 ) -> tuple[Run, Yielding]:
     """(the run with the signal lines of gaps_of, and how vehicles give way by them). Arguments and Fault as there."""
-    lines, yielding = gaps_of(run, mapping, settings, rounds, start_program, tell)
+    lines, yielding = gaps_of(run, mapping, settings, rounds, start_program, report_progress)
     return with_lines(run, lines), yielding
 
 
 def gaps_of(
-    run: Run, mapping: Map, settings: Settings, rounds: int, start_program: ProgramStart, tell: ReportProgress
+    run: Run, mapping: Map, settings: Settings, rounds: int, start_program: ProgramStart,
+    report_progress: ReportProgress,
 ) -> tuple[list[tuple[int, Line]], Yielding]:
     """(the signal lines, (clock, line), by which the vehicles of a run give way without a light, found in so many
-    rounds; how they give way by them); no lines where rounds is 0 or nobody in the map gives way. tell: gets the clock
-    and the last census. Fault where a round fails."""
+    rounds; how they give way by them); no lines where rounds is 0 or nobody in the map gives way. report_progress: gets
+    the clock and the last census. Fault where a round fails."""
     if not rounds or not mapping.yields:
         return [], Yielding()
-    asked = Settings(
+    round_settings = Settings(
         settings.until, rescue=settings.rescue, merging=settings.merging, lights=settings.lights, buses=settings.buses
     )
-    made, yielding = run, Yielding(rounds)
+    round_run, yielding = run, Yielding(rounds)
     for _ in range(rounds):
-        passed = made_round(start_program, made, mapping, asked, tell)
+        passed = run_round(start_program, round_run, mapping, round_settings, report_progress)
         reds = reds_of(mapping, passed, run.start())
         lines = signal_lines(mapping, shown_reds(mapping, reds, passed, run.start()), run.start())
-        made = with_lines(run, lines)
+        round_run = with_lines(run, lines)
     yielding.lines, yielding.junctions = len(lines), len({line.command["node"] for _, line in lines})
     yielding.crowded = crowded_edges(mapping, reds, passed, run.start())
     return lines, yielding

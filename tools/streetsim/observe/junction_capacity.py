@@ -1,4 +1,4 @@
-"""How much of what a lane can pass is used: v/c, and the saturation flows behind it."""
+"""Saturation flow and lost time of a lane, by the discharges of its queues, as the Highway Capacity Manual has them."""
 from collections.abc import Iterable, Sequence
 from dataclasses import dataclass
 from statistics import fmean
@@ -35,13 +35,14 @@ class Saturation:
     lost: float  # seconds of each green that are lost at its begin; less than 0: won
 
 
-def mean_saturation(those: Sequence[Discharge]) -> Saturation:
+def mean_saturation(discharges: Sequence[Discharge]) -> Saturation:
     """The saturation flow by the mean headway, and the mean lost time, of some discharges, one at least."""
-    return Saturation(3600 / fmean(one.headway for one in those), fmean(one.lost for one in those))
+    headway = fmean(discharge.headway for discharge in discharges)
+    return Saturation(3600 / headway, fmean(discharge.lost for discharge in discharges))
 
 
-def all_have_same_green(shown: Iterable[frozenset[int] | None], taken: set[int]) -> bool:
-    """Whether all vehicles of a lane have the same green: in each second all links that are taken have green, or none
-    has. shown: for each second the links that have green, None without a signal, where it is False; taken: the links to
-    which vehicles go from the lane."""
-    return all(green is not None and (not green & taken or green >= taken) for green in shown)
+def all_have_same_green(shown: Iterable[frozenset[int] | None], used_links: set[int]) -> bool:
+    """Whether all vehicles of a lane have the same green: in each second all links that are used have green, or none
+    has. shown: for each second the links that have green, None without a signal, where it is False; used_links: the
+    links to which vehicles go from the lane."""
+    return all(green is not None and (not green & used_links or green >= used_links) for green in shown)

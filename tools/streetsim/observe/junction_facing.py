@@ -7,7 +7,7 @@ from itertools import pairwise
 from streetsim.model.mapping import Map
 from streetsim.model.waiting import GivingWay
 
-LEAST = 30  # vehicles an hour that wait, and that are waited for, from which on it is told
+LEAST_VEH_H = 30  # vehicles an hour that wait, and that are waited for, from which on it is told
 
 
 def junctions_with_facing_streets(mapping: Map, plans: Iterable[Sequence[int]], hours: float) -> list[str]:
@@ -16,19 +16,18 @@ def junctions_with_facing_streets(mapping: Map, plans: Iterable[Sequence[int]], 
     both are too small. plans: links of each vehicle; hours: over which they depart."""
     flows = Counter(pair for plan in plans for pair in pairwise(plan))
     edges = [link.edge for link in mapping.links]
-    waits = {(link, following) for one in mapping.yields for link, _, following in one.turns}
+    waits = {(link, following) for yielding in mapping.yields for link, _, following in yielding.turns}
     used = defaultdict(set)
-    for way in flows:
-        used[edges[way[0]]].add(way)
-    minor = {edge for edge, ways in used.items() if ways <= waits}
+    for link, following in flows:
+        used[edges[link]].add((link, following))
+    minor = {edge for edge, pairs in used.items() if pairs <= waits}
 
-    def hourly(one: GivingWay) -> float:
+    def hourly(yielding: GivingWay) -> float:
         """The vehicles an hour that wait, or those that are waited for, whichever are fewer."""
-        own = {(link, following) for link, _, following in one.turns if edges[link] in minor}
-        targets = {edges[following] for _, following in own}
-        others = {
-            (foe.link, foe.next) for foe in one.foes if edges[foe.link] in minor and edges[foe.next] not in targets
-        }
-        return min(sum(flows[way] for way in ways) for ways in (own, others)) / hours
+        waiting = {(link, following) for link, _, following in yielding.turns if edges[link] in minor}
+        targets = {edges[following] for _, following in waiting}
+        foes = (foe for foe in yielding.foes if edges[foe.link] in minor and edges[foe.next] not in targets)
+        waited_for = {(foe.link, foe.next) for foe in foes}
+        return min(sum(flows[pair] for pair in pairs) for pairs in (waiting, waited_for)) / hours
 
-    return sorted({mapping.nodes[one.node][0] for one in mapping.yields if hourly(one) >= LEAST})
+    return sorted({mapping.nodes[yielding.node][0] for yielding in mapping.yields if hourly(yielding) >= LEAST_VEH_H})

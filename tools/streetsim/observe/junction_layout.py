@@ -41,21 +41,22 @@ def approaches_of(mapping: Map) -> dict[str, Approach]:
     two in, two out and five in all). Edges from which no turn leads are left out."""
     lit, rings = {node for _, node in mapping.signals}, rings_of(mapping)
     junctions = junction_nodes(mapping)
-    found = {}
+    approaches = {}
     for edge, links in mapping.links_of.items():
         node = mapping.links[links[0]].end
         in_ring = node in rings and node not in lit
         if node in lit or node in junctions or in_ring and edge not in mapping.rings:
             control = SIGNALS if node in lit else ROUNDABOUT if in_ring else PRIORITY
             name = mapping.nodes[rings[node] if in_ring else node][0]
-            found[edge] = Approach(edge, name, control, links, mapping.links[links[0]].metres, mapping.lanes(links))
+            metres, lanes = mapping.links[links[0]].metres, mapping.lanes(links)
+            approaches[edge] = Approach(edge, name, control, links, metres, lanes)
     for turn in mapping.turns:
         source, target = mapping.links[turn.link], mapping.links[turn.next]
-        if source.edge in found:
-            found[source.edge].movements[target.edge] = turn_name(source.shape, target.shape)
-    made = {edge: approach for edge, approach in found.items() if approach.movements}
-    set_edges_before(mapping, made, lit | junctions | rings.keys())
-    return made
+        if source.edge in approaches:
+            approaches[source.edge].movements[target.edge] = turn_name(source.shape, target.shape)
+    with_turns = {edge: approach for edge, approach in approaches.items() if approach.movements}
+    set_edges_before(mapping, with_turns, lit | junctions | rings.keys())
+    return with_turns
 
 
 def junction_nodes(mapping: Map) -> set[int]:
@@ -103,7 +104,7 @@ def set_edges_before(mapping: Map, approaches: Mapping[str, Approach], junctions
 
 def movements_that_stop(mapping: Map) -> set[tuple[str, str]]:
     """The movements (edge, next edge) of those who always have to stop, as at a stop sign."""
-    paced = (turn for one in mapping.yields if one.pace is not None for turn in one.turns)
+    paced = (turn for yielding in mapping.yields if yielding.pace is not None for turn in yielding.turns)
     return {(mapping.links[link].edge, mapping.links[following].edge) for link, _, following in paced}
 
 
@@ -112,9 +113,9 @@ def approaches_cut_short(mapping: Map, approaches: Mapping[str, Approach]) -> li
     before = defaultdict(set)
     for turn in mapping.turns:
         before[mapping.links[turn.next].edge].add(mapping.links[turn.link].edge)
-    own = {mapping.links[link].edge for approach in approaches.values() for link in approach.all_links}
-    firsts = {edge: mapping.links[one.all_links[-1]].edge for edge, one in approaches.items()}
-    return [edge for edge, first in firsts.items() if not before[first] - {edge} <= own]
+    known = {mapping.links[link].edge for approach in approaches.values() for link in approach.all_links}
+    furthest_of = {edge: mapping.links[approach.all_links[-1]].edge for edge, approach in approaches.items()}
+    return [edge for edge, furthest in furthest_of.items() if not before[furthest] - {edge} <= known]
 
 
 def turn_name(source: Shape, target: Shape) -> str:
@@ -193,14 +194,14 @@ class Greens:
 def ends_and_greens(phases: Sequence[Sequence[Any]]) -> tuple[list[int], dict[Place, list[frozenset[int]]]]:
     """(by phase the second of the cycle in which it ends, by lane with any green the links that are green in each
     phase) of a plan's phases."""
-    found: dict[Place, list[set[int]]] = {}
+    green_links: dict[Place, list[set[int]]] = {}
     for number, (_, green) in enumerate(phases):
         for link, lane, following in green:
-            if (link, lane) not in found:
-                found[link, lane] = [set() for _ in phases]
-            found[link, lane][number].add(following)
+            if (link, lane) not in green_links:
+                green_links[link, lane] = [set() for _ in phases]
+            green_links[link, lane][number].add(following)
     ends = list(accumulate(duration for duration, _ in phases))
-    return ends, {place: [frozenset(links) for links in own] for place, own in found.items()}
+    return ends, {lane_key: [frozenset(links) for links in by_phase] for lane_key, by_phase in green_links.items()}
 
 
 CYCLE_MOST = 600  # seconds that a green is looked back for

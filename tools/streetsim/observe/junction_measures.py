@@ -1,4 +1,5 @@
-"""What vehicles lost on approaches and how far lanes were used, by intervals of a run."""
+"""The values of an interval for the junction tables: what vehicles lost by movement (Losses), and queues, v/c and
+saturation flows by lane (Interval)."""
 from collections.abc import Iterable
 from dataclasses import dataclass, field
 

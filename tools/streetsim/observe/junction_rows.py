@@ -25,7 +25,7 @@ class JunctionTables:
         self.by_junction: defaultdict[str, list[Approach]] = defaultdict(list)
         for approach in approaches.values():
             self.by_junction[approach.junction].append(approach)
-        self.movements_of = {edge: sorted(one.movements.items()) for edge, one in approaches.items()}
+        self.movements_of = {edge: sorted(approach.movements.items()) for edge, approach in approaches.items()}
         self.movements: list[Entry] = []
         self.approaches: list[Entry] = []
         self.junctions: list[Entry] = []
@@ -33,16 +33,17 @@ class JunctionTables:
 
     def add(self, interval: Interval) -> None:
         """Adds the rows of an interval to all three tables."""
-        queues = {place: queue_figures(own) for place, own in interval.queues.items()}
+        queues = {lane_key: queue_figures(lane_queues) for lane_key, lane_queues in interval.queues.items()}
         for junction, approaches in sorted(self.by_junction.items()):
-            found = [one for approach in approaches if (one := self.add_approach(interval, queues, approach))]
-            if found:
-                parts, longest, ratios = zip(*found, strict=True)
+            added = [self.add_approach(interval, queues, approach) for approach in approaches]
+            measures = [values for values in added if values]
+            if measures:
+                parts, longest, ratios = zip(*measures, strict=True)
                 lost, control = weighted_mean_losses(parts), approaches[0].control
                 full = f"{self.full[junction]:.2f}" if junction in self.full else ""
-                last = f"{max(longest):.1f}", f"{max(ratios):.2f}", level(lost.delay, control), full
+                junction_columns = f"{max(longest):.1f}", f"{max(ratios):.2f}", level(lost.delay, control), full
                 head = interval.begin, interval.end, junction, control
-                self.junctions.append((*head, *loss_columns(lost, interval), *last))
+                self.junctions.append((*head, *loss_columns(lost, interval), *junction_columns))
 
     def add_approach(
         self, interval: Interval, queues: Queues, approach: Approach
@@ -54,14 +55,14 @@ class JunctionTables:
             return None
         ratios = [self.add_movement(interval, queues, approach, *pair) for pair in used]
         lost = weighted_mean_losses(interval.lost[approach.edge, target] for target, _ in used)
-        own = [queues[place] for place in approach.lanes]
+        lane_queues = [queues[lane_key] for lane_key in approach.lanes]
         head = interval.begin, interval.end, approach.junction, approach.control, approach.edge
-        last = f"{max(ratios):.2f}", level(lost.delay, approach.control)
-        queued = queue_columns(own, approach.whole)
+        ratio_columns = f"{max(ratios):.2f}", level(lost.delay, approach.control)
+        queued = queue_columns(lane_queues, approach.whole)
         if fills(float(queued[2]), float(queued[3])):
             self.filled.add(approach.edge)
-        self.approaches.append((*head, *loss_columns(lost, interval), *queued, *last))
-        return lost, max((greatest for _, greatest, _ in own), default=0.0), max(ratios)
+        self.approaches.append((*head, *loss_columns(lost, interval), *queued, *ratio_columns))
+        return lost, max((greatest for _, greatest, _ in lane_queues), default=0.0), max(ratios)
 
     def add_movement(self, interval: Interval, queues: Queues, approach: Approach, target: str, name: str) -> float:
         """Adds the row of a movement of an approach, to the edge target; name: L, T, R or U. Gives its v/c, 0 where its
@@ -71,15 +72,15 @@ class JunctionTables:
         hours = (interval.end - interval.begin) / 3600
         # A lane passes as many of the movement as it does, over how far it is used.
         uses = interval.uses
-        capacity = sum(those / hours / uses[place] for place, those in lanes.items() if uses[place])
+        capacity = sum(vehicles / hours / uses[lane_key] for lane_key, vehicles in lanes.items() if uses[lane_key])
         ratio = lost.vehicles / hours / capacity if capacity else 0.0
-        flow = sum(those * interval.flows[place] for place, those in lanes.items()) / count
-        used = [queues[place] for place, those in lanes.items() if those >= MOVEMENT_SHARE * count]
+        flow = sum(vehicles * interval.flows[lane_key] for lane_key, vehicles in lanes.items()) / count
+        used = [queues[lane_key] for lane_key, vehicles in lanes.items() if vehicles >= MOVEMENT_SHARE * count]
         head = interval.begin, interval.end, approach.junction, approach.control, approach.edge, target, name
-        last = f"{flow:.0f}", f"{capacity:.0f}" if capacity else "", f"{ratio:.2f}"
+        flow_columns = f"{flow:.0f}", f"{capacity:.0f}" if capacity else "", f"{ratio:.2f}"
         letter = level(lost.delay, approach.control, ratio)
         columns = *loss_columns(lost, interval), *queue_columns(used, approach.whole)
-        self.movements.append((*head, *columns, *last, letter))
+        self.movements.append((*head, *columns, *flow_columns, letter))
         return ratio
 
     def write(self, folder: str, names: Names, intervals: Iterable[Interval]) -> None:

@@ -1,6 +1,8 @@
-"""movements.csv, approaches.csv and junctions.csv: what passages lost, by intervals."""
+"""Follows vehicles over approaches while a run is made, and writes movements.csv, approaches.csv and junctions.csv at
+its end."""
 from __future__ import annotations
 
+import itertools
 import pickle
 import zlib
 from collections.abc import Iterable
@@ -12,13 +14,13 @@ from streetsim.kernel.loop import Kernel
 from streetsim.kernel.seconds import Seconds
 from streetsim.model.names import Names
 from streetsim.observe.crossings import Crossed
-from streetsim.observe.intervals import COUNT, showed
-from streetsim.observe.judging import Judge
 from streetsim.observe.junction_facing import junctions_with_facing_streets
 from streetsim.observe.junction_layout import approaches_cut_short
 from streetsim.observe.junction_rows import JunctionTables
+from streetsim.observe.lane_utilisation import UtilisationCalculator
 from streetsim.observe.passages import Passages
 from streetsim.observe.shown import ShownPlans
+from streetsim.observe.shown_intervals import COUNT, make_shown_interval
 
 
 class Junctions(Passages):
@@ -32,29 +34,31 @@ class Junctions(Passages):
         """Nothing is kept."""
         super().begin(kernel)
         self.begun: list[tuple[Array, Array]] = []  # of the interval under way: queues, who had stood
-        self.kept: list[bytes] = []  # of each interval a packed Showed
-        self.clock, self.left = kernel.start, self.interval  # begin, and seconds to come, of the interval under way
+        self.packed_intervals: list[bytes] = []  # of each interval a packed ShownInterval
+        # Begin, and seconds to come, of the interval under way.
+        self.clock, self.seconds_left = kernel.start, self.interval
         signals = [(kernel.start, line.command) for line in kernel.run.first if line.command["cmd"] == "signal"]
         self.shown, self.sent = ShownPlans(kernel.map, signals), 0  # sent: lines that are in it
 
     def log_lanes(self, seconds: Seconds, back: Array, stood: Array) -> None:
         """Takes what lanes showed in some seconds."""
-        while len(back) and self.places:
-            self.begun.append((back[: self.left], stood[: self.left].astype(COUNT)))
-            taken = len(self.begun[-1][0])
-            back, stood, self.left = back[taken:], stood[taken:], self.left - taken
-            if not self.left:
+        while len(back) and self.lane_keys:
+            self.begun.append((back[: self.seconds_left], stood[: self.seconds_left].astype(COUNT)))
+            count = len(self.begun[-1][0])
+            back, stood, self.seconds_left = back[count:], stood[count:], self.seconds_left - count
+            if not self.seconds_left:
                 self.keep_interval()
 
     def keep_interval(self) -> None:
         """Sums up the interval under way, which is over."""
         sent = self.kernel.sent[self.sent :]
-        self.shown.plans.add((one.clock, one.line.command) for one in sent if one.line.command["cmd"] == "signal")
+        lines = ((following.clock, following.line.command) for following in sent)
+        self.shown.plans.add((clock, command) for clock, command in lines if command["cmd"] == "signal")
         self.sent += len(sent)
         back, stood = (np.concatenate(parts) for parts in zip(*self.begun, strict=True))
-        found = showed(self.shown, self.lanes, self.places, self.clock, back, stood)
-        self.kept.append(zlib.compress(pickle.dumps(found), 1))
-        self.begun, self.clock, self.left = [], self.clock + len(back), self.interval
+        shown_interval = make_shown_interval(self.shown, self.lanes, self.lane_keys, self.clock, back, stood)
+        self.packed_intervals.append(zlib.compress(pickle.dumps(shown_interval), 1))
+        self.begun, self.clock, self.seconds_left = [], self.clock + len(back), self.interval
 
     def end(self, clock: int) -> None:
         """Sums up the last interval, which may be shorter."""
@@ -69,23 +73,25 @@ class Junctions(Passages):
         kernel = self.kernel
         run, mapping, start = kernel.run, kernel.map, kernel.start
         crossed = Crossed(self, kernel.plans, self.interval, dwells(stops))
-        judge = Judge(self, self.shown, crossed, run.load.command["dawdle"])
+        calculator = UtilisationCalculator(self, self.shown, crossed, run.load.command["dawdle"])
         tables = JunctionTables(self.approaches, mapping.full.junctions())
-        intervals = (judge.judged(at, pickle.loads(zlib.decompress(one))) for at, one in enumerate(self.kept))
+        shown = map(pickle.loads, map(zlib.decompress, self.packed_intervals))
+        intervals = itertools.starmap(calculator.interval_measures, enumerate(shown))
         tables.write(folder, Names(mapping), intervals)
-        plans, told = [line.command["plan"] for line in run.enters], []
-        if found := junctions_with_facing_streets(mapping, plans, (self.until - start) / 3600):
-            told.append(f"junctions: delays are too small where minor streets wait for each other: {first_few(found)}")
+        plans, messages = [line.command["plan"] for line in run.enters], []
+        if facing := junctions_with_facing_streets(mapping, plans, (self.until - start) / 3600):
+            where = "where minor streets wait for each other"
+            messages.append(f"junctions: delays are too small {where}: {first_few(facing)}")
         cut = tables.filled.intersection(approaches_cut_short(mapping, self.approaches))
-        beyond, doubts = told_of_queues_beyond(sorted(cut))
-        return told + beyond, doubts
+        beyond, doubts = queues_beyond_messages(sorted(cut))
+        return messages + beyond, doubts
 
 
-def told_of_queues_beyond(approaches: list[str]) -> tuple[list[str], list[str]]:
+def queues_beyond_messages(approaches: list[str]) -> tuple[list[str], list[str]]:
     """(a sentence for the terminal, a doubt), each in a list, on approaches beyond which queues went on, if any."""
     if not approaches:
         return [], []
-    small, found = "delays, letters and queues are too small", first_few(approaches)
+    small, names = "delays, letters and queues are too small", first_few(approaches)
     where = "where a queue fills an approach and goes on in the edge before it, which no table has"
-    doubt = f"junction tables: {small} at {found}, as queues go on in the edges before, which no table has"
-    return [f"junctions: {small} {where}: {found}"], [doubt]
+    doubt = f"junction tables: {small} at {names}, as queues go on in the edges before, which no table has"
+    return [f"junctions: {small} {where}: {names}"], [doubt]

@@ -1,5 +1,5 @@
-"""Keeps in a run's folder the lines of its run, so that it can be made again without the files that it was made of, and
-what its lights show at the road, as far as the files of the import are still there."""
+"""Writes into a run's folder the lines of its run, by which streetsim-check and reports make it again, and the programs
+of its lights."""
 import json
 import os
 from collections.abc import Sequence
@@ -17,22 +17,22 @@ def write_kept(folder: str, run: Run) -> None:
         file.writelines(line + "\n" for line in texts_of(run))
 
 
-def how_made_again(run: Run, words: Sequence[str], again: Sequence[str]) -> Json:
+def remake_setting(run: Run, number_words: Sequence[str], again_words: Sequence[str]) -> Json:
     """What a run's setting says of how it is made again: `words`, the options that were given and change its numbers;
     `again`, those of them that are needed beside the kept lines; and `lines`, the SHA-256 of these lines."""
-    return {"words": list(words), "again": list(again), "lines": sum_of_lines(texts_of(run))}
+    return {"words": list(number_words), "again": list(again_words), "lines": sum_of_lines(texts_of(run))}
 
 
 def write_lights(folder: str, mapping: Map, map_path: FilePath) -> None:
     """Writes lights.json, the programs of the lights, to a folder: those that the map has, or, where an import that did
-    not keep them made it, those that `timings_read` finds; map_path: of the map. Writes nothing where there is none."""
-    found, lit = mapping.timings or timings_read(mapping, map_path), {light for light, _ in mapping.signals}
-    if found and lit:
+    not keep them made it, those that `read_timings` finds; map_path: of the map. Writes nothing where there is none."""
+    timings, lit = mapping.timings or read_timings(mapping, map_path), {light for light, _ in mapping.signals}
+    if timings and lit:
         with whole_file(f"{folder}/{LIGHTS}") as file:
-            file.write(json.dumps([one for one in found if one["light"] in lit], separators=(",", ":")))
+            file.write(json.dumps([timing for timing in timings if timing["light"] in lit], separators=(",", ":")))
 
 
-def timings_read(mapping: Map, map_path: FilePath) -> list[Json]:
+def read_timings(mapping: Map, map_path: FilePath) -> list[Json]:
     """The programs of the lights by the files that were imported, which are found from the map's path; none, and
     nothing is said, where these are gone, changed or cannot be read, or there is no light."""
     if not mapping.sources or not mapping.signals:
@@ -44,7 +44,7 @@ def timings_read(mapping: Map, map_path: FilePath) -> list[Json]:
     try:
         if not all(map(os.path.isfile, paths)) or [*map(sum_of, paths)] != mapping.sources["sums"][: len(paths)]:
             return []
-        found = timings_of_files(paths[0], paths[1:], mapping.options.get("classes", ["passenger"]))
+        timings = timings_of_files(paths[0], paths[1:], mapping.options.get("classes", ["passenger"]))
     except (Fault, OSError):
         return []
-    return [one.written() for one in found]
+    return [timing.written() for timing in timings]

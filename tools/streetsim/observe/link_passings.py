@@ -1,4 +1,5 @@
-"""When vehicles come to the links of their plans and pass stop lines, by the record of a run."""
+"""When vehicles come to the links of their plans and pass stop lines; read by rounds of giving way and by searches for
+routes."""
 from __future__ import annotations
 
 from collections.abc import Iterator
@@ -23,23 +24,23 @@ class Passings(Observer):
 
     def see(self, seconds: Seconds) -> None:
         """Takes some seconds."""
-        came, passed = first_in_cell_0(seconds), seconds.joined_buffer(self.stay)
-        rows = np.append(came, passed)
+        arrived, passed = first_in_cell_0(seconds), seconds.joined_buffer(self.stay)
+        rows = np.append(arrived, passed)
         owner, clocks = seconds.vehicles.owner[seconds.car[rows]], seconds.clocks[seconds.second[rows]]
-        self.parts.append((owner, clocks, seconds.slot[rows], np.arange(len(rows)) < len(came)))
+        self.parts.append((owner, clocks, seconds.slot[rows], np.arange(len(rows)) < len(arrived)))
 
     def end(self, clock: int) -> None:
         """Puts what was noted in order, by vehicle and then by clock."""
         columns = [np.concatenate(parts) for parts in zip(*self.parts)]
         order = np.lexsort((columns[1], columns[0]))
-        self.owner, self.clock, self.slot, self.is_coming = (one[order] for one in columns)
+        self.owner, self.clock, self.slot, self.is_coming = (column[order] for column in columns)
         self.parts = []
 
-    def came(self) -> list[list[int]]:
+    def link_arrivals(self) -> list[list[int]]:
         """By vehicle of the file the clocks at which it came to the links of its plan, from the first on."""
         owner, clock = self.owner[self.is_coming], self.clock[self.is_coming]
         ends = np.cumsum(np.bincount(owner, minlength=len(self.kernel.run.enters)))
-        return [each.tolist() for each in np.split(clock, ends)[:-1]]
+        return [clocks.tolist() for clocks in np.split(clock, ends)[:-1]]
 
     def passed(self) -> StopLinePassings:
         """When vehicles passed stop lines but those of their last links. A vehicle passes a line between the clock
@@ -52,7 +53,7 @@ class Passings(Observer):
         count = np.cumsum(self.is_coming)  # of links that vehicles came to
         following = plans.links[plans.first_places[owner] + (count - count[begins][group] + 1)[rows]]
         order = by_number(slot)
-        return dict(by_place(*(one[order] for one in (slot, self.clock[rows], following, due))))
+        return dict(by_place(*(column[order] for column in (slot, self.clock[rows], following, due))))
 
 
 def first_in_cell_0(seconds: Seconds) -> Array:
@@ -69,7 +70,7 @@ def by_place(
 ) -> Iterator[tuple[tuple[int, int], list[tuple[float, int, float]]]]:
     """((link, lane), [(clock, next link, due)]) of each lane; slot: rising."""
     begins, _ = groups_of(slot)
-    for first, last in zip(begins.tolist(), [*begins.tolist()[1:], len(slot)]):
-        rows = slice(first, last)
-        columns = (one[rows].tolist() for one in (clock, following, due))
-        yield divmod(int(slot[first]), 2), list(zip(*columns, strict=True))
+    for begin, end in zip(begins.tolist(), [*begins.tolist()[1:], len(slot)]):
+        rows = slice(begin, end)
+        columns = (column[rows].tolist() for column in (clock, following, due))
+        yield divmod(int(slot[begin]), 2), list(zip(*columns, strict=True))

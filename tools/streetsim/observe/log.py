@@ -1,4 +1,4 @@
-"""Rows that are kept while a run is made, as columns, to be taken by periods."""
+"""Rows of observers, kept as columns while a run is made, and given by periods at its end."""
 from __future__ import annotations
 
 from collections.abc import Iterable, Iterator, Mapping
@@ -21,7 +21,7 @@ class Log:
         """Adds a part, whose rows stand in any order."""
         self.parts.append({name: part[name].astype(kind) for name, kind in self.kinds.items()})
 
-    def take(self) -> Iterator[Columns]:
+    def take_parts(self) -> Iterator[Columns]:
         """The parts, each of which is let go where it is given."""
         parts, self.parts = self.parts[::-1], []
         while parts:
@@ -29,14 +29,14 @@ class Log:
 
     def all_of(self, parts: Iterable[Columns], count: int) -> Columns:
         """The rows of parts, so many, behind one another."""
-        found = {name: np.empty(count, kind) for name, kind in self.kinds.items()}
+        rows = {name: np.empty(count, kind) for name, kind in self.kinds.items()}
         at = 0
         for part in parts:
             end = at + len(next(iter(part.values())))
             for name, column in part.items():
-                found[name][at:end] = column
+                rows[name][at:end] = column
             at = end
-        return found
+        return rows
 
     def __len__(self) -> int:
         """How many rows there are."""
@@ -53,12 +53,12 @@ def by_period(parts: Iterable[Columns], start: int, seconds: int) -> Iterator[tu
         order = np.argsort(clocks, kind="stable")
         numbers = (clocks[order] - 1 - start) // seconds
         bounds = np.flatnonzero(np.diff(numbers, prepend=-1, append=-1)).tolist() if len(order) else []
-        for first, last in pairwise(bounds):
-            if begun and int(numbers[first]) > number:
+        for begin, end in pairwise(bounds):
+            if begun and int(numbers[begin]) > number:
                 yield number, joined(begun)
                 begun = []
-            number = int(numbers[first])
-            begun.append({name: column[order[first:last]] for name, column in part.items()})
+            number = int(numbers[begin])
+            begun.append({name: column[order[begin:end]] for name, column in part.items()})
     if begun:
         yield number, joined(begun)
 

@@ -10,7 +10,7 @@ from streetsim.kernel.loop import ClosedCells, Kernel, Observer
 from streetsim.kernel.seconds import SLOTS, Seconds, groups_of
 from streetsim.model.mapping import Place
 from streetsim.model.rows import CLOSED, packed
-from streetsim.observe.queues import wanted_slots
+from streetsim.observe.queues import find_polled_slots
 
 Stretches = dict[int, list[tuple[int, int]]]  # closed ones, by slot
 
@@ -19,25 +19,28 @@ class ClosedLanes:
     """The closed stretches of lanes at polls: those that controllers close at its clock, and lines of the file before
     it."""
 
-    def __init__(self, kernel: Kernel, wanted: Array) -> None:
-        """wanted: by slot whether its lane is polled."""
-        self.kernel, self.wanted, self.closed, self.place = kernel, wanted, ClosedCells(), 0
+    def __init__(self, kernel: Kernel, polled_slots: Array) -> None:
+        """polled_slots: by slot whether its lane is polled."""
+        self.kernel, self.polled_slots, self.closed, self.next_sent = kernel, polled_slots, ClosedCells(), 0
         for line in kernel.run.first:
             self.closed.note(line.command)
-        self.stretches = self.found()
+        self.stretches = self.find_stretches()
 
-    def found(self) -> Stretches:
+    def find_stretches(self) -> Stretches:
         """Those that are closed now, of polled lanes."""
-        return {slot: found for slot, found in self.closed.stretches().items() if self.wanted[slot]}
+        return {slot: stretches for slot, stretches in self.closed.stretches().items() if self.polled_slots[slot]}
 
     def at(self, clock: int) -> Stretches:
         """By slot the stretches at a poll; clocks rise."""
-        sent, before = self.kernel.sent, self.place
-        while self.place < len(sent) and (sent[self.place].clock, sent[self.place].passed_on) <= (clock, False):
-            self.closed.note(sent[self.place].line.command)
-            self.place += 1
-        if self.place > before:
-            self.stretches = self.found()
+        sent, before = self.kernel.sent, self.next_sent
+        while self.next_sent < len(sent):
+            following = sent[self.next_sent]
+            if (following.clock, following.passed_on) > (clock, False):
+                break
+            self.closed.note(following.line.command)
+            self.next_sent += 1
+        if self.next_sent > before:
+            self.stretches = self.find_stretches()
         return self.stretches
 
 
@@ -50,22 +53,22 @@ class RowsWriter(Observer):
 
     def begin(self, kernel: Kernel) -> None:
         """Nothing is written."""
-        self.wanted = wanted_slots(self.polled, 2 * len(kernel.map.links))
-        self.closed = ClosedLanes(kernel, self.wanted)
+        self.polled_slots = find_polled_slots(self.polled, 2 * len(kernel.map.links))
+        self.closed = ClosedLanes(kernel, self.polled_slots)
         self.before: Stretches = {}
 
     def see(self, seconds: Seconds) -> None:
         """Takes some seconds."""
         rows = seconds.by_owner
         if self.polled is not None:
-            rows = rows[self.wanted[seconds.slot[rows]]]
+            rows = rows[self.polled_slots[seconds.slot[rows]]]
         owner, second = seconds.owner[rows], seconds.second[rows]
         goes_on = (owner[1:] == owner[:-1]) & (second[1:] == second[:-1] + 1)
         begins = np.flatnonzero(np.append(True, ~goes_on)[: len(rows)])
         lengths = np.diff(np.append(begins, len(rows)))
         stays = owner[begins], seconds.size[rows[begins]], second[begins] - 1, lengths
-        columns = seconds.slot[rows], cells_told(seconds)[rows], seconds.speed[rows]
-        changes = [one for clock in seconds.clocks[1:].tolist() for one in self.changes(clock)]
+        columns = seconds.slot[rows], cells_of_rows(seconds)[rows], seconds.speed[rows]
+        changes = [change for clock in seconds.clocks[1:].tolist() for change in self.changes(clock)]
         closed = np.array(changes, np.int64).reshape(-1, len(CLOSED)).T
         clock, count = int(seconds.clocks[1]), len(seconds.clocks) - 1
         self.file.write(packed(clock, count, stays, columns, tuple(closed)))
@@ -73,15 +76,15 @@ class RowsWriter(Observer):
     def changes(self, clock: int) -> Iterator[tuple[int, int, int, int]]:
         """(clock, slot, first, last cell) of the closed stretches of each lane where these change at a clock; cells 1
         to 0 where there are none any more."""
-        before, now = self.before, self.closed.at(clock)
-        if now is not before:
-            for slot in sorted({*before, *now}):
-                if before.get(slot) != now.get(slot):
-                    yield from ((clock, slot, first, last) for first, last in now.get(slot, [(1, 0)]))
-        self.before = now
+        before, stretches = self.before, self.closed.at(clock)
+        if stretches is not before:
+            for slot in sorted({*before, *stretches}):
+                if before.get(slot) != stretches.get(slot):
+                    yield from ((clock, slot, first, last) for first, last in stretches.get(slot, [(1, 0)]))
+        self.before = stretches
 
 
-def cells_told(seconds: Seconds) -> Array:
+def cells_of_rows(seconds: Seconds) -> Array:
     """By row the cell of its front, and in a buffer -1 for its front, -2 for the next, and so on."""
     cell, off = seconds.cell.copy(), np.flatnonzero(~seconds.on)
     slot, second = seconds.slot[off], seconds.second[off]
@@ -100,30 +103,32 @@ class Polls(Observer):
 
     def begin(self, kernel: Kernel) -> None:
         """No poll has come."""
-        self.wanted = wanted_slots(self.polled, 2 * len(kernel.map.links))
-        self.closed = ClosedLanes(kernel, self.wanted)
+        self.polled_slots = find_polled_slots(self.polled, 2 * len(kernel.map.links))
+        self.closed = ClosedLanes(kernel, self.polled_slots)
 
     def see(self, seconds: Seconds) -> None:
         """Takes some seconds."""
         polled = seconds.clocks % self.every == 0
-        rows = np.flatnonzero(seconds.rows_in_seconds(polled) & self.wanted[seconds.slot])
+        rows = np.flatnonzero(seconds.rows_in_seconds(polled) & self.polled_slots[seconds.slot])
         second, slot = seconds.second[rows], seconds.slot[rows]
         begins, _ = groups_of(second * SLOTS + slot)
         slots, lanes = slot[begins].tolist(), lane_texts(seconds, rows, begins)
         at = np.searchsorted(second[begins], np.arange(len(polled) + 1)).tolist()
         for number in np.flatnonzero(polled).tolist():
             if number:
-                clock, here = int(seconds.clocks[number]), slice(*at[number : number + 2])
+                clock, rows_of_clock = int(seconds.clocks[number]), slice(*at[number : number + 2])
                 closed = self.closed.at(clock)
-                shown = [f"{lane}[]]" for lane in lanes[here]]
+                shown = [f"{lane}[]]" for lane in lanes[rows_of_clock]]
                 if closed:
-                    shown = list(with_closed(dict(zip(slots[here], lanes[here], strict=True)), closed))
+                    texts = dict(zip(slots[rows_of_clock], lanes[rows_of_clock], strict=True))
+                    shown = list(with_closed(texts, closed))
                 self.file.write(f'{{"clock":{clock},"lanes":[{",".join(shown)}]}}\n')
 
 
 def lane_texts(seconds: Seconds, rows: Array, begins: Array) -> list[str]:
     """The text of each lane up to its closed stretches; rows: of the lanes, of which each begins at one of begins."""
-    car, cell, speed, size = (one[rows].tolist() for one in (seconds.owner, seconds.cell, seconds.speed, seconds.size))
+    columns = seconds.owner, seconds.cell, seconds.speed, seconds.size
+    car, cell, speed, size = (column[rows].tolist() for column in columns)
     texts = [
         str(c) if x < 0 else f"[{c},{x},{v}]" if n == 1 else f"[{c},{x},{v},{n}]"
         for c, x, v, n in zip(car, cell, speed, size, strict=True)

@@ -27,14 +27,14 @@ class Queues(Observer):
         """Nobody stands."""
         self.kernel = kernel
         self.length = np.repeat([link.cells for link in kernel.map.links], 2)
-        self.wanted = wanted_slots(self.polled, len(self.length))
+        self.polled_slots = find_polled_slots(self.polled, len(self.length))
 
     def see(self, seconds: Seconds) -> None:
         """Takes some seconds."""
         if not self.every:
             return
         is_polled = seconds.rows_in_seconds(seconds.clocks % self.every == 0)
-        rows = np.flatnonzero(is_polled & seconds.on & self.wanted[seconds.slot])
+        rows = np.flatnonzero(is_polled & seconds.on & self.polled_slots[seconds.slot])
         slot, second, size = seconds.slot[rows], seconds.second[rows], seconds.size[rows].astype(np.int64)
         begins, group = groups_of(second * SLOTS + slot)
         before = np.cumsum(size) - size
@@ -43,10 +43,10 @@ class Queues(Observer):
         stands = unbroken(stands, begins, group)
         count = np.bincount(group[stands], minlength=len(begins))
         covered = np.bincount(group[stands], size[stands], len(begins)).astype(np.int64)
-        some = np.flatnonzero(count)
-        slots, clocks = slot[begins[some]], seconds.clocks[second[begins[some]]]
-        covered = np.minimum(covered[some], self.length[slots])
-        self.log.add({"clock": clocks, "slot": slots, "vehicles": count[some], "covered": covered})
+        occupied = np.flatnonzero(count)
+        slots, clocks = slot[begins[occupied]], seconds.clocks[second[begins[occupied]]]
+        covered = np.minimum(covered[occupied], self.length[slots])
+        self.log.add({"clock": clocks, "slot": slots, "vehicles": count[occupied], "covered": covered})
 
     def rows(self) -> Iterator[Entry]:
         """The rows of queues.csv at stop lines, (clock, edge, SUMO's index of the lane, vehicles, metres that they
@@ -54,7 +54,7 @@ class Queues(Observer):
         links = self.kernel.map.links
         known: dict[tuple[int, int], tuple[str, int, float]] = {}
         for part in self.log.parts:
-            for clock, slot, count, covered in zip(*(one.tolist() for one in part.values()), strict=True):
+            for clock, slot, count, covered in zip(*(column.tolist() for column in part.values()), strict=True):
                 if (slot, covered) not in known:
                     link = links[slot // 2]
                     known[slot, covered] = link.edge, link.lanes[slot % 2], round(covered * link.cell_metres, 1)
@@ -68,7 +68,7 @@ class Summary(Observer):
     def __init__(self, trips: TripsTable, looks: Collection[int] = ()) -> None:
         """trips: of the same run, which sees each second before; looks: further clocks, which may grow."""
         self.trips, self.looks = trips, looks
-        self.found: list[tuple[int, int, int]] = []  # clock, vehicles on cells, in buffers
+        self.counted: list[tuple[int, int, int]] = []  # clock, vehicles on cells, in buffers
 
     def begin(self, kernel: Kernel) -> None:
         """Nothing is counted."""
@@ -81,30 +81,30 @@ class Summary(Observer):
             if second:
                 at = slice(*seconds.first[second : second + 2].tolist())
                 cells = int(np.count_nonzero(seconds.on[at]))
-                self.found.append((int(seconds.clocks[second]), cells, at.stop - at.start - cells))
+                self.counted.append((int(seconds.clocks[second]), cells, at.stop - at.start - cells))
 
     def end(self, clock: int) -> None:
         """Counts who is there at the end."""
-        if not self.found or self.found[-1][0] != clock:
+        if not self.counted or self.counted[-1][0] != clock:
             cells = int(np.count_nonzero(self.kernel.last_second.cell >= 0))
-            self.found.append((clock, cells, len(self.kernel.last_second.cell) - cells))
+            self.counted.append((clock, cells, len(self.kernel.last_second.cell) - cells))
 
     def censuses(self) -> Iterator[Census]:
         """The counts, without vehicles that wish to depart then or later."""
         arrival = np.sort(self.trips.arrival[self.trips.arrival > 0])
-        taken = np.sort([one.clock for one in self.kernel.vehicles.takeouts])
+        taken_out = np.sort([takeout.clock for takeout in self.kernel.vehicles.takeouts])
         departs = np.array(self.kernel.departs, np.int64)
-        for clock, cells, buffers in self.found:
-            arrived, out = int(np.searchsorted(arrival, clock, "right")), int(np.searchsorted(taken, clock))
+        for clock, cells, buffers in self.counted:
+            arrived, out = int(np.searchsorted(arrival, clock, "right")), int(np.searchsorted(taken_out, clock))
             admitted = int(np.searchsorted(departs, clock)) + out
             waiting = admitted - arrived - out - cells - buffers
             yield Census(admitted, arrived, buffers, cells, clock, out, waiting)
 
 
-def wanted_slots(polled: Collection[Place] | None, slots: int) -> Array:
+def find_polled_slots(polled: Collection[Place] | None, slots: int) -> Array:
     """By slot whether its lane is polled; polled: as of Queues."""
     if polled is None:
         return np.ones(slots, bool)
-    wanted = np.zeros(slots, bool)
-    wanted[[2 * link + lane for link, lane in polled]] = True
-    return wanted
+    is_polled = np.zeros(slots, bool)
+    is_polled[[2 * link + lane for link, lane in polled]] = True
+    return is_polled

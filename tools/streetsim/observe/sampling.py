@@ -24,21 +24,23 @@ class Samples:
         """The clocks of the samples in a period, by its number from 0, where they are not those of polls; they rise,
         and lie after its begin."""
         size = self.period / max(1, self.count)
-        shares = ((place + at * self.count) * GOLDEN % 1 for place in range(self.count))
-        return [self.start + at * self.period + 1 + floor((place + share) * size) for place, share in enumerate(shares)]
+        shares = ((number + at * self.count) * GOLDEN % 1 for number in range(self.count))
+        first = self.start + at * self.period + 1
+        return [first + floor((number + share) * size) for number, share in enumerate(shares)]
 
     def among(self, clocks: Array) -> Array:
         """By second, but for second 0, whether lanes are sampled; clocks: as of Seconds."""
         if self.every:
-            found = clocks % self.every == 0
+            is_sampled = clocks % self.every == 0
         else:
             first, last = ((clock - self.start) // self.period for clock in (int(clocks[0]), int(clocks[-1])))
-            found = np.isin(clocks, [one for at in range(first, last + 1) for one in self.clocks_in(at)])
-        found[0] = False
-        return found
+            samples = [sample for at in range(first, last + 1) for sample in self.clocks_in(at)]
+            is_sampled = np.isin(clocks, samples)
+        is_sampled[0] = False
+        return is_sampled
 
     @property
-    def any(self) -> bool:
+    def has_samples(self) -> bool:
         """Whether lanes are sampled at all."""
         return bool(self.every or self.count)
 

@@ -44,7 +44,7 @@ class Segments(Observer):
         self.edges = list(mapping.links_of)
         numbers = {edge: number for number, edge in enumerate(self.edges)}
         self.edge_of = np.array([numbers[link.edge] for link in mapping.links], EDGE)
-        self.log, self.taken = Log(self.COLUMNS), 0  # taken: who was taken out and is in it
+        self.log, self.noted_takeouts = Log(self.COLUMNS), 0  # taken: who was taken out and is in it
         enters = kernel.run.enters
         self.departs = np.fromiter((line.command["depart"] for line in enters), np.int32, len(enters))
         # By vehicle, where its last segment ended.
@@ -64,76 +64,78 @@ class Segments(Observer):
         """Notes where vehicles ended otherwise."""
         self.until, nobody = clock, np.zeros(0, np.int32)
         self.note(nobody, nobody, nobody, clock + 1)
-        there = np.flatnonzero(self.is_under_way & (self.departs < clock))
-        self.note(there, np.full(len(there), clock), np.full(len(there), NO_LINE), clock + 1)
+        under_way = np.flatnonzero(self.is_under_way & (self.departs < clock))
+        self.note(under_way, np.full(len(under_way), clock), np.full(len(under_way), NO_LINE), clock + 1)
 
     def note(self, owner: Array, clock: Array, edge: Array, until: int) -> None:
         """Notes ends of segments, as columns by clock, and those of vehicles that were taken out of a lane before a
         clock."""
-        taken = self.kernel.vehicles.takeouts
-        while self.taken < len(taken) and taken[self.taken].clock < until:
-            if (one := taken[self.taken]).on_lane:
-                own = self.kernel.vehicles.owner[one.car], one.clock, NO_LINE
-                owner, clock, edge = (np.append(those, value) for those, value in zip((owner, clock, edge), own))
-            self.taken += 1
+        takeouts = self.kernel.vehicles.takeouts
+        while self.noted_takeouts < len(takeouts) and takeouts[self.noted_takeouts].clock < until:
+            if (takeout := takeouts[self.noted_takeouts]).on_lane:
+                columns = self.kernel.vehicles.owner[takeout.car], takeout.clock, NO_LINE
+                owner, clock, edge = (np.append(those, value) for those, value in zip((owner, clock, edge), columns))
+            self.noted_takeouts += 1
         order = np.lexsort((clock, owner))
         owner, clock, edge = owner[order], clock[order], edge[order]
         fresh = np.append(True, owner[1:] != owner[:-1])[: len(owner)]
         since, before = np.roll(clock, 1), np.roll(edge, 1)
         since[fresh], before[fresh] = self.since[owner[fresh]], self.before[owner[fresh]]
-        last = np.roll(fresh, -1)
-        self.since[owner[last]], self.before[owner[last]] = clock[last], edge[last]
+        last_rows = np.roll(fresh, -1)
+        self.since[owner[last_rows]], self.before[owner[last_rows]] = clock[last_rows], edge[last_rows]
         self.log.add({"clock": clock, "owner": owner, "edge": edge, "since": since, "before": before})
 
     def ends(self) -> SegmentEnds:
         """All that was noted."""
-        found = self.log.all_of(self.log.parts, len(self.log))
-        order = by_number(found["owner"])  # who passes lines does so in the order in which they were noted
-        return SegmentEnds(*(found[name][order] for name in ("owner", "clock", "edge", "since", "before")))
+        columns = self.log.all_of(self.log.parts, len(self.log))
+        order = by_number(columns["owner"])  # who passes lines does so in the order in which they were noted
+        return SegmentEnds(*(columns[name][order] for name in ("owner", "clock", "edge", "since", "before")))
 
     def segment_rows(self, period: int) -> Iterator[Entry]:
-        """The rows of segments.csv, (begin, end, from, to, then what `told_of` gives), by periods of so many seconds in
-        which segments end: from the stop line of an edge to that of the next; an empty name is that of NO_LINE."""
+        """The rows of segments.csv, (begin, end, from, to, then what `travel_time_columns` gives), by periods of so
+        many seconds in which segments end: from the stop line of an edge to that of the next; an empty name is that of
+        NO_LINE."""
         names = ["", *self.edges]
-        for _, own in by_period(self.log.parts, self.kernel.start, period):
-            pairs = (own["before"].astype(np.int32) - NO_LINE) * len(names) + own["edge"] - NO_LINE
-            for begin, end, pair, told in self.grouped(own["clock"], pairs, own["clock"] - own["since"], period):
-                yield begin, end, names[pair // len(names)], names[pair % len(names)], *told
+        for _, rows in by_period(self.log.parts, self.kernel.start, period):
+            pairs = (rows["before"].astype(np.int32) - NO_LINE) * len(names) + rows["edge"] - NO_LINE
+            for begin, end, pair, columns in self.grouped(rows["clock"], pairs, rows["clock"] - rows["since"], period):
+                yield begin, end, names[pair // len(names)], names[pair % len(names)], *columns
 
     def route_rows(self, routes: Iterable[Sequence[str]], period: int) -> Iterator[Entry]:
-        """The rows of routes.csv, (begin, end, edges, then what `told_of` gives), by periods: of vehicles that drive
-        over all edges of a route, one behind the other, from the stop line of the first to that of the last, by the
-        clock there. Who was rescued on the way there is left out."""
+        """The rows of routes.csv, (begin, end, edges, then what `travel_time_columns` gives), by periods: of vehicles
+        that drive over all edges of a route, one behind the other, from the stop line of the first to that of the last,
+        by the clock there. Who was rescued on the way there is left out."""
         ends = self.ends()
         for route in routes:
-            last = np.arange(len(route) - 1, len(ends.owner))
-            first = last - (len(route) - 1)
-            fits = ends.owner[first] == ends.owner[last]
+            last_rows = np.arange(len(route) - 1, len(ends.owner))
+            first_rows = last_rows - (len(route) - 1)
+            fits = ends.owner[first_rows] == ends.owner[last_rows]
             for step, edge in enumerate(route):
-                fits &= ends.edge[first + step] == self.edges.index(edge)
-            clocks, since = ends.clock[last[fits]], ends.clock[first[fits]]
-            for begin, end, _, told in self.grouped(clocks, np.zeros_like(clocks), clocks - since, period):
-                yield begin, end, " ".join(route), *told
+                fits &= ends.edge[first_rows + step] == self.edges.index(edge)
+            clocks, since = ends.clock[last_rows[fits]], ends.clock[first_rows[fits]]
+            for begin, end, _, columns in self.grouped(clocks, np.zeros_like(clocks), clocks - since, period):
+                yield begin, end, " ".join(route), *columns
 
     def grouped(
         self, clocks: Array, keys: Array, seconds: Array, period: int
     ) -> Iterator[tuple[int, int, int, Entry]]:
-        """(begin, end, key, what `told_of` gives) for each period and key that has any, in their order; clocks: in
-        which period each counts."""
+        """(begin, end, key, what `travel_time_columns` gives) for each period and key that has any, in their order;
+        clocks: in which period each counts."""
         start = self.kernel.start
         numbers = (clocks - 1 - start) // period
         order = by_number(numbers)
         bounds = np.append(0, np.cumsum(np.bincount(numbers))).tolist()
-        for number, (first, last) in enumerate(pairwise(bounds)):
-            own = order[first:last]
-            own = own[np.lexsort((seconds[own], keys[own]))]
-            firsts, _ = groups_of(keys[own])
+        for number, (begin_row, end_row) in enumerate(pairwise(bounds)):
+            rows = order[begin_row:end_row]
+            rows = rows[np.lexsort((seconds[rows], keys[rows]))]
+            firsts, _ = groups_of(keys[rows])
             begin = start + number * period
-            for key, told in zip(keys[own[firsts]].tolist(), told_of(seconds[own], firsts), strict=True):
-                yield begin, min(begin + period, self.until), key, told
+            groups = travel_time_columns(seconds[rows], firsts)
+            for key, columns in zip(keys[rows[firsts]].tolist(), groups, strict=True):
+                yield begin, min(begin + period, self.until), key, columns
 
 
-def told_of(seconds: Array, firsts: Array) -> Iterator[Entry]:
+def travel_time_columns(seconds: Array, firsts: Array) -> Iterator[Entry]:
     """(how many, mean, standard deviation, 15, 50, 85 and 95 %) of groups of seconds, with one decimal; the deviation,
     of a sample, is empty for one alone. firsts: where each group begins, in which seconds rise."""
     counts = np.diff(np.append(firsts, len(seconds)))
@@ -142,9 +144,9 @@ def told_of(seconds: Array, firsts: Array) -> Iterator[Entry]:
     deviations = np.sqrt(np.add.reduceat(squares, firsts) / np.maximum(1, counts - 1)) if len(firsts) else counts
     shares = []
     for share in SHARES:
-        places = share * (counts - 1)
-        low = places.astype(np.int64)
+        positions = share * (counts - 1)
+        low = positions.astype(np.int64)
         least, more = seconds[firsts + low], seconds[firsts + np.minimum(low + 1, counts - 1)]
-        shares.append((least + (places - low) * (more - least)).tolist())
+        shares.append((least + (positions - low) * (more - least)).tolist())
     for count, mean, deviation, *parts in zip(counts.tolist(), means.tolist(), deviations.tolist(), *shares):
-        yield count, f"{mean:.1f}", f"{deviation:.1f}" if count > 1 else "", *(f"{one:.1f}" for one in parts)
+        yield count, f"{mean:.1f}", f"{deviation:.1f}" if count > 1 else "", *(f"{value:.1f}" for value in parts)

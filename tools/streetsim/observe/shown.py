@@ -1,4 +1,5 @@
-"""What the lights of a run show: the phases of plans, by numbers."""
+"""Which phase the light of a node shows when, by the signal lines of a run, and which links are green to a lane
+then."""
 from __future__ import annotations
 
 from bisect import bisect_left, bisect_right
@@ -11,7 +12,7 @@ from streetsim.model.mapping import Map, Place
 from streetsim.model.runs import Sent
 from streetsim.observe.junction_layout import CYCLE, Greens
 
-NONE = -1  # the phase before the first plan, and without a light
+NO_PHASE = -1  # the phase before the first plan, and without a light
 PHASES = 100  # more than a plan may have
 
 
@@ -33,32 +34,33 @@ class ShownPlans:
     def spans(self, node: int, begin: int, end: int) -> Spans:
         """The spans of a node from one clock to another."""
         plans = list(self.plans_between(node, begin, end))
-        first = plans[0][1] if plans else end
-        begins = [begin, *range((begin // CYCLE + 1) * CYCLE, first, CYCLE)] if begin < first else []
-        parts = [Spans(np.array(begins), np.full(len(begins), NONE), np.full(len(begins), True))] if begins else []
+        first_clock = plans[0][1] if plans else end
+        begins = [begin, *range((begin // CYCLE + 1) * CYCLE, first_clock, CYCLE)] if begin < first_clock else []
+        parts = [Spans(np.array(begins), np.full(len(begins), NO_PHASE), np.full(len(begins), True))] if begins else []
         for number, since, until in plans:
             (ends, _), offset = self.plans.ends_and_greens_of(node, number), self.plans.plans[node][number][1]["offset"]
-            own = spans_between(tuple(ends), offset % ends[-1], since, until)
-            parts.append(own._replace(phases=own.phases + number * PHASES))
-        found = parts[0] if len(parts) == 1 else Spans(*(np.concatenate(those) for those in zip(*parts, strict=True)))
-        return found._replace(begins=found.begins - begin)
+            plan_spans = spans_between(tuple(ends), offset % ends[-1], since, until)
+            parts.append(plan_spans._replace(phases=plan_spans.phases + number * PHASES))
+        joined = parts[0] if len(parts) == 1 else Spans(*(np.concatenate(those) for those in zip(*parts, strict=True)))
+        return joined._replace(begins=joined.begins - begin)
 
     def plans_between(self, node: int, begin: int, end: int) -> Iterator[tuple[int, int, int]]:
         """(number, first clock, clock at which the next one begins, of those between two clocks) of the plans that a
         node has between them."""
         clocks: Sequence[int] = self.plans.clocks.get(node, ())
         for number in range(max(0, bisect_right(clocks, begin) - 1), bisect_left(clocks, end)):
-            last = clocks[number + 1] if number + 1 < len(clocks) else end
-            if clocks[number] < min(last, end) and last > begin:
-                yield number, max(begin, clocks[number]), min(last, end)
+            following = clocks[number + 1] if number + 1 < len(clocks) else end
+            if clocks[number] < min(following, end) and following > begin:
+                yield number, max(begin, clocks[number]), min(following, end)
 
-    def greens(self, node: int, places: Sequence[Place], phases: Sequence[int]) -> list[list[frozenset[int] | None]]:
+    def greens(self, node: int, lane_keys: Sequence[Place], phases: Sequence[int]) -> list[list[frozenset[int] | None]]:
         """By lane that leads to a node, and by phase, the links to which it has green; None for all."""
-        plans = [None if one == NONE else self.plans.ends_and_greens_of(node, one // PHASES)[1] for one in phases]
-        parts = list(zip(plans, (one % PHASES for one in phases)))
+        greens_of = self.plans.ends_and_greens_of
+        plans = [None if phase == NO_PHASE else greens_of(node, phase // PHASES)[1] for phase in phases]
+        parts = list(zip(plans, (phase % PHASES for phase in phases)))
         return [
-            [None if plan is None else plan[place][at] if place in plan else frozenset() for plan, at in parts]
-            for place in places
+            [None if plan is None else plan[lane_key][at] if lane_key in plan else frozenset() for plan, at in parts]
+            for lane_key in lane_keys
         ]
 
     def has_one_plan(self, node: int) -> bool:

@@ -1,4 +1,4 @@
-"""SUMO's own output files, of the seconds of a run."""
+"""The observer that gives each second of a run to SUMO's output files."""
 from __future__ import annotations
 
 from collections import defaultdict
@@ -42,13 +42,13 @@ class SumoFiles(Observer):
 def lanes_of(seconds: Seconds, second: int) -> Iterator[list[Any]]:
     """What stands on lanes in a second: [link, lane, cells, buffer, []] of each lane where anybody is, as in a folder's
     polls."""
-    here = slice(*seconds.first[second : second + 2])
-    slot, car, cell = seconds.slot[here], seconds.owner[here], seconds.cell[here]
+    rows = slice(*seconds.first[second : second + 2])
+    slot, car, cell = seconds.slot[rows], seconds.owner[rows], seconds.cell[rows]
     begins, _ = groups_of(slot)
-    columns = (one.tolist() for one in (car, cell, seconds.speed[here], seconds.size[here]))
+    columns = (column.tolist() for column in (car, cell, seconds.speed[rows], seconds.size[rows]))
     entries = [[c, x, v] if n == 1 else [c, x, v, n] for c, x, v, n in zip(*columns, strict=True)]
     ends = np.append(begins, len(slot))[1:].tolist()
-    for own, first, last in zip(slot[begins].tolist(), begins.tolist(), ends, strict=True):
-        vehicles = entries[first:last]
-        cells, buffer = ([one for one in vehicles if one[1] >= 0], [one[0] for one in vehicles if one[1] < 0])
-        yield [own >> 1, own & 1, cells, buffer, []]
+    for lane_slot, begin, end in zip(slot[begins].tolist(), begins.tolist(), ends, strict=True):
+        vehicles = entries[begin:end]
+        cells, buffer = ([entry for entry in vehicles if entry[1] >= 0], [car for car, x, *_ in vehicles if x < 0])
+        yield [lane_slot >> 1, lane_slot & 1, cells, buffer, []]

@@ -1,4 +1,4 @@
-"""SUMO's output files that are made second by second: each class writes one, from what a second shows."""
+"""SUMO's output files that have rows of each second or trip: tripinfo, summary, fcd, queue. Each class writes one."""
 from bisect import bisect_right
 from collections.abc import Mapping, Sequence
 
@@ -18,9 +18,9 @@ class XmlFile:
 
     root, schema = "", ""
 
-    def __init__(self, file: TextFile, places: LanePlaces) -> None:
-        """Writes the begin of the root element; places: where cells lie in metres."""
-        self.file, self.places = file, places
+    def __init__(self, file: TextFile, lane_places: LanePlaces) -> None:
+        """Writes the begin of the root element; lane_places: where cells lie in metres."""
+        self.file, self.lane_places = file, lane_places
         self.file.write(
             '<?xml version="1.0" encoding="UTF-8"?>\n\n'
             f'<{self.root} xmlns:xsi="http://www.w3.org/2001/XMLSchema-instance" '
@@ -49,9 +49,9 @@ class Tripinfo(XmlFile):
 
     root, schema = "tripinfos", "tripinfo_file"
 
-    def __init__(self, file: TextFile, places: LanePlaces, dwells: Mapping[int, Sequence[Dwell]]) -> None:
+    def __init__(self, file: TextFile, lane_places: LanePlaces, dwells: Mapping[int, Sequence[Dwell]]) -> None:
         """dwells: by the vehicle's number in looks its stops; those of one that arrives are known by then."""
-        super().__init__(file, places)
+        super().__init__(file, lane_places)
         self.dwells = dwells
 
     def add_second(self, second: Second) -> None:
@@ -61,21 +61,21 @@ class Tripinfo(XmlFile):
 
     def attributes_of(self, trip: TripUnderWay, arrival: int, stops: Sequence[Dwell]) -> str:
         """The attributes of a trip that arrived at a clock, with its stops, in SUMO's order."""
-        names, duration, dwell = self.places.names, arrival - trip.depart, sum(one.seconds for one in stops)
+        names, duration, dwell = self.lane_places.names, arrival - trip.depart, sum(stop.seconds for stop in stops)
         return attributes(
             id=trip.name,
             depart=float(trip.depart),
-            departLane=names[trip.first.link, trip.first.lane],
-            departPos=self.places.metres_on_lane(trip.first),
-            departSpeed=self.places.metres_per_second(trip.first),
+            departLane=names[trip.first_position.link, trip.first_position.lane],
+            departPos=self.lane_places.metres_on_lane(trip.first_position),
+            departSpeed=self.lane_places.metres_per_second(trip.first_position),
             departDelay=float(trip.depart - trip.wished),
             arrival=float(arrival),
-            arrivalLane=names[trip.last.link, trip.last.lane],
-            arrivalPos=self.places.mapping.links[trip.last.link].metres,
-            arrivalSpeed=self.places.metres_per_second(trip.last),
+            arrivalLane=names[trip.last_position.link, trip.last_position.lane],
+            arrivalPos=self.lane_places.mapping.links[trip.last_position.link].metres,
+            arrivalSpeed=self.lane_places.metres_per_second(trip.last_position),
             duration=float(duration),
             routeLength=trip.metres,
-            waitingTime=float(max(0, trip.waiting - sum(one.stood for one in stops))),
+            waitingTime=float(max(0, trip.waiting - sum(stop.stood for stop in stops))),
             waitingCount=max(0, trip.stops - len(stops)),
             stopTime=float(dwell),
             timeLoss=max(0.0, duration - trip.free - dwell),
@@ -92,10 +92,10 @@ class SummaryOutput(XmlFile):
 
     root, schema = "summary", "summary_file"
 
-    def __init__(self, file: TextFile, places: LanePlaces, wished: Sequence[int], rescued: Sequence[int]) -> None:
+    def __init__(self, file: TextFile, lane_places: LanePlaces, wished: Sequence[int], rescued: Sequence[int]) -> None:
         """wished: the seconds, sorted, at which vehicles would depart, as far as they are known; rescued: the clocks,
         rising, of rescues, as looks at the lanes do not show those out of a junction."""
-        super().__init__(file, places)
+        super().__init__(file, lane_places)
         self.wished, self.rescued = wished, rescued
         self.loaded = self.inserted = self.arrived = self.delays = self.durations = self.teleports = 0
 
@@ -103,13 +103,13 @@ class SummaryOutput(XmlFile):
         """Adds a second to the sums, and writes its row; those in junctions count there, and in its speeds, too."""
         self.loaded = bisect_right(self.wished, second.time)
         self.count_changes(second)
-        speeds = [self.places.metres_per_second(at) for at in second.here.values()]
-        free = [at.speed / self.places.mapping.links[at.link].limit for at in second.here.values()]
+        speeds = [self.lane_places.metres_per_second(at) for at in second.positions.values()]
+        free = [at.speed / self.lane_places.mapping.links[at.link].limit for at in second.positions.values()]
         row = attributes(
             time=float(second.time),
             loaded=max(self.loaded, self.inserted),
             inserted=self.inserted,
-            running=len(second.here),
+            running=len(second.positions),
             waiting=max(0, self.loaded - self.inserted),
             ended=self.arrived,
             arrived=self.arrived,
@@ -138,9 +138,9 @@ class Fcd(XmlFile):
 
     root, schema = "fcd-export", "fcd_file"
 
-    def __init__(self, file: TextFile, places: LanePlaces) -> None:
-        """places: where cells lie in metres."""
-        super().__init__(file, places)
+    def __init__(self, file: TextFile, lane_places: LanePlaces) -> None:
+        """lane_places: where cells lie in metres."""
+        super().__init__(file, lane_places)
         self.texts: dict[At, tuple[str, str]] = {}  # many vehicles come to each
         self.names: dict[int, tuple[str, str]] = {}  # of vehicles and their types, quoted
 
@@ -149,7 +149,7 @@ class Fcd(XmlFile):
         trips = ((car, second.trips[car]) for car in second.departed)
         self.names.update((car, (quoteattr(trip.name), quoteattr(trip.kind))) for car, trip in trips)
         rows = [f'    <timestep time="{second.time:.2f}">\n']
-        for car, at in second.here.items():
+        for car, at in second.positions.items():
             before, after = self.texts.get(at) or self.texts_at(at)
             name, kind = self.names[car]
             rows.append(f"        <vehicle id={name} {before} type={kind} {after}/>\n")
@@ -158,9 +158,9 @@ class Fcd(XmlFile):
     def texts_at(self, at: At) -> tuple[str, str]:
         """The attributes of where a vehicle is, (those that stand before its type, those after it); made once and then
         kept."""
-        x, y, angle = self.places.point_and_angle(at)
-        lane = self.places.names[at.link, at.lane]
-        speed, along = self.places.metres_per_second(at), self.places.metres_on_lane(at)
+        x, y, angle = self.lane_places.point_and_angle(at)
+        lane = self.lane_places.names[at.link, at.lane]
+        speed, along = self.lane_places.metres_per_second(at), self.lane_places.metres_on_lane(at)
         after = attributes(speed=speed, pos=along, lane=lane, slope=0.0)
         self.texts[at] = attributes(x=x, y=y, angle=angle), after
         return self.texts[at]
@@ -172,26 +172,26 @@ class QueueOutput(XmlFile):
 
     root, schema = "queue-export", "queue_file"
 
-    def __init__(self, file: TextFile, places: LanePlaces) -> None:
-        """places: where cells lie in metres."""
-        super().__init__(file, places)
+    def __init__(self, file: TextFile, lane_places: LanePlaces) -> None:
+        """lane_places: where cells lie in metres."""
+        super().__init__(file, lane_places)
         self.standing: dict[int, int] = {}  # car: seconds
 
     def add_second(self, second: Second) -> None:
         """Adds a second to the time of those who stand in cells, and writes the lanes on which any do."""
-        cars = [(car, at) for car, at in second.here.items() if at.cell is not None and not at.speed]
+        cars = [(car, at) for car, at in second.positions.items() if at.cell is not None and not at.speed]
         self.standing = {car: self.standing.get(car, 0) + 1 for car, _ in cars}
         lengths: dict[Place, float] = {}
         waits: dict[Place, int] = {}
         for car, at in cars:
-            place, link = (at.link, at.lane), self.places.mapping.links[at.link]
-            length = link.metres - max(0, at.front + 1 - at.size) * self.places.cell_metres[at.link]
-            lengths[place] = max(length, lengths.get(place, 0.0))
-            waits[place] = max(self.standing[car], waits.get(place, 0))
+            lane_key, link = (at.link, at.lane), self.lane_places.mapping.links[at.link]
+            length = link.metres - max(0, at.front + 1 - at.size) * self.lane_places.cell_metres[at.link]
+            lengths[lane_key] = max(length, lengths.get(lane_key, 0.0))
+            waits[lane_key] = max(self.standing[car], waits.get(lane_key, 0))
         self.file.write(f'    <data timestep="{second.time:.2f}">\n        <lanes>\n')
-        for place, length in sorted(lengths.items()):
-            own = {"id": self.places.names[place], "queueing_time": float(waits[place])}
-            row = attributes(**own, queueing_length=length, queueing_length_experimental=length)
+        for lane_key, length in sorted(lengths.items()):
+            texts = {"id": self.lane_places.names[lane_key], "queueing_time": float(waits[lane_key])}
+            row = attributes(**texts, queueing_length=length, queueing_length_experimental=length)
             self.file.write(f"            <lane {row}/>\n")
         self.file.write("        </lanes>\n    </data>\n")
 

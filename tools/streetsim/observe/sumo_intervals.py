@@ -34,11 +34,11 @@ class Edgedata(XmlFile):
 
     root, schema = "meandata", "meandata_file"
 
-    def __init__(self, file: TextFile, places: LanePlaces, period: int, start: int) -> None:
+    def __init__(self, file: TextFile, lane_places: LanePlaces, period: int, start: int) -> None:
         """period: seconds of an interval; start: the clock at which the first one begins."""
-        super().__init__(file, places)
+        super().__init__(file, lane_places)
         self.period, self.begin, self.clock = period, start, start
-        self.links = places.mapping.links
+        self.links = lane_places.mapping.links
         self.sums: dict[str, EdgeSums] = {}  # by edge
 
     def sums_of(self, link: int) -> EdgeSums:
@@ -50,11 +50,11 @@ class Edgedata(XmlFile):
         if second.clock > self.begin + self.period:
             self.write_interval()
         self.clock = second.clock
-        for at in second.here.values():
+        for at in second.positions.values():
             if at.cell is not None:
                 self.add_vehicle(at)
         for car in second.departed:
-            self.sums_of(second.here[car].link).departed += 1
+            self.sums_of(second.positions[car].link).departed += 1
         for _, link in second.entered:
             self.sums_of(link).entered += 1
         for _, at in second.left:
@@ -62,13 +62,13 @@ class Edgedata(XmlFile):
         for at in second.teleported.values():
             self.sums_of(at.link).teleported += 1
         for _, trip in second.arrived:
-            self.sums_of(trip.last.link).arrived += 1
+            self.sums_of(trip.last_position.link).arrived += 1
 
     def add_vehicle(self, at: At) -> None:
         """Adds one vehicle in the cells of an edge for one second."""
         sums, link = self.sums_of(at.link), self.links[at.link]
         sums.seconds += 1
-        sums.metres += self.places.metres_per_second(at)
+        sums.metres += self.lane_places.metres_per_second(at)
         sums.waiting += not at.speed
         sums.loss += max(0.0, 1 - at.speed / link.limit)
         sums.covered += vehicle_metres(at)
@@ -77,7 +77,7 @@ class Edgedata(XmlFile):
         """Writes the interval that has ended, all edges of the map, and begins the next."""
         end = min(self.clock, self.begin + self.period)
         self.file.write(f'    <interval begin="{self.begin:.2f}" end="{end:.2f}" id="streetsim">\n')
-        for edge in self.places.mapping.links_of:
+        for edge in self.lane_places.mapping.links_of:
             row = self.attributes_of(edge, self.sums.get(edge, EdgeSums()), end - self.begin)
             self.file.write(f"        <edge {row}/>\n")
         self.file.write("    </interval>\n")
@@ -86,12 +86,12 @@ class Edgedata(XmlFile):
     def attributes_of(self, edge: str, sums: EdgeSums, seconds: int) -> str:
         """The attributes of an edge over an interval; seconds: its length. Where nobody was on it there are only
         the counts and sampledSeconds, and no travel time where nobody moved."""
-        links = [self.links[link] for link in self.places.mapping.links_of[edge]]
+        links = [self.links[link] for link in self.lane_places.mapping.links_of[edge]]
         lanes, metres = sum(len(link.lanes) for link in links), links[0].metres
-        seen = {}
+        means = {}
         if sums.seconds:
             speed, density = sums.metres / sums.seconds, sums.seconds / seconds / metres * 1000
-            seen = {
+            means = {
                 **({"traveltime": metres / speed} if speed else {}),
                 "density": density,
                 "laneDensity": density / lanes,
@@ -103,7 +103,7 @@ class Edgedata(XmlFile):
             }
         names = ("departed", "arrived", "entered", "left", "teleported")
         counts = {name: getattr(sums, name) for name in names}
-        return attributes(id=edge, sampledSeconds=float(sums.seconds), **seen, **counts)
+        return attributes(id=edge, sampledSeconds=float(sums.seconds), **means, **counts)
 
     def write_end(self) -> None:
         """Writes the last interval, which may be shorter, and the end of the root."""
@@ -118,51 +118,52 @@ class DetectorOutput(XmlFile):
 
     root, kind = "detector", ""
 
-    def __init__(self, file: TextFile, places: LanePlaces, start: int) -> None:
+    def __init__(self, file: TextFile, lane_places: LanePlaces, start: int) -> None:
         """start: the clock at which the first interval of each detector begins."""
-        super().__init__(file, places)
-        self.detectors = [one for one in places.mapping.detectors if one.kind == self.kind]
-        self.begins, self.clock = {one.name: start for one in self.detectors}, start
-        self.sums: dict[str, Sums] = {one.name: self.sums_at_begin(one, None) for one in self.detectors}
+        super().__init__(file, lane_places)
+        self.detectors = [detector for detector in lane_places.mapping.detectors if detector.kind == self.kind]
+        self.begins, self.clock = {detector.name: start for detector in self.detectors}, start
+        self.sums: dict[str, Sums] = {detector.name: self.sums_at_begin(detector, None) for detector in self.detectors}
 
-    def sums_at_begin(self, one: Detector, before: Sums) -> Sums:
+    def sums_at_begin(self, detector: Detector, before: Sums) -> Sums:
         """The sums with which an interval begins; before: those of the interval that has ended, None of the first."""
         raise NotImplementedError
 
-    def note_second(self, one: Detector, sums: Sums, second: Second, here: Sequence[tuple[int, At]]) -> None:
-        """Adds a second to the sums of a detector; here: (car, where it is) of those on its lane in it, and of those
-        in the junction behind that."""
+    def note_second(self, detector: Detector, sums: Sums, second: Second, vehicles: Sequence[tuple[int, At]]) -> None:
+        """Adds a second to the sums of a detector; vehicles: (car, where it is) of those on its lane in it, and of
+        those in the junction behind that."""
         raise NotImplementedError
 
-    def attributes_of(self, one: Detector, sums: Sums, seconds: int) -> str:
+    def attributes_of(self, detector: Detector, sums: Sums, seconds: int) -> str:
         """The attributes of an interval; seconds: its length."""
         raise NotImplementedError
 
     def add_second(self, second: Second) -> None:
         """Adds a second to all detectors; first writes those intervals that have ended."""
-        for one in self.detectors:
-            if second.clock > self.begins[one.name] + one.period:
-                self.write_interval(one)
+        for detector in self.detectors:
+            if second.clock > self.begins[detector.name] + detector.period:
+                self.write_interval(detector)
         self.clock = second.clock
         by_place: dict[Place, list[tuple[int, At]]] = {}
-        for car, at in second.here.items():
+        for car, at in second.positions.items():
             by_place.setdefault((at.link, at.lane), []).append((car, at))
-        for one in self.detectors:
-            self.note_second(one, self.sums[one.name], second, by_place.get((one.link, one.lane), ()))
+        for detector in self.detectors:
+            vehicles = by_place.get((detector.link, detector.lane), ())
+            self.note_second(detector, self.sums[detector.name], second, vehicles)
 
-    def write_interval(self, one: Detector) -> None:
+    def write_interval(self, detector: Detector) -> None:
         """Writes a detector's interval that has ended, and begins the next."""
-        begin = self.begins[one.name]
-        end = min(self.clock, begin + one.period)
-        row = self.attributes_of(one, self.sums[one.name], end - begin)
-        self.file.write(f"    <interval {attributes(begin=float(begin), end=float(end), id=one.name)} {row}/>\n")
-        self.begins[one.name], self.sums[one.name] = end, self.sums_at_begin(one, self.sums[one.name])
+        begin, sums = self.begins[detector.name], self.sums[detector.name]
+        end = min(self.clock, begin + detector.period)
+        row = self.attributes_of(detector, sums, end - begin)
+        self.file.write(f"    <interval {attributes(begin=float(begin), end=float(end), id=detector.name)} {row}/>\n")
+        self.begins[detector.name], self.sums[detector.name] = end, self.sums_at_begin(detector, sums)
 
     def write_end(self) -> None:
         """Writes the last intervals, which may be shorter, and the end of the root."""
-        for one in self.detectors:
-            if self.clock > self.begins[one.name]:
-                self.write_interval(one)
+        for detector in self.detectors:
+            if self.clock > self.begins[detector.name]:
+                self.write_interval(detector)
         super().write_end()
 
 
@@ -181,27 +182,30 @@ class InductionLoopOutput(DetectorOutput):
 
     schema, kind = "det_e1_file", E1
 
-    def sums_at_begin(self, one: Detector, _before: LoopSums | None) -> LoopSums:
+    def sums_at_begin(self, detector: Detector, _before: LoopSums | None) -> LoopSums:
         """The sums of an e1 with which an interval begins: nothing."""
         return LoopSums()
 
-    def note_second(self, one: Detector, sums: LoopSums, second: Second, here: Sequence[tuple[int, At]]) -> None:
+    def note_second(
+        self, detector: Detector, sums: LoopSums, second: Second, vehicles: Sequence[tuple[int, At]]
+    ) -> None:
         """Adds a second to the sums of an e1: whether its cell is covered, and who has passed it."""
-        sums.occupied += any(at.cell is not None and at.cell - at.size < one.first <= at.cell for _, at in here)
-        for car, last in second.before.items():
-            on_edge = last.link == one.link and car not in second.teleported
-            if on_edge and last.cell is not None and last.cell <= one.first:
-                self.note_pass(one, sums, last, second.here.get(car, replace(last, cell=None)))
+        first = detector.first
+        sums.occupied += any(at.cell is not None and at.cell - at.size < first <= at.cell for _, at in vehicles)
+        for car, previous in second.before.items():
+            on_edge = previous.link == detector.link and car not in second.teleported
+            if on_edge and previous.cell is not None and previous.cell <= detector.first:
+                self.note_pass(detector, sums, previous, second.positions.get(car, replace(previous, cell=None)))
 
-    def note_pass(self, one: Detector, sums: LoopSums, last: At, now: At) -> None:
-        """Adds to the sums of an e1 a vehicle that was on the loop or before it in the second before (last), if it is
-        beyond it now: in the cells of its lane or, in the junction or as one that has arrived, without a cell."""
-        if now.lane == one.lane and (now.cell is None or now.cell > one.first):
-            speed = last.speed or 1.0 if now.cell is None else now.speed
-            sums.speeds.append(speed * self.places.cell_metres[one.link])
-            sums.metres.append(vehicle_metres(last))
+    def note_pass(self, detector: Detector, sums: LoopSums, previous: At, current: At) -> None:
+        """Adds to the sums of an e1 a vehicle that was on the loop or before it in the second before (previous), if it
+        is beyond it now: in the cells of its lane or, in the junction or as one that has arrived, without a cell."""
+        if current.lane == detector.lane and (current.cell is None or current.cell > detector.first):
+            speed = previous.speed or 1.0 if current.cell is None else current.speed
+            sums.speeds.append(speed * self.lane_places.cell_metres[detector.link])
+            sums.metres.append(vehicle_metres(previous))
 
-    def attributes_of(self, one: Detector, sums: LoopSums, seconds: int) -> str:
+    def attributes_of(self, detector: Detector, sums: LoopSums, seconds: int) -> str:
         """The attributes of an e1's interval; means are -1 where nobody passed, as SUMO writes."""
         count = len(sums.speeds)
         return attributes(
@@ -220,7 +224,7 @@ class AreaSums:
     """What an e2 saw in an interval; halts are by car."""
 
     inside: dict[int, At] = field(default_factory=dict)  # by car, of the last second
-    seen: set[int] = field(default_factory=set)
+    vehicles_seen: set[int] = field(default_factory=set)
     entered: int = 0
     left: int = 0
     seconds: int = 0
@@ -241,23 +245,26 @@ class LaneAreaOutput(DetectorOutput):
 
     schema, kind = "det_e2_file", E2
 
-    def sums_at_begin(self, one: Detector, before: AreaSums | None) -> AreaSums:
+    def sums_at_begin(self, detector: Detector, before: AreaSums | None) -> AreaSums:
         """The sums of an e2 with which an interval begins: vehicles inside and halts that go on are taken over."""
         if before is None:
             return AreaSums()
         return AreaSums(inside=before.inside, halts=before.halts, interval_halts=dict.fromkeys(before.halts, 0))
 
-    def note_second(self, one: Detector, sums: AreaSums, second: Second, here: Sequence[tuple[int, At]]) -> None:
+    def note_second(
+        self, detector: Detector, sums: AreaSums, second: Second, vehicles: Sequence[tuple[int, At]]
+    ) -> None:
         """Adds a second to the sums of an e2."""
-        inside = {car: at for car, at in here if at.cell is not None and one.first <= at.cell <= one.last}
+        inside = {car: at for car, at in vehicles if at.cell is not None and detector.first <= at.cell <= detector.last}
         sums.entered += len(inside.keys() - sums.inside.keys())
         sums.left += len(sums.inside.keys() - inside.keys())
-        sums.seen.update(inside)
+        sums.vehicles_seen.update(inside)
         sums.seconds += len(inside)
         sums.most = max(sums.most, len(inside))
-        sums.metres += sum(self.places.metres_per_second(at) for at in inside.values())
-        sums.loss += sum(max(0.0, 1 - at.speed / self.places.mapping.links[at.link].limit) for at in inside.values())
-        area = (one.last - one.first + 1) * self.places.cell_metres[one.link]
+        sums.metres += sum(self.lane_places.metres_per_second(at) for at in inside.values())
+        links = self.lane_places.mapping.links
+        sums.loss += sum(max(0.0, 1 - at.speed / links[at.link].limit) for at in inside.values())
+        area = (detector.last - detector.first + 1) * self.lane_places.cell_metres[detector.link]
         sums.covered.append(min(1.0, sum(map(vehicle_metres, inside.values())) / area))
         ranked = sorted(inside.values(), key=lambda at: -at.front)
         sums.jams.append(longest_jam([(0, at.front, bool(at.speed), at.size) for at in ranked]))
@@ -274,12 +281,12 @@ class LaneAreaOutput(DetectorOutput):
             sums.halts[car] = sums.halts.get(car, 0) + 1
             sums.interval_halts[car] = sums.interval_halts.get(car, 0) + 1
 
-    def attributes_of(self, one: Detector, sums: AreaSums, seconds: int) -> str:
+    def attributes_of(self, detector: Detector, sums: AreaSums, seconds: int) -> str:
         """The attributes of an e2's interval; the mean speed and loss of nobody are -1, as SUMO writes."""
-        car_metres = self.places.cell_metres[one.link]
+        car_metres = self.lane_places.cell_metres[detector.link]
         halts = [halt for halt, _ in sums.ended] + list(sums.halts.values())
         within = [halt for _, halt in sums.ended] + list(sums.interval_halts.values())
-        vehicles = len(sums.seen)
+        vehicles = len(sums.vehicles_seen)
         return attributes(
             sampledSeconds=float(sums.seconds),
             nVehEntered=sums.entered,

@@ -1,4 +1,4 @@
-"""Where cells lie: SUMO's lane names, metres along a lane, points and angles."""
+"""Where vehicles are in SUMO's terms: lane names, metres along a lane, points and angles."""
 from bisect import bisect_right
 from itertools import accumulate
 from math import atan2, degrees, dist
@@ -15,7 +15,7 @@ class LanePlaces:
     def __init__(self, mapping: Map) -> None:
         """The lanes of a run's map."""
         self.mapping = mapping
-        self.names = {place: mapping.lane_name(*place) for place in mapping.lanes()}
+        self.names = {lane_key: mapping.lane_name(*lane_key) for lane_key in mapping.lanes()}
         self.cell_metres = [link.metres / link.cells for link in mapping.links]
         self.lines = [Polyline(link.shape) for link in mapping.links]
 
@@ -43,16 +43,16 @@ class Polyline:
     def __init__(self, points: Shape) -> None:
         """points: (x, y) in metres, two at least."""
         self.points = points
-        self.sizes = [dist(one, other) for one, other in zip(points, points[1:])]
+        self.sizes = [dist(begin, end) for begin, end in zip(points, points[1:])]
         self.ends = list(accumulate(self.sizes))
 
     def point_and_angle(self, share: float, side: float = 0.0) -> tuple[float, float, float]:
         """(x, y, angle) at a share, 0 to 1, of the length, `side` metres to the right of the line: metres, and the
         angle of the line there in degrees clockwise from north."""
-        way = share * self.ends[-1]
-        piece = min(bisect_right(self.ends, way), len(self.sizes) - 1)
+        metres = share * self.ends[-1]
+        piece = min(bisect_right(self.ends, metres), len(self.sizes) - 1)
         (x, y), (following_x, following_y) = self.points[piece : piece + 2]
         size = self.sizes[piece] or 1.0
         east, north = (following_x - x) / size, (following_y - y) / size
-        along = way - (self.ends[piece] - self.sizes[piece])
+        along = metres - (self.ends[piece] - self.sizes[piece])
         return x + east * along + north * side, y + north * along - east * side, degrees(atan2(east, north)) % 360

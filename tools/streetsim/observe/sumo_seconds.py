@@ -1,4 +1,5 @@
-"""What each second of a run shows, vehicle by vehicle: who departed, entered an edge, left it, arrived."""
+"""Follows vehicles from second to second for SUMO's output files: who departed, entered an edge, left it, was
+teleported, arrived."""
 from collections.abc import Iterable, Sequence
 from dataclasses import dataclass, field
 from typing import Any
@@ -32,8 +33,8 @@ class TripUnderWay:
     name: str
     wished: int  # second at which it would depart
     depart: int  # the second in which it departed
-    first: At
-    last: At
+    first_position: At
+    last_position: At
     metres: float = 0.0  # of the links that it has been on
     free: float = 0.0  # seconds of these where nobody is in the way, without the last junction
     waiting: int = 0  # seconds of standing
@@ -49,7 +50,7 @@ class Second:
 
     clock: int
     trips: dict[int, TripUnderWay]  # by car, of those on their way
-    here: dict[int, At] = field(default_factory=dict)  # by car
+    positions: dict[int, At] = field(default_factory=dict)  # by car
     departed: list[int] = field(default_factory=list)  # cars
     entered: list[tuple[int, int]] = field(default_factory=list)  # (car, link): onto the cells of an edge from another
     left: list[tuple[int, At]] = field(default_factory=list)  # out of the cells of an edge into the junction behind it
@@ -86,46 +87,46 @@ class Follower:
         second = Second(clock, self.trips, before=self.before)
         for link, lane, cells, buffer, *_ in lanes:
             for entry in cells:
-                second.here[entry[0]] = At(link, lane, entry[1], entry[2], size_of(entry))
+                second.positions[entry[0]] = At(link, lane, entry[1], entry[2], size_of(entry))
             for car in buffer:
-                second.here[car] = self.follow_in_junction(car, link, lane, clock)
-        for car, at in second.here.items():
+                second.positions[car] = self.follow_in_junction(car, link, lane, clock)
+        for car, at in second.positions.items():
             self.follow_vehicle(second, car, at)
-        gone = dict.fromkeys(arrived)
-        lost = ((car, at) for car, at in self.before.items() if car not in second.here and car not in gone)
+        arrived_cars = dict.fromkeys(arrived)
+        lost = ((car, at) for car, at in self.before.items() if car not in second.positions and car not in arrived_cars)
         second.teleported.update((car, at) for car, at in lost if at.cell is not None)
-        second.arrived = [(car, self.trips.pop(car)) for car in gone if car in self.trips]
-        self.before = second.here
+        second.arrived = [(car, self.trips.pop(car)) for car in arrived_cars if car in self.trips]
+        self.before = second.positions
         return second
 
     def follow_in_junction(self, car: int, link: int, lane: int, clock: int) -> At:
         """Notes since when a vehicle is in the buffer of a lane, and gives where it is. It drives, at a cell a second,
         for the least time that the junction takes, but one second in any case, and then stands."""
-        last = self.before.get(car)
-        if last is None or last.cell is not None or last.link != link:
+        previous = self.before.get(car)
+        if previous is None or previous.cell is not None or previous.link != link:
             self.entered_at[car] = clock
         residence = self.mapping.nodes[self.mapping.links[link].end][3]
         driving = clock - self.entered_at[car] < max(1, residence)
-        return At(link, lane, None, 1.0 if driving else 0.0, last.size if last else 1)
+        return At(link, lane, None, 1.0 if driving else 0.0, previous.size if previous else 1)
 
     def follow_vehicle(self, second: Second, car: int, at: At) -> None:
         """Begins the trip of a vehicle, or goes on with it, and notes in `second` what it did since the second before;
         at: where it is now."""
-        last, trip = self.before.get(car), self.trips.get(car)
+        previous, trip = self.before.get(car), self.trips.get(car)
         if trip is None:
             name, wished, kind = self.expected.get(car, (f"#{car}", second.clock - 1, "DEFAULT_VEHTYPE"))
             trip = self.trips[car] = TripUnderWay(name, wished, second.clock - 1, at, at, kind=kind)
             second.departed.append(car)
             self.add_link(trip, at.link)
-        elif last is None or last.link != at.link or (last.cell is None and at.cell is not None):
-            if last is not None and last.cell is not None:
-                second.teleported[car] = last
+        elif previous is None or previous.link != at.link or (previous.cell is None and at.cell is not None):
+            if previous is not None and previous.cell is not None:
+                second.teleported[car] = previous
             second.entered.append((car, at.link))
             self.add_link(trip, at.link)
-        elif at.cell is None and last.cell is not None:
-            second.left.append((car, last))
+        elif at.cell is None and previous.cell is not None:
+            second.left.append((car, previous))
         note_standing(trip, at)
-        trip.last = at
+        trip.last_position = at
 
     def add_link(self, trip: TripUnderWay, link: int) -> None:
         """Adds to a trip the metres and free seconds of a link that it comes to. SUMO counts as lost what a vehicle

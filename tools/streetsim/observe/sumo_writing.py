@@ -1,4 +1,4 @@
-"""Writes SUMO's output files, from a run's looks at the lanes in every second."""
+"""Opens SUMO's output files of a run, and has each class of sumo_formats and sumo_intervals write its own."""
 import contextlib
 from bisect import insort
 from collections import defaultdict
@@ -34,15 +34,15 @@ class Outputs(contextlib.ExitStack):
         self.follower, self.start = Follower(mapping, dawdle), start
         self.wished: list[int] = []
         self.dwells: dict[int, list[Dwell]] = {}
-        places = LanePlaces(mapping)
+        lane_places = LanePlaces(mapping)
         makers: dict[str, Callable[[TextFile], XmlFile]] = {
-            "tripinfo": lambda file: Tripinfo(file, places, self.dwells),
-            "summary": lambda file: SummaryOutput(file, places, self.wished, rescued),
-            "edgedata": lambda file: Edgedata(file, places, period, start),
-            "fcd": lambda file: Fcd(file, places),
-            "queue": lambda file: QueueOutput(file, places),
-            "e1": lambda file: InductionLoopOutput(file, places, start),
-            "e2": lambda file: LaneAreaOutput(file, places, start),
+            "tripinfo": lambda file: Tripinfo(file, lane_places, self.dwells),
+            "summary": lambda file: SummaryOutput(file, lane_places, self.wished, rescued),
+            "edgedata": lambda file: Edgedata(file, lane_places, period, start),
+            "fcd": lambda file: Fcd(file, lane_places),
+            "queue": lambda file: QueueOutput(file, lane_places),
+            "e1": lambda file: InductionLoopOutput(file, lane_places, start),
+            "e2": lambda file: LaneAreaOutput(file, lane_places, start),
         }
         self.writers: list[XmlFile] = []
         with contextlib.ExitStack() as files:

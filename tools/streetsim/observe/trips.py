@@ -31,16 +31,16 @@ class TripsTable(Observer):
 
     def end(self, clock: int) -> None:
         """Notes where those are who are on the road."""
-        last, owner = self.kernel.last_second, self.kernel.vehicles.owner
-        states = np.where(last.cell >= 0, "cell", "buffer").tolist()
-        self.states = dict(zip(owner[last.car].tolist(), states, strict=True))
+        last_second, owner = self.kernel.last_second, self.kernel.vehicles.owner
+        states = np.where(last_second.cell >= 0, "cell", "buffer").tolist()
+        self.states = dict(zip(owner[last_second.car].tolist(), states, strict=True))
 
     def rows(self, rescues: Mapping[int, int], stops: Iterable[Done]) -> Iterator[Entry]:
         """The rows of trips.csv, as `trip_rows` gives them; rescues: by vehicle; stops: what became of them."""
         run, alone = self.kernel.run, self.kernel.plans.alone_on_trips().tolist()
         names, stood = vehicle_names(run, self.kernel.map), seconds_at_stops(stops)
-        more = ((alone[at], stood[at], rescues.get(at, 0)) for at in range(len(alone)))
-        return trip_rows(zip(names, run.enters, self.ends(), more, strict=True))
+        extras = ((alone[at], stood[at], rescues.get(at, 0)) for at in range(len(alone)))
+        return trip_rows(zip(names, run.enters, self.ends(), extras, strict=True))
 
     def ends(self) -> Iterator[End]:
         """How each vehicle ended."""
@@ -66,21 +66,21 @@ def trip_rows(trips: Iterable[tuple[str, Line, End, tuple[float, int, int]]]) ->
 
 def seconds_at_stops(stops: Iterable[Done]) -> Counter[int]:
     """The seconds that vehicles stood at their stops, by their number in the file; stops not left do not count."""
-    return Counter({vehicle: sum(one.seconds for one in those) for vehicle, those in dwells(stops).items()})
+    return Counter({vehicle: sum(stop.seconds for stop in stops_of) for vehicle, stops_of in dwells(stops).items()})
 
 
 def stop_rows(stops: Iterable[Done], run: Run, mapping: Map) -> Iterator[Entry]:
     """The rows of stops.csv, (vehicle, line, stop, edge, lane, arrived, left, seconds, until, seconds late, state):
     each stop of each vehicle, vehicle by vehicle; clocks and seconds are empty where they did not come about."""
     vehicles, lines = vehicle_names(run, mapping), bus_lines_of(mapping.kinds, len(run.enters))
-    for one in sorted(stops, key=lambda one: (one.visit.vehicle, one.visit.at)):
-        visit, link = one.visit, mapping.links[one.visit.link]
-        lane = link.lanes[visit.lane if one.lane is None else one.lane]
+    for stop in sorted(stops, key=lambda stop: (stop.visit.vehicle, stop.visit.at)):
+        visit, link = stop.visit, mapping.links[stop.visit.link]
+        lane = link.lanes[visit.lane if stop.lane is None else stop.lane]
         dwell = late = None
-        if one.left is not None and one.arrived is not None:
-            dwell, late = one.left - one.arrived, None if visit.until is None else one.left - visit.until
-        times = ["" if time is None else time for time in (one.arrived, one.left, dwell, visit.until, late)]
-        yield vehicles[visit.vehicle], lines[visit.vehicle], visit.stop, link.edge, lane, *times, one.state
+        if stop.left is not None and stop.arrived is not None:
+            dwell, late = stop.left - stop.arrived, None if visit.until is None else stop.left - visit.until
+        times = ["" if time is None else time for time in (stop.arrived, stop.left, dwell, visit.until, late)]
+        yield vehicles[visit.vehicle], lines[visit.vehicle], visit.stop, link.edge, lane, *times, stop.state
 
 
 def vehicle_names(run: Run, mapping: Map) -> list[str]:

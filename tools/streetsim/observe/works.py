@@ -15,7 +15,7 @@ from streetsim.model.freeflow import FreeFlow
 from streetsim.model.mapping import Place
 from streetsim.model.tables import BEFORE_WORKS, Entry
 
-NOTHING = Lane((), (), (), ())
+EMPTY_LANE = Lane((), (), (), ())
 
 
 class WorksTable(Observer):
@@ -33,58 +33,59 @@ class WorksTable(Observer):
         driving = FreeFlow(mapping, kernel.run.load.command.get("dawdle", 0) / 1000).driving
         pace = [seconds / link.cells for seconds, link in zip(driving, mapping.links, strict=True)]
         streets = streets_of(mapping)
-        self.watched = [Watched(one, streets, pace, upstream_of(one, self.closures)) for one in self.closures]
+        closures = self.closures
+        self.watched = [Watched(closure, streets, pace, upstream_of(closure, closures)) for closure in closures]
         self.rescued = 0  # rescues that are noted
 
     def see(self, seconds: Seconds) -> None:
         """Takes some seconds. Who is rescued at a clock is there at its look."""
         for second in range(1, len(seconds.clocks)) if self.watched else ():
             clock = int(seconds.clocks[second])
-            due = [one for one in self.watched if due_after(one, clock - 1) == clock]
-            polled = [one for one in self.watched if one.closure.begin < clock <= one.closure.end]
+            due = [watched for watched in self.watched if due_after(watched, clock - 1) == clock]
+            polled = [watched for watched in self.watched if watched.closure.begin < clock <= watched.closure.end]
             if self.every == 0 or clock % self.every:
                 polled = []
             if due or polled:
-                self.look(clock, LanesNow(seconds, second), due, polled)
+                self.note_looks(clock, LanesNow(seconds, second), due, polled)
 
-    def look(self, clock: int, lanes: LanesNow, due: Iterable[Watched], polled: Iterable[Watched]) -> None:
+    def note_looks(self, clock: int, lanes: LanesNow, due: Iterable[Watched], polled: Iterable[Watched]) -> None:
         """Notes what works show that are due at a clock, or polled."""
-        taken = self.kernel.vehicles.takeouts
-        while self.rescued < len(taken) and taken[self.rescued].clock < clock:
-            for each in self.watched:
-                each.rescue(taken[self.rescued].car, taken[self.rescued].anew)
+        takeouts = self.kernel.vehicles.takeouts
+        while self.rescued < len(takeouts) and takeouts[self.rescued].clock < clock:
+            for watched in self.watched:
+                watched.rescue(takeouts[self.rescued].car, takeouts[self.rescued].anew)
             self.rescued += 1
-        for one in due:
-            one.note_look(clock, self.seen_before(clock, one, lanes), self.is_bound)
-        for one in polled:
-            reach = self.reach_at(clock, one, lanes)
+        for watched in due:
+            watched.note_look(clock, self.seen_before(clock, watched, lanes), self.is_bound)
+        for watched in polled:
+            reach = self.reach_at(clock, watched, lanes)
             if reach.vehicles:
-                self.queues.append((clock, one.closure, reach.vehicles, reach.metres))
+                self.queues.append((clock, watched.closure, reach.vehicles, reach.metres))
 
-    def seen_before(self, clock: int, one: Watched, lanes: LanesNow) -> dict[Place, Lane]:
+    def seen_before(self, clock: int, watched: Watched, lanes: LanesNow) -> dict[Place, Lane]:
         """What stands on the lanes of the link of some works, and of those upstream that their queue reaches."""
-        places = self.kernel.map.lanes
-        seen = {place: lanes.at(place) for place in places([one.closure.link])}
-        while more := one.further(clock, seen):
-            seen.update((place, lanes.at(place)) for place in places(sorted(more)))
-        return seen
+        lanes_of = self.kernel.map.lanes
+        lanes_seen = {lane_key: lanes.at(lane_key) for lane_key in lanes_of([watched.closure.link])}
+        while more := watched.further(clock, lanes_seen):
+            lanes_seen.update((lane_key, lanes.at(lane_key)) for lane_key in lanes_of(sorted(more)))
+        return lanes_seen
 
-    def reach_at(self, clock: int, one: Watched, lanes: LanesNow) -> Reach:
+    def reach_at(self, clock: int, watched: Watched, lanes: LanesNow) -> Reach:
         """How far the queue before some works reaches, on however many links upstream."""
-        seen: dict[Place, Lane] = {}
-        links = {one.closure.link}
+        lanes_seen: dict[Place, Lane] = {}
+        links = {watched.closure.link}
         while links:
-            seen.update((place, lanes.at(place)) for place in self.kernel.map.lanes(sorted(links)))
-            reach = one.reach(clock, seen)
-            known = {link for link, _ in seen}
-            links = {feeder for link in reach.full for feeder in one.streets.before.get(link, ())} - known
+            lanes_seen.update((lane_key, lanes.at(lane_key)) for lane_key in self.kernel.map.lanes(sorted(links)))
+            reach = watched.reach(clock, lanes_seen)
+            known = {link for link, _ in lanes_seen}
+            links = {feeder for link in reach.full for feeder in watched.streets.before.get(link, ())} - known
         return reach
 
-    def is_bound(self, car: int, here: int, ahead: int) -> bool:
+    def is_bound(self, car: int, link: int, ahead: int) -> bool:
         """Whether a car, by its number in the program, that is on one link has another ahead in its vehicle's plan. It
         counts as where its link stands first in the plan; False where that does not have it."""
         plan = self.kernel.run.enters[int(self.kernel.vehicles.owner[car])].command["plan"]
-        return here in plan and ahead in plan[plan.index(here) + 1 :]
+        return link in plan and ahead in plan[plan.index(link) + 1 :]
 
     def queue_rows(self) -> Iterator[Entry]:
         """The rows of queues.csv before works, as Queues.rows has them, with the metres where the works begin."""
@@ -102,22 +103,24 @@ class LanesNow:
         self.seconds, self.begin = seconds, int(seconds.first[second])
         self.slots = seconds.slot[self.begin : seconds.first[second + 1]]
 
-    def at(self, place: Place) -> Lane:
+    def at(self, lane_key: Place) -> Lane:
         """What stands on a lane, without closed stretches."""
-        slot = 2 * place[0] + place[1]
+        slot = 2 * lane_key[0] + lane_key[1]
         low, high = (self.begin + np.searchsorted(self.slots, (slot, slot + 1))).tolist()
         if low == high:
-            return NOTHING
-        rows, now = slice(low, high), self.seconds
-        found = list(zip(*(one[rows].tolist() for one in (now.car, now.cell, now.speed, now.size)), strict=True))
-        cells = tuple((car, cell, speed, size) for car, cell, speed, size in found if cell >= 0)
-        return Lane(cells, tuple((car, speed, cell & READY) for car, cell, speed, _ in found if cell < 0), (), ())
+            return EMPTY_LANE
+        rows, seconds = slice(low, high), self.seconds
+        columns = seconds.car, seconds.cell, seconds.speed, seconds.size
+        vehicles = list(zip(*(column[rows].tolist() for column in columns), strict=True))
+        cells = tuple((car, cell, speed, size) for car, cell, speed, size in vehicles if cell >= 0)
+        return Lane(cells, tuple((car, speed, cell & READY) for car, cell, speed, _ in vehicles if cell < 0), (), ())
 
 
-def upstream_of(own: Closure, closures: Iterable[Closure]) -> list[Closure]:
+def upstream_of(closure: Closure, closures: Iterable[Closure]) -> list[Closure]:
     """The works on the lane of some works that begin upstream of these, whenever they are there."""
-    place = own.link, own.lane
-    return [one for one in closures if (one.link, one.lane) == place and one.first < own.first]
+    lane_key = closure.link, closure.lane
+    on_lane = [closure_before for closure_before in closures if (closure_before.link, closure_before.lane) == lane_key]
+    return [closure_before for closure_before in on_lane if closure_before.first < closure.first]
 
 
 def due_after(watched: Watched, clock: int) -> int | None:

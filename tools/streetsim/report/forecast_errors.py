@@ -5,6 +5,7 @@ from collections.abc import Iterator
 from dataclasses import dataclass
 from html import escape
 
+from streetsim.model.mapping import Map
 from streetsim.report.page_markup import table
 
 PAGE, CHAPTER = "tools/CALIBRATION.md", "'What a calibration gains'"  # where it was measured
@@ -26,15 +27,31 @@ ERRORS: tuple[ForecastError, ...] = (
     ForecastError("a green wave", 0.19, 0.23, 14),
     ForecastError("seconds of green moved", 0.46, 0.31, 14),
     ForecastError("a tenth more vehicles", 0.51, 0.60, 8),
-    ForecastError("a lane removed", 1.48, 0.13, 6),
+    ForecastError("a closed lane", 1.48, 0.13, 6),
 )
+WAVE, SPLIT, GROWTH, LANE = ERRORS
+OF_CALIBRATION = ("speeds", "cut", "shares")  # options that an import has from a calibration
+
+
+def is_calibrated(mapping: Map) -> bool:
+    """Whether an import had drivers that were measured."""
+    return any(mapping.options.get(name) for name in OF_CALIBRATION)
+
+
+def error_told(kind: ForecastError, calibrated: bool) -> str:
+    """By how much forecasts of a kind were off, as a sentence; calibrated: whether the base is."""
+    base, share = ("a calibrated", kind.calibrated) if calibrated else ("an uncalibrated", kind.uncalibrated)
+    of = f"were off by {100 * share:.0f} % of the change on {kind.streets} streets"
+    advice = ": streetsim-calibrate first" if not calibrated and kind.calibrated < kind.uncalibrated else ""
+    return f"For {kind.kind}, forecasts with {base} base {of}{advice}."
 
 
 def errors_told() -> str:
     """What a page of a forecast says of the model's own error, as HTML."""
     said = (
-        "Beside chance the model has an error of its own: by so much of the true change such forecasts were off, on so "
-        f"many streets of SUMO's drivers (a lane removed: with its lefts surveyed). Measured in {PAGE}, {CHAPTER}."
+        "Beside chance the model has an error of its own: by so much of the true change such forecasts were off. The "
+        "truth is that of SUMO, on so many streets (in brackets); where a lane was closed, a survey told how much of "
+        f"their green those who turn left get. Measured in {PAGE}, {CHAPTER}."
     )
     return f'<p class="small">{escape(said)}</p>{errors_table()}'
 

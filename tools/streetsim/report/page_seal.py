@@ -14,7 +14,7 @@ from html import escape, unescape
 from pathlib import Path
 
 from streetsim.base.files import Fault, Json, whole_path
-from streetsim.base.unpacking import TooMuch, inflated, lifted, most_unpacked, refuse_crowded
+from streetsim.base.unpacking import TooMuch, inflate, lifted, most_unpacked, refuse_crowded
 from streetsim.model.folder import LIGHTS
 from streetsim.report.page_markup import facts
 
@@ -94,7 +94,7 @@ def packed(content: bytes) -> str:
 def unpacked(text: str, most: int = MOST) -> bytes:
     """The bytes of a text that `packed` made; ValueError or zlib.error where it is none, or more than so many bytes."""
     data = base64.b64decode(text, validate=True)
-    return inflated(data, most if lifted() else min(most, most_unpacked(len(data))))
+    return inflate(data, most if lifted() else min(most, most_unpacked(len(data))))
 
 
 def sealed(content: Json, files: Mapping[str, bytes], page: str) -> tuple[Seal, dict[str, bytes]]:

@@ -6,7 +6,7 @@ from dataclasses import replace
 from pathlib import Path
 
 from streetsim.base.files import Fault, Json, open_bytes, read_json, reading
-from streetsim.base.seeds import seeds_told
+from streetsim.base.seeds import seeds_text
 from streetsim.model.folder import KEPT, LIGHTS, NAME
 from streetsim.model.tables import SEEDS, read_table
 from streetsim.report.light_timings import lights_path
@@ -63,7 +63,7 @@ def refuse_unsealable(runs: Runs) -> None:
     if len(runs.folders) > 1 and os.path.exists(table):
         gone = sorted({int(row["seed"]) for row in read_table(table, SEEDS)} - {*runs.folders})
         if gone:
-            raise Fault(f"{table}: the runs of seeds {seeds_told(gone)} were taken away: what is left is not sealed")
+            raise Fault(f"{table}: the runs of seeds {seeds_text(gone)} were taken away: what is left is not sealed")
 
 
 def sealed_plan(runs: Runs, place: int) -> tuple[Json, dict[str, bytes]]:

@@ -10,7 +10,10 @@ from streetsim.model.loaded_lanes import forecast_doubts, loaded_lanes
 from streetsim.model.replications import told_of_days
 from streetsim.model.service import AT_PRIORITY, AT_SIGNALS, COLOURS
 from streetsim.report import page_works
-from streetsim.report.forecast_errors import errors_told
+from streetsim.report.forecast_errors import (
+    GROWTH, LANE, SPLIT, WAVE, ForecastError, error_told, errors_told, is_calibrated,
+)
+from streetsim.report.light_timings import timings_of
 from streetsim.report.page_choice import LEAST, RowChange, changes_that_stand_out, ranked_changes
 from streetsim.report.page_drawings import letter_mark, service_keys, service_map
 from streetsim.report.page_map import map_figure
@@ -25,6 +28,7 @@ MOST_GROUPS = 6  # flows in the table of trips
 LONG = 160  # letters of a warning on the first page
 BUS = "bus"  # SUMO's class, which is told first
 CALLED = {BUS: "buses", "passenger": "cars"}  # others have SUMO's name
+GROWN = 1.05  # times as many vehicles: from there on a forecast is one of growth
 LEAST_HOURLY = 20  # vehicles an hour of a movement that is called the worst
 
 
@@ -267,6 +271,8 @@ def doubted(plans: Sequence[Runs], more: Sequence[str] = ()) -> str:
         if not doubts:
             texts.append(f"{runs.name}: nothing that a run checks of itself speaks against it.")
     texts += [*more, *growth_doubts(plans)]
+    if len(plans) == 2 and (kind := kind_of_change(plans[0], plans[1])):
+        texts.append(error_told(kind, is_calibrated(plans[0].first.mapping)))
     if (seeds := common_seeds(plans)) < 2:
         texts.append("One run says nothing of chance: streetsim-run --seeds 1-5 makes several.")
     elif not are_drawn(plans):
@@ -277,6 +283,20 @@ def doubted(plans: Sequence[Runs], more: Sequence[str] = ()) -> str:
         texts.append(f"{told} (appendix){'; the first' if len(heavy) > 1 else ''}: {first}.")
     texts.append("These are numbers of a simulation: the street may do otherwise, and nobody here changes the way.")
     return bullets(texts) + (errors_told() if len(plans) == 2 else "")
+
+
+def kind_of_change(before: Runs, after: Runs) -> ForecastError | None:
+    """Of which kind a forecast is: works, more vehicles, other greens or other offsets, the first that there is; None
+    where none of them is."""
+    if page_works.works_rows(after.first) and not page_works.works_rows(before.first):
+        return LANE
+    if after.vehicles > GROWN * before.vehicles:
+        return GROWTH
+    pairs = [(one, timings_of(after).get(name)) for name, one in timings_of(before).items()]
+    known = [(one, other) for one, other in pairs if other]
+    if any(one.phases != other.phases for one, other in known):
+        return SPLIT
+    return WAVE if any(one.offset != other.offset for one, other in known) else None
 
 
 def growth_doubts(plans: Sequence[Runs]) -> list[str]:

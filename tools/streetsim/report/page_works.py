@@ -23,7 +23,8 @@ LEFT, WIDE, HIGH = 50, 900, 200  # pixels of a picture of queues
 LEAST = 20.0  # vehicles an hour that an edge wins or loses, to be told
 MOST = 6  # edges told that win, and that lose
 # Of works.csv, what stands on the page.
-MEANS = ("vehicles", "capacity_per_hour", "mean_delay_s", "queue_50_m", "queue_95_m")
+CAPACITY = "capacity_per_hour"
+MEANS = ("vehicles", CAPACITY, "mean_delay_s", "queue_50_m", "queue_95_m")
 GREATEST = ("greatest_delay_s", "queue_max_m", "longest_stand_s")
 Place = tuple[str, str, str, str]  # edge, lane, from and to in metres, as works.csv has them
 
@@ -40,6 +41,12 @@ class SeenWorks:
     def span(self) -> tuple[int, int]:
         """(begin of its first period, end of its last), seconds."""
         return min(begin for begin, _ in self.rows), max(end for _, end in self.rows)
+
+    def lost_told(self, runs: int) -> str:
+        """How long all who passed waited there, in a sentence; runs: of which it is the mean."""
+        delays = ((float(row["mean_delay_s"] or 0), int(row["vehicles"])) for own in self.rows.values() for row in own)
+        hours = sum(delay * vehicles for delay, vehicles in delays) / 3600 / runs
+        return f"In all {hours:,.{1 if hours >= 1 else 2}f} vehicle-hours were lost by those who passed."
 
 
 def seen_in(runs: Runs) -> list[SeenWorks]:
@@ -112,12 +119,15 @@ def place_told(runs: Runs, seen: SeenWorks) -> str:
     head += ["greatest queue, m", "longest stand, s"]
     rows = [
         [f'<span class="ids">{time_of_day(start)} to {time_of_day(stop)}</span>']
-        + [mean_of(own, name) for name in MEANS]
+        + [mean_of(own, name) or ("-" if name == CAPACITY else "") for name in MEANS]
         + [most_of(own, name) for name in GREATEST]
         for (start, stop), own in sorted(seen.rows.items())
     ]
     picture = f'<div class="picture">{queues_picture(seen)}</div>' if seen.queues else ""
-    return f'<section class="whole"><h3>{escape(title)}</h3>{table(head, rows)}{picture}</section>'
+    unseen = any(not row[CAPACITY] for own in seen.rows.values() for row in own)
+    none = " Capacity -: no queue stood for a quarter of an hour, so none was seen." if unseen else ""
+    total = f'<p class="small">{seen.lost_told(len(runs.folders))}{none}</p>'
+    return f'<section class="whole"><h3>{escape(title)}</h3>{table(head, rows)}{total}{picture}</section>'
 
 
 def mean_of(rows: Iterable[dict[str, str]], name: str) -> str:

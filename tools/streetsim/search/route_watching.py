@@ -141,7 +141,7 @@ def seen_run(ground: RunGround, run: Run, mapping: Map, seed: int, giving: bool)
     summary, works = Summary(trips), WorksTable(steering.closures)
     with serving_program(ground.program, f"a run with seed {seed}") as program:
         Kernel(program, run, mapping, steering.controllers, [trips, passings, summary, works]).go(ground.until)
-    arrivals, clocks = [arrival for arrival, _ in trips.ends()], passings.came()
+    arrivals, clocks = [arrival for arrival, _ in trips.ends()], passings.link_arrivals()
     for each in clocks:
         each[:1] = [clock - 1 for clock in each[:1]]
     worst = max(summary.censuses(), key=lambda census: census.waiting)

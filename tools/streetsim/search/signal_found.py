@@ -7,13 +7,12 @@ from dataclasses import dataclass, replace
 from statistics import fmean
 
 from streetsim.base.files import whole_file, whole_folder
-from streetsim.base.report import first_few
 from streetsim.base.seeds import paired
 from streetsim.model import trust
 from streetsim.model.folder import read_folder
 from streetsim.model.freeflow import FreeFlow
 from streetsim.model.tables import Entry, write_table
-from streetsim.observe.making import Making, one_run
+from streetsim.observe.run_making import RunOptions, make_run
 from streetsim.report.picture_files import load_pyplot, save_picture
 from streetsim.report.picture_plots import Corridor, draw_corridor
 from streetsim.search.run_prepared import Outcome
@@ -88,7 +87,7 @@ class PlanFiles:
     plan: str  # a file
     folder: str
     corridor: Corridor | None
-    making: Making  # of the runs that are drawn
+    making: RunOptions  # of the runs that are drawn
     until: int
 
 
@@ -139,7 +138,7 @@ def draw_plan(target: PlanFiles, corridor: Corridor, town: SignalTown, plan: Pla
     until = min(corridor.last + 1, target.until)
     settings = replace(town.settings, until=until, every=1, edges=tuple(corridor.edges))
     with tempfile.TemporaryDirectory() as folder:
-        one_run(target.making, run, town.mapping, settings, folder, lambda *_: None)
+        make_run(target.making, run, town.mapping, settings, folder, lambda *_: None)
         save_picture(draw_corridor(load_pyplot(), read_folder(folder), corridor), path)
 
 
@@ -154,7 +153,28 @@ def tell_found(
     if stopped:
         print("stopped: the best plan found so far is written")
     print(trips_told(rows[0], search))
+    print(cycles_told(town.plan, search))
     return tell_verdict(rows[0], search, doubts, sumo)
+
+
+def cycles_told(given: Plan, search: PlanSearch) -> str:
+    """The line on the cycles of the plan given and of the plan found, and on how many lights the found one is the
+    shortest or the longest of those that were tried there."""
+    found, tried = search.best[1], search.cycles_tried()
+    before, after = (span_told([timing.cycle for timing in plan.values()]) for plan in (given, found))
+    told = f"cycle {before} as given, {after} as found"
+    for which, end in (("shortest", min), ("longest", max)):
+        at = [name for name, cycles in tried.items() if len(cycles) > 1 and found[name].cycle == end(cycles)]
+        if at:
+            where = f"at {len(at)} of {len(found)} lights " if len(at) < len(found) else ""
+            told += f", {where}the {which} that was tried (--cycle S-S tries others)"
+    return told
+
+
+def span_told(seconds: Sequence[int]) -> str:
+    """The least and the greatest of some seconds as a text; one number where they are equal."""
+    least, most = min(seconds), max(seconds)
+    return f"{least} s" if least == most else f"{least} to {most} s"
 
 
 def trips_told(row: BeforeAfter, search: PlanSearch) -> str:
@@ -210,9 +230,8 @@ def doubts_of(
         until, town.run, town.mapping,
         [one for one in town.settings.lights.listed_lights(town.mapping) if one not in town.lights],
     )
-    if town.lines.permissive and not sumo:
-        lights = first_few(sorted(town.lines.permissive))
-        yield f"without --verify-sumo, as turns find their gaps in oncoming traffic by formula at {lights}"
+    if not sumo and (gaps := town.gaps_told()):
+        yield f"without --verify-sumo, as {gaps}"
 
 
 def vehicle_doubts(town: SignalTown, before: Sequence[Outcome], after: Sequence[Outcome]) -> Iterator[str]:

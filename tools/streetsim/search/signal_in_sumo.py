@@ -12,7 +12,7 @@ from typing import Self
 
 from streetsim.base.files import Fault, attribute, elements
 from streetsim.base.jobs import side_by_side
-from streetsim.base.progress import Meanwhile
+from streetsim.base.progress import WorkProgress
 from streetsim.base.report import Report
 from streetsim.base.seeds import paired
 from streetsim.model.mapping import Map
@@ -161,7 +161,7 @@ def verified(in_sumo: InSumo, town: SignalTown, texts: Sequence[str], seeds: Seq
         for path, text in zip(paths, texts, strict=True):
             Path(path).write_text(text, encoding="utf-8")
         tasks = [(path, seed) for path in paths for seed in seeds]
-        meanwhile, done = Meanwhile("runs of SUMO", len(tasks)), count(1)
+        meanwhile, done = WorkProgress("runs of SUMO", len(tasks)), count(1)
         means, teleports = zip(*side_by_side(run, tasks, jobs, lambda *_: meanwhile.show(next(done))), strict=True)
     meanwhile.end()
     half = len(seeds)

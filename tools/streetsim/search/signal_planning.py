@@ -5,7 +5,7 @@ from statistics import fmean
 from typing import Any
 
 from streetsim.base.files import Fault
-from streetsim.base.progress import Meanwhile, Stopping
+from streetsim.base.progress import Stopping, WorkProgress
 from streetsim.search.signal_formulas import StreetFlows, critical_cycle
 from streetsim.search.signal_search import PlanSearch, key_of
 from streetsim.search.signal_town import SignalTown
@@ -71,7 +71,7 @@ class SearchShown:
 
     def __init__(self, budget: int, after: float) -> None:
         """budget: simulations at most; after: as of ended_search."""
-        self.line, self.after = Meanwhile("simulations", budget), after
+        self.line, self.after = WorkProgress("simulations", budget), after
         self.alone, self.last, self.begin = 0.0, 0.0, 0.0  # seconds: of the first plan, at the last, as climbs began
 
     def show(self, search: PlanSearch) -> None:

@@ -68,6 +68,13 @@ class PlanSearch:
         each = (self.climbed[-1] - self.climbed[0]) / done if done > FEW else 2.0 * self.seeds
         return min(self.budget, self.simulations + round(each * (self.climbs - done)))
 
+    def cycles_tried(self) -> dict[str, set[int]]:
+        """By light the cycles, in seconds, of the plans that were run."""
+        tried: dict[str, set[int]] = {}
+        for name, _, durations in (one for key in self.seen for one in key):
+            tried.setdefault(name, set()).add(sum(durations))
+        return tried
+
     def mean_trips(self, steps: Sequence[tuple[str, Any]]) -> list[float]:
         """The values (s) of plans, in their order; steps: (what was tried, plan). Those that are new are run, noted and
         told; a plan that was seen before costs nothing. Raises SearchEnded where the budget does not reach for all of

@@ -7,7 +7,7 @@ from types import MappingProxyType
 from typing import Any, NamedTuple
 
 from streetsim.base.files import Fault
-from streetsim.base.progress import Meanwhile
+from streetsim.base.progress import WorkProgress
 from streetsim.base.report import first_few
 from streetsim.control.actuated_lights import ACTUATED, NEMA, driven_lights
 from streetsim.control.bus_planned import planned
@@ -60,6 +60,11 @@ class SignalTown:
     def base(self) -> Plan:
         """The plan given, mended where it breaks what its phases must keep: the one that a search begins with."""
         return {name: self.lights[name].mended(timing) for name, timing in self.plan.items()}
+
+    def gaps_told(self) -> str:
+        """At which lights turns find their gaps by formula under the plans that were run; empty where at none."""
+        lights = first_few(sorted(self.lines.permissive))
+        return f"turns find their gaps in oncoming traffic by formula at {lights}" if lights else ""
 
     def plan_lines(self, plan: Plan) -> bytes:
         """The signal lines of a plan, as bytes."""
@@ -186,7 +191,7 @@ class Runner:
     def outcomes(self, plans: Sequence[Plan], seeds: Sequence[int], jobs: int) -> list[list[Outcome]]:
         """For each plan and each seed, what the plan gives by the session of the report, with gaps found under it;
         shows on the terminal how many of the runs, so many side by side (jobs), are done."""
-        shown, found = Meanwhile("runs by other seeds", len(plans) * len(seeds), abreast=jobs), []
+        shown, found = WorkProgress("runs by other seeds", len(plans) * len(seeds), abreast=jobs), []
         for outcome in self.ordered(outcome_giving_way, plans, seeds):
             found.append(outcome)
             shown.show(len(found))

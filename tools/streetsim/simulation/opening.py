@@ -110,7 +110,7 @@ def notes_of(session: TraciSession) -> str:
     lines = []
     if session.yielding.lines:
         gaps = "in the gaps of the vehicles of the route files; those that the script adds are in no gaps"
-        lines.append(f"{session.yielding.told()}, {gaps}")
+        lines.append(f"{session.yielding.summary()}, {gaps}")
     if session.facts.unwritten:
         names = ", ".join(dict.fromkeys(session.facts.unwritten))
         instead = "streetsim-run --sumo-output e1,e2,edgedata writes such files"

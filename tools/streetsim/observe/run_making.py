@@ -1,4 +1,5 @@
-"""Makes a run into a folder: its tables, its setting, SUMO's output files and the tables of junctions."""
+"""Makes a run, and writes its folder: tables, setting.json, SUMO's output files and junction tables. Called by
+streetsim-run, and by searches for the runs of the plan that they found."""
 from __future__ import annotations
 
 import contextlib
@@ -46,7 +47,7 @@ from streetsim.observe.trips import TripsTable, stop_rows
 from streetsim.observe.works import WorksTable
 
 
-EVERY = 10  # seconds between polls, where no others are asked for
+POLL_EVERY_S = 10  # seconds between polls, where no others are asked for
 
 
 def first_poll(every: int | None, start: int) -> int:
@@ -56,7 +57,7 @@ def first_poll(every: int | None, start: int) -> int:
 
 
 @dataclass(frozen=True, slots=True)
-class Making:
+class RunOptions:
     """How a run is made, and what is written of it beside its tables."""
 
     program: str
@@ -67,7 +68,7 @@ class Making:
     junctions: int | None = None
     polls: bool = False  # as text too
     along: Sequence[Sequence[str]] = ()  # routes, each by its edges, whose travel times are told
-    again: Json = field(default_factory=dict)  # by what it is made again, as kept.how_made_again has it
+    again: Json = field(default_factory=dict)  # by what it is made again, as kept.remake_setting has it
     keep: str | None = None  # the file in which the session of the program is kept
     listed: Json = field(default_factory=dict)  # of drawn departures, as listed_in_map has it
 
@@ -81,7 +82,7 @@ class Figures:
     mean_trip_s: float | None  # none where nobody arrived
     rescues: int
     notes: list[str]  # sentences for the terminal, on what is not as asked for or not in the tables
-    told: str  # what its last line says
+    summary: str  # what its last line says
     doubts: list[str]  # why it is not to be trusted
     by_class: str = ""  # of a run with stops or priority, the trips of each class of vehicles
 
@@ -89,32 +90,33 @@ class Figures:
 class RunTables:
     """The observers of a run that make its tables, and the tables that they make."""
 
-    def __init__(self, making: Making, run: Run, mapping: Map, settings: Settings, steering: Steering) -> None:
-        """making, settings: what is asked for; steering: of the same run."""
+    def __init__(self, options: RunOptions, run: Run, mapping: Map, settings: Settings, steering: Steering) -> None:
+        """options, settings: what is asked for; steering: of the same run."""
         self.run, self.mapping, self.settings, self.steering = run, mapping, settings, steering
-        every = EVERY if settings.every is None else settings.every
+        every = POLL_EVERY_S if settings.every is None else settings.every
         edges = set(settings.edges)
-        self.polled = [one for one in mapping.lanes() if mapping.links[one[0]].edge in edges] if edges else None
-        rich = every if self.polled is None or len(self.polled) == len(mapping.lanes()) else 0
+        lanes = mapping.lanes()
+        self.polled = [lane_key for lane_key in lanes if mapping.links[lane_key[0]].edge in edges] if edges else None
+        rich = every if self.polled is None or len(self.polled) == len(lanes) else 0
         samples = samples_of(run.start(), settings.period, rich)
         self.every, self.trips, self.counts = every, TripsTable(), Counts(settings.period, samples)
         self.queues = Queues(every, self.polled)
         self.summary = Summary(self.trips, steering.ending.looks)
-        self.segments, self.along = Segments(), making.along
+        self.segments, self.along = Segments(), options.along
         self.detectors, self.works = Detectors(samples), WorksTable(steering.closures, every)
-        self.junctions = None if making.junctions is None else Junctions(making.junctions or settings.period)
+        self.junctions = None if options.junctions is None else Junctions(options.junctions or settings.period)
 
-    def observers(self, making: Making, folder: str, files: contextlib.ExitStack) -> Iterator[Observer]:
+    def observers(self, options: RunOptions, folder: str, files: contextlib.ExitStack) -> Iterator[Observer]:
         """All of them; folder: of the run, in which files are opened as blocks of `files`."""
         yield from (self.trips, self.counts, self.queues, self.summary, self.segments, self.detectors, self.works)
         if self.junctions is not None:
             yield self.junctions
         if self.every:
             yield RowsWriter(files.enter_context(open(f"{folder}/{ROWS}", "wb")), self.polled)
-        if self.every and making.polls:
+        if self.every and options.polls:
             yield Polls(files.enter_context(whole_file(f"{folder}/{POLLS}")), self.every, self.polled)
-        if making.kinds:
-            yield self.sumo_files(making.kinds, folder, files)
+        if options.kinds:
+            yield self.sumo_files(options.kinds, folder, files)
 
     def sumo_files(self, kinds: Iterable[str], folder: str, files: contextlib.ExitStack) -> Observer:
         """What writes SUMO's output files of some kinds to a new folder sumo in the run's, opened as a block of
@@ -156,56 +158,60 @@ class RunTables:
             write_named(f"{folder}/{tables.WORKS_FILE}", tables.WORKS, rows, names)
 
 
-def one_run(making: Making, run: Run, mapping: Map, settings: Settings, folder: str, tell: ReportProgress) -> Figures:
+def make_run(
+    options: RunOptions, run: Run, mapping: Map, settings: Settings, folder: str, report_progress: ReportProgress
+) -> Figures:
     """Makes one run, after the rounds by which its vehicles give way, writes all that was asked for into a folder that
-    is there, and gives its figures. tell: gets the clock and a count while it goes. Fault where the program refuses a
-    command, or a file cannot be written."""
-    given, start_program = run, partial(serving_program, making.program, run.path, making.workers)
-    run, yielding = giving_way(run, mapping, settings, making.rounds, start_program, tell)
+    is there, and gives its figures. report_progress: gets the clock and a count while it goes. Fault where the program
+    refuses a command, or a file cannot be written."""
+    given_run, start_program = run, partial(serving_program, options.program, run.path, options.workers)
+    run, yielding = giving_way(run, mapping, settings, options.rounds, start_program, report_progress)
     steering = Steering(run, mapping, settings)
-    made = RunTables(making, run, mapping, settings, steering)
+    run_tables = RunTables(options, run, mapping, settings, steering)
     with contextlib.ExitStack() as files:
-        observers = [*made.observers(making, folder, files), ProgressReports(tell)]
-        program = files.enter_context(start_program(keep=making.keep))
+        observers = [*run_tables.observers(options, folder, files), ProgressReports(report_progress)]
+        program = files.enter_context(start_program(keep=options.keep))
         kernel = Kernel(program, run, mapping, steering.controllers, observers)
         kernel.go(settings.until)
-    return figures_of(making, given, yielding, made, kernel, folder)
+    return figures_of(options, given_run, yielding, run_tables, kernel, folder)
 
 
 def figures_of(
-    making: Making, given: Run, yielding: Yielding, made: RunTables, kernel: Kernel, folder: str
+    options: RunOptions, given_run: Run, yielding: Yielding, run_tables: RunTables, kernel: Kernel, folder: str
 ) -> Figures:
-    """Writes the tables and the setting of a run that was made to its folder, and gives its figures. given: the run
+    """Writes the tables and the setting of a run that was made to its folder, and gives its figures. given_run: the run
     without the signals by which its vehicles give way, as yielding tells. Fault where a file cannot be written."""
-    run, mapping, settings, steering = made.run, made.mapping, made.settings, made.steering
+    run, mapping, settings, steering = run_tables.run, run_tables.mapping, run_tables.settings, run_tables.steering
     stops, clock = steering.stops(), kernel.clock
-    told = [*settings.lights.notes(), *settings.buses.notes(), *stop_notes(stops, mapping), *run_notes(made, clock)]
+    notes = [*settings.lights.notes(), *settings.buses.notes(), *stop_notes(stops, mapping)]
+    notes += run_notes(run_tables, clock)
     beyond: list[str] = []
-    if made.junctions is not None:
-        more, beyond = made.junctions.write(folder, stops)
-        told += more
-    trips = list(made.trips.rows(steering.rescue.count, stops))
-    made.write(folder, trips, clock)
+    if run_tables.junctions is not None:
+        more, beyond = run_tables.junctions.write(folder, stops)
+        notes += more
+    trips = list(run_tables.trips.rows(steering.rescue.count, stops))
+    run_tables.write(folder, trips, clock)
     driven, rescues = trust.trips_at(clock, run.start(), trips), steering.rescue.count.total()
-    listed, censuses = settings.lights.listed_lights(mapping), list(made.summary.censuses())
+    listed, censuses = settings.lights.listed_lights(mapping), list(run_tables.summary.censuses())
     doubts = [
         *trust.doubts(driven, rescues, censuses, run, mapping, listed),
         *trust.crowding_doubts(driven.vehicles, yielding.crowded),
         *beyond,
-        *doubts_of(made.works.watched, mapping),
+        *doubts_of(run_tables.works.watched, mapping),
         *crowded_works(run, mapping, steering.closures),
     ]
-    given = with_lines(given, list(lit_lines(kernel.sent, mapping)))
-    write_setting(making, given, made, yielding, doubts, folder, clock)
+    given_run = with_lines(given_run, list(lit_lines(kernel.sent, mapping)))
+    write_setting(options, given_run, run_tables, yielding, doubts, folder, clock)
+    parts = driven.told(), f"{rescues:,} rescues", yielding.summary(), steering.ending.ended
     return Figures(
         vehicles=driven.vehicles,
         arrived=len(driven.durations),
         mean_trip_s=fmean(driven.durations) if driven.durations else None,
         rescues=rescues,
-        notes=told,
-        told=", ".join(filter(None, (driven.told(), f"{rescues:,} rescues", yielding.told(), steering.ending.ended))),
+        notes=notes,
+        summary=", ".join(filter(None, parts)),
         doubts=doubts,
-        by_class=class_trips_told(trips, mapping) if settings.buses.visits or settings.buses.ahead else "",
+        by_class=class_trips_line(trips, mapping) if settings.buses.visits or settings.buses.ahead else "",
     )
 
 
@@ -214,18 +220,18 @@ def summary_row(census: Census) -> Entry:
     return census.clock, census.admitted, census.waiting, census.cells, census.buffers, census.arrived, census.taken
 
 
-def class_trips_told(trips: Sequence[Entry], mapping: Map) -> str:
+def class_trips_line(trips: Sequence[Entry], mapping: Map) -> str:
     """How many of each vehicle class arrived and their mean trip, as one line; empty where all vehicles are of one.
     trips: rows of trips.csv, in the order of the vehicles' numbers."""
-    found: defaultdict[str, list[int | None]] = defaultdict(list)
+    durations: defaultdict[str, list[int | None]] = defaultdict(list)
     for vclass, (_, _, arrival, duration, *_) in zip(vehicle_classes_of(mapping.kinds, len(trips)), trips, strict=True):
-        found[vclass].append(duration if arrival != "" else None)
-    told = []
-    for vclass, all_ in sorted(found.items()):
-        some_ = [one for one in all_ if one is not None]
-        mean = f", mean trip {fmean(some_):.1f} s" if some_ else ""
-        told.append(f"{vclass}: {len(some_):,} of {len(all_):,} arrived{mean}")
-    return "; ".join(told) if len(told) > 1 else ""
+        durations[vclass].append(duration if arrival != "" else None)
+    texts = []
+    for vclass, class_durations in sorted(durations.items()):
+        arrived = [seconds for seconds in class_durations if seconds is not None]
+        mean = f", mean trip {fmean(arrived):.1f} s" if arrived else ""
+        texts.append(f"{vclass}: {len(arrived):,} of {len(class_durations):,} arrived{mean}")
+    return "; ".join(texts) if len(texts) > 1 else ""
 
 
 def lit_lines(sent: Iterable[Sent], mapping: Map) -> Iterator[tuple[int, Line]]:
@@ -237,42 +243,43 @@ def lit_lines(sent: Iterable[Sent], mapping: Map) -> Iterator[tuple[int, Line]]:
             yield clock, line
 
 
-def run_notes(made: RunTables, clock: int) -> Iterator[str]:
+def run_notes(run_tables: RunTables, clock: int) -> Iterator[str]:
     """What was not polled or not sent, a sentence each, for the terminal; clock: at the end."""
-    if (first := first_poll(made.every, made.run.start())) > clock:
+    if (first := first_poll(run_tables.every, run_tables.run.start())) > clock:
         yield f"lanes were never polled: the run ended at {clock:,} s, and the first poll is at {first:,} s"
-    if unsent := made.steering.timed.unsent():
+    if unsent := run_tables.steering.timed.unsent():
         yield f"{unsent:,} lines were not sent, as their clock is after --until"
 
 
 def stop_notes(stops: Sequence[Done], mapping: Map) -> Iterator[str]:
     """Sentences on how many stops were made on the lane beside, or passed without one, and which; nothing where none
     were."""
-    for state, told in ((OTHER_LANE, "were made on the lane beside"), (MISSED, "were passed: no lane had room")):
-        names = [f"{mapping.cars[one.visit.vehicle]} at {one.visit.stop}" for one in stops if one.state == state]
+    for state, text in ((OTHER_LANE, "were made on the lane beside"), (MISSED, "were passed: no lane had room")):
+        names = [f"{mapping.cars[stop.visit.vehicle]} at {stop.visit.stop}" for stop in stops if stop.state == state]
         if names:
-            yield f"{len(names):,} of {len(stops):,} stops {told}: {first_few(names)}"
+            yield f"{len(names):,} of {len(stops):,} stops {text}: {first_few(names)}"
 
 
 def write_setting(
-    making: Making, given: Run, made: RunTables, yielding: Yielding, doubts: Sequence[str], folder: str, clock: int
+    options: RunOptions, given_run: Run, run_tables: RunTables, yielding: Yielding, doubts: Sequence[str], folder: str,
+    clock: int,
 ) -> None:
-    """Writes setting.json: what a run was made of. given: the run without the signals by which its vehicles give way;
-    doubts: why it is not to be trusted, empty where it is; clock: at the end."""
-    command, settings = given.load.command, made.settings
-    of = {"run": os.path.basename(given.path), "seed": command.get("seed", 0), "start": given.start()}
-    of.update(until=clock, rescue=settings.rescue, vehicles=len(given.enters))
-    of.update(program=program_digest(making.program), **proof_note(making.program), **making.again)
+    """Writes setting.json: what a run was made of. given_run: the run without the signals by which its vehicles give
+    way; doubts: why it is not to be trusted, empty where it is; clock: at the end."""
+    command, settings = given_run.load.command, run_tables.settings
+    of = {"run": os.path.basename(given_run.path), "seed": command.get("seed", 0), "start": given_run.start()}
+    of.update(until=clock, rescue=settings.rescue, vehicles=len(given_run.enters))
+    of.update(program=program_digest(options.program), **proof_note(options.program), **options.again)
     content = {
-        "map": replace(made.mapping, timings=[]).written(),  # which lights.json has
-        "signals": given.signals(),
+        "map": replace(run_tables.mapping, timings=[]).written(),  # which lights.json has
+        "signals": given_run.signals(),
         "dawdle": command["dawdle"],
-        "every": made.every,
+        "every": run_tables.every,
         "period": settings.period,
         "yielding": asdict(yielding),
         "not_trusted": doubts,
         "made": of,
-        **({"listed": making.listed} if making.listed else {}),
+        **({"listed": options.listed} if options.listed else {}),
     }
     with whole_file(f"{folder}/{NAME}") as file:
         file.write(json.dumps(content, separators=(",", ":")))
