@@ -281,6 +281,8 @@ def pairs_by_kind(kinds: Sequence[str], levels: Sequence[float], found: Sequence
 def pairs_by_level(level: float, pairs: Sequence[Pair]) -> Iterator[str]:
     """What holds of the networks of a level in which SUMO is not locked."""
     free = [pair for pair in pairs if not pair.now.is_locked]
+    if not free:
+        return
     worse = sum(pair.worse > WORSE for pair in free)
     for name, own in (("before", [pair.before for pair in free]), ("now", [pair.now for pair in free])):
         off = [abs(row.more) for row in own]
