@@ -36,11 +36,9 @@ class Errors(unittest.TestCase):
 
     def test_a_sentence_of_the_kind_that_fits(self):
         """A calibration is advised where it makes such forecasts better."""
-        said = error_told(LANE, False)
-        self.assertEqual(said, "For a closed lane, forecasts with an uncalibrated base were off by 148 % of the change on 6 "
-                         "streets: streetsim-calibrate first.")  # fmt: skip
-        self.assertEqual(error_told(LANE, True), "For a closed lane, forecasts with a calibrated base were off by 13 % of "
-                         "the change on 6 streets.")  # fmt: skip
+        said = "For a closed lane, forecasts with {} base were off by {} % of the change on 6 streets{}."
+        self.assertEqual(error_told(LANE, False), said.format("an uncalibrated", 148, ": streetsim-calibrate first"))
+        self.assertEqual(error_told(LANE, True), said.format("a calibrated", 13, ""))
         self.assertNotIn("streetsim-calibrate", error_told(WAVE, False))
 
     def test_what_a_calibration_gave(self):
@@ -51,8 +49,9 @@ class Errors(unittest.TestCase):
         """Works, more vehicles, other greens, other offsets; nothing where none of them is."""
         light = SimpleNamespace(phases=[(9, "G")], offset=0)
         for works, vehicles, phases, offset, kind in (
-            ((0, 1), 100, [(8, "G")], 5, LANE), ((1, 1), 100, [(9, "G")], 0, None), ((0, 0), 110, [(8, "G")], 5, GROWTH),
-            ((0, 0), 104, [(8, "G")], 5, SPLIT), ((0, 0), 100, [(9, "G")], 5, WAVE), ((0, 0), 90, [(9, "G")], 0, None),
+            ((0, 1), 100, [(8, "G")], 5, LANE), ((1, 1), 100, [(9, "G")], 0, None),
+            ((0, 0), 110, [(8, "G")], 5, GROWTH), ((0, 0), 104, [(8, "G")], 5, SPLIT),
+            ((0, 0), 100, [(9, "G")], 5, WAVE), ((0, 0), 90, [(9, "G")], 0, None),
         ):  # fmt: skip
             changed = SimpleNamespace(phases=phases, offset=offset)
             plans = [SimpleNamespace(vehicles=100, first=works[0], lights={"L": light, "M": light})]

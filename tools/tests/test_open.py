@@ -199,10 +199,10 @@ class Advice(unittest.TestCase):
     """The words that a page advises for a search for signals."""
 
     def test_sumo_judges_where_turns_wait_for_gaps(self):
-        """A left (index 1) across those who come (index 0): with them a gap is needed, by itself and after them none."""
+        """A left (index 1) across those who come (index 0): with them a gap is needed, else none."""
         two = [SignalMovement("a", "b", (0,)), SignalMovement("c", "d", (1,))]
-        for states, needed in ((("Gg", "rr"), True), (("GG", "rr"), False), (("Gr", "rg"), False), (("yg", "rr"), False)):
-            timing = Timing("L", "J", 0.0, [(9, one) for one in states], "static", two, {frozenset((0, 1))})
+        for states, needed in (("Gg rr", True), ("GG rr", False), ("Gr rg", False), ("yg rr", False)):
+            timing = Timing("L", "J", 0.0, [(9, one) for one in states.split()], "static", two, {frozenset((0, 1))})
             for path, words in (("/bin/sumo", ["--verify-sumo"]), (None, [])):
                 with mock.patch("shutil.which", return_value=path):
                     self.assertEqual(search_words({"L": timing}), words if needed else [], states)

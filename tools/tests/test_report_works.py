@@ -82,7 +82,7 @@ class Works(Given):
             "0:05 to 0:15 101.5 1350 10 5 15 40 22 12",  # means of two seeds, of the greatest the greatest
             "0:15 to 0:20 50 - 0 0 0 0",  # nobody queued
             # 101 and 102 vehicles of 10 s each in two runs: 1,015 s.
-            "In all 0.28 vehicle-hours were lost by those who passed. Capacity -: no queue stood for a quarter of an hour",
+            "In all 0.28 vehicle-hours were lost by those who passed. Capacity -: no queue stood for a quarter of",
             "For a closed lane, forecasts with an uncalibrated base were off by 148 % of the change on 6 streets: "
             "streetsim-calibrate first.",
         ):

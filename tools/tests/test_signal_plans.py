@@ -549,16 +549,14 @@ class Verdicts(Searching):
         """Two lights of 90 and 80 s; both at 60, the shortest; one at 60; between; and where only the given one is."""
         timings = {cycle: PlannedTiming(0, (cycle - 3, 3)) for cycle in (60, 70, 80, 90, 120)}
         given = {"L": timings[90], "M": timings[80]}
+        others = "that was tried (--cycle S-S tries others)"
         for tried, found, told in (
-            ((60, 70), (60, 60), "90 s as given, 60 s as found, the shortest that was tried (--cycle S-S tries others)"),
-            ((120,), (120, 120), "90 s as given, 120 s as found, the longest that was tried (--cycle S-S tries others)"),
+            ((60, 70), (60, 60), f"90 s as given, 60 s as found, the shortest {others}"),
+            ((120,), (120, 120), f"90 s as given, 120 s as found, the longest {others}"),
             ((60, 120), (70, 70), "90 s as given, 70 s as found"),
             ((), (90, 80), "90 s as given, 80 to 90 s as found"),
-            (
-                (60, 120), (60, 70), "90 s as given, 60 to 70 s as found, at 1 of 2 lights the shortest that was tried "
-                "(--cycle S-S tries others)",
-            ),
-        ):  # fmt: skip
+            ((60, 120), (60, 70), f"90 s as given, 60 to 70 s as found, at 1 of 2 lights the shortest {others}"),
+        ):
             with self.subTest(told):
                 search = PlanSearch(lambda plans: (1.0 for _ in plans), 100, 1)
                 plans = [given, *({"L": timings[one], "M": timings[one]} for one in tried)]
@@ -591,7 +589,7 @@ class Verdicts(Searching):
     def test_a_doubt_that_is_known_is_told_before_the_search(self):
         """A result without --verify-sumo will not be trusted; with it, or where nobody waits for gaps, nothing is."""
         for verify, gaps, told in (
-            (False, "turns find their gaps", "warning: the result will not be trusted without --verify-sumo: turns find"),
+            (False, "turns find their gaps", "warning: the result will not be trusted without --verify-sumo: turns"),
             (True, "turns find their gaps", ""), (False, "", ""),
         ):  # fmt: skip
             with redirect_stderr(StringIO()) as said:

@@ -91,8 +91,8 @@ def add_lanes(made: argparse.ArgumentParser) -> None:
     those do who lose their only lane, and which limit holds along the works."""
     made.add_argument(
         "--close", action="append", default=[], metavar="LANE:METRES-METRES:S-S",
-        help="road works: close a lane (edge_index) between two places (metres from the begin of the lane, as in SUMO), "
-        "from one time to another (S or HH:MM(:SS)); several with commas between, or by the word again",
+        help="road works: close a lane (edge_index) between two places (metres from the begin of the lane, as in "
+        "SUMO), from one time to another (S or HH:MM(:SS)); several with commas between, or by the word again",
     )
     add_merge(made)
     add_lost(made)

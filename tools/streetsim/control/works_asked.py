@@ -73,7 +73,8 @@ def meant(name: str, mapping: Map) -> str:
     lanes = [mapping.lane_name(*place) for place in mapping.lanes(mapping.links_of.get(name, ()))]
     if lanes:
         return f", but {first_few(lanes)}"
-    edges = [edge for edge, street in mapping.names.get(EDGES, {}).items() if street == name and edge in mapping.links_of]
+    streets = mapping.names.get(EDGES, {})
+    edges = [edge for edge in mapping.links_of if streets.get(edge) == name]
     return f": {name} is the name of edges {first_few(edges)}" if edges else ""
 
 

@@ -291,6 +291,6 @@ def all_closed(run: Run, mapping: Map, shut: Shut) -> Iterator[str]:
             what = "its only lane is" if sum(len(mapping.links[link].lanes) for link in links) == 1 else "all lanes are"
             yield (
                 f"edge {edge}: {what} closed between {first:,} and {last:,} s; nobody takes another way, so who of the "
-                f"{count:,} vehicles through it comes meanwhile waits before the works (streetsim-route .. --close finds "
-                "ways round)"
+                f"{count:,} vehicles through it comes meanwhile waits before the works "
+                "(streetsim-route .. --close finds ways round)"
             )
