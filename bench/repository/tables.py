@@ -203,7 +203,7 @@ TABLES = (
     Table("junctions", CLOSENESS, LONE, "junctions", "", 6),
     Table("long-vehicles", CLOSENESS, "### Long vehicles", "long-vehicles", "", 1),
     Table("detectors", CLOSENESS, "### Detectors", "detectors", "", 1),
-    Table("delays", CLOSENESS, "### Delays of approaches", "delays", "--seeds 1-3", 8),
+    Table("delays", CLOSENESS, "### Delays and queues of approaches", "delays", "--seeds 1-3", 8),
     Table("shipped", CLOSENESS, SHIPPED, "shipped-demands", "--only game/A10KW,BasicRiLSACorridor3", 3),
     Table("works-street", WORKS, BESIDE, "works", "--street --seeds 1-1", 2),
     Table("works-66845", WORKS, BESIDE, "works", "--drawn 66845", 3),
