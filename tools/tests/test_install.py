@@ -244,7 +244,7 @@ class WhichProgram(Case):
             (self.folder / "clone/build").touch()
             prefix = None if top else self.folder
             with redirect_stderr(StringIO()) as said, patch.object(program, "PREFIX", prefix):
-                program.tell_unproved(Path(made))
+                program.warn_unproved(Path(made))
             self.assertEqual(said.getvalue(), f"streetsim: NOT PROVED: this program was built without proofs: {told}\n")
 
     def test_a_run_without_a_program_ends_at_once(self):
