@@ -30,7 +30,7 @@ class Flowing(NamedTuple):
 def flowing(run: Run, mapping: Map) -> list[Flowing]:
     """The vehicles of a run."""
     names, enters = [link.edge for link in mapping.links], [line.command for line in run.enters]
-    return [Flowing([names[link] for link in one["plan"]], one["depart"]) for one in enters]
+    return [Flowing([names[link] for link in command["plan"]], command["depart"]) for command in enters]
 
 
 def full_lanes_under(net: SumoNet, run: Run, mapping: Map) -> list[FullLane]:
@@ -93,14 +93,14 @@ class LightLines:
         program = LightProgram(0.0, list(zip(timing.durations, light.states, strict=True)), "static")
         self.net.programs[name] = program
         junction, permissive = self.mapping.nodes[node][0], self.mapping.options["permissive"]
-        found = {}
+        movements = {}
         if permissive is None and self.flows:
             connections = self.connections[junction]
-            found = movements_of_junction(junction, connections, self.net, self.flows, self.limits_of)
-        if any(movement.runs and movement.foes and movement.flow for movement in found.values()):
+            movements = movements_of_junction(junction, connections, self.net, self.flows, self.limits_of)
+        if any(movement.runs and movement.foes and movement.flow for movement in movements.values()):
             self.permissive.add(name)
         turns = self.turns[node]
         edges = {link: self.mapping.links[link].edge for link, *_ in turns}
-        own = LitNode(node, turns, edges, name, program, permissive, self.report, found, *measured_of(self.mapping))
-        made = signal_command(own)
-        return json.dumps(made["phases"], separators=(",", ":")).encode()
+        lit = LitNode(node, turns, edges, name, program, permissive, self.report, movements, *measured_of(self.mapping))
+        command = signal_command(lit)
+        return json.dumps(command["phases"], separators=(",", ":")).encode()

@@ -36,22 +36,22 @@ class Asked(Protocol):
 class Promises:
     """Gathers what the lights of a town must keep, and what their plans break of it."""
 
-    def __init__(self, asked: Asked, lights: Collection[str]) -> None:
+    def __init__(self, reading: Asked, lights: Collection[str]) -> None:
         """Reads the file of constraints, and the crossings of the network. Fault where one cannot be read, or the file
         names no light of some lights."""
-        self.asked, self.broken = asked, list[str]()
-        self.given = read_constraints(asked.constraints) if asked.constraints else {}
+        self.asked, self.broken = reading, list[str]()
+        self.given = read_constraints(reading.constraints) if reading.constraints else {}
         if unknown := sorted(self.given.keys() - {*lights}):
-            raise Fault(f"{asked.constraints}: the map has no light {unknown[0]!r}")
-        self.crossings = read_crossings(asked.plans[0])
+            raise Fault(f"{reading.constraints}: the map has no light {unknown[0]!r}")
+        self.crossings = read_crossings(reading.plans[0])
 
     def of(self, light: str, program: LightProgram) -> Sequence[Constraint]:
         """What the phases of a light's program must keep; notes what the program breaks. Fault where constraints
         contradict each other."""
-        own = with_given(light, program, constraints_of(light, program), self.given.get(light, {}))
-        own = with_walks(program, own, self.crossings.get(light, {}))
-        self.broken += broken_in(light, program, own)
-        return own
+        constraints = with_given(light, program, constraints_of(light, program), self.given.get(light, {}))
+        constraints = with_walks(program, constraints, self.crossings.get(light, {}))
+        self.broken += broken_in(light, program, constraints)
+        return constraints
 
     def tell(self) -> None:
         """Tells on standard error what the plans given break. Fault where they break anything and no word says to

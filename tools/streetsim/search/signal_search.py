@@ -64,14 +64,14 @@ class PlanSearch:
     def expected(self) -> int:
         """How many simulations it will have made in the end, as far as can be told: each climb that is to come takes as
         many as those so far, or two plans; at most the budget."""
-        done = max(0, len(self.climbed) - 1)
-        each = (self.climbed[-1] - self.climbed[0]) / done if done > FEW else 2.0 * self.seeds
-        return min(self.budget, self.simulations + round(each * (self.climbs - done)))
+        climbs_done = max(0, len(self.climbed) - 1)
+        per_climb = (self.climbed[-1] - self.climbed[0]) / climbs_done if climbs_done > FEW else 2.0 * self.seeds
+        return min(self.budget, self.simulations + round(per_climb * (self.climbs - climbs_done)))
 
     def cycles_tried(self) -> dict[str, set[int]]:
         """By light the cycles, in seconds, of the plans that were run."""
         tried: dict[str, set[int]] = {}
-        for name, _, durations in (one for key in self.seen for one in key):
+        for name, _, durations in (part for key in self.seen for part in key):
             tried.setdefault(name, set()).add(sum(durations))
         return tried
 
@@ -79,15 +79,15 @@ class PlanSearch:
         """The values (s) of plans, in their order; steps: (what was tried, plan). Those that are new are run, noted and
         told; a plan that was seen before costs nothing. Raises SearchEnded where the budget does not reach for all of
         them, after those that it does reach for (spent is then True), or where the user ends it."""
-        new: dict[Any, tuple[str, Any]] = {}
+        new_plans: dict[Any, tuple[str, Any]] = {}
         for step, plan in steps:
             if self.key_of(plan) not in self.seen:
-                new.setdefault(self.key_of(plan), (step, plan))
+                new_plans.setdefault(self.key_of(plan), (step, plan))
         room = (self.budget - self.simulations) // self.seeds
-        tried = list(new.items())[:room]
-        self.spent = len(tried) < len(new)
-        with contextlib.closing(self.value([plan for _, (_, plan) in tried])) as found:
-            for (key, (step, plan)), value in zip(tried, found):
+        tried = list(new_plans.items())[:room]
+        self.spent = len(tried) < len(new_plans)
+        with contextlib.closing(self.value([plan for _, (_, plan) in tried])) as values:
+            for (key, (step, plan)), value in zip(tried, values):
                 self.note(key, step, plan, value)
                 if self.told(self):
                     raise SearchEnded
