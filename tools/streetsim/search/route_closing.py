@@ -36,7 +36,7 @@ class Closing:
     shut: Shut
     signs: frozenset[int]
     free: Sequence[float]
-    asked: Shutting = Shutting((), ())
+    shutting: Shutting = Shutting((), ())
 
 
 def shut_edges(

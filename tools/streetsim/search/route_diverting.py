@@ -150,7 +150,7 @@ def search_by_share(
     user asks for an end. The trips are copies of those before. Fault where a trip has no way round the works, or a run
     fails."""
     earlier = before.search
-    town = town_with_works(earlier.town, closing.asked)
+    town = town_with_works(earlier.town, closing.shutting)
     for share in shares:
         trips = [
             dataclasses.replace(trip, changes=trip.changes and knows_of_works(trip.name, share, settings.seeds[0]))

@@ -52,7 +52,7 @@ class Job:
     town: RouteTown
     trips: Trips
     ground: RunGround
-    asked: RouteSettings
+    settings: RouteSettings
     check: Sequence[int]
     works: RouteWorks
     target: RouteFiles
@@ -76,8 +76,8 @@ def search_routes(job: Job, workers: Team, stopping: Stopping) -> list[Diverted]
     search = RouteSearch(job.town, job.ground, job.trips.all, workers, partial(told, label))
     have_ways = works.close and all(trip.path for trip in job.trips.all)
     if not have_ways:
-        search.give_first_ways(job.asked.seeds[0])
-        search.improve(job.asked)
+        search.give_first_ways(job.settings.seeds[0])
+        search.improve(job.settings)
     judged = search.judged(job.check)
     before = Diverted(None, job.trips.all, search, judged)
     if not works.close:
@@ -85,7 +85,7 @@ def search_routes(job: Job, workers: Team, stopping: Stopping) -> list[Diverted]
     for text in town_with_works(job.town, works).told_of_lost(job.trips.all):
         print(f"warning: {text}", file=sys.stderr)
     closing = closing_of(works, job.town.graph, search, judged)
-    return [before, *search_by_share(before, closing, job.asked, job.check, works.knowing, told)]
+    return [before, *search_by_share(before, closing, job.settings, job.check, works.knowing, told)]
 
 
 def write_found(job: Job, results: Sequence[Diverted]) -> None:
@@ -130,7 +130,7 @@ def tell_found(job: Job, result: Diverted, before: Diverted) -> int:
     """Prints what was found, and warnings to standard error; gives the exit status: 0 where the gap that was asked for
     is reached, by the search without works too, else 1. before: the result without works, or this one itself."""
     label = f"{result.label}: " * (result.share is not None)
-    if has_stalled(result.search) and result.judged.gap > job.asked.gap:
+    if has_stalled(result.search) and result.judged.gap > job.settings.gap:
         print(
             f"warning: {label}the ways get no better any more: the best were those of iteration "
             f"{result.search.best.number}",
@@ -142,7 +142,7 @@ def tell_found(job: Job, result: Diverted, before: Diverted) -> int:
     print(
         f"{label}mean trip {mean:.1f} s{f' ({mean - fmean(before.mean_trips()):+.1f} s by the works)' * bool(label)}, "
         f"gap {100 * result.judged.gap:.2f} % by {runs} seed{'s' * (runs > 1)} that the search did not see"
-        f"{f': the gap of {100 * job.asked.gap:g} % is not reached{missed}' if missed is not None else ''}; "
+        f"{f': the gap of {100 * job.settings.gap:g} % is not reached{missed}' if missed is not None else ''}; "
         f"routes of iteration {result.search.best.number}"
     )
     return 0 if missed is None else 1
@@ -160,8 +160,8 @@ def gap_missed(job: Job, result: Diverted, before: Diverted) -> str | None:
     """The words that say where the gap that was asked for is not reached: empty where only the result itself misses
     it. None where it is reached. Ways without works that were given in a file are not judged."""
     without = before.judged.gap if before.search.iterations and result is not before else 0.0
-    if max(result.judged.gap, without) <= job.asked.gap:
+    if max(result.judged.gap, without) <= job.settings.gap:
         return None
-    if without <= job.asked.gap:
+    if without <= job.settings.gap:
         return ""
-    return f"{', nor' * (result.judged.gap > job.asked.gap)} without works ({100 * without:.2f} %)"
+    return f"{', nor' * (result.judged.gap > job.settings.gap)} without works ({100 * without:.2f} %)"

@@ -75,7 +75,7 @@ def trip_rows(trips: Sequence[Trip], judged: JudgedRoutes) -> Iterator[tuple]:
     """The rows of trips.csv, as TRIPS has the columns: each trip's mean seconds over the check runs (empty where it did
     not arrive in all of them), and the seconds of its way and of the shortest way by the costs of these runs (empty
     where its way was not searched, or none was found)."""
-    searched = {found_path.trip: found_path for found_path in judged.found}
+    searched = {found_path.trip: found_path for found_path in judged.best_paths}
     for at, trip in enumerate(trips):
         ends = [end for outcome in judged.outcomes if (end := outcome.arrivals[at]) is not None]
         mean = "" if len(ends) < len(judged.outcomes) else f"{fmean(ends) - trip.depart:.1f}"

@@ -45,7 +45,7 @@ class SeenCosts:
     ways: list[tuple[Path, float]]  # of all trips, with their entries
     outcomes: list[WatchedOutcome]
     costs: Costs
-    found: list[FoundPath]
+    best_paths: list[FoundPath]
     passed: list[Passed]
     gap: float
     lacking: int  # trips that did not arrive
@@ -109,21 +109,21 @@ class JudgedRoutes:
     seeds: Sequence[int]
     outcomes: list[WatchedOutcome]
     costs: Costs
-    found: list[FoundPath]
+    best_paths: list[FoundPath]
     gap: float
 
 
 class RouteSearch:
-    """A search for the ways of some trips in a town; the trips carry their present ways. told: gets each iteration, and
-    gives whether the user asks for an end."""
+    """A search for the ways of some trips in a town; the trips carry their present ways. on_iteration: gets each
+    iteration, and gives whether the user asks for an end."""
 
     def __init__(
-        self, town: RouteTown, ground: RunGround, trips: Sequence[Trip], team: Team, told: Callable[[Iteration], bool],
-        closing: Closing | None = None,
+        self, town: RouteTown, ground: RunGround, trips: Sequence[Trip], team: Team,
+        on_iteration: Callable[[Iteration], bool], closing: Closing | None = None,
     ) -> None:  # fmt: skip
         """trips: in order of departure, one at least; closing: the works of the town; None where it has none."""
         self.town, self.ground, self.trips = town, ground, trips
-        self.team, self.told, self.closing = team, told, closing
+        self.team, self.on_iteration, self.closing = team, on_iteration, closing
         self.iterations: list[Iteration] = []
         self.best = Best()
         self.passed: list[Passed] = []  # by seed, when those passed who go first, in the last run
@@ -138,16 +138,16 @@ class RouteSearch:
                 raise Fault(f"trip {trip.name!r}: no way from {edges[trip.origin]} to {edges[trip.target]}")
 
     def improve(self, settings: RouteSettings) -> None:
-        """Searches until settings.iterations are done, the gap is well below settings.gap (OWN_SEED of it) or told
-        gives True; keeps each iteration, and the best one, whose ways the trips then have. Iteration 0 comes before
-        those asked for and shows the first ways: there the gap is enough only where nobody gains more than LEAST_GAIN.
-        In no iteration after which some who may not change turn off before works is it enough. Fault where a run
-        fails."""
+        """Searches until settings.iterations are done, the gap is well below settings.gap (OWN_SEED of it) or
+        on_iteration gives True; keeps each iteration, and the best one, whose ways the trips then have. Iteration 0
+        comes before those asked for and shows the first ways: there the gap is enough only where nobody gains more than
+        LEAST_GAIN. In no iteration after which some who may not change turn off before works is it enough. Fault where
+        a run fails."""
         share = settings.share
         trials: list[RouteTrial] = [RouteTrial(1.0, [])]
         for number in range(settings.iterations + 1):
             shown, fraction = self.run_best_trial(settings.seeds, trials)
-            paths, share = shown.found, share * fraction
+            paths, share = shown.best_paths, share * fraction
             back = self.best.is_below(shown.lacking, shown.gap, TRUST)
             if not self.best.is_below(shown.lacking, shown.gap):
                 self.best = Best(shown.lacking, shown.gap, number, shown.ways, shown.passed)
@@ -165,7 +165,7 @@ class RouteSearch:
             share = share if back else share * SLOWER
             iteration = iteration_of(number, shown, paths, len(trials[0].trips) if trials else 0, back)
             self.iterations.append(iteration)
-            if self.told(iteration) or is_last:
+            if self.on_iteration(iteration) or is_last:
                 break
         give_ways(self.trips, self.best.ways)
 

@@ -53,4 +53,4 @@ def outcome_of(program: str, run: Run, mapping: Map, settings: Settings) -> Outc
     worst = max(summary.censuses(), key=lambda census: census.waiting)
     at_works, waiting = tuple(doubts_of(works.watched, mapping)), (worst.waiting, worst.clock)
     ended = steering.ending.ended
-    return Outcome(digest, arrived, seconds, kernel.clock, *waiting, ended, gone=gone_at, at_works=at_works)
+    return Outcome(digest, arrived, seconds, kernel.clock, *waiting, ended, all_arrived_at=gone_at, at_works=at_works)

@@ -39,9 +39,9 @@ class PreparedRun:
 
     program: str
     digest: str | None  # SHA-256 of the program's file
-    words: tuple[str, ...]  # by which the program takes any number of calls
+    program_args: tuple[str, ...]  # by which the program takes any number of calls
     opening: bytes  # the load, up to its seed
-    first: bytes  # what goes before the enters, but the signals
+    first_lines: bytes  # what goes before the enters, but the signals
     enters: bytes
     departs: tuple[int, ...]  # of the vehicles that depart before the end
     clocks: tuple[int, ...]  # at which vehicles are counted: the start and the end, and between
@@ -64,7 +64,7 @@ class Outcome:
     ended: str = ""  # why a run without a last second ended
     junctions: int = 0  # without a light, at which vehicles give way
     lines: int = 0  # signals by which they do
-    gone: int | None = None  # the clock at which all had arrived; None where some have not
+    all_arrived_at: int | None = None  # the clock at which all had arrived; None where some have not
     at_works: tuple[str, ...] = ()  # what speaks against the run, by what was seen before its works
 
 
@@ -84,9 +84,9 @@ def session_of(program: str, run: Run, until: int, without: Collection[int] = fr
     return PreparedRun(
         program=program,
         digest=program_digest(program),
-        words=tuple(words_of(program)[1:]),
+        program_args=tuple(words_of(program)[1:]),
         opening=json.dumps(command, separators=(",", ":")).encode()[:-1] + b',"seed":',
-        first=bytes_of(first_lines),
+        first_lines=bytes_of(first_lines),
         enters=bytes_of(enters),
         departs=tuple(line.command["depart"] for line in enters),
         clocks=clocks,
@@ -121,9 +121,9 @@ def replies(session: PreparedRun, signals: bytes, seed: int, tail: bytes) -> byt
     if program_digest(session.program) != session.digest:
         raise Fault(f"{session.program}: another program than the one that the runs were prepared for, or none")
     with tempfile.TemporaryFile() as stdin, tempfile.TemporaryFile() as stdout:
-        stdin.writelines((session.opening, b"%d}\n" % seed, session.first, signals, session.enters, tail))
+        stdin.writelines((session.opening, b"%d}\n" % seed, session.first_lines, signals, session.enters, tail))
         stdin.seek(0)
-        command = [session.program, *session.words]
+        command = [session.program, *session.program_args]
         process = subprocess.run(command, stdin=stdin, stdout=stdout, stderr=subprocess.PIPE, check=False)
         stdout.seek(0)
         text = stdout.read()
@@ -160,7 +160,7 @@ def outcome(session: PreparedRun, signals: bytes, seed: int) -> Outcome:
     seconds = sum((until if end is None else end) - depart for end, depart in zip(ends, session.departs, strict=True))
     arrived, digest = sum(end is not None for end in ends), hashlib.sha256(text).hexdigest()
     waiting = most_waiting(session, map(int, WAITING.findall(text)))
-    return Outcome(digest, arrived, seconds, until, *waiting, gone=when_all_arrived(ends, session.clocks[0]))
+    return Outcome(digest, arrived, seconds, until, *waiting, all_arrived_at=when_all_arrived(ends, session.clocks[0]))
 
 
 def when_all_arrived(ends: Sequence[int | None], start: int) -> int | None:

@@ -45,7 +45,7 @@ class BoundsGround:
 
     town: SignalTown  # all its lights as of seconds
     lights: ActuatedLights
-    given: Bounded
+    given_bounds: Bounded
     sessions: list[PreparedRun]  # of the report, of the search
 
 
@@ -69,11 +69,14 @@ def ground_of(reading: Reading, town: SignalTown) -> BoundsGround:
 
 
 def bounded_outcomes(
-    workers: Machines, tried: Sequence[Bounded], seeds: Sequence[int], place: int = EXACT
+    workers: Machines, tried: Sequence[Bounded], seeds: Sequence[int], session_place: int = EXACT
 ) -> Iterator[Outcome]:
     """What runs under some bounds gave: the outcomes of the first bounds with each seed, then of the second, and so on.
-    workers: with the sessions of a ground; place: of the session that runs them, EXACT or CAREFUL."""
-    tasks = [(f"the run with seed {seed}", bounded_outcome, place, bounds, seed) for bounds in tried for seed in seeds]
+    workers: with the sessions of a ground; session_place: of the session that runs them, EXACT or CAREFUL."""
+    tasks = [
+        (f"the run with seed {seed}", bounded_outcome, session_place, bounds, seed)
+        for bounds in tried for seed in seeds
+    ]  # fmt: skip
     return workers.ordered(tasks)
 
 
@@ -85,7 +88,7 @@ def searched_bounds(
     where settings.seeds is empty. Fault where a run fails, or the budget does not reach for one run of each seed."""
     cars, seeds = len(ground.town.session.departs), settings.seeds
     if not seeds:
-        outcomes = bounded_outcomes(workers, [ground.given], tried)
+        outcomes = bounded_outcomes(workers, [ground.given_bounds], tried)
         seeds = tried[: seeds_for([outcome.seconds / cars for outcome in outcomes])]
     refuse_budget(settings.budget, seeds)
 
@@ -95,7 +98,8 @@ def searched_bounds(
 
     def search_from_given(search: PlanSearch) -> None:
         """Searches from the given bounds."""
-        search_bounds(search, ground.given, lowest_greens(ground.town.mapping, ground.given, settings.least))
+        lowest = lowest_greens(ground.town.mapping, ground.given_bounds, settings.least)
+        search_bounds(search, ground.given_bounds, lowest)
 
     return ended_search(trips, settings.budget, len(seeds), search_from_given, key_of)
 
@@ -132,7 +136,7 @@ def write_found_bounds(output: str, out: str, ground: BoundsGround, result: Foun
     best, doubts = result.search.best[1], [*result.doubts(ground)]
     rows = result.before_after_rows(len(ground.town.session.departs))
     with whole_folder(out, LAST) as folder:
-        write_table(f"{folder}/lights.csv", LIGHTS, bound_rows(ground.given, best))
+        write_table(f"{folder}/lights.csv", LIGHTS, bound_rows(ground.given_bounds, best))
         write_search(folder, rows, result.search, doubts, ground.town.session.program)
         with whole_file(output) as file:
             file.write(bounds_text(ground.town.mapping, best))

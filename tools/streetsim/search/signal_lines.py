@@ -69,7 +69,7 @@ class LightLines:
         for turn in mapping.turns:
             self.turns[mapping.links[turn.link].end].append((turn.link, turn.lane, turn.next, turn))
         # By (light, durations): for each node the phases as bytes.
-        self.made: dict[tuple[str, tuple[int, ...]], list[bytes]] = {}
+        self.node_phases: dict[tuple[str, tuple[int, ...]], list[bytes]] = {}
         self.permissive: set[str] = set()  # lights at which some who drive must find gaps in a green
         self.report = Report()  # of what was made, where a light needs more phases than there may be
 
@@ -80,9 +80,10 @@ class LightLines:
         lines = []
         for name, timing in plan.items():
             key = name, timing.durations
-            if key not in self.made:
-                self.made[key] = [self.phases_json(name, node, timing, lights[name]) for node in self.nodes[name]]
-            for node, phases in zip(self.nodes[name], self.made[key], strict=True):
+            if key not in self.node_phases:
+                light = lights[name]
+                self.node_phases[key] = [self.phases_json(name, node, timing, light) for node in self.nodes[name]]
+            for node, phases in zip(self.nodes[name], self.node_phases[key], strict=True):
                 values = node, -timing.offset % timing.cycle, phases
                 lines.append(b'{"cmd":"signal","node":%d,"offset":%d,"phases":%s}\n' % values)
         return b"".join(lines)

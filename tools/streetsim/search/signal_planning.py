@@ -72,21 +72,22 @@ class SearchShown:
     def __init__(self, budget: int, after: float) -> None:
         """budget: simulations at most; after: as of ended_search."""
         self.line, self.after = WorkProgress("simulations", budget), after
-        self.alone, self.last, self.begin = 0.0, 0.0, 0.0  # seconds: of the first plan, at the last, as climbs began
+        # Seconds: of the first plan, at the last one, as climbs began.
+        self.first_plan_s, self.last_s, self.climbs_begin_s = 0.0, 0.0, 0.0
 
     def show(self, search: PlanSearch) -> None:
         """Writes the line where it is due, after a plan of a search."""
         elapsed = self.line.seconds()
-        self.alone = self.alone or elapsed
-        if search.climbed and not self.begin:
-            self.begin = self.last
-        self.last, self.line.total = elapsed, search.expected()
+        self.first_plan_s = self.first_plan_s or elapsed
+        if search.climbed and not self.climbs_begin_s:
+            self.climbs_begin_s = self.last_s
+        self.last_s, self.line.total = elapsed, search.expected()
         self.line.show(search.simulations, best_line(search), self.seconds_left(search))
 
     def seconds_left(self, search: PlanSearch) -> float:
         """The seconds until the end of a search and of what comes after it."""
         plans = 1.0 + (search.simulations - search.climbed[0]) / search.seeds if search.climbed else 1.0
-        per_plan = (self.alone + (self.last - self.begin if self.begin else 0.0)) / plans
+        per_plan = (self.first_plan_s + (self.last_s - self.climbs_begin_s if self.climbs_begin_s else 0.0)) / plans
         return per_plan * (search.expected() - search.simulations) / search.seeds + self.after
 
 

@@ -39,16 +39,16 @@ class Promises:
     def __init__(self, reading: Asked, lights: Collection[str]) -> None:
         """Reads the file of constraints, and the crossings of the network. Fault where one cannot be read, or the file
         names no light of some lights."""
-        self.asked, self.broken = reading, list[str]()
-        self.given = read_constraints(reading.constraints) if reading.constraints else {}
-        if unknown := sorted(self.given.keys() - {*lights}):
+        self.reading, self.broken = reading, list[str]()
+        self.given_constraints = read_constraints(reading.constraints) if reading.constraints else {}
+        if unknown := sorted(self.given_constraints.keys() - {*lights}):
             raise Fault(f"{reading.constraints}: the map has no light {unknown[0]!r}")
         self.crossings = read_crossings(reading.plans[0])
 
     def of(self, light: str, program: LightProgram) -> Sequence[Constraint]:
         """What the phases of a light's program must keep; notes what the program breaks. Fault where constraints
         contradict each other."""
-        constraints = with_given(light, program, constraints_of(light, program), self.given.get(light, {}))
+        constraints = with_given(light, program, constraints_of(light, program), self.given_constraints.get(light, {}))
         constraints = with_walks(program, constraints, self.crossings.get(light, {}))
         self.broken += broken_in(light, program, constraints)
         return constraints
@@ -56,7 +56,7 @@ class Promises:
     def tell(self) -> None:
         """Tells on standard error what the plans given break. Fault where they break anything and no word says to
         search all the same; the listed seconds of lights that detectors drive are mended without it."""
-        if self.broken and not (self.asked.mend or self.asked.fixed):
+        if self.broken and not (self.reading.mend or self.reading.fixed):
             raise Fault(f"{self.broken[0]}: no plan to search from ({MEND})")
         if self.broken:
             print(f"mended before the search: {first_few(self.broken)}", file=sys.stderr)

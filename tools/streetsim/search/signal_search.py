@@ -46,8 +46,8 @@ class PlanSearch:
     budget: int  # simulations
     seeds: int  # simulations that one plan takes
     # Hears of each trial; gives whether the user has asked for an end.
-    told: Callable[[PlanSearch], bool] = lambda search: False
-    seen: dict[Any, float] = field(default_factory=dict)
+    on_trial: Callable[[PlanSearch], bool] = lambda search: False
+    value_by_key: dict[Any, float] = field(default_factory=dict)
     trials: list[PlanTrial] = field(default_factory=list)
     best: tuple[float, Any] = (float("inf"), None)  # value and plan; None before the first trial
     spent: bool = False  # the budget ended it
@@ -71,7 +71,7 @@ class PlanSearch:
     def cycles_tried(self) -> dict[str, set[int]]:
         """By light the cycles, in seconds, of the plans that were run."""
         tried: dict[str, set[int]] = {}
-        for name, _, durations in (part for key in self.seen for part in key):
+        for name, _, durations in (part for key in self.value_by_key for part in key):
             tried.setdefault(name, set()).add(sum(durations))
         return tried
 
@@ -81,7 +81,7 @@ class PlanSearch:
         them, after those that it does reach for (spent is then True), or where the user ends it."""
         new_plans: dict[Any, tuple[str, Any]] = {}
         for step, plan in steps:
-            if self.key_of(plan) not in self.seen:
+            if self.key_of(plan) not in self.value_by_key:
                 new_plans.setdefault(self.key_of(plan), (step, plan))
         room = (self.budget - self.simulations) // self.seeds
         tried = list(new_plans.items())[:room]
@@ -89,15 +89,15 @@ class PlanSearch:
         with contextlib.closing(self.value([plan for _, (_, plan) in tried])) as values:
             for (key, (step, plan)), value in zip(tried, values):
                 self.note(key, step, plan, value)
-                if self.told(self):
+                if self.on_trial(self):
                     raise SearchEnded
         if self.spent:
             raise SearchEnded
-        return [self.seen[self.key_of(plan)] for _, plan in steps]
+        return [self.value_by_key[self.key_of(plan)] for _, plan in steps]
 
     def note(self, key: Any, step: str, plan: Any, value: float) -> None:
         """Keeps the value of a plan, adds its trial, and makes it the best where it is."""
-        self.seen[key] = value
+        self.value_by_key[key] = value
         if value < self.best[0]:
             self.best = value, plan
         self.trials.append(PlanTrial(self.simulations + self.seeds, step, value, self.best[0]))

@@ -30,7 +30,7 @@ class VariantDifference:
     paired: float | None  # half width, of runs with equal seeds
     unpaired: float | None  # half width, as if their seeds were others
     runs: int
-    needed: int | None  # paired runs for the precision that is asked for; None too where 2^20 are too few
+    needed_paired: int | None  # paired runs for the precision that is asked for; None too where 2^20 are too few
     needed_unpaired: int | None
     day: float | None = None  # half width of the interval of a day's difference, where departures were drawn
     mean_of_day: float | None = None  # the same of a day's mean trip

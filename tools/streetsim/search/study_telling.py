@@ -60,7 +60,7 @@ def doubts(study: Study, name: str, outcomes: Sequence[Outcome]) -> Iterator[str
     early = [run for run, cars in zip(outcomes, vehicle_counts, strict=True) if run.ended and run.arrived < cars]
     if early:
         yield f"{len(early):,} of {len(outcomes):,} runs ended before all had arrived, who count until then"
-    yield from trust.works_doubts(variant.works, [(outcome.end, outcome.gone) for outcome in outcomes])
+    yield from trust.works_doubts(variant.works, [(outcome.end, outcome.all_arrived_at) for outcome in outcomes])
     yield from in_runs([outcome.at_works for outcome in outcomes])
     yield from variant.doubts
 
@@ -94,8 +94,8 @@ def tell_differences(rows: Sequence[VariantDifference]) -> None:
         if row.paired is not None:
             half, what = (row.paired, "dawdling alone") if row.day is None else (row.day, "a day")
             line += f" ± {half:.2f} (95 % interval of {what}, {row.runs} paired runs)"
-        if row.needed is not None and row.needed > row.runs:
-            line += f"; the wanted precision needs {row.needed:,} runs"
+        if row.needed_paired is not None and row.needed_paired > row.runs:
+            line += f"; the wanted precision needs {row.needed_paired:,} runs"
         print(line)
 
 

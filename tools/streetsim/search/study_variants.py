@@ -294,15 +294,16 @@ def check_priority(where: str, value: Json) -> None:
         raise Fault(f"{where}: priority and plans: lights that wait for buses do not show plans")
 
 
-def signals_of(asked: Reading, run: Run, mapping: Map) -> tuple[bytes, list[str], list[FullLane]]:
+def signals_of(plan_files: Reading, run: Run, mapping: Map) -> tuple[bytes, list[str], list[FullLane]]:
     """(signal lines of all lights under a variant's plans; names of those that SUMO times by detectors; lanes that are
-    nearly full at lights under these plans). asked: the paths; run, mapping: read of these. Fault where a plan cannot
-    be read, or none has a program for a light."""
-    net = read_plans(asked.plans, mapping)
-    timed = {name: light_and_timing(name, net.programs[name]) for name in lights_of(asked, mapping, net)}
+    nearly full at lights under these plans). plan_files: the paths; run, mapping: read of these. Fault where a plan
+    cannot be read, or none has a program for a light."""
+    net = read_plans(plan_files.plans, mapping)
+    timed = {name: light_and_timing(name, net.programs[name]) for name in lights_of(plan_files, mapping, net)}
     promised = ((name, net.programs[name], light.constraints) for name, (light, _) in timed.items())
     broken = [text for promise in promised for text in broken_in(*promise)]
-    print(*(f"{asked.plans[-1]}: {text}" for text in broken), sep="\n", end="\n" if broken else "", file=sys.stderr)
+    path = plan_files.plans[-1]
+    print(*(f"{path}: {text}" for text in broken), sep="\n", end="\n" if broken else "", file=sys.stderr)
     plan = {name: timing for name, (_, timing) in timed.items()}
     lines = LightLines(net, run, mapping).signal_lines(plan, {name: light for name, (light, _) in timed.items()})
     return lines, lights_not_static(net, timed), full_lanes_under(net, run, mapping)
