@@ -15,8 +15,8 @@ def passed_by_name(passings: Mapping[tuple[int, int], Sequence[tuple[float, int,
     links otherwise. passings: as Passings found it."""
     links = mapping.links
     return {
-        (links[link].edge, links[link].lanes[lane]): [(at, links[following].edge, due) for at, following, due in each]
-        for (link, lane), each in passings.items()
+        (links[link].edge, links[link].lanes[lane]): [(at, links[following].edge, due) for at, following, due in rows]
+        for (link, lane), rows in passings.items()
     }
 
 

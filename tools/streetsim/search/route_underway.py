@@ -43,7 +43,7 @@ def turning_to(plan: Path, way: Path, clock: int) -> Diversion:
     """How a vehicle leaves its plan for another way, which begins on the same link or on one beside it: it first drives
     the links that both begin with, one at least. clock: from which on it is looked at."""
     both = enumerate(zip(plan, way))
-    common = max(1, next((at for at, (one, other) in both if one != other), min(len(plan), len(way))))
+    common = max(1, next((at for at, (planned, turned) in both if planned != turned), min(len(plan), len(way))))
     return Diversion(plan[:common], way[common:], clock)
 
 

@@ -84,9 +84,9 @@ def ring_bounds(light: DrivenRings) -> Bounds:
     """The bounds of a NEMA light, in whole seconds, its extensions (vehext) as gaps; without greens that no area
     extends, as they have none or always last their most (maxRecall), whose most is above 600 s, or is their least."""
     extended = (phase for phase in light.rings.phases if phase.areas and not phase.most_recall)
-    own = [phase for phase in extended if phase.least < phase.most <= limits.PHASE_STEPS]
+    phases = [phase for phase in extended if phase.least < phase.most <= limits.PHASE_STEPS]
     return Bounds(
-        tuple((one.number, round(one.least), round(one.most)) for one in own), tuple(one.extension for one in own)
+        tuple((one.number, round(one.least), round(one.most)) for one in phases), tuple(one.extension for one in phases)
     )
 
 

@@ -112,12 +112,12 @@ def write_search(
 ) -> None:
     """Writes before-after.csv, of its rows, search.csv and what speaks against the result (doubts), and against its
     program, into a folder."""
-    told = [
-        (one.figure, *(f"{value:.3f}" for value in (one.before, one.after, one.difference, one.half)), one.runs)
-        for one in rows
+    cells = [
+        (row.figure, *(f"{value:.3f}" for value in (row.before, row.after, row.difference, row.half)), row.runs)
+        for row in rows
     ]
-    write_table(f"{folder}/{LAST}", BEFORE_AFTER, told)
-    trials = [(one.simulations, one.step, f"{one.value:.3f}", f"{one.best:.3f}") for one in search.trials]
+    write_table(f"{folder}/{LAST}", BEFORE_AFTER, cells)
+    trials = [(trial.simulations, trial.step, f"{trial.value:.3f}", f"{trial.best:.3f}") for trial in search.trials]
     write_table(f"{folder}/search.csv", TRIALS, trials)
     trust.write_doubts(folder, doubts, program)
 
@@ -127,8 +127,8 @@ def light_rows(town: SignalTown, plan: Plan) -> Iterator[Entry]:
     (one text with blanks between), seconds, as given and as found."""
     for name, light in sorted(town.lights.items()):
         pair = town.plan[name], plan[name]
-        greens = (" ".join(str(one.durations[at]) for at in light.free) for one in pair)
-        yield (name, *(one.cycle for one in pair), *(one.offset for one in pair), *greens)
+        greens = (" ".join(str(timing.durations[at]) for at in light.free) for timing in pair)
+        yield (name, *(timing.cycle for timing in pair), *(timing.offset for timing in pair), *greens)
 
 
 def draw_plan(target: PlanFiles, corridor: Corridor, town: SignalTown, plan: Plan, path: str) -> None:

@@ -70,10 +70,10 @@ class InSumo:
     def words(self, plan: str, seed: int, trips: str, statistic: str) -> list[str]:
         """The words of the command of one run. plan: a file of signal programs that is read last; trips, statistic:
         files that SUMO writes."""
-        own = self.sources
+        files = self.sources
         return [
-            *(self.program, "-n", own.net, "-a", ",".join([*own.additional, *self.more, plan])),
-            *("-r", ",".join(own.routes), "--seed", str(seed), "--begin", str(self.start), "--end", str(self.until)),
+            *(self.program, "-n", files.net, "-a", ",".join([*files.additional, *self.more, plan])),
+            *("-r", ",".join(files.routes), "--seed", str(seed), "--begin", str(self.start), "--end", str(self.until)),
             *("--tripinfo-output", trips, "--statistic-output", statistic, "--no-step-log", "--no-warnings"),
         ]
 
@@ -86,8 +86,8 @@ class InSumo:
             return self
         options, report = options_again(mapping), Report()
         net, types = read_net(sources.net, options.classes, report), Types(options.seed, report)
-        for one in sources.additional:
-            read_additional(one, net, types, report)
+        for additional in sources.additional:
+            read_additional(additional, net, types, report)
         graph = graph_of_net(net)
         paths = [*sources.routes, *sources.trips]
         write_routes(path, trips_with_ways(net, graph, types, paths, options, report), graph)

@@ -205,7 +205,7 @@ def move_of(light: PlannedLight, source: int, target: int, seconds: int) -> Call
     def change(plan: Plan, sign: int) -> Plan | None:
         """The plan with the seconds moved, from target to source where sign is -1; None where a bound forbids it."""
         first, second = (source, target) if sign > 0 else (target, source)
-        made = light.with_green_moved(plan[light.name], first, second, seconds)
-        return None if made is None else {**plan, light.name: made}
+        moved = light.with_green_moved(plan[light.name], first, second, seconds)
+        return None if moved is None else {**plan, light.name: moved}
 
     return change

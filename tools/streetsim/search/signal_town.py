@@ -72,9 +72,9 @@ class SignalTown:
 
     def first_lines(self, plan: Plan) -> list[Line]:
         """The lines before the first step of the run, with a plan's signals in place of its own at the same nodes."""
-        made = [Line(0, text, json.loads(text)) for text in self.plan_lines(plan).decode().splitlines()]
-        nodes = {line.command["node"] for line in made}
-        return [line for line in self.run.first if signal_node(line) not in nodes] + made
+        plan_lines = [Line(0, text, json.loads(text)) for text in self.plan_lines(plan).decode().splitlines()]
+        nodes = {line.command["node"] for line in plan_lines}
+        return [line for line in self.run.first if signal_node(line) not in nodes] + plan_lines
 
 
 def signal_node(line: Line) -> int | None:
@@ -102,10 +102,10 @@ def read_town(reading: Reading) -> SignalTown:
     lights, plan = searched_lights(reading, run, mapping, net)
     nodes = frozenset(node for light, node in mapping.signals if light in lights)
     settings = settings_of(reading, run, mapping, lights)
-    own = reading.program, run, mapping, settings, reading.rounds, nodes
-    session = careful = giving_session(*own)
+    session_args = reading.program, run, mapping, settings, reading.rounds, nodes
+    session = careful = giving_session(*session_args)
     if reading.reserve:
-        careful = giving_session(*own, dawdle=min(1000, run.load.command["dawdle"] + reading.reserve))
+        careful = giving_session(*session_args, dawdle=min(1000, run.load.command["dawdle"] + reading.reserve))
     town = SignalTown(run, mapping, settings, lights, plan, LightLines(net, run, mapping), session, careful)
     for text in (*settings.lights.notes(), *settings.buses.notes()):
         print(text, file=sys.stderr)
@@ -148,8 +148,8 @@ def searched_lights(reading: Reading, run: Run, mapping: Map, net: SumoNet) -> t
         else:
             lights[name], plan[name] = light_and_timing(name, program, reading.least, promises.of(name, program))
     promises.tell()
-    for why, kept in reasons.items():
-        print(f"not changed, {why}: {first_few(kept)}", file=sys.stderr)
+    for why, kept_names in reasons.items():
+        print(f"not changed, {why}: {first_few(kept_names)}", file=sys.stderr)
     if not lights:
         raise Fault(f"{reading.map}: no light whose plan may be changed")
     return lights, plan

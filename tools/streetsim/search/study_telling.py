@@ -111,7 +111,7 @@ def tell_how_sure(study: Study) -> None:
 def tell_giving_way(results: Mapping[str, Sequence[Outcome]]) -> None:
     """Prints at how many junctions vehicles give way without a light (in the run with the most), and by how many lines
     in the mean of the runs; nothing where no run has lines."""
-    outcomes = [one for found in results.values() for one in found]
-    if any(one.lines for one in outcomes):
-        junctions, lines = max(one.junctions for one in outcomes), fmean(one.lines for one in outcomes)
+    outcomes = [outcome for of_variant in results.values() for outcome in of_variant]
+    if any(outcome.lines for outcome in outcomes):
+        junctions, lines = max(outcome.junctions for outcome in outcomes), fmean(outcome.lines for outcome in outcomes)
         print(f"{junctions:,} junctions without a light give way by some {lines:,.0f} signal lines in each run")
