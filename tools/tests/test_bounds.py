@@ -73,7 +73,7 @@ class Changing(unittest.TestCase):
     def test_a_budget_below_the_seeds_that_the_runs_ask_for(self):
         spread = (100, 120, 140, 90, 80, 150, 100, 110, 90, 130)
         workers = SimpleNamespace(ordered=lambda tasks: (SimpleNamespace(seconds=one) for one in spread))
-        ground = SimpleNamespace(town=SimpleNamespace(session=SimpleNamespace(departs=[0])), given={})
+        ground = SimpleNamespace(town=SimpleNamespace(session=SimpleNamespace(departs=[0])), given_bounds={})
         with self.assertRaisesRegex(Fault, "--budget 9: one plan takes 10 simulations"):
             searched_bounds(BoundsSettings(9, (), 5), workers, ground, range(1, 11))
 

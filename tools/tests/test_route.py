@@ -346,7 +346,7 @@ class Doubts(unittest.TestCase):
         search = SimpleNamespace(iterations=iterations, best=SimpleNamespace(number=2))
         one, said = Diverted(None, [], search, judged), io.StringIO()
         with contextlib.redirect_stdout(io.StringIO()), contextlib.redirect_stderr(said):
-            self.assertEqual(tell_found(SimpleNamespace(asked=RouteSettings(8, 0.1, 0.5, [1])), one, one), 1)
+            self.assertEqual(tell_found(SimpleNamespace(settings=RouteSettings(8, 0.1, 0.5, [1])), one, one), 1)
         self.assertEqual(
             said.getvalue(), "warning: the ways get no better any more: the best were those of iteration 2\n"
         )

@@ -190,7 +190,7 @@ def job_of(args: argparse.Namespace) -> Job:
             simulator, program_digest(simulator), town.graph, args.slice, until, args.rounds,
             args.lights == "actuated", tuple(names_in(args.priority)), args.seen,
         ),
-        asked=RouteSettings(args.iterations, args.gap, args.share, seeds_of(args.seeds, "--seeds"), args.tried),
+        settings=RouteSettings(args.iterations, args.gap, args.share, seeds_of(args.seeds, "--seeds"), args.tried),
         check=seeds_to_check(args),
         works=RouteWorks(closed, args.sign, args.lost or "lead", args.knowing or [1.0], args.before),
         target=RouteFiles(args.output, args.run, args.map, args.out),

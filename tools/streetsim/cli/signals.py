@@ -182,11 +182,11 @@ def find_bounds(words: argparse.Namespace, reading: Reading, town: SignalTown, c
     with machines(words.jobs, words.cluster, ground.sessions) as workers:
         asked = BoundsSettings(words.budget, given_seeds(words), words.least)
         search, stopped = searched_bounds(asked, workers, ground, tried_seeds(check))
-        before, after = ([*bounded_outcomes(workers, [one], check)] for one in (ground.given, search.best[1]))
+        before, after = ([*bounded_outcomes(workers, [one], check)] for one in (ground.given_bounds, search.best[1]))
     with runner_of(words, town, check) as runner:
         fixed, _ = search_for_plan(words, runner, check)
         [beside] = runner.outcomes([fixed.best[1]], check, words.jobs)
-    texts = [bounds_text(town.mapping, one, PROGRAM_ID) for one in (ground.given, search.best[1])]
+    texts = [bounds_text(town.mapping, one, PROGRAM_ID) for one in (ground.given_bounds, search.best[1])]
     sumo = verified(in_sumo, town, texts, check, words.jobs) if in_sumo else None
     found = FoundBounds(search, stopped, before, after, beside, sumo)
     status = write_found_bounds(words.output, words.out, ground, found)

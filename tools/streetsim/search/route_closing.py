@@ -36,7 +36,7 @@ class Closing:
     shut: Shut
     signs: frozenset[int]
     free: Sequence[float]
-    asked: Shutting = Shutting((), ())
+    shutting: Shutting = Shutting((), ())
 
 
 def shut_edges(
@@ -46,13 +46,13 @@ def shut_edges(
     entered}: while all its lanes are closed, and so shortly before that one would not come past the works; edges that
     keep an open lane are left out. dawdle: the chance, 0 to 1, to go on by a cell less."""
     driving, links = FreeFlow(mapping, dawdle).driving, shut_links(sites_of(works, mapping), mapping)
-    found: dict[int, list[Times]] = {}
+    closed_times: dict[int, list[Times]] = {}
     for edge in dict.fromkeys(mapping.links[link].edge for link in links):
         times = list(in_common(links.get(link, []) for link in mapping.links_of[edge]))
         before = max(driving[link] for link in mapping.links_of[edge])
         if times:
-            found[graph.number[edge]] = [(first - before, last) for first, last in times]
-    return found
+            closed_times[graph.number[edge]] = [(first - before, last) for first, last in times]
+    return closed_times
 
 
 def barred_ways(works: Iterable[AskedWorks], graph: Graph, mapping: Map) -> dict[tuple[int, int], list[Times]]:
@@ -74,7 +74,7 @@ def turn_off(trips: Iterable[Trip], closing: Closing, graph: Graph, costs: Costs
     where; strict: Fault where a trip has no such way, and all trips keep theirs; without it that trip alone keeps its
     way and waits."""
     router, without, turned = Router(graph, costs, closing.shut), flat_costs(graph, closing.free), []
-    free = {what: Router(graph, without, {**closing.shut, what: [(-FAR, FAR)]}) for what in closing.shut}
+    free = {part: Router(graph, without, {**closing.shut, part: [(-FAR, FAR)]}) for part in closing.shut}
     for trip in trips:
         index = router.first_shut(trip.path, trip.entry)
         if index is None:
@@ -99,9 +99,9 @@ def way_round(trip: Trip, index: int, signs: Collection[int], router: Router, fr
     clocks = router.clocks(trip.path[:index], trip.entry)
     signed = (at for at in range(index) if trip.path[at] in signs)
     for at in (*signed, *reversed(range(index))):
-        rest, _ = free.search(trip.path[at], trip.target, clocks[at])
-        if rest and not set(rest[1:]) & set(trip.path[:at]):
-            return trip.path[:at] + rest
+        onward, _ = free.search(trip.path[at], trip.target, clocks[at])
+        if onward and not set(onward[1:]) & set(trip.path[:at]):
+            return trip.path[:at] + onward
     return ()
 
 

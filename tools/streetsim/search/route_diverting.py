@@ -49,38 +49,38 @@ class Diverted:
 
     def mean_trips(self) -> list[float]:
         """The mean trips of its check runs, seconds, by seed."""
-        return [one.mean for one in self.judged.outcomes]
+        return [outcome.mean for outcome in self.judged.outcomes]
 
     def doubts(self) -> Iterator[str]:
         """What speaks against the runs by which it is judged, a text each; nothing where they are to be trusted."""
         outcomes, count, until = self.judged.outcomes, len(self.trips), self.search.ground.until
         run, mapping = self.judged.loaded.run, self.judged.loaded.mapping
-        arrived, rescues = min(one.arrived for one in outcomes), max(one.rescues for one in outcomes)
+        arrived, rescues = min(outcome.arrived for outcome in outcomes), max(outcome.rescues for outcome in outcomes)
         if arrived < count:
             yield f"{count - arrived:,} of {count:,} trips have not arrived at {until:,} s (--until)"
         if rescues > trust.MOST_RESCUES * count:
             yield f"{rescues:,} rescues of {count:,} trips, so the network locks in part, and the gap says little"
-        yield from trust.waiting_doubts({"": [one.most_waiting for one in outcomes]}, count)
+        yield from trust.waiting_doubts({"": [outcome.most_waiting for outcome in outcomes]}, count)
         yield from trust.length_doubts(until, run, mapping)
         yield from trust.actuated_doubts(
             until, run, mapping, self.search.ground.lights(run, mapping).listed_lights(mapping)
         )
         works = [works_of(text, mapping) for text in self.search.town.works]
-        yield from in_runs([one.at_works for one in outcomes])
+        yield from in_runs([outcome.at_works for outcome in outcomes])
         yield from crowded_works(run, mapping, closures_of(run, until))
         if works:
-            ends = [(until, when_all_arrived(one.arrivals, run.start())) for one in outcomes]
-            yield from trust.works_doubts([(one.lane, one.begin) for one in works], ends)
+            ends = [(until, when_all_arrived(outcome.arrivals, run.start())) for outcome in outcomes]
+            yield from trust.works_doubts([(site.lane, site.begin) for site in works], ends)
 
     def named_doubts(self) -> list[str]:
         """The texts of doubts, each after the label where these runs have works; those of "before" stand alone."""
         return [f"{self.label}: {text}" if self.search.town.works else text for text in self.doubts()]
 
 
-def path_for_share(path: str, share: float | None, many: bool) -> str:
-    """The path of an output for a share: where there are many shares, with "-SHARE" before the first dot of its name,
-    or at its end; else the path as it is. share: None only where there are not many."""
-    if not many:
+def path_for_share(path: str, share: float | None, many_shares: bool) -> str:
+    """The path of an output for a share: where there are many_shares, with "-SHARE" before the first dot of its
+    name, or at its end; else the path as it is. share: None only where there are not many."""
+    if not many_shares:
         return path
     folder, name = os.path.split(path)
     stem, dot, ending = name.partition(".")
@@ -92,15 +92,15 @@ def give_ways_of_file(trips: Sequence[Trip], before: Trips, graph: Graph, where:
     there is none, it begins or ends on another edge than the trip, or two edges in a row have no connection."""
     ways = {trip.name: trip for trip in before.all}
     for trip in trips:
-        found = ways.get(trip.name)
-        if found is None or not found.path:
+        routed = ways.get(trip.name)
+        if routed is None or not routed.path:
             raise Fault(f"{where}: no route of {trip.name!r}")
-        if (found.path[0], found.path[-1]) != (trip.origin, trip.target):
+        if (routed.path[0], routed.path[-1]) != (trip.origin, trip.target):
             raise Fault(f"{where}: the route of {trip.name!r} does not go from where it begins to where it ends")
-        if not all(way in graph.movement_of for way in pairwise(found.path)):
-            told = "has two edges that follow each other and have no connection"
-            raise Fault(f"{where}: the route of {trip.name!r} {told}")
-        trip.path = found.path
+        if not all(way in graph.movement_of for way in pairwise(routed.path)):
+            why = "has two edges that follow each other and have no connection"
+            raise Fault(f"{where}: the route of {trip.name!r} {why}")
+        trip.path = routed.path
 
 
 def check_works(texts: Sequence[str], signs: Sequence[str], trips: Sequence[Trip], town: RouteTown, until: int) -> None:
@@ -110,9 +110,9 @@ def check_works(texts: Sequence[str], signs: Sequence[str], trips: Sequence[Trip
     runs without works."""
     mapping = map_without_routes(town.net, town.options)
     works = [works_of(text, mapping) for text in texts]
-    if over := [one.text for one in works if one.end <= town.options.begin]:
+    if over := [site.text for site in works if site.end <= town.options.begin]:
         raise Fault(f"--close {over[0]!r}: ends at the start, {town.options.begin:,} s, or earlier")
-    if late := [one.text for one in works if one.begin >= until]:
+    if late := [site.text for site in works if site.begin >= until]:
         raise Fault(f"--close {late[0]!r}: begins after the end of the runs, {until:,} s")
     if unknown := [name for name in signs if name not in town.graph.number]:
         raise Fault(f"--sign: the network has no edge {unknown[0]!r}")
@@ -122,50 +122,52 @@ def check_works(texts: Sequence[str], signs: Sequence[str], trips: Sequence[Trip
             raise Fault(f"trip {trip.name!r} {why_edge_stops((trip.origin,), 0, town.graph)}")
 
 
-def closing_of(asked: Shutting, graph: Graph, before: RouteSearch, judged: JudgedRoutes) -> Closing:
+def closing_of(shutting: Shutting, graph: Graph, before: RouteSearch, judged: JudgedRoutes) -> Closing:
     """Works as a router sees them; before and judged are the search and the runs without works, from which free times
     come. Fault where the map has no such works; KeyError where the graph has no edge of a sign."""
     mapping = judged.loaded.mapping
-    works = [works_of(text, mapping) for text in asked.close]
+    works = [works_of(text, mapping) for text in shutting.close]
     shut: dict[int | EdgePair, Sequence[Times]] = {}
     shut.update(shut_edges(works, graph, mapping, before.town.dawdle).items())
-    if asked.lost == "bar":
+    if shutting.lost == "bar":
         shut.update(barred_ways(works, graph, mapping).items())
-    return Closing(shut, frozenset(graph.number[name] for name in asked.sign), judged.loaded.free, asked)
+    return Closing(shut, frozenset(graph.number[name] for name in shutting.sign), judged.loaded.free, shutting)
 
 
-def town_with_works(town: RouteTown, asked: Shutting) -> RouteTown:
+def town_with_works(town: RouteTown, shutting: Shutting) -> RouteTown:
     """A copy of a town that has works; the town itself stays without."""
-    made = copy.copy(town)
-    made.works, made.lost = tuple(asked.close), asked.lost
-    return made
+    closed_town = copy.copy(town)
+    closed_town.works, closed_town.lost = tuple(shutting.close), shutting.lost
+    return closed_town
 
 
 def search_by_share(
-    before: Diverted, closing: Closing, asked: RouteSettings, check: Sequence[int], shares: Sequence[float],
-    told: Callable[[str, Iteration], bool],
+    before: Diverted, closing: Closing, settings: RouteSettings, check: Sequence[int], shares: Sequence[float],
+    on_iteration: Callable[[str, Iteration], bool],
 ) -> Iterator[Diverted]:  # fmt: skip
     """For each share (0 to 1) of drivers who know of the works, what a search of its own gives; each begins with the
-    ways before and is judged by the check seeds. told: gets a label and an iteration, and gives whether the user asks
-    for an end. The trips are copies of those before. Fault where a trip has no way round the works, or a run fails."""
-    first = before.search
-    town = town_with_works(first.town, closing.asked)
+    ways before and is judged by the check seeds. on_iteration: gets a label and an iteration, and gives whether the
+    user asks for an end. The trips are copies of those before. Fault where a trip has no way round the works, or a run
+    fails."""
+    earlier = before.search
+    town = town_with_works(earlier.town, closing.shutting)
     for share in shares:
         trips = [
-            dataclasses.replace(trip, changes=trip.changes and knows_of_works(trip.name, share, asked.seeds[0]))
-            for trip in first.trips
+            dataclasses.replace(trip, changes=trip.changes and knows_of_works(trip.name, share, settings.seeds[0]))
+            for trip in earlier.trips
         ]
-        search = RouteSearch(town, first.ground, trips, first.team, partial(told, f"knowing {share:g}, "), closing)
+        on_labelled = partial(on_iteration, f"knowing {share:g}, ")
+        search = RouteSearch(town, earlier.ground, trips, earlier.team, on_labelled, closing)
         search.turn_off(before.judged.costs, strict=True)
-        search.improve(asked)
+        search.improve(settings)
         yield Diverted(share, trips, search, search.judged(check))
 
 
-def why_within_gap(one: Diverted, before: Diverted) -> str | None:
+def why_within_gap(result: Diverted, before: Diverted) -> str | None:
     """A warning where the works change the mean trip, up or down, by less than what all could gain by other ways,
     without the works or with them, whichever is more; None otherwise."""
-    apart, cases = fmean(one.mean_trips()) - fmean(before.mean_trips()), (("without", before), ("with", one))
-    seconds = {where: each.judged.gap * fmean(each.mean_trips()) for where, each in cases}
+    apart, cases = fmean(result.mean_trips()) - fmean(before.mean_trips()), (("without", before), ("with", result))
+    seconds = {where: case.judged.gap * fmean(case.mean_trips()) for where, case in cases}
     where = max(seconds, key=lambda where: seconds[where])
     if abs(apart) >= seconds[where]:
         return None
@@ -175,17 +177,17 @@ def why_within_gap(one: Diverted, before: Diverted) -> str | None:
     )
 
 
-def share_rows(all_: Sequence[Diverted]) -> Iterator[tuple]:
+def share_rows(results: Sequence[Diverted]) -> Iterator[tuple]:
     """The rows of knowing.csv, as SHARES has the columns: the ways without works first, then each share, with its mean
     difference (s) to the first by equal seeds and half the width of its 95 % interval. Those that know are counted of
     the trips that may change alone; arrived is of the run with the fewest, rescues are of all runs."""
-    before = all_[0]
-    for one in all_:
-        apart = [there - here for here, there in zip(before.mean_trips(), one.mean_trips(), strict=True)]
-        difference, half = (None, None) if one is before else mean_and_half_width(apart)
-        changed = sum(own.path != other.path for own, other in zip(one.trips, before.trips, strict=True))
-        knowing = ("", "") if one is before else (f"{one.share:g}", sum(trip.changes for trip in one.trips))
-        seconds = ("" if value is None else f"{value:.3f}" for value in (fmean(one.mean_trips()), difference, half))
-        runs = one.judged.outcomes
+    before = results[0]
+    for result in results:
+        apart = [after_s - before_s for before_s, after_s in zip(before.mean_trips(), result.mean_trips(), strict=True)]
+        difference, half = (None, None) if result is before else mean_and_half_width(apart)
+        changed = sum(trip.path != old.path for trip, old in zip(result.trips, before.trips, strict=True))
+        knowing = ("", "") if result is before else (f"{result.share:g}", sum(trip.changes for trip in result.trips))
+        seconds = ("" if value is None else f"{value:.3f}" for value in (fmean(result.mean_trips()), difference, half))
+        runs = result.judged.outcomes
         ended = min(run.arrived for run in runs), sum(run.rescues for run in runs)
-        yield (*knowing, *seconds, f"{one.judged.gap:.5f}", *ended, changed)
+        yield (*knowing, *seconds, f"{result.judged.gap:.5f}", *ended, changed)

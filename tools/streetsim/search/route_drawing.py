@@ -17,26 +17,26 @@ ROOM = 1.3  # of the height of lines, so that names stand above them
 NEAR = 250.0  # metres around what differs, at least
 
 
-def draw_search(folder: str, before: Diverted, one: Diverted) -> None:
+def draw_search(folder: str, before: Diverted, result: Diverted) -> None:
     """Draws gap.png, and with works flows.png, into a folder; where matplotlib is not installed it draws nothing and
-    says so. Fault where one cannot be written. one: the search with works, or before itself."""
+    says so. Fault where one cannot be written. result: the search with works, or before itself."""
     pyplot = pyplot_if_installed()
     if pyplot is None:
         return
-    save_picture(gap_figure(pyplot, [before] if one is before else [before, one]), f"{folder}/gap.png")
-    if one is not before:
-        save_picture(flow_figure(pyplot, before, one), f"{folder}/flows.png")
+    save_picture(gap_figure(pyplot, [before] if result is before else [before, result]), f"{folder}/gap.png")
+    if result is not before:
+        save_picture(flow_figure(pyplot, before, result), f"{folder}/flows.png")
 
 
 def gap_figure(pyplot: Pyplot, searches: Sequence[Diverted]) -> Figure:
     """The picture of the relative gap (%) over iterations, a line for each search, four at most, with a dot for the
     routes kept, at their gap by the check seeds."""
     figure, axes = pyplot.subplots(figsize=(6.5, 3.5))
-    for style, one in zip(STYLES, searches):
-        numbers = [iteration.number for iteration in one.search.iterations]
-        percents = [100 * iteration.gap for iteration in one.search.iterations]
-        axes.plot(numbers, percents, style, color=LINE, label=one.label)
-        axes.plot([one.search.best.number], [100 * one.judged.gap], "o", color="black", markersize=5)
+    for style, result in zip(STYLES, searches):
+        numbers = [iteration.number for iteration in result.search.iterations]
+        percents = [100 * iteration.gap for iteration in result.search.iterations]
+        axes.plot(numbers, percents, style, color=LINE, label=result.label)
+        axes.plot([result.search.best.number], [100 * result.judged.gap], "o", color="black", markersize=5)
     axes.plot([], [], "o", color="black", label="the routes kept, by seeds that the search did not see")
     title = "What all could gain by other ways, of their shortest ways"
     axes.set(xlabel="iteration", ylabel="relative gap (%)", title=title)
@@ -45,18 +45,19 @@ def gap_figure(pyplot: Pyplot, searches: Sequence[Diverted]) -> Figure:
     return figure
 
 
-def flow_figure(pyplot: Pyplot, before: Diverted, one: Diverted) -> Figure:
+def flow_figure(pyplot: Pyplot, before: Diverted, result: Diverted) -> Figure:
     """The picture of how many trips have each edge on their way: before, with the works, and the difference, which is
     zoomed to where there is one; the last two with a cross on each closed edge."""
     links, graph = before.judged.loaded.mapping.links, before.search.town.graph
-    there, here = (Counter(edge for trip in case.trips for edge in set(trip.path)) for case in (before, one))
+    cases = (before, result)
+    flows_before, flows_after = (Counter(edge for trip in case.trips for edge in set(trip.path)) for case in cases)
     number = [graph.number[link.edge] for link in links]
-    closed = {what for what in one.search.closing.shut if isinstance(what, int)} if one.search.closing else set()
+    closed = {part for part in result.search.closing.shut if isinstance(part, int)} if result.search.closing else set()
     works = [middle_point(link.shape) for link, edge in zip(links, number, strict=True) if edge in closed]
-    values = [[counts[edge] for edge in number] for counts in (there, here)]
+    values = [[counts[edge] for edge in number] for counts in (flows_before, flows_after)]
     figure, axes = pyplot.subplots(1, 3, figsize=(13, 4.4), layout="constrained")
     scale = scale_of_counts(max(1, *values[0], *values[1]))
-    for panel, title, counts in zip(axes, ("before", one.label), values):
+    for panel, title, counts in zip(axes, ("before", result.label), values):
         lines = draw_flows(panel, links, counts, scale, title)
     figure.colorbar(lines, ax=axes[:2], label="trips", location="bottom", shrink=0.6)
     apart = [after - first for first, after in zip(*values, strict=True)]

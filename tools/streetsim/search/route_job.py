@@ -52,7 +52,7 @@ class Job:
     town: RouteTown
     trips: Trips
     ground: RunGround
-    asked: RouteSettings
+    settings: RouteSettings
     check: Sequence[int]
     works: RouteWorks
     target: RouteFiles
@@ -74,10 +74,10 @@ def search_routes(job: Job, workers: Team, stopping: Stopping) -> list[Diverted]
 
     label = "before, " if works.close else ""
     search = RouteSearch(job.town, job.ground, job.trips.all, workers, partial(told, label))
-    given = works.close and all(trip.path for trip in job.trips.all)
-    if not given:
-        search.give_first_ways(job.asked.seeds[0])
-        search.improve(job.asked)
+    have_ways = works.close and all(trip.path for trip in job.trips.all)
+    if not have_ways:
+        search.give_first_ways(job.settings.seeds[0])
+        search.improve(job.settings)
     judged = search.judged(job.check)
     before = Diverted(None, job.trips.all, search, judged)
     if not works.close:
@@ -85,83 +85,83 @@ def search_routes(job: Job, workers: Team, stopping: Stopping) -> list[Diverted]
     for text in town_with_works(job.town, works).told_of_lost(job.trips.all):
         print(f"warning: {text}", file=sys.stderr)
     closing = closing_of(works, job.town.graph, search, judged)
-    return [before, *search_by_share(before, closing, job.asked, job.check, works.knowing, told)]
+    return [before, *search_by_share(before, closing, job.settings, job.check, works.knowing, told)]
 
 
-def write_found(job: Job, all_: Sequence[Diverted]) -> None:
+def write_found(job: Job, results: Sequence[Diverted]) -> None:
     """Writes the routes, the run with its map where they are asked for, and the folder of tables and pictures, one
     after the other, each whole or not at all (Fault); several shares have routes, runs, tables and pictures
-    each. all_: as search_routes gives it."""
-    target, many, found = job.target, len(all_) > 2, all_[1:] or all_
-    for one in found:
-        trips = Trips(list(one.trips), job.trips.types)
-        routes = path_for_share(target.routes, one.share, many)
+    each. results: as search_routes gives it."""
+    target, many_shares, diverted = job.target, len(results) > 2, results[1:] or results
+    for result in diverted:
+        trips = Trips(list(result.trips), job.trips.types)
+        routes = path_for_share(target.routes, result.share, many_shares)
         write_routes(routes, trips, job.town.graph)
         if target.run and target.map:
-            paths = (path_for_share(path, one.share, many) for path in (target.run, target.map))
-            write_loaded(one.search.town.loaded(one.trips, doubted=True), one.search.town, routes, *paths)
+            paths = (path_for_share(path, result.share, many_shares) for path in (target.run, target.map))
+            write_loaded(result.search.town.loaded(result.trips, doubted=True), result.search.town, routes, *paths)
     with whole_folder(target.folder, NAME) as folder:
-        for one in found:
-            own = f"{folder}/{one.label.replace(' ', '-')}" if many else folder
-            os.makedirs(own, exist_ok=True)
-            write_results(own, one, setting_of(job, one, all_[0]))
-            draw_search(own, all_[0], one)
+        for result in diverted:
+            subfolder = f"{folder}/{result.label.replace(' ', '-')}" if many_shares else folder
+            os.makedirs(subfolder, exist_ok=True)
+            write_results(subfolder, result, setting_of(job, result, results[0]))
+            draw_search(subfolder, results[0], result)
         if job.works.close:
             write_routes(f"{folder}/before.rou.xml", job.trips, job.town.graph)
-            write_table(f"{folder}/knowing.csv", SHARES, share_rows(all_))
-            write_table(f"{folder}/flows.csv", FLOWS, flow_rows(job.town.graph, all_))
-        if many:
-            write_setting(folder, setting_of(job, all_[0], all_[0]) | {"knowing": job.works.knowing})
+            write_table(f"{folder}/knowing.csv", SHARES, share_rows(results))
+            write_table(f"{folder}/flows.csv", FLOWS, flow_rows(job.town.graph, results))
+        if many_shares:
+            write_setting(folder, setting_of(job, results[0], results[0]) | {"knowing": job.works.knowing})
 
 
-def setting_of(job: Job, one: Diverted, before: Diverted) -> Json:
+def setting_of(job: Job, result: Diverted, before: Diverted) -> Json:
     """What setting.json has beside `check_figures` of the check runs: what was asked for, what the search came to, and
     why it is not to be trusted. before: the result without works."""
     works, setting = job.works, job.words | {"import": asdict(job.town.options)}
     setting |= proof_note(job.ground.program)
-    setting |= {"until": job.ground.until, "iteration": one.search.best.number, "not_trusted": list(one.doubts())}
+    setting |= {"until": job.ground.until, "iteration": result.search.best.number, "not_trusted": list(result.doubts())}
     if works.close:
-        setting |= {"close": works.close, "knowing": one.share, "sign": works.sign, "before": works.before}
+        setting |= {"close": works.close, "knowing": result.share, "sign": works.sign, "before": works.before}
         setting |= {"lost": works.lost, "without_works": check_figures(before.judged)}
     return setting
 
 
-def tell_found(job: Job, one: Diverted, before: Diverted) -> int:
+def tell_found(job: Job, result: Diverted, before: Diverted) -> int:
     """Prints what was found, and warnings to standard error; gives the exit status: 0 where the gap that was asked for
-    is reached, by the search without works too, else 1. before: the result without works, or one itself."""
-    label = f"{one.label}: " * (one.share is not None)
-    if has_stalled(one.search) and one.judged.gap > job.asked.gap:
+    is reached, by the search without works too, else 1. before: the result without works, or this one itself."""
+    label = f"{result.label}: " * (result.share is not None)
+    if has_stalled(result.search) and result.judged.gap > job.settings.gap:
         print(
             f"warning: {label}the ways get no better any more: the best were those of iteration "
-            f"{one.search.best.number}",
+            f"{result.search.best.number}",
             file=sys.stderr,
         )
-    if one is not before and (why := why_within_gap(one, before)):
+    if result is not before and (why := why_within_gap(result, before)):
         print(f"warning: {label}{why}", file=sys.stderr)
-    mean, runs, missed = fmean(one.mean_trips()), len(one.judged.outcomes), gap_missed(job, one, before)
+    mean, runs, missed = fmean(result.mean_trips()), len(result.judged.outcomes), gap_missed(job, result, before)
     print(
         f"{label}mean trip {mean:.1f} s{f' ({mean - fmean(before.mean_trips()):+.1f} s by the works)' * bool(label)}, "
-        f"gap {100 * one.judged.gap:.2f} % by {runs} seed{'s' * (runs > 1)} that the search did not see"
-        f"{f': the gap of {100 * job.asked.gap:g} % is not reached{missed}' if missed is not None else ''}; "
-        f"routes of iteration {one.search.best.number}"
+        f"gap {100 * result.judged.gap:.2f} % by {runs} seed{'s' * (runs > 1)} that the search did not see"
+        f"{f': the gap of {100 * job.settings.gap:g} % is not reached{missed}' if missed is not None else ''}; "
+        f"routes of iteration {result.search.best.number}"
     )
     return 0 if missed is None else 1
 
 
-def tell_stops(job: Job, one: Diverted) -> None:
+def tell_stops(job: Job, result: Diverted) -> None:
     """Prints on standard error which stops are not made in the runs by which routes are judged, and which lights wait
     for whom."""
-    loaded = one.judged.loaded
+    loaded = result.judged.loaded
     for text in job.ground.settings(loaded.run, loaded.mapping).buses.notes():
-        print(f"{one.label}: {text}" if one.share is not None else text, file=sys.stderr)
+        print(f"{result.label}: {text}" if result.share is not None else text, file=sys.stderr)
 
 
-def gap_missed(job: Job, one: Diverted, before: Diverted) -> str | None:
-    """The words that say where the gap that was asked for is not reached: empty where only one itself misses it. None
-    where it is reached. Ways without works that were given in a file are not judged."""
-    without = before.judged.gap if before.search.iterations and one is not before else 0.0
-    if max(one.judged.gap, without) <= job.asked.gap:
+def gap_missed(job: Job, result: Diverted, before: Diverted) -> str | None:
+    """The words that say where the gap that was asked for is not reached: empty where only the result itself misses
+    it. None where it is reached. Ways without works that were given in a file are not judged."""
+    without = before.judged.gap if before.search.iterations and result is not before else 0.0
+    if max(result.judged.gap, without) <= job.settings.gap:
         return None
-    if without <= job.asked.gap:
+    if without <= job.settings.gap:
         return ""
-    return f"{', nor' * (one.judged.gap > job.asked.gap)} without works ({100 * without:.2f} %)"
+    return f"{', nor' * (result.judged.gap > job.settings.gap)} without works ({100 * without:.2f} %)"

@@ -110,8 +110,8 @@ def write_loaded(loaded: LoadedRun, town: RouteTown, routes: str, run_path: str,
     import would lose, so that its map names no files of one. Fault where a file cannot be read or written."""
     if not town.works:
         files, report = replace(town.files, routes=[routes]), Report()
-        made = convert(files.net, files.additional, files.routes, town.options, report)
-        write_run(run_path, map_path, made, report, files)
+        imported = convert(files.net, files.additional, files.routes, town.options, report)
+        write_run(run_path, map_path, imported, report, files)
         return
     write_run_of(loaded.run, loaded.mapping, run_path, map_path)
 

@@ -25,14 +25,14 @@ FLOWS = ("edge", "case", "trips", "more_than_before")
 TRIPS = ("id", "depart", "edges", "may_change", "mean_trip_s", "way_s", "shortest_s")
 
 
-def write_results(folder: str, one: Diverted, setting: Json) -> None:
+def write_results(folder: str, result: Diverted, setting: Json) -> None:
     """Writes iterations.csv, check.csv, movements.csv, trips.csv and setting.json of a search into a folder. setting:
     what setting.json has beside `check_figures`. Fault where one cannot be written."""
-    write_table(f"{folder}/iterations.csv", ITERATIONS, iteration_rows(one.search.iterations))
-    write_table(f"{folder}/check.csv", CHECK, check_rows(one.judged))
-    write_table(f"{folder}/movements.csv", MOVEMENTS, movement_rows(one.search.ground, one.judged))
-    write_table(f"{folder}/trips.csv", TRIPS, trip_rows(one.trips, one.judged))
-    write_setting(folder, {**setting, **check_figures(one.judged)})
+    write_table(f"{folder}/iterations.csv", ITERATIONS, iteration_rows(result.search.iterations))
+    write_table(f"{folder}/check.csv", CHECK, check_rows(result.judged))
+    write_table(f"{folder}/movements.csv", MOVEMENTS, movement_rows(result.search.ground, result.judged))
+    write_table(f"{folder}/trips.csv", TRIPS, trip_rows(result.trips, result.judged))
+    write_setting(folder, {**setting, **check_figures(result.judged)})
 
 
 def write_setting(folder: str, setting: Json) -> None:
@@ -44,21 +44,23 @@ def write_setting(folder: str, setting: Json) -> None:
 
 def iteration_rows(iterations: Sequence[Iteration]) -> Iterator[tuple]:
     """The rows of iterations.csv, as ITERATIONS has the columns, one for each iteration."""
-    for one in iterations:
-        ran = one.number, f"{one.mean:.2f}", one.arrived, one.rescues
-        yield (*ran, f"{one.gap:.5f}", f"{one.cost:.2f}", one.may_change, one.changed, int(one.taken_back))
+    for iteration in iterations:
+        ran = iteration.number, f"{iteration.mean:.2f}", iteration.arrived, iteration.rescues
+        gap_and_cost = f"{iteration.gap:.5f}", f"{iteration.cost:.2f}"
+        yield (*ran, *gap_and_cost, iteration.may_change, iteration.changed, int(iteration.taken_back))
 
 
 def check_rows(judged: JudgedRoutes) -> Iterator[tuple]:
     """The rows of check.csv, as CHECK has the columns, one for each check seed."""
-    for seed, one in zip(judged.seeds, judged.outcomes, strict=True):
-        yield seed, f"{one.mean:.3f}", one.arrived, one.rescues
+    for seed, outcome in zip(judged.seeds, judged.outcomes, strict=True):
+        yield seed, f"{outcome.mean:.3f}", outcome.arrived, outcome.rescues
 
 
 def movement_rows(ground: RunGround, judged: JudgedRoutes) -> Iterator[tuple]:
     """The rows of movements.csv, as MOVEMENTS has the columns: for each slice, from clock 0, the last a whole one
     too, and each movement seen in it, vehicles of a check run by the mean, mean seconds, and those without traffic."""
-    graph, width, observed = ground.graph, ground.width, mean_observed([one.observed for one in judged.outcomes])
+    graph, width = ground.graph, ground.width
+    observed = mean_observed([outcome.observed for outcome in judged.outcomes])
     for slice_ in range(observed.slices):
         for movement, (edge, following) in enumerate(graph.movements):
             index = movement * observed.slices + slice_
@@ -73,32 +75,32 @@ def trip_rows(trips: Sequence[Trip], judged: JudgedRoutes) -> Iterator[tuple]:
     """The rows of trips.csv, as TRIPS has the columns: each trip's mean seconds over the check runs (empty where it did
     not arrive in all of them), and the seconds of its way and of the shortest way by the costs of these runs (empty
     where its way was not searched, or none was found)."""
-    searched = {one.trip: one for one in judged.found}
+    searched = {found_path.trip: found_path for found_path in judged.best_paths}
     for at, trip in enumerate(trips):
-        ends = [end for one in judged.outcomes if (end := one.arrivals[at]) is not None]
+        ends = [end for outcome in judged.outcomes if (end := outcome.arrivals[at]) is not None]
         mean = "" if len(ends) < len(judged.outcomes) else f"{fmean(ends) - trip.depart:.1f}"
-        found = searched.get(at)
-        ways = (f"{found.own:.1f}", f"{found.least:.1f}") if found and found.path else ("", "")
+        best = searched.get(at)
+        ways = (f"{best.own:.1f}", f"{best.least:.1f}") if best and best.path else ("", "")
         yield trip.name, f"{trip.depart:.2f}", len(trip.path), int(trip.changes), mean, *ways
 
 
-def flow_rows(graph: Graph, all_: Sequence[Diverted]) -> Iterator[tuple]:
+def flow_rows(graph: Graph, results: Sequence[Diverted]) -> Iterator[tuple]:
     """The rows of flows.csv, as FLOWS has the columns: for each edge how many trips have it on their ways, before and
     with each share of drivers who know of the works, and how many more than before."""
-    flows = [Counter(edge for trip in one.trips for edge in set(trip.path)) for one in all_]
+    flows = [Counter(edge for trip in result.trips for edge in set(trip.path)) for result in results]
     for edge, name in enumerate(graph.edges):
-        for one, flow in zip(all_, flows, strict=True):
-            yield name, one.label, flow[edge], flow[edge] - flows[0][edge]
+        for result, flow in zip(results, flows, strict=True):
+            yield name, result.label, flow[edge], flow[edge] - flows[0][edge]
 
 
 def check_figures(judged: JudgedRoutes) -> Json:
     """What the check runs gave, for setting.json: mean_trip_s and half_width_95_s of its interval (None for one run),
     relative_gap (a share), arrived (the fewest) and rescues (of each run)."""
-    mean, half = mean_and_half_width([one.mean for one in judged.outcomes])
+    mean, half = mean_and_half_width([outcome.mean for outcome in judged.outcomes])
     return {
         "mean_trip_s": round(mean, 3),
         "half_width_95_s": None if half is None else round(half, 3),
         "relative_gap": round(judged.gap, 5),
-        "arrived": min(one.arrived for one in judged.outcomes),
-        "rescues": [one.rescues for one in judged.outcomes],
+        "arrived": min(outcome.arrived for outcome in judged.outcomes),
+        "rescues": [outcome.rescues for outcome in judged.outcomes],
     }

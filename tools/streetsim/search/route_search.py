@@ -45,7 +45,7 @@ class SeenCosts:
     ways: list[tuple[Path, float]]  # of all trips, with their entries
     outcomes: list[WatchedOutcome]
     costs: Costs
-    found: list[FoundPath]
+    best_paths: list[FoundPath]
     passed: list[Passed]
     gap: float
     lacking: int  # trips that did not arrive
@@ -109,21 +109,21 @@ class JudgedRoutes:
     seeds: Sequence[int]
     outcomes: list[WatchedOutcome]
     costs: Costs
-    found: list[FoundPath]
+    best_paths: list[FoundPath]
     gap: float
 
 
 class RouteSearch:
-    """A search for the ways of some trips in a town; the trips carry their present ways. told: gets each iteration, and
-    gives whether the user asks for an end."""
+    """A search for the ways of some trips in a town; the trips carry their present ways. on_iteration: gets each
+    iteration, and gives whether the user asks for an end."""
 
     def __init__(
-        self, town: RouteTown, ground: RunGround, trips: Sequence[Trip], team: Team, told: Callable[[Iteration], bool],
-        closing: Closing | None = None,
+        self, town: RouteTown, ground: RunGround, trips: Sequence[Trip], team: Team,
+        on_iteration: Callable[[Iteration], bool], closing: Closing | None = None,
     ) -> None:  # fmt: skip
         """trips: in order of departure, one at least; closing: the works of the town; None where it has none."""
         self.town, self.ground, self.trips = town, ground, trips
-        self.team, self.told, self.closing = team, told, closing
+        self.team, self.on_iteration, self.closing = team, on_iteration, closing
         self.iterations: list[Iteration] = []
         self.best = Best()
         self.passed: list[Passed] = []  # by seed, when those passed who go first, in the last run
@@ -137,34 +137,35 @@ class RouteSearch:
                 trip, edges = lost[0], self.town.graph.edges
                 raise Fault(f"trip {trip.name!r}: no way from {edges[trip.origin]} to {edges[trip.target]}")
 
-    def improve(self, asked: RouteSettings) -> None:
-        """Searches until asked.iterations are done, the gap is well below asked.gap (OWN_SEED of it) or told gives
-        True; keeps each iteration, and the best one, whose ways the trips then have. Iteration 0 comes before those
-        asked for and shows the first ways: there the gap is enough only where nobody gains more than LEAST_GAIN. In
-        no iteration after which some who may not change turn off before works is it enough. Fault where a run fails."""
-        share = asked.share
+    def improve(self, settings: RouteSettings) -> None:
+        """Searches until settings.iterations are done, the gap is well below settings.gap (OWN_SEED of it) or
+        on_iteration gives True; keeps each iteration, and the best one, whose ways the trips then have. Iteration 0
+        comes before those asked for and shows the first ways: there the gap is enough only where nobody gains more than
+        LEAST_GAIN. In no iteration after which some who may not change turn off before works is it enough. Fault where
+        a run fails."""
+        share = settings.share
         trials: list[RouteTrial] = [RouteTrial(1.0, [])]
-        for number in range(asked.iterations + 1):
-            seen, fraction = self.run_best_trial(asked.seeds, trials)
-            found, share = seen.found, share * fraction
-            back = self.best.is_below(seen.lacking, seen.gap, TRUST)
-            if not self.best.is_below(seen.lacking, seen.gap):
-                self.best = Best(seen.lacking, seen.gap, number, seen.ways, seen.passed)
-            worth = any(seconds_gained(one) > LEAST_GAIN for one in found)
-            near = seen.gap <= OWN_SEED * asked.gap and (number or not worth)
-            last = number == asked.iterations or near
-            if back and not last:
+        for number in range(settings.iterations + 1):
+            shown, fraction = self.run_best_trial(settings.seeds, trials)
+            paths, share = shown.best_paths, share * fraction
+            back = self.best.is_below(shown.lacking, shown.gap, TRUST)
+            if not self.best.is_below(shown.lacking, shown.gap):
+                self.best = Best(shown.lacking, shown.gap, number, shown.ways, shown.passed)
+            worth = any(seconds_gained(path) > LEAST_GAIN for path in paths)
+            near = shown.gap <= OWN_SEED * settings.gap and (number or not worth)
+            is_last = number == settings.iterations or near
+            if back and not is_last:
                 give_ways(self.trips, self.best.ways)
                 self.passed = self.best.passed
-                found = self.best_ways(seen.costs)
-            if number < asked.iterations and self.turn_off(seen.costs):
-                last = False
+                paths = self.best_ways(shown.costs)
+            if number < settings.iterations and self.turn_off(shown.costs):
+                is_last = False
             share = max(LEAST_SHARE, share / 2 if back else share)
-            trials = [] if last else trials_of(found, share, asked.tried)
+            trials = [] if is_last else trials_of(paths, share, settings.tried)
             share = share if back else share * SLOWER
-            iteration = iteration_of(number, seen, found, len(trials[0].trips) if trials else 0, back)
+            iteration = iteration_of(number, shown, paths, len(trials[0].trips) if trials else 0, back)
             self.iterations.append(iteration)
-            if self.told(iteration) or last:
+            if self.on_iteration(iteration) or is_last:
                 break
         give_ways(self.trips, self.best.ways)
 
@@ -173,19 +174,19 @@ class RouteSearch:
         of the share). The trips then have its ways and entries, and its passings are kept for the next. Who gives way
         without a light waits for those whose passings are kept; in the first iteration for those who passed in a run in
         which nobody waits."""
-        ways = [paths_after(self.trips, trial.trips) for trial in trials]
-        loads = [self.loaded(paths) for paths in ways]
+        paths_by_trial = [paths_after(self.trips, trial.trips) for trial in trials]
+        loads = [self.loaded(paths) for paths in paths_by_trial]
         if self.ground.rounds and loads[0].mapping.yields and not self.passed:
-            [first] = self.team.run_cases(loads[:1], seeds, [None] * len(seeds))
-            self.passed = [one.passed for one in first]
+            [outcomes] = self.team.run_cases(loads[:1], seeds, [None] * len(seeds))
+            self.passed = [outcome.passed for outcome in outcomes]
         passed: list[Passed | None] = [*self.passed] or [None] * len(seeds)
         runs = self.team.run_cases(loads, seeds, passed)
-        all_ = [self.give_and_see(*case) for case in zip(ways, loads, runs, strict=True)]
-        best = min(range(len(all_)), key=lambda at: (all_[at].lacking, all_[at].gap))
-        seen = all_[best]
-        self.passed = seen.passed if self.passed else []
-        give_ways(self.trips, seen.ways)
-        return seen, trials[best].fraction
+        results = [self.give_and_see(*case) for case in zip(paths_by_trial, loads, runs, strict=True)]
+        best = min(range(len(results)), key=lambda at: (results[at].lacking, results[at].gap))
+        shown = results[best]
+        self.passed = shown.passed if self.passed else []
+        give_ways(self.trips, shown.ways)
+        return shown, trials[best].fraction
 
     def loaded(self, paths: Sequence[Path]) -> LoadedRun:
         """The run of the trips with some ways, one path for each trip."""
@@ -196,24 +197,26 @@ class RouteSearch:
         give_ways(self.trips, [(path, trip.entry) for path, trip in zip(paths, self.trips, strict=True)])
         self.note_entries(outcomes)
         costs = self.costs_shown(loaded, outcomes)
-        found, lacking = self.best_ways(costs), len(self.trips) - min(one.arrived for one in outcomes)
+        best, lacking = self.best_ways(costs), len(self.trips) - min(outcome.arrived for outcome in outcomes)
         ways = [(trip.path, trip.entry) for trip in self.trips]
-        return SeenCosts(ways, outcomes, costs, found, [one.passed for one in outcomes], relative_gap(found), lacking)
+        passed = [outcome.passed for outcome in outcomes]
+        return SeenCosts(ways, outcomes, costs, best, passed, relative_gap(best), lacking)
 
     def note_entries(self, outcomes: Sequence[WatchedOutcome]) -> None:
         """Notes for each trip its mean entry, a clock, in some runs of the trips."""
         for at, trip in enumerate(self.trips):
-            trip.entry = fmean(one.entries[at] for one in outcomes)
+            trip.entry = fmean(outcome.entries[at] for outcome in outcomes)
 
     def costs_shown(self, loaded: LoadedRun, outcomes: Sequence[WatchedOutcome]) -> Costs:
         """The costs that some runs of the trips showed."""
-        observed = mean_observed([one.observed for one in outcomes])
+        observed = mean_observed([outcome.observed for outcome in outcomes])
         return costs_of(self.town.graph, loaded.free, observed, self.ground.width, self.town.minor)
 
     def best_ways(self, costs: Costs) -> list[FoundPath]:
         """The best ways of the trips that may change, by some costs, round what is shut; the trips keep theirs."""
         wishes = [
-            Wish(at, one.origin, one.target, one.entry, one.path) for at, one in enumerate(self.trips) if one.changes
+            Wish(at, trip.origin, trip.target, trip.entry, trip.path)
+            for at, trip in enumerate(self.trips) if trip.changes
         ]
         return self.team.search(wishes, costs, self.closing.shut if self.closing else None)
 
@@ -233,8 +236,8 @@ class RouteSearch:
         outcomes = self.team.run_checks(loaded, seeds)
         self.note_entries(outcomes)
         costs = self.costs_shown(loaded, outcomes)
-        found = self.best_ways(costs)
-        return JudgedRoutes(loaded, seeds, outcomes, costs, found, relative_gap(found))
+        best = self.best_ways(costs)
+        return JudgedRoutes(loaded, seeds, outcomes, costs, best, relative_gap(best))
 
 
 def has_stalled(search: RouteSearch) -> bool:
@@ -252,45 +255,46 @@ def give_ways(trips: Sequence[Trip], ways: Sequence[tuple[Path, float]]) -> None
 def paths_after(trips: Sequence[Trip], changed: Sequence[FoundPath]) -> list[Path]:
     """The ways of all trips once some have changed to the ways found for them; the trips themselves stay."""
     paths = [trip.path for trip in trips]
-    for one in changed:
-        paths[one.trip] = one.path
+    for found_path in changed:
+        paths[found_path.trip] = found_path.path
     return paths
 
 
-def seconds_gained(found: FoundPath) -> float:
+def seconds_gained(found_path: FoundPath) -> float:
     """The seconds that a trip would gain by its best way; 0 where no way was found."""
-    return max(0.0, found.own - found.least) if found.path else 0.0
+    return max(0.0, found_path.own - found_path.least) if found_path.path else 0.0
 
 
-def relative_gap(found: Sequence[FoundPath]) -> float:
+def relative_gap(paths: Sequence[FoundPath]) -> float:
     """The relative gap: what all could gain together, over the seconds of their shortest ways. 0 where nobody may
     change, or no way was found for any."""
-    least = sum(one.least for one in found if one.path)
-    return sum(map(seconds_gained, found)) / least if least else 0.0
+    least = sum(path.least for path in paths if path.path)
+    return sum(map(seconds_gained, paths)) / least if least else 0.0
 
 
-def those_who_change(found: Sequence[FoundPath], share: float) -> list[FoundPath]:
+def those_who_change(paths: Sequence[FoundPath], share: float) -> list[FoundPath]:
     """The trips that change, in order of trips: of those who gain more than LEAST_GAIN seconds the ones with the
     greatest relative loss, at most a share (0 to 1) of all found, but at least one. Empty where nobody gains so
     much."""
-    worth = [one for one in found if seconds_gained(one) > LEAST_GAIN]
-    worth.sort(key=lambda one: (-seconds_gained(one) / max(1.0, one.least), one.trip))
-    return sorted(worth[: max(1, int(len(found) * share))], key=lambda one: one.trip)
+    worth = [path for path in paths if seconds_gained(path) > LEAST_GAIN]
+    worth.sort(key=lambda path: (-seconds_gained(path) / max(1.0, path.least), path.trip))
+    return sorted(worth[: max(1, int(len(paths) * share))], key=lambda path: path.trip)
 
 
-def trials_of(found: Sequence[FoundPath], share: float, tried: int) -> list[RouteTrial]:
+def trials_of(paths: Sequence[FoundPath], share: float, tried: int) -> list[RouteTrial]:
     """Trials of trips that change: by the share (fraction 1), by half of it (fraction 0.5), and so on, tried of them;
     one with no fewer trips than the one before it is left out."""
-    trials = [RouteTrial(1 / 2**at, those_who_change(found, share / 2**at)) for at in range(tried)]
+    trials = [RouteTrial(1 / 2**at, those_who_change(paths, share / 2**at)) for at in range(tried)]
     return [trial for at, trial in enumerate(trials) if at == 0 or len(trial.trips) < len(trials[at - 1].trips)]
 
 
-def iteration_of(number: int, seen: SeenCosts, found: Sequence[FoundPath], changed: int, back: bool) -> Iteration:
+def iteration_of(number: int, shown: SeenCosts, paths: Sequence[FoundPath], changed: int, back: bool) -> Iteration:
     """What is kept of an iteration: of what its runs showed, of its searches, and how many trips change next (changed);
     back: whether its routes were taken back."""
     return Iteration(
-        number=number, mean=fmean(one.mean for one in seen.outcomes),
-        arrived=min(one.arrived for one in seen.outcomes), rescues=sum(one.rescues for one in seen.outcomes),
-        gap=seen.gap, cost=fmean(one.own for one in found) if found else 0.0, may_change=len(found), changed=changed,
+        number=number, mean=fmean(outcome.mean for outcome in shown.outcomes),
+        arrived=min(outcome.arrived for outcome in shown.outcomes),
+        rescues=sum(outcome.rescues for outcome in shown.outcomes),
+        gap=shown.gap, cost=fmean(path.own for path in paths) if paths else 0.0, may_change=len(paths), changed=changed,
         taken_back=back,
     )  # fmt: skip

@@ -50,18 +50,18 @@ def run_on_found_ways(run: Run, mapping: Map, map_path: str, wished: Wished, whe
     program, until = wished.program, wished.until
     ground = RunGround(program, program_digest(program), town.graph, SLICE, until, wished.rounds, wished.driven)
 
-    def told(label: str, one: Iteration) -> bool:
+    def told(label: str, iteration: Iteration) -> bool:
         """Prints an iteration on standard error; gives False, as nobody ends this search."""
-        print(f"{where}: {label}{one.line(len(trips.all))}", file=sys.stderr, flush=True)
+        print(f"{where}: {label}{iteration.line(len(trips.all))}", file=sys.stderr, flush=True)
         return False
 
     with team(ground, CORES, None) as workers:
-        search = RouteSearch(town, ground, trips.all, workers, lambda one: told("", one))
+        search = RouteSearch(town, ground, trips.all, workers, lambda iteration: told("", iteration))
         search.give_first_ways(ASKED.seeds[0])
         if wished.close:
             before = Diverted(None, trips.all, search, search.judged(CHECK))
-            asked = Shutting(wished.close, (), wished.lost)
-            closing = closing_of(asked, town.graph, search, before.judged)
+            shutting = Shutting(wished.close, (), wished.lost)
+            closing = closing_of(shutting, town.graph, search, before.judged)
             search = next(search_by_share(before, closing, ASKED, CHECK, [wished.knowing], told)).search
         else:
             search.improve(ASKED)
@@ -77,5 +77,5 @@ def doubts(search: RouteSearch, seeds: Sequence[int]) -> Iterator[str]:
             f"its ways have a gap of {100 * search.best.gap:.1f} % by the search's own seed, of {100 * ASKED.gap:g} "
             "% that are asked for"
         )
-    if own := sorted(set(seeds) & set(ASKED.seeds)):
-        yield f"its ways were found by seed {own[0]}, which is one of the study's: give others"
+    if shared_seeds := sorted(set(seeds) & set(ASKED.seeds)):
+        yield f"its ways were found by seed {shared_seeds[0]}, which is one of the study's: give others"

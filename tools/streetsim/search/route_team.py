@@ -24,7 +24,7 @@ class Team:
         last, by edge or movement, None: nothing is shut. Fault where a worker is lost."""
         parts = wish_parts(wishes, self.parts)
         tasks = [(f"part {at} of a search", search_part, 0, part, costs, shut) for at, part in enumerate(parts, 1)]
-        return sorted((found for part in self.workers.ordered(tasks) for found in part), key=lambda found: found.trip)
+        return sorted((path for part in self.workers.ordered(tasks) for path in part), key=lambda path: path.trip)
 
     def run_cases(
         self, cases: Sequence[LoadedRun], seeds: Sequence[int], passed: Sequence[Passed | None]

@@ -34,16 +34,16 @@ class Diversion:
     def least_steps(self, links: Sequence[MapLink], link: int, cell: int | None) -> int:
         """The least steps, one at least, until a vehicle, at a cell of a link, is behind the links ahead. cell: None
         where it is at the link's end. ValueError where the link is none of these."""
-        left = self.ahead[self.ahead.index(link) :]
-        cells = sum(links[at].cells for at in left) - (links[link].cells if cell is None else cell + 1)
-        return max(1, int(cells / max(links[at].limit for at in left)))
+        links_left = self.ahead[self.ahead.index(link) :]
+        cells = sum(links[at].cells for at in links_left) - (links[link].cells if cell is None else cell + 1)
+        return max(1, int(cells / max(links[at].limit for at in links_left)))
 
 
 def turning_to(plan: Path, way: Path, clock: int) -> Diversion:
     """How a vehicle leaves its plan for another way, which begins on the same link or on one beside it: it first drives
     the links that both begin with, one at least. clock: from which on it is looked at."""
     both = enumerate(zip(plan, way))
-    common = max(1, next((at for at, (one, other) in both if one != other), min(len(plan), len(way))))
+    common = max(1, next((at for at, (planned, turned) in both if planned != turned), min(len(plan), len(way))))
     return Diversion(plan[:common], way[common:], clock)
 
 
@@ -69,12 +69,12 @@ class WaysRound:
         free = free_seconds(self.graph, self.by_link, signals, self.dawdle)
         closed = self.shut_times(edges, times)
         trips = [
-            Trip(one.name, float(one.depart), one.plan[0], one.plan[-1], "", tuple(one.plan), float(one.depart))
-            for one in sorted(vehicles, key=lambda one: one.depart)
+            Trip(car.name, float(car.depart), car.plan[0], car.plan[-1], "", tuple(car.plan), float(car.depart))
+            for car in sorted(vehicles, key=lambda car: car.depart)
         ]
         router = Router(self.graph, flat_costs(self.graph, free), closed)
         open_ = closed.keys().isdisjoint
-        through = (one for one in trips if open_((one.origin, one.target)) and not self.is_round_trip(one))
+        through = (trip for trip in trips if open_((trip.origin, trip.target)) and not self.is_round_trip(trip))
         coming = [trip for trip in through if router.first_shut(trip.path, trip.depart) is not None]
         if not coming:
             return {}
@@ -120,7 +120,7 @@ def impassable_edges(
 ) -> list[str]:
     """The edges, among some, of which no link can be passed for its closed cells. closed: these, (first, last), by
     (link, lane)."""
-    return [edge for edge in edges if all(is_impassable(mapping, one, closed) for one in mapping.links_of[edge])]
+    return [edge for edge in edges if all(is_impassable(mapping, link, closed) for link in mapping.links_of[edge])]
 
 
 def is_impassable(mapping: Map, link: int, closed: Mapping[tuple[int, int], Sequence[tuple[int, int]]]) -> bool:
@@ -128,7 +128,7 @@ def is_impassable(mapping: Map, link: int, closed: Mapping[tuple[int, int], Sequ
     side, or without room to change lanes between. closed: as of impassable_edges."""
     stretches = [(0, 10**9)]
     for lane in range(len(mapping.links[link].lanes)):
-        here = closed.get((link, lane), ())
-        both = [(max(begin, first), min(end, last)) for begin, end in stretches for first, last in here]
+        closed_cells = closed.get((link, lane), ())
+        both = [(max(begin, first), min(end, last)) for begin, end in stretches for first, last in closed_cells]
         stretches = [(begin, end) for begin, end in both if begin <= end + 1]
     return bool(stretches)

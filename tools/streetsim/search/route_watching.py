@@ -105,13 +105,13 @@ def run_with_gaps(ground: RunGround, run: Run, mapping: Map, seed: int) -> Run:
 def outcome_of_run(ground: RunGround, run: Run, mapping: Map, seed: int) -> WatchedOutcome:
     """Makes a run, of one vehicle at least, as it is and gives what it showed; Fault where the program refuses it or
     ends. seed: named in the Fault, no more."""
-    seen = seen_run(ground, run, mapping, seed, bool(ground.rounds and mapping.yields))
+    watched = seen_run(ground, run, mapping, seed, bool(ground.rounds and mapping.yields))
     departs = [line.command["depart"] for line in run.enters]
-    entries = [float(clocks[0] if clocks else depart) for clocks, depart in zip(seen.clocks, departs, strict=True)]
-    ends = (ground.until if end is None else end for end in seen.arrivals)
+    entries = [float(clocks[0] if clocks else depart) for clocks, depart in zip(watched.clocks, departs, strict=True)]
+    ends = (ground.until if end is None else end for end in watched.arrivals)
     mean = sum(end - depart for end, depart in zip(ends, departs, strict=True)) / len(departs)
-    ran = seen.rescues, passed_by_name(seen.passed, mapping), seen.most_waiting, seen.at_works
-    return WatchedOutcome(seen.observed, entries, seen.arrivals, mean, *ran)
+    ran = watched.rescues, passed_by_name(watched.passed, mapping), watched.most_waiting, watched.at_works
+    return WatchedOutcome(watched.observed, entries, watched.arrivals, mean, *ran)
 
 
 @dataclass(frozen=True, slots=True)
@@ -142,8 +142,8 @@ def seen_run(ground: RunGround, run: Run, mapping: Map, seed: int, giving: bool)
     with serving_program(ground.program, f"a run with seed {seed}") as program:
         Kernel(program, run, mapping, steering.controllers, [trips, passings, summary, works]).go(ground.until)
     arrivals, clocks = [arrival for arrival, _ in trips.ends()], passings.link_arrivals()
-    for each in clocks:
-        each[:1] = [clock - 1 for clock in each[:1]]
+    for vehicle_clocks in clocks:
+        vehicle_clocks[:1] = [clock - 1 for clock in vehicle_clocks[:1]]
     worst = max(summary.censuses(), key=lambda census: census.waiting)
     return SeenRun(
         clocks=clocks, arrivals=arrivals, observed=observed_in(ground, run, mapping, clocks, arrivals),
@@ -157,10 +157,10 @@ def observed_in(
 ) -> Observed:
     """The seconds of movements of a run, as SeenRun has them; clocks, arrivals: as there."""
     edges, movement_of = [ground.graph.number[link.edge] for link in mapping.links], ground.graph.movement_of
-    found = nothing_observed(len(ground.graph.movements), ground.slices)
-    for line, came, end in zip(run.enters, clocks, arrivals, strict=True):
+    observed = nothing_observed(len(ground.graph.movements), ground.slices)
+    for line, vehicle_clocks, end in zip(run.enters, clocks, arrivals, strict=True):
         ways = pairwise([*(edges[link] for link in line.command["plan"]), END])
-        there = [*came, ground.until if end is None else end] if came else []
-        for way, (since, until) in zip(ways, pairwise(there)):
-            found.add(movement_of[way], since // ground.width, until - since)
-    return found
+        link_clocks = [*vehicle_clocks, ground.until if end is None else end] if vehicle_clocks else []
+        for way, (since, until) in zip(ways, pairwise(link_clocks)):
+            observed.add(movement_of[way], since // ground.width, until - since)
+    return observed

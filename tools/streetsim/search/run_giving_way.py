@@ -32,10 +32,10 @@ def giving_session(
     return replace(session, giving=Giving(with_load(run, **load), mapping, until, without, rounds, *ends))
 
 
-def is_driven(of: Settings | Giving) -> bool:
+def is_driven(settings: Settings | Giving) -> bool:
     """Whether lines are sent by what is seen while a run goes: for lights that detectors drive, or for stops of buses;
     merging before works does not count."""
-    return bool(of.lights.driven or of.lights.idle or of.buses.visits)
+    return bool(settings.lights.driven or settings.lights.idle or settings.buses.visits)
 
 
 def gap_lines(session: PreparedRun, signals: bytes, seed: int) -> tuple[list, Yielding]:
@@ -56,17 +56,17 @@ def with_gap_lines(session: PreparedRun, lines: list) -> PreparedRun:
     drive and stops of buses. The giving of the given session must not be None."""
     giving = session.giving
     assert giving is not None
-    made = session_of(session.program, with_lines(giving.run, lines), giving.until, giving.without)
-    return replace(made, digest=session.digest)
+    prepared = session_of(session.program, with_lines(giving.run, lines), giving.until, giving.without)
+    return replace(prepared, digest=session.digest)
 
 
 def for_search(session: PreparedRun, lines: list) -> PreparedRun:
     """The session, which must have a giving, as with_gap_lines makes it; where something acts while its run goes, it
     keeps a giving without rounds, by which seconds_of_run has it act."""
-    giving, made = session.giving, with_gap_lines(session, lines)
+    giving, prepared = session.giving, with_gap_lines(session, lines)
     if giving is None or not (is_driven(giving) or (giving.merging and closures_of(giving.run, giving.until))):
-        return made
-    return replace(made, giving=replace(giving, run=with_lines(giving.run, lines), rounds=0))
+        return prepared
+    return replace(prepared, giving=replace(giving, run=with_lines(giving.run, lines), rounds=0))
 
 
 def seconds_of_run(session: PreparedRun, signals: bytes, seed: int) -> float:
@@ -84,10 +84,10 @@ def outcome_giving_way(session: PreparedRun, signals: bytes, seed: int) -> Outco
     lines, yielding = gap_lines(session, signals, seed)
     giving = session.giving
     if giving.open_end or is_driven(giving) or closures_of(giving.run, giving.until):
-        found = open_outcome(session, lines, signals, seed)
+        result = open_outcome(session, lines, signals, seed)
     else:
-        found = outcome(with_gap_lines(session, lines), signals, seed)
-    return replace(found, junctions=yielding.junctions, lines=yielding.lines)
+        result = outcome(with_gap_lines(session, lines), signals, seed)
+    return replace(result, junctions=yielding.junctions, lines=yielding.lines)
 
 
 def open_outcome(session: PreparedRun, lines: list, signals: bytes, seed: int) -> Outcome:
@@ -110,5 +110,6 @@ def settings_of(giving: Giving) -> Settings:
 
 def with_signals(run: Run, signals: bytes, nodes: frozenset) -> Run:
     """The run with signals (lines in bytes) in place of its own first signals at some nodes."""
-    kept = (line for line in run.first if not (line.command["cmd"] == "signal" and line.command["node"] in nodes))
-    return replace(run, first=[*kept, *(Line(0, line, json.loads(line)) for line in signals.decode().splitlines())])
+    kept_lines = (line for line in run.first if not (line.command["cmd"] == "signal" and line.command["node"] in nodes))
+    signal_lines = (Line(0, line, json.loads(line)) for line in signals.decode().splitlines())
+    return replace(run, first=[*kept_lines, *signal_lines])

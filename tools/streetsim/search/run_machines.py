@@ -170,13 +170,13 @@ def cluster_of(address: str, sessions: Sequence[Held]) -> Iterator[Machines]:
 def prepare(client: Cluster, address: str, sessions: Sequence[Held]) -> None:
     """Sends this package to the workers of a cluster, and checks their programs; where one of them is lost meanwhile,
     again, TRIES times in all, and then a Fault. Fault at once where a program is another one."""
-    for left in reversed(range(TRIES)):
+    for tries_left in reversed(range(TRIES)):
         try:
             send_package(client)
             check_programs(client, sessions)
             return
         except OSError as fault:
-            if not left:
+            if not tries_left:
                 raise Fault(
                     f"--cluster {address}: its workers could not be made ready: {exception_told(fault)}"
                 ) from None
@@ -184,19 +184,19 @@ def prepare(client: Cluster, address: str, sessions: Sequence[Held]) -> None:
 
 def send_package(client: Cluster) -> None:
     """Sends this package to all workers of a cluster, also to those that join it later."""
-    place = Path(__file__).resolve().parents[1]
+    package_folder = Path(__file__).resolve().parents[1]
     with tempfile.TemporaryDirectory() as folder:
         path = os.path.join(folder, "streetsim_tools.zip")
         with zipfile.ZipFile(path, "w") as package:
-            for source in sorted(place.rglob("*.py")):
-                package.write(source, f"streetsim/{source.relative_to(place).as_posix()}")
+            for source in sorted(package_folder.rglob("*.py")):
+                package.write(source, f"streetsim/{source.relative_to(package_folder).as_posix()}")
         client.upload_file(path)
 
 
 def check_programs(client: Cluster, sessions: Sequence[Held]) -> None:
     """Fault where a worker of a cluster has no program, or another one, at a session's path."""
     for program, digest in sorted({(session.program, session.digest) for session in sessions}):
-        for worker, found in sorted(client.run(program_digest, program).items()):
-            if found != digest:
-                other = f"another program ({found[:12]}, here {(digest or 'none')[:12]})" if found else "no program"
+        for worker, held in sorted(client.run(program_digest, program).items()):
+            if held != digest:
+                other = f"another program ({held[:12]}, here {(digest or 'none')[:12]})" if held else "no program"
                 raise Fault(f"--cluster: worker {worker} has {other} at {program}")

@@ -38,10 +38,10 @@ def outcome_of(program: str, run: Run, mapping: Map, settings: Settings) -> Outc
     steering, trips = Steering(run, mapping, settings), TripsTable()
     summary, works = Summary(trips, steering.ending.looks), WorksTable(steering.closures)
     try:
-        with Summed(program) as made:
-            kernel = Kernel(made, run, mapping, steering.controllers, [trips, summary, works])
+        with Summed(program) as running:
+            kernel = Kernel(running, run, mapping, steering.controllers, [trips, summary, works])
             kernel.go(settings.until)
-            digest = made.sum.hexdigest()
+            digest = running.sum.hexdigest()
     except (NoReply, ProgramEnded) as fault:
         raise Fault(f"{run.path}: {fault}") from None
     ends = [arrival for arrival, _ in trips.ends()]
@@ -49,8 +49,8 @@ def outcome_of(program: str, run: Run, mapping: Map, settings: Settings) -> Outc
         max(0, (kernel.clock if end is None else end) - line.command["depart"])
         for line, end in zip(run.enters, ends, strict=True)
     )
-    arrived, gone = sum(end is not None for end in ends), when_all_arrived(ends, run.start())
+    arrived, gone_at = sum(end is not None for end in ends), when_all_arrived(ends, run.start())
     worst = max(summary.censuses(), key=lambda census: census.waiting)
     at_works, waiting = tuple(doubts_of(works.watched, mapping)), (worst.waiting, worst.clock)
     ended = steering.ending.ended
-    return Outcome(digest, arrived, seconds, kernel.clock, *waiting, ended, gone=gone, at_works=at_works)
+    return Outcome(digest, arrived, seconds, kernel.clock, *waiting, ended, all_arrived_at=gone_at, at_works=at_works)

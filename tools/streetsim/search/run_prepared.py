@@ -39,9 +39,9 @@ class PreparedRun:
 
     program: str
     digest: str | None  # SHA-256 of the program's file
-    words: tuple[str, ...]  # by which the program takes any number of calls
+    program_args: tuple[str, ...]  # by which the program takes any number of calls
     opening: bytes  # the load, up to its seed
-    first: bytes  # what goes before the enters, but the signals
+    first_lines: bytes  # what goes before the enters, but the signals
     enters: bytes
     departs: tuple[int, ...]  # of the vehicles that depart before the end
     clocks: tuple[int, ...]  # at which vehicles are counted: the start and the end, and between
@@ -64,7 +64,7 @@ class Outcome:
     ended: str = ""  # why a run without a last second ended
     junctions: int = 0  # without a light, at which vehicles give way
     lines: int = 0  # signals by which they do
-    gone: int | None = None  # the clock at which all had arrived; None where some have not
+    all_arrived_at: int | None = None  # the clock at which all had arrived; None where some have not
     at_works: tuple[str, ...] = ()  # what speaks against the run, by what was seen before its works
 
 
@@ -74,23 +74,25 @@ def session_of(program: str, run: Run, until: int, without: Collection[int] = fr
     Runs the program once, as words_of does."""
     command = {**run.load.command, **load}
     command.pop("seed", None)
-    first = [line for line in run.first if not (line.command["cmd"] == "signal" and line.command["node"] in without)]
+    first_lines = [
+        line for line in run.first if not (line.command["cmd"] == "signal" and line.command["node"] in without)
+    ]
     enters = [line for line in run.enters if line.command["depart"] < until]
     timed = [(clock, line) for clock, line in run.timed if clock < until]
     clocks, minutes = (tuple(sorted({*range(run.start(), until, every), until})) for every in (OFTEN, MINUTE))
-    asks = b"".join(b'{"cmd":"vehicle","car":%d}\n' % car for car in range(len(enters)))
+    vehicle_questions = b"".join(b'{"cmd":"vehicle","car":%d}\n' % car for car in range(len(enters)))
     return PreparedRun(
         program=program,
         digest=program_digest(program),
-        words=tuple(words_of(program)[1:]),
+        program_args=tuple(words_of(program)[1:]),
         opening=json.dumps(command, separators=(",", ":")).encode()[:-1] + b',"seed":',
-        first=bytes_of(first),
+        first_lines=bytes_of(first_lines),
         enters=bytes_of(enters),
         departs=tuple(line.command["depart"] for line in enters),
         clocks=clocks,
         counting=advance_lines(clocks, timed, COUNT),
         minutes=minutes,
-        asking=advance_lines(minutes, timed, COUNT) + asks,
+        asking=advance_lines(minutes, timed, COUNT) + vehicle_questions,
     )
 
 
@@ -102,12 +104,12 @@ def bytes_of(lines: Iterable[Line]) -> bytes:
 def advance_lines(clocks: Sequence[int], timed: Sequence[tuple[int, Line]], counted: bytes) -> bytes:
     """The advance lines from clock to clock with the timed lines between, as bytes; counted: the line that follows at
     each of the clocks but the first; timed: of before the last of them, those of before the first go at it."""
-    told, clocks = set(clocks), sorted({*clocks, *(clock for clock, _ in timed if clocks[0] < clock < clocks[-1])})
+    counts_at, clocks = set(clocks), sorted({*clocks, *(clock for clock, _ in timed if clocks[0] < clock < clocks[-1])})
     sent = {clock: b"" for clock in clocks}
     for clock, line in timed:
         sent[max(clock, clocks[0])] += line.text.encode() + b"\n"
     parts = (
-        sent[begin] + b'{"cmd":"advance","steps":%d}\n' % (end - begin) + (counted if end in told else b"")
+        sent[begin] + b'{"cmd":"advance","steps":%d}\n' % (end - begin) + (counted if end in counts_at else b"")
         for begin, end in pairwise(clocks)
     )
     return b"".join(parts)
@@ -118,19 +120,19 @@ def replies(session: PreparedRun, signals: bytes, seed: int, tail: bytes) -> byt
     a line is refused, the program fails, or it is another one than the session's."""
     if program_digest(session.program) != session.digest:
         raise Fault(f"{session.program}: another program than the one that the runs were prepared for, or none")
-    with tempfile.TemporaryFile() as given, tempfile.TemporaryFile() as told:
-        given.writelines((session.opening, b"%d}\n" % seed, session.first, signals, session.enters, tail))
-        given.seek(0)
-        words = [session.program, *session.words]
-        done = subprocess.run(words, stdin=given, stdout=told, stderr=subprocess.PIPE, check=False)
-        told.seek(0)
-        text = told.read()
-    if done.returncode:
-        why = done.stderr.decode(errors="replace").strip()
-        raise Fault(f"the program ended with status {done.returncode}: {why or 'nothing on standard error'}")
-    if found := any(mark in text for mark in (b'"error":', b'"starved"', b'"short":')) and REFUSED.search(text):
-        number = text.count(b"\n", 0, found.start()) + 1
-        raise Fault(f"the program refused call {number:,} of a run: {found[0].decode(errors='replace')[:100]}")
+    with tempfile.TemporaryFile() as stdin, tempfile.TemporaryFile() as stdout:
+        stdin.writelines((session.opening, b"%d}\n" % seed, session.first_lines, signals, session.enters, tail))
+        stdin.seek(0)
+        command = [session.program, *session.program_args]
+        process = subprocess.run(command, stdin=stdin, stdout=stdout, stderr=subprocess.PIPE, check=False)
+        stdout.seek(0)
+        text = stdout.read()
+    if process.returncode:
+        why = process.stderr.decode(errors="replace").strip()
+        raise Fault(f"the program ended with status {process.returncode}: {why or 'nothing on standard error'}")
+    if refusal := any(mark in text for mark in (b'"error":', b'"starved"', b'"short":')) and REFUSED.search(text):
+        number = text.count(b"\n", 0, refusal.start()) + 1
+        raise Fault(f"the program refused call {number:,} of a run: {refusal[0].decode(errors='replace')[:100]}")
     return text
 
 
@@ -143,8 +145,8 @@ def vehicle_seconds(session: PreparedRun, signals: bytes, seed: int) -> float:
         raise Fault(f"{len(arrived) - 1:,} counts were answered, and {len(session.clocks) - 1:,} were asked for")
     start, count = session.clocks[0], len(session.departs)
     area = sum(
-        (later - clock) * (count - (here + there) / 2)
-        for (clock, later), (here, there) in zip(pairwise(session.clocks), pairwise(arrived), strict=True)
+        (later - clock) * (count - (before + after) / 2)
+        for (clock, later), (before, after) in zip(pairwise(session.clocks), pairwise(arrived), strict=True)
     )
     return area + 0.5 * arrived[-1] + count * start - sum(session.departs)
 
@@ -153,12 +155,12 @@ def outcome(session: PreparedRun, signals: bytes, seed: int) -> Outcome:
     """What a run with a seed and signals (lines in bytes) gave, by asking for each vehicle; Fault as of replies."""
     text = replies(session, signals, seed, session.asking)
     count, until = len(session.departs), session.clocks[-1]
-    last = [json.loads(line) for line in text.splitlines()[-count:]] if count else []
-    ends = [one["step"] + 1 if one["state"] == "arrived" else None for one in last]
+    vehicles = [json.loads(line) for line in text.splitlines()[-count:]] if count else []
+    ends = [vehicle["step"] + 1 if vehicle["state"] == "arrived" else None for vehicle in vehicles]
     seconds = sum((until if end is None else end) - depart for end, depart in zip(ends, session.departs, strict=True))
     arrived, digest = sum(end is not None for end in ends), hashlib.sha256(text).hexdigest()
     waiting = most_waiting(session, map(int, WAITING.findall(text)))
-    return Outcome(digest, arrived, seconds, until, *waiting, gone=when_all_arrived(ends, session.clocks[0]))
+    return Outcome(digest, arrived, seconds, until, *waiting, all_arrived_at=when_all_arrived(ends, session.clocks[0]))
 
 
 def when_all_arrived(ends: Sequence[int | None], start: int) -> int | None:
@@ -173,7 +175,7 @@ def most_waiting(session: PreparedRun, counts: Iterable[int]) -> tuple[int, int]
     not on the road, from which those of later departure are taken off."""
     departs, clocks = sorted(session.departs), session.minutes[1:]
     later = (len(departs) - bisect_left(departs, clock) for clock in clocks)
-    waiting = [count - others for count, others in zip(counts, later, strict=True)]
+    waiting = [count - due_later for count, due_later in zip(counts, later, strict=True)]
     return max(zip(waiting, clocks, strict=True), key=itemgetter(0), default=(0, session.clocks[0]))
 
 

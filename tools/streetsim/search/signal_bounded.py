@@ -45,7 +45,7 @@ class BoundsGround:
 
     town: SignalTown  # all its lights as of seconds
     lights: ActuatedLights
-    given: Bounded
+    given_bounds: Bounded
     sessions: list[PreparedRun]  # of the report, of the search
 
 
@@ -54,50 +54,54 @@ def ground_of(reading: Reading, town: SignalTown) -> BoundsGround:
     reasons, and those that detectors drive and whose bounds stay as they are; Fault where no light has bounds that may
     be changed."""
     lights = driven_lights(town.run, town.mapping)
-    given = given_bounds(lights, reading.keep)
+    bounds = given_bounds(lights, reading.keep)
     print(*lights.notes(), sep="\n", end="\n" if lights.listed else "", file=sys.stderr)
-    if others := [one.name for one in lights.driven if one.name not in given]:
-        print(
-            f"not changed, as they have no bounds of this kind or --fixed says so: {first_few(others)}", file=sys.stderr
-        )
-    if not given:
+    if unchanged := [light.name for light in lights.driven if light.name not in bounds]:
+        why = "as they have no bounds of this kind or --fixed says so"
+        print(f"not changed, {why}: {first_few(unchanged)}", file=sys.stderr)
+    if not bounds:
         raise Fault(f"{reading.map}: detectors drive no light whose bounds may be changed")
     settings = replace(town.settings, lights=lights)
     dawdle = min(1000, town.run.load.command["dawdle"] + reading.reserve)
-    own = reading.program, town.run, town.mapping, settings, reading.rounds
-    sessions = [giving_session(*own), giving_session(*own, dawdle=dawdle)]
-    return BoundsGround(town, lights, given, sessions)
+    session_args = reading.program, town.run, town.mapping, settings, reading.rounds
+    sessions = [giving_session(*session_args), giving_session(*session_args, dawdle=dawdle)]
+    return BoundsGround(town, lights, bounds, sessions)
 
 
 def bounded_outcomes(
-    workers: Machines, tried: Sequence[Bounded], seeds: Sequence[int], place: int = EXACT
+    workers: Machines, tried: Sequence[Bounded], seeds: Sequence[int], session_place: int = EXACT
 ) -> Iterator[Outcome]:
     """What runs under some bounds gave: the outcomes of the first bounds with each seed, then of the second, and so on.
-    workers: with the sessions of a ground; place: of the session that runs them, EXACT or CAREFUL."""
-    tasks = [(f"the run with seed {seed}", bounded_outcome, place, one, seed) for one in tried for seed in seeds]
+    workers: with the sessions of a ground; session_place: of the session that runs them, EXACT or CAREFUL."""
+    tasks = [
+        (f"the run with seed {seed}", bounded_outcome, session_place, bounds, seed)
+        for bounds in tried for seed in seeds
+    ]  # fmt: skip
     return workers.ordered(tasks)
 
 
 def searched_bounds(
-    asked: BoundsSettings, workers: Machines, ground: BoundsGround, tried: Sequence[int]
+    settings: BoundsSettings, workers: Machines, ground: BoundsGround, tried: Sequence[int]
 ) -> tuple[PlanSearch, bool]:
     """Searches for bounds; gives (search when it has ended, whether the user ended it). workers: with the sessions of
     the ground; tried: seeds for first runs of the given bounds, which say how many of them the search uses; used only
-    where asked.seeds is empty. Fault where a run fails, or the budget does not reach for one run of each seed."""
-    cars, seeds = len(ground.town.session.departs), asked.seeds
+    where settings.seeds is empty. Fault where a run fails, or the budget does not reach for one run of each seed."""
+    cars, seeds = len(ground.town.session.departs), settings.seeds
     if not seeds:
-        seeds = tried[: seeds_for([one.seconds / cars for one in bounded_outcomes(workers, [ground.given], tried)])]
-    refuse_budget(asked.budget, seeds)
+        outcomes = bounded_outcomes(workers, [ground.given_bounds], tried)
+        seeds = tried[: seeds_for([outcome.seconds / cars for outcome in outcomes])]
+    refuse_budget(settings.budget, seeds)
 
     def trips(tried: Sequence[Bounded]) -> Iterator[float]:
         """The mean trip, in seconds, under each of some bounds with each seed."""
-        return (one.seconds / cars for one in bounded_outcomes(workers, tried, seeds, CAREFUL))
+        return (outcome.seconds / cars for outcome in bounded_outcomes(workers, tried, seeds, CAREFUL))
 
     def search_from_given(search: PlanSearch) -> None:
         """Searches from the given bounds."""
-        search_bounds(search, ground.given, lowest_greens(ground.town.mapping, ground.given, asked.least))
+        lowest = lowest_greens(ground.town.mapping, ground.given_bounds, settings.least)
+        search_bounds(search, ground.given_bounds, lowest)
 
-    return ended_search(trips, asked.budget, len(seeds), search_from_given, key_of)
+    return ended_search(trips, settings.budget, len(seeds), search_from_given, key_of)
 
 
 @dataclass(frozen=True, slots=True)
@@ -116,7 +120,7 @@ class FoundBounds:
         """The rows of before-after.csv: mean trips (s) as given and as found, under the best plan of seconds and as
         found, and those of SUMO where it was run; of two seeds or more. cars: vehicles that depart before the end."""
         named = {"mean_trip_s": (self.before, self.after), "mean_trip_of_best_fixed_s": (self.fixed, self.after)}
-        pairs = {name: [[one.seconds / cars for one in runs] for runs in pair] for name, pair in named.items()}
+        pairs = {name: [[outcome.seconds / cars for outcome in runs] for runs in pair] for name, pair in named.items()}
         return [*(row_of(name, *pair) for name, pair in pairs.items()), *sumo_rows(self.sumo)]
 
     def doubts(self, ground: BoundsGround) -> Iterator[str]:
@@ -126,31 +130,32 @@ class FoundBounds:
         yield from trust.actuated_doubts(town.session.clocks[-1], town.run, town.mapping, lights)
 
 
-def write_found_bounds(output: str, out: str, ground: BoundsGround, found: FoundBounds) -> int:
+def write_found_bounds(output: str, out: str, ground: BoundsGround, result: FoundBounds) -> int:
     """Writes bounds (to the file output) and tables (into the folder out), and prints what was found. Gives the exit
     status: 0 where the bounds are shown to be better wherever they were run, else 1."""
-    best, doubts = found.search.best[1], [*found.doubts(ground)]
-    rows = found.before_after_rows(len(ground.town.session.departs))
+    best, doubts = result.search.best[1], [*result.doubts(ground)]
+    rows = result.before_after_rows(len(ground.town.session.departs))
     with whole_folder(out, LAST) as folder:
-        write_table(f"{folder}/lights.csv", LIGHTS, bound_rows(ground.given, best))
-        write_search(folder, rows, found.search, doubts, ground.town.session.program)
+        write_table(f"{folder}/lights.csv", LIGHTS, bound_rows(ground.given_bounds, best))
+        write_search(folder, rows, result.search, doubts, ground.town.session.program)
         with whole_file(output) as file:
             file.write(bounds_text(ground.town.mapping, best))
-    return tell_bounds(found, rows, doubts)
+    return tell_bounds(result, rows, doubts)
 
 
 def bound_rows(before: Bounded, after: Bounded) -> Iterator[Entry]:
     """The rows of lights.csv, as LIGHTS has the columns, one for each green: bounds and gap as given and as found."""
-    for name, own in sorted(before.items()):
-        for at, ((phase, least, most), (_, low, high)) in enumerate(zip(own.greens, after[name].greens, strict=True)):
-            yield name, phase, least, low, most, high, f"{own.gap_of(at):g}", f"{after[name].gap_of(at):g}"
+    for name, bounds in sorted(before.items()):
+        pairs = zip(bounds.greens, after[name].greens, strict=True)
+        for at, ((phase, least, most), (_, low, high)) in enumerate(pairs):
+            yield name, phase, least, low, most, high, f"{bounds.gap_of(at):g}", f"{after[name].gap_of(at):g}"
 
 
-def tell_bounds(found: FoundBounds, rows: Sequence[BeforeAfter], doubts: Sequence[str]) -> int:
+def tell_bounds(result: FoundBounds, rows: Sequence[BeforeAfter], doubts: Sequence[str]) -> int:
     """Prints what was found, of the rows of before-after.csv; gives the exit status, as tell_verdict."""
     fixed = rows[1]
-    if found.stopped:
+    if result.stopped:
         print("stopped: the best bounds found so far are written")
-    print(trips_told(rows[0], found.search))
+    print(trips_told(rows[0], result.search))
     print(f"the best plan of seconds: {fixed.before:.1f} s; detectors with the bounds found: {fixed.change_told()}")
-    return tell_verdict(rows[0], found.search, doubts, found.sumo)
+    return tell_verdict(rows[0], result.search, doubts, result.sumo)

@@ -60,13 +60,13 @@ def given_bounds(lights: ActuatedLights, keep: Collection[str]) -> Bounded:
     """The bounds of the lights that a search may change, by light: of the actuated and NEMA ones that are not in keep
     and that have one program all day. Greens whose most is above 600 s are left out, and so are lights without a green
     whose bounds may be changed."""
-    found, keep = {}, {*keep, *(light for _, light, _ in lights.switches)}
-    for one in lights.driven:
-        if one.name not in keep:
-            own = actuated_bounds(one) if isinstance(one, Driven) else ring_bounds(one)
-            if own.greens:
-                found[one.name] = own
-    return found
+    bounds_by_light, keep = {}, {*keep, *(light for _, light, _ in lights.switches)}
+    for light in lights.driven:
+        if light.name not in keep:
+            bounds = actuated_bounds(light) if isinstance(light, Driven) else ring_bounds(light)
+            if bounds.greens:
+                bounds_by_light[light.name] = bounds
+    return bounds_by_light
 
 
 def actuated_bounds(light: Driven) -> Bounds:
@@ -83,37 +83,37 @@ def actuated_bounds(light: Driven) -> Bounds:
 def ring_bounds(light: DrivenRings) -> Bounds:
     """The bounds of a NEMA light, in whole seconds, its extensions (vehext) as gaps; without greens that no area
     extends, as they have none or always last their most (maxRecall), whose most is above 600 s, or is their least."""
-    extended = (one for one in light.rings.phases if one.areas and not one.most_recall)
-    own = [one for one in extended if one.least < one.most <= limits.PHASE_STEPS]
+    extended = (phase for phase in light.rings.phases if phase.areas and not phase.most_recall)
+    phases = [phase for phase in extended if phase.least < phase.most <= limits.PHASE_STEPS]
     return Bounds(
-        tuple((one.number, round(one.least), round(one.most)) for one in own), tuple(one.extension for one in own)
+        tuple((one.number, round(one.least), round(one.most)) for one in phases), tuple(one.extension for one in phases)
     )
 
 
-def kept_with(kept: Json, bounds: Bounds) -> Json:
+def kept_with(program: Json, bounds: Bounds) -> Json:
     """What a map keeps of a program, with other bounds: of an actuated light one max-gap in place of all that it had,
     those of single lanes too; of a NEMA light the extension (vehext) of each green. The one given stays as it is.
     bounds: of greens that the program has."""
-    phases, timing = ([list(one) for one in kept.get(key, ())] for key in ("phases", "timing"))
+    phases, timing = ([list(row) for row in program.get(key, ())] for key in ("phases", "timing"))
     names = [digits(text) for text, *_ in timing]
     for at, (phase, least, most) in enumerate(bounds.greens):
-        place = names.index((phase,)) if timing else phase
-        phases[place][2:4] = [least, most]
+        index = names.index((phase,)) if timing else phase
+        phases[index][2:4] = [least, most]
         if timing:
-            timing[place][1] = bounds.gap_of(at)
+            timing[index][1] = bounds.gap_of(at)
     if timing:
-        return {**kept, "phases": phases, "timing": timing}
-    parameters = {name: value for name, value in kept["parameters"].items() if name.partition(":")[0] != MAX_GAP}
-    return {**kept, "phases": phases, "parameters": {**parameters, MAX_GAP: f"{bounds.gap_of(0):g}"}}
+        return {**program, "phases": phases, "timing": timing}
+    parameters = {name: value for name, value in program["parameters"].items() if name.partition(":")[0] != MAX_GAP}
+    return {**program, "phases": phases, "parameters": {**parameters, MAX_GAP: f"{bounds.gap_of(0):g}"}}
 
 
 def with_bounds(lights: ActuatedLights, mapping: Map, bounded: Mapping[str, Bounds]) -> ActuatedLights:
     """The lights with other bounds, by name; lights without a name there stay. Their detectors lie where SUMO puts them
     for the new least greens. Listed (a Fault) where one cannot be driven with its gap, from 32 s on."""
-    kept = programs_at_begin(mapping.programs)
+    programs = programs_at_begin(mapping.programs)
     driven = (
-        driven_of(kept_with(kept[one.name], bounded[one.name]), mapping) if one.name in bounded else one
-        for one in lights.driven
+        driven_of(kept_with(programs[light.name], bounded[light.name]), mapping) if light.name in bounded else light
+        for light in lights.driven
     )
     return replace(lights, driven=tuple(driven))
 
@@ -131,36 +131,36 @@ def key_of(bounded: Bounded) -> tuple[Any, ...]:
     return tuple(sorted(bounded.items(), key=lambda item: item[0]))
 
 
-def lowest_greens(mapping: Map, given: Bounded, lowest: int | None) -> dict[tuple[str, int], int]:
+def lowest_greens(mapping: Map, bounded: Bounded, lowest: int | None) -> dict[tuple[str, int], int]:
     """The seconds below which no least green is brought, by light and phase: lowest, the least that is given where that
     is None, or the green of pedestrians that the light's program says, where that is longer."""
-    kept = programs_at_begin(mapping.programs)
+    programs = programs_at_begin(mapping.programs)
     return {
         (name, phase): max(
-            least if lowest is None else lowest, int(kept[name]["parameters"].get(f"{PEDESTRIANS}{phase}", 0))
+            least if lowest is None else lowest, int(programs[name]["parameters"].get(f"{PEDESTRIANS}{phase}", 0))
         )
-        for name, own in given.items()
-        for phase, least, _ in own.greens
+        for name, bounds in bounded.items()
+        for phase, least, _ in bounds.greens
     }
 
 
-def search_bounds(search: PlanSearch, given: Bounded, lowest: Mapping[tuple[str, int], int]) -> None:
+def search_bounds(search: PlanSearch, bounded: Bounded, lowest: Mapping[tuple[str, int], int]) -> None:
     """Searches from given bounds: those for all lights at once, then gaps, mosts and leasts light by light, by both of
     STEPS. Ends there, or where the search has ended; search.best then has (mean trip in seconds, the best bounds).
     lowest: as of lowest_greens."""
-    search.climbs = len(STEPS) * sum(len(one.gaps) + 2 * len(one.greens) for one in given.values())
+    search.climbs = len(STEPS) * sum(len(bounds.gaps) + 2 * len(bounds.greens) for bounds in bounded.values())
     try:
-        search.mean_trip("given", given)
-        best = given
-        for step, tried in bounds_for_all_lights(given, lowest):
+        search.mean_trip("given", bounded)
+        best = bounded
+        for step, tried in bounds_for_all_lights(bounded, lowest):
             if search.mean_trip(step, tried) < search.mean_trip("best", best):
                 best = tried
         search.climbed.append(search.simulations)
         for gap, most, least in STEPS:
-            for name in given:
-                for at in range(len(given[name].gaps)):
+            for name in bounded:
+                for at in range(len(bounded[name].gaps)):
                     best = climb(search, best, f"gap of {name}", change_of(name, gap_by(at, gap)))
-                for at, (phase, _, _) in enumerate(given[name].greens):
+                for at, (phase, _, _) in enumerate(bounded[name].greens):
                     floor = lowest[name, phase]
                     best = climb(search, best, f"most of {name}", change_of(name, green_by(at, 0, most, floor)))
                     best = climb(search, best, f"least of {name}", change_of(name, green_by(at, least, 0, floor)))
@@ -169,20 +169,20 @@ def search_bounds(search: PlanSearch, given: Bounded, lowest: Mapping[tuple[str,
 
 
 def bounds_for_all_lights(
-    given: Bounded, lowest: Mapping[tuple[str, int], int]
+    bounded: Bounded, lowest: Mapping[tuple[str, int], int]
 ) -> Iterator[tuple[str, Bounded]]:
     """Bounds that are tried for all lights at once, (name of the step, bounds): each gap of GAPS, then all mosts times
     SHORTER, and times LONGER; a most that Bounds.with_green forbids stays. lowest: as of lowest_greens."""
     for gap in GAPS:
-        all_ = {name: replace(own, gaps=tuple(gap for _ in own.gaps)) for name, own in given.items()}
-        yield f"gaps of {gap:g} s", all_
+        tried = {name: replace(bounds, gaps=tuple(gap for _ in bounds.gaps)) for name, bounds in bounded.items()}
+        yield f"gaps of {gap:g} s", tried
     for share in (SHORTER, LONGER):
-        made = {}
-        for name, own in given.items():
-            for at, (phase, least, most) in enumerate(own.greens):
-                own = own.with_green(at, least, round(share * most), lowest[name, phase]) or own
-            made[name] = own
-        yield f"most by {share:g}", made
+        tried = {}
+        for name, bounds in bounded.items():
+            for at, (phase, least, most) in enumerate(bounds.greens):
+                bounds = bounds.with_green(at, least, round(share * most), lowest[name, phase]) or bounds
+            tried[name] = bounds
+        yield f"most by {share:g}", tried
 
 
 Change = Callable[[Bounds, int], Bounds | None]
@@ -194,25 +194,25 @@ def change_of(name: str, change: Change) -> Callable[[Bounded, int], Bounded | N
 
     def changed(bounded: Bounded, sign: int) -> Bounded | None:
         """The bounds of all lights with the light's changed; None where the change gives none."""
-        made = change(bounded[name], sign)
-        return None if made is None else {**bounded, name: made}
+        new_bounds = change(bounded[name], sign)
+        return None if new_bounds is None else {**bounded, name: new_bounds}
 
     return changed
 
 
 def gap_by(at: int, seconds: float) -> Change:
     """A change: the gap at a place of gaps longer (sign 1) or shorter (sign -1) by so much; None as of with_gap."""
-    return lambda own, sign: own.with_gap(at, own.gaps[at] + sign * seconds)
+    return lambda bounds, sign: bounds.with_gap(at, bounds.gaps[at] + sign * seconds)
 
 
 def green_by(at: int, least: int, most: int, lowest: int) -> Change:
     """A change: the least and the most of the green at a place of greens longer (sign 1) or shorter (sign -1) by so
     many seconds (least, most); None, and lowest, as of Bounds.with_green."""
 
-    def change(own: Bounds, sign: int) -> Bounds | None:
+    def change(bounds: Bounds, sign: int) -> Bounds | None:
         """The bounds with the green changed; None as of with_green."""
-        _, low, high = own.greens[at]
-        return own.with_green(at, low + sign * least, high + sign * most, lowest)
+        _, low, high = bounds.greens[at]
+        return bounds.with_green(at, low + sign * least, high + sign * most, lowest)
 
     return change
 
@@ -220,21 +220,21 @@ def green_by(at: int, least: int, most: int, lowest: int) -> Change:
 def bounds_text(mapping: Map, bounded: Mapping[str, Bounds], program: str = PROGRAM) -> str:
     """The programs of some actuated and NEMA lights of a map with other bounds, as the text of an additional file.
     program: the programID of each."""
-    kept = programs_at_begin(mapping.programs)
+    at_begin = programs_at_begin(mapping.programs)
     programs = []
     for name, bounds in sorted(bounded.items()):
-        one = kept_with(kept[name], bounds)
-        about = f'type="{one["kind"]}" programID="{program}" offset="{one["offset"]:g}"'
-        programs.append((name, about, program_elements(one)))
+        new_program = kept_with(at_begin[name], bounds)
+        about = f'type="{new_program["kind"]}" programID="{program}" offset="{new_program["offset"]:g}"'
+        programs.append((name, about, program_elements(new_program)))
     return additional_of(programs)
 
 
-def program_elements(kept: Json) -> Iterator[str]:
+def program_elements(program: Json) -> Iterator[str]:
     """The parameters and phases of a program, of what a map keeps of it, as elements of an additional file."""
-    for key, value in kept["parameters"].items():
+    for key, value in program["parameters"].items():
         yield f"<param key={quoteattr(key)} value={quoteattr(value)}/>"
-    for at, phase in enumerate(kept["phases"]):
-        more = ring_words(*kept["timing"][at]) if kept.get("timing") else []
+    for at, phase in enumerate(program["phases"]):
+        more = ring_words(*program["timing"][at]) if program.get("timing") else []
         yield f"<phase {' '.join([*phase_words(*phase), *more])}/>"
 
 
@@ -243,9 +243,9 @@ def phase_words(
 ) -> list[str]:
     """The attributes of a <phase> as texts (duration="30" state="GGrr", ..), of what a map keeps of it. least, most:
     seconds, None where not written; following: places of the phases that may come next, empty: the next one."""
-    words = [f'duration="{seconds:g}" state="{state}"']
-    words += [f'{name}="{value:g}"' for name, value in (("minDur", least), ("maxDur", most)) if value is not None]
-    return words + ([f'next="{" ".join(map(str, following))}"'] if following else [])
+    attributes = [f'duration="{seconds:g}" state="{state}"']
+    attributes += [f'{name}="{value:g}"' for name, value in (("minDur", least), ("maxDur", most)) if value is not None]
+    return attributes + ([f'next="{" ".join(map(str, following))}"'] if following else [])
 
 
 def ring_words(name: str, extension: float, yellow: float, red: float) -> list[str]:

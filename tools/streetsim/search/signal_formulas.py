@@ -61,9 +61,9 @@ def ways_between(plans: Iterable[Sequence[int]], light_of: Sequence[str | None])
     ways: Ways = defaultdict(Counter)
     for plan in plans:
         met = [(at, light) for at in range(len(plan) - 1) if (light := light_of[plan[at]])]
-        for (here, light), (there, other) in pairwise(met):
-            if light != other:
-                ways[light, other][tuple(plan[here : there + 2])] += 1
+        for (begin, light), (end, next_light) in pairwise(met):
+            if light != next_light:
+                ways[light, next_light][tuple(plan[begin : end + 2])] += 1
     return ways
 
 
@@ -71,15 +71,15 @@ def heaviest_tree(order: Sequence[str], ways: Ways) -> tuple[dict[str, str], dic
     """The tree of the heaviest flows between lights, rooted in each part at its first light of order: {light: parent}
     for each light but the roots, and {light: itself and all lights behind it, parents before children}."""
     both: Counter[tuple[str, str]] = Counter()
-    for (light, other), found in ways.items():
-        both[min(light, other), max(light, other)] += found.total()
+    for (light, neighbour), counts in ways.items():
+        both[min(light, neighbour), max(light, neighbour)] += counts.total()
     group, joined = {light: {light} for light in order}, defaultdict(set)
-    for (light, other), _ in sorted(both.items(), key=lambda item: (-item[1], item[0])):
-        if group[light] is not group[other]:
-            joined[light].add(other)
-            joined[other].add(light)
-            group[light] |= group[other]
-            for member in group[other]:
+    for (light, neighbour), _ in sorted(both.items(), key=lambda item: (-item[1], item[0])):
+        if group[light] is not group[neighbour]:
+            joined[light].add(neighbour)
+            joined[neighbour].add(light)
+            group[light] |= group[neighbour]
+            for member in group[neighbour]:
                 group[member] = group[light]
     parents: dict[str, str] = {}
     reached: dict[str, bool] = {}
@@ -100,9 +100,9 @@ def reach_from(root: str, joined: Mapping[str, set[str]], parents: dict[str, str
     while waiting:
         light = waiting.pop(0)
         reached[light] = True
-        for other in sorted(joined[light] - reached.keys()):
-            parents[other] = light
-            waiting.append(other)
+        for neighbour in sorted(joined[light] - reached.keys()):
+            parents[neighbour] = light
+            waiting.append(neighbour)
 
 
 def hop_of(
@@ -110,20 +110,20 @@ def hop_of(
 ) -> Hop | None:
     """The heaviest way between a light and its parent, either way round; None where nobody drives between them, or one
     of the turns at its two ends is missing, belongs to another light, or is green in no phase."""
-    found = [
+    candidates = [
         (count, direction, way)
         for direction, pair in ((1, (parent, light)), (-1, (light, parent)))
         for way, count in ways[pair].items()
     ]
-    if not found:
+    if not candidates:
         return None
-    _, direction, way = max(found)
+    _, direction, way = max(candidates)
     turn_of = {(turn.link, turn.next): turn for turn in mapping.turns}
-    first, last = turn_of.get((way[0], way[1])), turn_of.get((way[-2], way[-1]))
-    at_parent, here = (first, last) if direction > 0 else (last, first)
-    if not at_parent or not here or (at_parent.light, here.light) != (parent, light):
+    first_turn, last_turn = turn_of.get((way[0], way[1])), turn_of.get((way[-2], way[-1]))
+    at_parent, at_light = (first_turn, last_turn) if direction > 0 else (last_turn, first_turn)
+    if not at_parent or not at_light or (at_parent.light, at_light.light) != (parent, light):
         return None
-    leave, come = green_phases(lights[parent], at_parent.index), green_phases(lights[light], here.index)
+    leave, come = green_phases(lights[parent], at_parent.index), green_phases(lights[light], at_light.index)
     seconds = free_flow.crossing[way[0]] + free_flow(way[1:-1])
     return Hop(parent, direction * seconds, leave[0], come[0]) if leave and come else None
 
@@ -143,10 +143,10 @@ def loads_of(run: Run, mapping: Map, lights: Mapping[str, PlannedLight]) -> dict
     turns = {(turn.link, turn.next): turn for turn in mapping.turns if turn.light in lights and not turn.added}
     loads: dict[str, list[float]] = {name: [] for name in lights}
     for name, light in lights.items():
-        own = [turn for turn in turns.values() if turn.light == name]
+        light_turns = [turn for turn in turns.values() if turn.light == name]
         for state in light.states:
             links: defaultdict[int, float] = defaultdict(float)
-            for turn in own:
+            for turn in light_turns:
                 if state[turn.index] in GREEN:
                     links[turn.link] += flow[turn.link, turn.next] / hours / len(mapping.links[turn.link].lanes)
             loads[name].append(max(links.values(), default=0.0))
@@ -179,26 +179,26 @@ def at_cycle(
     phases (None: to the given greens), of each at least to 1 vehicle an hour; offsets keep their part of the cycle. A
     light whose bounds do not allow the loads is scaled by its given greens; one that cannot have the cycle keeps its
     timing. loads: as StreetFlows has them."""
-    made = {}
+    new_plan = {}
     for name, timing in plan.items():
         shares = [max(1.0, load) for load in loads[name]] if loads else None
-        cycle_of = cycle or timing.cycle
-        made[name] = lights[name].scaled(timing, cycle_of, shares) or lights[name].scaled(timing, cycle_of) or timing
-    return made
+        light, cycle_of = lights[name], cycle or timing.cycle
+        new_plan[name] = light.scaled(timing, cycle_of, shares) or light.scaled(timing, cycle_of) or timing
+    return new_plan
 
 
 def waved(plan: Plan, streets: StreetFlows) -> Plan:
     """The plan with other offsets, along the tree: green comes when the platoon does. Lights without a hop keep
     theirs."""
-    made = dict(plan)
+    new_plan = dict(plan)
     for root in (light for light in streets.order if light not in streets.hops):
         for light in streets.behind[root]:
             if hop := streets.hops.get(light):
-                start = made[hop.parent].offset + sum(made[hop.parent].durations[: hop.leave]) + hop.seconds
-                timing = made[light]
+                start = new_plan[hop.parent].offset + sum(new_plan[hop.parent].durations[: hop.leave]) + hop.seconds
+                timing = new_plan[light]
                 offset = round(start - sum(timing.durations[: hop.come])) % timing.cycle
-                made[light] = PlannedTiming(offset, timing.durations)
-    return made
+                new_plan[light] = PlannedTiming(offset, timing.durations)
+    return new_plan
 
 
 def proposals(
@@ -210,8 +210,8 @@ def proposals(
     planning.CHANGES, has them. cycles: empty where cycles may not change."""
     for cycle in (None, *cycles):
         for loads in (None, streets.loads) if "splits" in changed else (None,):
-            made = plan if cycle is None and loads is None else at_cycle(lights, plan, cycle, loads)
-            told = f"{f'cycle {cycle} s' if cycle else 'given cycles'}, {'splits by flow' if loads else 'given splits'}"
-            yield f"{told}, given offsets", made
+            proposed = plan if cycle is None and loads is None else at_cycle(lights, plan, cycle, loads)
+            name = f"{f'cycle {cycle} s' if cycle else 'given cycles'}, {'splits by flow' if loads else 'given splits'}"
+            yield f"{name}, given offsets", proposed
             if "offsets" in changed:
-                yield f"{told}, wave", waved(made, streets)
+                yield f"{name}, wave", waved(proposed, streets)

@@ -53,12 +53,12 @@ def before_after_rows(
     many arrived, and how many waited to enter at the worst minute. With sumo a last row has SUMO's mean trips."""
     cars, free = len(town.session.departs), free_trip(town)
     figures: dict[str, Callable[[Outcome], float]] = {
-        "mean_trip_s": lambda one: one.seconds / cars,
-        "mean_loss_s": lambda one: one.seconds / cars - free,
-        "arrived": lambda one: one.arrived,
-        "waited_to_enter": lambda one: one.waiting,
+        "mean_trip_s": lambda outcome: outcome.seconds / cars,
+        "mean_loss_s": lambda outcome: outcome.seconds / cars - free,
+        "arrived": lambda outcome: outcome.arrived,
+        "waited_to_enter": lambda outcome: outcome.waiting,
     }
-    pairs = {name: [[figure(one) for one in runs] for runs in (before, after)] for name, figure in figures.items()}
+    pairs = {name: [[figure(run) for run in runs] for runs in (before, after)] for name, figure in figures.items()}
     return [*(row_of(name, *pair) for name, pair in pairs.items()), *sumo_rows(sumo)]
 
 
@@ -112,12 +112,12 @@ def write_search(
 ) -> None:
     """Writes before-after.csv, of its rows, search.csv and what speaks against the result (doubts), and against its
     program, into a folder."""
-    told = [
-        (one.figure, *(f"{value:.3f}" for value in (one.before, one.after, one.difference, one.half)), one.runs)
-        for one in rows
+    cells = [
+        (row.figure, *(f"{value:.3f}" for value in (row.before, row.after, row.difference, row.half)), row.runs)
+        for row in rows
     ]
-    write_table(f"{folder}/{LAST}", BEFORE_AFTER, told)
-    trials = [(one.simulations, one.step, f"{one.value:.3f}", f"{one.best:.3f}") for one in search.trials]
+    write_table(f"{folder}/{LAST}", BEFORE_AFTER, cells)
+    trials = [(trial.simulations, trial.step, f"{trial.value:.3f}", f"{trial.best:.3f}") for trial in search.trials]
     write_table(f"{folder}/search.csv", TRIALS, trials)
     trust.write_doubts(folder, doubts, program)
 
@@ -127,8 +127,8 @@ def light_rows(town: SignalTown, plan: Plan) -> Iterator[Entry]:
     (one text with blanks between), seconds, as given and as found."""
     for name, light in sorted(town.lights.items()):
         pair = town.plan[name], plan[name]
-        greens = (" ".join(str(one.durations[at]) for at in light.free) for one in pair)
-        yield (name, *(one.cycle for one in pair), *(one.offset for one in pair), *greens)
+        greens = (" ".join(str(timing.durations[at]) for at in light.free) for timing in pair)
+        yield (name, *(timing.cycle for timing in pair), *(timing.offset for timing in pair), *greens)
 
 
 def draw_plan(target: PlanFiles, corridor: Corridor, town: SignalTown, plan: Plan, path: str) -> None:
@@ -157,18 +157,18 @@ def tell_found(
     return tell_verdict(rows[0], search, doubts, sumo)
 
 
-def cycles_told(given: Plan, search: PlanSearch) -> str:
+def cycles_told(given_plan: Plan, search: PlanSearch) -> str:
     """The line on the cycles of the plan given and of the plan found, and on how many lights the found one is the
     shortest or the longest of those that were tried there."""
-    found, tried = search.best[1], search.cycles_tried()
-    before, after = (span_told([timing.cycle for timing in plan.values()]) for plan in (given, found))
-    told = f"cycle {before} as given, {after} as found"
+    best_plan, tried = search.best[1], search.cycles_tried()
+    before, after = (span_told([timing.cycle for timing in plan.values()]) for plan in (given_plan, best_plan))
+    line = f"cycle {before} as given, {after} as found"
     for which, end in (("shortest", min), ("longest", max)):
-        at = [name for name, cycles in tried.items() if len(cycles) > 1 and found[name].cycle == end(cycles)]
+        at = [name for name, cycles in tried.items() if len(cycles) > 1 and best_plan[name].cycle == end(cycles)]
         if at:
-            where = f"at {len(at)} of {len(found)} lights " if len(at) < len(found) else ""
-            told += f", {where}the {which} that was tried (--cycle S-S tries others)"
-    return told
+            where = f"at {len(at)} of {len(best_plan)} lights " if len(at) < len(best_plan) else ""
+            line += f", {where}the {which} that was tried (--cycle S-S tries others)"
+    return line
 
 
 def span_told(seconds: Sequence[int]) -> str:
@@ -193,9 +193,9 @@ def tell_verdict(row: BeforeAfter, search: PlanSearch, doubts: Sequence[str], su
     the result is not to be trusted, empty where it is."""
     if sumo:
         print(sumo.told())
-    found = {"here": (row.difference, row.half), **({"in SUMO": sumo.difference_and_half()} if sumo else {})}
-    worse = [where for where, (mean, width) in found.items() if mean + width >= 0]
-    if text := "; ".join(filter(None, (verdict(found, worse, search), trust.verdict(doubts) if doubts else ""))):
+    changes = {"here": (row.difference, row.half), **({"in SUMO": sumo.difference_and_half()} if sumo else {})}
+    worse = [where for where, (mean, width) in changes.items() if mean + width >= 0]
+    if text := "; ".join(filter(None, (verdict(changes, worse, search), trust.verdict(doubts) if doubts else ""))):
         print(text)
     return 1 if worse else 0
 
@@ -206,12 +206,13 @@ def budget_ended(search: PlanSearch) -> str:
     return f", where --budget ended the search after {len(search.trials):,} plans" if search.spent else ""
 
 
-def verdict(found: Mapping[str, tuple[float, float]], worse: Sequence[str], search: PlanSearch) -> str:
+def verdict(changes: Mapping[str, tuple[float, float]], worse: Sequence[str], search: PlanSearch) -> str:
     """The last line, before the doubts: whether what was found is shown to be better, and by how much where it was run
     in SUMO too; where it is not, also that the budget ended the search. Empty where it is, and was run here alone.
-    found: (difference, half width of its 95 % interval), seconds, by where it was run; worse: where it is not shown."""
-    figures = ", ".join(f"{difference:+.1f} s ± {half:.1f} {where}" for where, (difference, half) in found.items())
-    if len(found) == 1:
+    changes: (difference, half width of its 95 % interval), seconds, by where it was run; worse: where it is not
+    shown."""
+    figures = ", ".join(f"{difference:+.1f} s ± {half:.1f} {where}" for where, (difference, half) in changes.items())
+    if len(changes) == 1:
         return f"not shown to be better{budget_ended(search)}" if worse else ""
     if worse:
         return f"not shown to be better {' or '.join(worse)}: {figures}{budget_ended(search)}"
@@ -228,7 +229,7 @@ def doubts_of(
     yield from trust.length_doubts(until, town.run, town.mapping)
     yield from trust.actuated_doubts(
         until, town.run, town.mapping,
-        [one for one in town.settings.lights.listed_lights(town.mapping) if one not in town.lights],
+        [light for light in town.settings.lights.listed_lights(town.mapping) if light not in town.lights],
     )
     if not sumo and (gaps := town.gaps_told()):
         yield f"without --verify-sumo, as {gaps}"
@@ -238,10 +239,10 @@ def vehicle_doubts(town: SignalTown, before: Sequence[Outcome], after: Sequence[
     """Doubts where vehicles that had the time to arrive have not, or many waited to enter, in runs of what was given
     and of what was found; nothing where neither is so."""
     named = {"as given": before, "as found": after}
-    arrived = {name: fmean(one.arrived for one in runs) for name, runs in named.items()}
+    arrived = {name: fmean(outcome.arrived for outcome in runs) for name, runs in named.items()}
     due = bisect_right(trust.free_arrivals(town.run, town.mapping), town.session.clocks[-1])
     yield from trust.missing_doubts(arrived, due)
-    waiting = {name: [(one.waiting, one.waiting_at) for one in runs] for name, runs in named.items()}
+    waiting = {name: [(outcome.waiting, outcome.waiting_at) for outcome in runs] for name, runs in named.items()}
     yield from trust.waiting_doubts(waiting, len(town.session.departs))
 
 

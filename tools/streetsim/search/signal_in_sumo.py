@@ -70,10 +70,10 @@ class InSumo:
     def words(self, plan: str, seed: int, trips: str, statistic: str) -> list[str]:
         """The words of the command of one run. plan: a file of signal programs that is read last; trips, statistic:
         files that SUMO writes."""
-        own = self.sources
+        files = self.sources
         return [
-            *(self.program, "-n", own.net, "-a", ",".join([*own.additional, *self.more, plan])),
-            *("-r", ",".join(own.routes), "--seed", str(seed), "--begin", str(self.start), "--end", str(self.until)),
+            *(self.program, "-n", files.net, "-a", ",".join([*files.additional, *self.more, plan])),
+            *("-r", ",".join(files.routes), "--seed", str(seed), "--begin", str(self.start), "--end", str(self.until)),
             *("--tripinfo-output", trips, "--statistic-output", statistic, "--no-step-log", "--no-warnings"),
         ]
 
@@ -86,8 +86,8 @@ class InSumo:
             return self
         options, report = options_again(mapping), Report()
         net, types = read_net(sources.net, options.classes, report), Types(options.seed, report)
-        for one in sources.additional:
-            read_additional(one, net, types, report)
+        for additional in sources.additional:
+            read_additional(additional, net, types, report)
         graph = graph_of_net(net)
         paths = [*sources.routes, *sources.trips]
         write_routes(path, trips_with_ways(net, graph, types, paths, options, report), graph)
@@ -98,10 +98,10 @@ class InSumo:
         seconds, of those who arrived, and the number of teleports. Fault where SUMO fails."""
         with tempfile.TemporaryDirectory() as folder:
             trips, statistic = f"{folder}/trips.xml", f"{folder}/statistic.xml"
-            words = self.words(plan, seed, trips, statistic)
-            done = subprocess.run(words, cwd=folder, env=environment(), capture_output=True, text=True, check=False)
-            if done.returncode:
-                raise Fault(f"--verify-sumo: SUMO ended with status {done.returncode}: {first_error(done.stderr)}")
+            command = self.words(plan, seed, trips, statistic)
+            sumo = subprocess.run(command, cwd=folder, env=environment(), capture_output=True, text=True, check=False)
+            if sumo.returncode:
+                raise Fault(f"--verify-sumo: SUMO ended with status {sumo.returncode}: {first_error(sumo.stderr)}")
             return read_tripinfo(trips), teleports_of(statistic)
 
 
@@ -120,7 +120,8 @@ def first_error(text: str) -> str:
 
 def teleports_of(path: str) -> int:
     """How often SUMO moved a vehicle out of the way, one maybe more than once, of its statistic output at path."""
-    return sum(attribute(path, one, "total", int) for one in elements(path, ["statistics"]) if one.tag == "teleports")
+    counts = (element for element in elements(path, ["statistics"]) if element.tag == "teleports")
+    return sum(attribute(path, element, "total", int) for element in counts)
 
 
 def sumo_for(reading: Reading, mapping: Map, run: Run) -> InSumo:
@@ -148,11 +149,11 @@ def verified(in_sumo: InSumo, town: SignalTown, texts: Sequence[str], seeds: Seq
     enters = zip(town.mapping.cars, (line.command["depart"] for line in town.run.enters), strict=True)
     departs = {name: depart for name, depart in enters if depart < in_sumo.until}
 
-    def run(task: tuple[str, int], told: Callable[[int], object]) -> tuple[float, int]:
+    def run(task: tuple[str, int], add_done: Callable[[int], object]) -> tuple[float, int]:
         """(mean trip in seconds, number of teleports) of one run, by its (file of programs, seed); then tells that one
         more is done."""
         trips, teleports = in_sumo.run_sumo(*task)
-        told(1)
+        add_done(1)
         return mean_trip(trips, departs, in_sumo.until), teleports
 
     with tempfile.TemporaryDirectory() as folder:

@@ -30,7 +30,7 @@ class Flowing(NamedTuple):
 def flowing(run: Run, mapping: Map) -> list[Flowing]:
     """The vehicles of a run."""
     names, enters = [link.edge for link in mapping.links], [line.command for line in run.enters]
-    return [Flowing([names[link] for link in one["plan"]], one["depart"]) for one in enters]
+    return [Flowing([names[link] for link in command["plan"]], command["depart"]) for command in enters]
 
 
 def full_lanes_under(net: SumoNet, run: Run, mapping: Map) -> list[FullLane]:
@@ -69,7 +69,7 @@ class LightLines:
         for turn in mapping.turns:
             self.turns[mapping.links[turn.link].end].append((turn.link, turn.lane, turn.next, turn))
         # By (light, durations): for each node the phases as bytes.
-        self.made: dict[tuple[str, tuple[int, ...]], list[bytes]] = {}
+        self.node_phases: dict[tuple[str, tuple[int, ...]], list[bytes]] = {}
         self.permissive: set[str] = set()  # lights at which some who drive must find gaps in a green
         self.report = Report()  # of what was made, where a light needs more phases than there may be
 
@@ -80,9 +80,10 @@ class LightLines:
         lines = []
         for name, timing in plan.items():
             key = name, timing.durations
-            if key not in self.made:
-                self.made[key] = [self.phases_json(name, node, timing, lights[name]) for node in self.nodes[name]]
-            for node, phases in zip(self.nodes[name], self.made[key], strict=True):
+            if key not in self.node_phases:
+                light = lights[name]
+                self.node_phases[key] = [self.phases_json(name, node, timing, light) for node in self.nodes[name]]
+            for node, phases in zip(self.nodes[name], self.node_phases[key], strict=True):
                 values = node, -timing.offset % timing.cycle, phases
                 lines.append(b'{"cmd":"signal","node":%d,"offset":%d,"phases":%s}\n' % values)
         return b"".join(lines)
@@ -93,14 +94,14 @@ class LightLines:
         program = LightProgram(0.0, list(zip(timing.durations, light.states, strict=True)), "static")
         self.net.programs[name] = program
         junction, permissive = self.mapping.nodes[node][0], self.mapping.options["permissive"]
-        found = {}
+        movements = {}
         if permissive is None and self.flows:
             connections = self.connections[junction]
-            found = movements_of_junction(junction, connections, self.net, self.flows, self.limits_of)
-        if any(movement.runs and movement.foes and movement.flow for movement in found.values()):
+            movements = movements_of_junction(junction, connections, self.net, self.flows, self.limits_of)
+        if any(movement.runs and movement.foes and movement.flow for movement in movements.values()):
             self.permissive.add(name)
         turns = self.turns[node]
         edges = {link: self.mapping.links[link].edge for link, *_ in turns}
-        own = LitNode(node, turns, edges, name, program, permissive, self.report, found, *measured_of(self.mapping))
-        made = signal_command(own)
-        return json.dumps(made["phases"], separators=(",", ":")).encode()
+        lit = LitNode(node, turns, edges, name, program, permissive, self.report, movements, *measured_of(self.mapping))
+        command = signal_command(lit)
+        return json.dumps(command["phases"], separators=(",", ":")).encode()

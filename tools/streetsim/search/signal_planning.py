@@ -26,8 +26,8 @@ def tried_seeds(check: Sequence[int]) -> list[int]:
 def proposed_cycles(cycles: range, town: SignalTown, streets: StreetFlows) -> list[int]:
     """The cycles that are proposed, in seconds, rising: each STEP of the range and its end, and critical_cycle's where
     it lies within. cycles: a range by single seconds; empty: none is proposed."""
-    made, critical = {*cycles[::STEP], *cycles[-1:]}, critical_cycle(town.lights, town.base, streets)
-    return sorted(made | ({critical} if critical is not None and critical in cycles else set()))
+    proposed, critical = {*cycles[::STEP], *cycles[-1:]}, critical_cycle(town.lights, town.base, streets)
+    return sorted(proposed | ({critical} if critical is not None and critical in cycles else set()))
 
 
 def refuse_budget(budget: int, seeds: Sequence[int]) -> None:
@@ -48,9 +48,9 @@ def ended_search(
 
     def values(plans: Sequence[Any]) -> Generator[float, None, None]:
         """The mean trip, in seconds, of each plan over the seeds, in the plans' order."""
-        found = trips(plans)
+        trip_seconds = trips(plans)
         for _ in plans:
-            yield fmean(islice(found, seeds))
+            yield fmean(islice(trip_seconds, seeds))
 
     with Stopping() as stopping:
 
@@ -72,22 +72,23 @@ class SearchShown:
     def __init__(self, budget: int, after: float) -> None:
         """budget: simulations at most; after: as of ended_search."""
         self.line, self.after = WorkProgress("simulations", budget), after
-        self.alone, self.last, self.begin = 0.0, 0.0, 0.0  # seconds: of the first plan, at the last, as climbs began
+        # Seconds: of the first plan, at the last one, as climbs began.
+        self.first_plan_s, self.last_s, self.climbs_begin_s = 0.0, 0.0, 0.0
 
     def show(self, search: PlanSearch) -> None:
         """Writes the line where it is due, after a plan of a search."""
-        now = self.line.seconds()
-        self.alone = self.alone or now
-        if search.climbed and not self.begin:
-            self.begin = self.last
-        self.last, self.line.total = now, search.expected()
+        elapsed = self.line.seconds()
+        self.first_plan_s = self.first_plan_s or elapsed
+        if search.climbed and not self.climbs_begin_s:
+            self.climbs_begin_s = self.last_s
+        self.last_s, self.line.total = elapsed, search.expected()
         self.line.show(search.simulations, best_line(search), self.seconds_left(search))
 
     def seconds_left(self, search: PlanSearch) -> float:
         """The seconds until the end of a search and of what comes after it."""
         plans = 1.0 + (search.simulations - search.climbed[0]) / search.seeds if search.climbed else 1.0
-        each = (self.alone + (self.last - self.begin if self.begin else 0.0)) / plans
-        return each * (search.expected() - search.simulations) / search.seeds + self.after
+        per_plan = (self.first_plan_s + (self.last_s - self.climbs_begin_s if self.climbs_begin_s else 0.0)) / plans
+        return per_plan * (search.expected() - search.simulations) / search.seeds + self.after
 
 
 def best_line(search: PlanSearch) -> str:

@@ -55,8 +55,8 @@ class PlannedLight:
     def mended(self, timing: PlannedTiming) -> PlannedTiming:
         """The timing with each phase as long as the plan must keep it, and the same offset in its cycle."""
         pairs = zip(timing.durations, self.constraints or [Constraint()] * len(timing.durations), strict=True)
-        made = PlannedTiming(timing.offset, tuple(one.kept(seconds) for seconds, one in pairs))
-        return made.shifted(0)
+        kept_timing = PlannedTiming(timing.offset, tuple(constraint.kept(seconds) for seconds, constraint in pairs))
+        return kept_timing.shifted(0)
 
     def fixed_seconds(self, timing: PlannedTiming) -> int:
         """The seconds of a cycle in phases that may not be stretched."""
@@ -92,12 +92,12 @@ Plan = dict[str, PlannedTiming]  # by light
 def rounded_durations(durations: Iterable[float]) -> tuple[int, ...]:
     """Durations (s) as whole seconds, rounded by their running sum as the import does, so that the cycle differs by no
     more than its own rounding; one of less than a second may become 0."""
-    made, exact, before = [], 0.0, 0
+    rounded, exact, before = [], 0.0, 0
     for duration in durations:
         exact += duration
-        made.append(round(exact) - before)
-        before += made[-1]
-    return tuple(made)
+        rounded.append(round(exact) - before)
+        before += rounded[-1]
+    return tuple(rounded)
 
 
 def spread(shares: Sequence[float], total: int, bounds: Sequence[tuple[int, int]]) -> list[int] | None:
@@ -112,11 +112,11 @@ def spread(shares: Sequence[float], total: int, bounds: Sequence[tuple[int, int]
             low = factor
         else:
             high = factor
-    made = list(rounded_durations(clamped(share * high, bound) for share, bound in zip(shares, bounds, strict=True)))
+    greens = list(rounded_durations(clamped(share * high, bound) for share, bound in zip(shares, bounds, strict=True)))
     # What rounding left goes to the longest that takes it.
-    for at in sorted(range(len(made)), key=lambda at: -made[at]):
-        made[at] = clamped(made[at] + total - sum(made), bounds[at])
-    return made if sum(made) == total else None
+    for at in sorted(range(len(greens)), key=lambda at: -greens[at]):
+        greens[at] = clamped(greens[at] + total - sum(greens), bounds[at])
+    return greens if sum(greens) == total else None
 
 
 def clamped(value: Seconds, bound: tuple[int, int]) -> Seconds | int:
@@ -132,21 +132,21 @@ def light_and_timing(
     durations = rounded_durations(duration for duration, _ in program.phases)
     if constraints is None:
         constraints = constraints_of(name, program) if program.kind == STATIC else [Constraint()] * len(durations)
-    kept = tuple(constraints)
-    phases = zip(program.phases, durations, kept, strict=True)
-    bounds = tuple(stretch_bounds(state, length, one, least) for (_, state), length, one in phases)
-    light = PlannedLight(name, tuple(state for _, state in program.phases), bounds, kept)
+    phase_constraints = tuple(constraints)
+    phases = zip(program.phases, durations, phase_constraints, strict=True)
+    bounds = tuple(stretch_bounds(state, length, constraint, least) for (_, state), length, constraint in phases)
+    light = PlannedLight(name, tuple(state for _, state in program.phases), bounds, phase_constraints)
     return light, PlannedTiming(round(program.offset) % max(1, sum(durations)), durations)
 
 
-def stretch_bounds(state: str, given: int, constraint: Constraint, least: int) -> tuple[int, int]:
+def stretch_bounds(state: str, seconds: int, constraint: Constraint, least: int) -> tuple[int, int]:
     """The (least, most) seconds of a phase, within which are its given seconds, or the nearest that its constraint
     allows. One with green and no yellow that lasts least seconds or more may be changed, from least to 600 s, as far as
     the constraint allows; each other keeps its length."""
-    given = constraint.kept(given)
-    if not is_green(state) or given < least:
-        return given, given
-    return min(given, max(least, constraint.low)), max(given, constraint.high)
+    seconds = constraint.kept(seconds)
+    if not is_green(state) or seconds < least:
+        return seconds, seconds
+    return min(seconds, max(least, constraint.low)), max(seconds, constraint.high)
 
 
 def is_green(state: str) -> bool:
@@ -155,10 +155,10 @@ def is_green(state: str) -> bool:
     return bool(set(state) & set(GREEN)) and not set(state) & set("yYu")
 
 
-def why_kept(name: str, program: LightProgram, asked: Collection[str], timed: Collection[str]) -> str | None:
-    """Why a light's plan is left as it is; None where it is searched. asked: those of --fixed; timed: lights whose plan
+def why_kept(name: str, program: LightProgram, fixed: Collection[str], timed: Collection[str]) -> str | None:
+    """Why a light's plan is left as it is; None where it is searched. fixed: those of --fixed; timed: lights whose plan
     changes by time of day."""
-    if name in asked:
+    if name in fixed:
         return "as --fixed says"
     if name in timed:
         return "its plan changes by time of day"
@@ -173,9 +173,9 @@ def additional_of(programs: Iterable[tuple[str, str, Iterable[str]]]) -> str:
     """The text of an additional file with the programs of lights, as SUMO and streetsim-import take it; of each (light,
     its attributes but the light's name as one text, the elements inside)."""
     parts = ["<additional>\n"]
-    for light, words, inner in programs:
-        elements = "".join(f"        {one}\n" for one in inner)
-        parts.append(f"    <tlLogic id={quoteattr(light)} {words}>\n{elements}    </tlLogic>\n")
+    for light, attributes, inner in programs:
+        elements = "".join(f"        {element}\n" for element in inner)
+        parts.append(f"    <tlLogic id={quoteattr(light)} {attributes}>\n{elements}    </tlLogic>\n")
     return "".join([*parts, "</additional>\n"])
 
 
@@ -185,16 +185,17 @@ def plan_text(lights: Mapping[str, PlannedLight], plan: Mapping[str, PlannedTimi
     programs = []
     for name, timing in sorted(plan.items()):
         light = lights[name]
-        kept = light.constraints or (Constraint(),) * len(light.states)
-        feet = [(at, one.pedestrians) for at, one in enumerate(kept) if one.pedestrians is not None]
+        constraints = light.constraints or (Constraint(),) * len(light.states)
+        walks = [(at, constraint.pedestrians) for at, constraint in enumerate(constraints)]
+        feet = [(at, seconds) for at, seconds in walks if seconds is not None]
         inner = [f'<param key="{PEDESTRIANS}{at}" value="{seconds}"/>' for at, seconds in feet]
-        phases = zip(timing.durations, light.states, kept, strict=True)
+        phases = zip(timing.durations, light.states, constraints, strict=True)
         inner += [f'<phase duration="{duration}" state="{state}"{kept_words(one)}/>' for duration, state, one in phases]
         programs.append((name, f'type="static" programID="{program}" offset="{timing.offset}"', inner))
     return additional_of(programs)
 
 
-def kept_words(one: Constraint) -> str:
+def kept_words(constraint: Constraint) -> str:
     """The attributes of a <phase> that say its least and most, each with a blank before it."""
-    pairs = (("minDur", one.least), ("maxDur", one.most))
+    pairs = (("minDur", constraint.least), ("maxDur", constraint.most))
     return "".join(f' {name}="{seconds}"' for name, seconds in pairs if seconds is not None)

@@ -36,27 +36,27 @@ class Asked(Protocol):
 class Promises:
     """Gathers what the lights of a town must keep, and what their plans break of it."""
 
-    def __init__(self, asked: Asked, lights: Collection[str]) -> None:
+    def __init__(self, reading: Asked, lights: Collection[str]) -> None:
         """Reads the file of constraints, and the crossings of the network. Fault where one cannot be read, or the file
         names no light of some lights."""
-        self.asked, self.broken = asked, list[str]()
-        self.given = read_constraints(asked.constraints) if asked.constraints else {}
-        if unknown := sorted(self.given.keys() - {*lights}):
-            raise Fault(f"{asked.constraints}: the map has no light {unknown[0]!r}")
-        self.crossings = read_crossings(asked.plans[0])
+        self.reading, self.broken = reading, list[str]()
+        self.given_constraints = read_constraints(reading.constraints) if reading.constraints else {}
+        if unknown := sorted(self.given_constraints.keys() - {*lights}):
+            raise Fault(f"{reading.constraints}: the map has no light {unknown[0]!r}")
+        self.crossings = read_crossings(reading.plans[0])
 
     def of(self, light: str, program: LightProgram) -> Sequence[Constraint]:
         """What the phases of a light's program must keep; notes what the program breaks. Fault where constraints
         contradict each other."""
-        own = with_given(light, program, constraints_of(light, program), self.given.get(light, {}))
-        own = with_walks(program, own, self.crossings.get(light, {}))
-        self.broken += broken_in(light, program, own)
-        return own
+        constraints = with_given(light, program, constraints_of(light, program), self.given_constraints.get(light, {}))
+        constraints = with_walks(program, constraints, self.crossings.get(light, {}))
+        self.broken += broken_in(light, program, constraints)
+        return constraints
 
     def tell(self) -> None:
         """Tells on standard error what the plans given break. Fault where they break anything and no word says to
         search all the same; the listed seconds of lights that detectors drive are mended without it."""
-        if self.broken and not (self.asked.mend or self.asked.fixed):
+        if self.broken and not (self.reading.mend or self.reading.fixed):
             raise Fault(f"{self.broken[0]}: no plan to search from ({MEND})")
         if self.broken:
             print(f"mended before the search: {first_few(self.broken)}", file=sys.stderr)

@@ -46,8 +46,8 @@ class PlanSearch:
     budget: int  # simulations
     seeds: int  # simulations that one plan takes
     # Hears of each trial; gives whether the user has asked for an end.
-    told: Callable[[PlanSearch], bool] = lambda search: False
-    seen: dict[Any, float] = field(default_factory=dict)
+    on_trial: Callable[[PlanSearch], bool] = lambda search: False
+    value_by_key: dict[Any, float] = field(default_factory=dict)
     trials: list[PlanTrial] = field(default_factory=list)
     best: tuple[float, Any] = (float("inf"), None)  # value and plan; None before the first trial
     spent: bool = False  # the budget ended it
@@ -64,14 +64,14 @@ class PlanSearch:
     def expected(self) -> int:
         """How many simulations it will have made in the end, as far as can be told: each climb that is to come takes as
         many as those so far, or two plans; at most the budget."""
-        done = max(0, len(self.climbed) - 1)
-        each = (self.climbed[-1] - self.climbed[0]) / done if done > FEW else 2.0 * self.seeds
-        return min(self.budget, self.simulations + round(each * (self.climbs - done)))
+        climbs_done = max(0, len(self.climbed) - 1)
+        per_climb = (self.climbed[-1] - self.climbed[0]) / climbs_done if climbs_done > FEW else 2.0 * self.seeds
+        return min(self.budget, self.simulations + round(per_climb * (self.climbs - climbs_done)))
 
     def cycles_tried(self) -> dict[str, set[int]]:
         """By light the cycles, in seconds, of the plans that were run."""
         tried: dict[str, set[int]] = {}
-        for name, _, durations in (one for key in self.seen for one in key):
+        for name, _, durations in (part for key in self.value_by_key for part in key):
             tried.setdefault(name, set()).add(sum(durations))
         return tried
 
@@ -79,25 +79,25 @@ class PlanSearch:
         """The values (s) of plans, in their order; steps: (what was tried, plan). Those that are new are run, noted and
         told; a plan that was seen before costs nothing. Raises SearchEnded where the budget does not reach for all of
         them, after those that it does reach for (spent is then True), or where the user ends it."""
-        new: dict[Any, tuple[str, Any]] = {}
+        new_plans: dict[Any, tuple[str, Any]] = {}
         for step, plan in steps:
-            if self.key_of(plan) not in self.seen:
-                new.setdefault(self.key_of(plan), (step, plan))
+            if self.key_of(plan) not in self.value_by_key:
+                new_plans.setdefault(self.key_of(plan), (step, plan))
         room = (self.budget - self.simulations) // self.seeds
-        tried = list(new.items())[:room]
-        self.spent = len(tried) < len(new)
-        with contextlib.closing(self.value([plan for _, (_, plan) in tried])) as found:
-            for (key, (step, plan)), value in zip(tried, found):
+        tried = list(new_plans.items())[:room]
+        self.spent = len(tried) < len(new_plans)
+        with contextlib.closing(self.value([plan for _, (_, plan) in tried])) as values:
+            for (key, (step, plan)), value in zip(tried, values):
                 self.note(key, step, plan, value)
-                if self.told(self):
+                if self.on_trial(self):
                     raise SearchEnded
         if self.spent:
             raise SearchEnded
-        return [self.seen[self.key_of(plan)] for _, plan in steps]
+        return [self.value_by_key[self.key_of(plan)] for _, plan in steps]
 
     def note(self, key: Any, step: str, plan: Any, value: float) -> None:
         """Keeps the value of a plan, adds its trial, and makes it the best where it is."""
-        self.seen[key] = value
+        self.value_by_key[key] = value
         if value < self.best[0]:
             self.best = value, plan
         self.trials.append(PlanTrial(self.simulations + self.seeds, step, value, self.best[0]))
@@ -205,7 +205,7 @@ def move_of(light: PlannedLight, source: int, target: int, seconds: int) -> Call
     def change(plan: Plan, sign: int) -> Plan | None:
         """The plan with the seconds moved, from target to source where sign is -1; None where a bound forbids it."""
         first, second = (source, target) if sign > 0 else (target, source)
-        made = light.with_green_moved(plan[light.name], first, second, seconds)
-        return None if made is None else {**plan, light.name: made}
+        moved = light.with_green_moved(plan[light.name], first, second, seconds)
+        return None if moved is None else {**plan, light.name: moved}
 
     return change

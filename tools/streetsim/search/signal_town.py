@@ -72,9 +72,9 @@ class SignalTown:
 
     def first_lines(self, plan: Plan) -> list[Line]:
         """The lines before the first step of the run, with a plan's signals in place of its own at the same nodes."""
-        made = [Line(0, text, json.loads(text)) for text in self.plan_lines(plan).decode().splitlines()]
-        nodes = {line.command["node"] for line in made}
-        return [line for line in self.run.first if signal_node(line) not in nodes] + made
+        plan_lines = [Line(0, text, json.loads(text)) for text in self.plan_lines(plan).decode().splitlines()]
+        nodes = {line.command["node"] for line in plan_lines}
+        return [line for line in self.run.first if signal_node(line) not in nodes] + plan_lines
 
 
 def signal_node(line: Line) -> int | None:
@@ -102,10 +102,10 @@ def read_town(reading: Reading) -> SignalTown:
     lights, plan = searched_lights(reading, run, mapping, net)
     nodes = frozenset(node for light, node in mapping.signals if light in lights)
     settings = settings_of(reading, run, mapping, lights)
-    own = reading.program, run, mapping, settings, reading.rounds, nodes
-    session = careful = giving_session(*own)
+    session_args = reading.program, run, mapping, settings, reading.rounds, nodes
+    session = careful = giving_session(*session_args)
     if reading.reserve:
-        careful = giving_session(*own, dawdle=min(1000, run.load.command["dawdle"] + reading.reserve))
+        careful = giving_session(*session_args, dawdle=min(1000, run.load.command["dawdle"] + reading.reserve))
     town = SignalTown(run, mapping, settings, lights, plan, LightLines(net, run, mapping), session, careful)
     for text in (*settings.lights.notes(), *settings.buses.notes()):
         print(text, file=sys.stderr)
@@ -117,22 +117,22 @@ def settings_of(reading: Reading, run: Run, mapping: Map, searched: Collection[s
     """What each run is asked for: its end, the stops of vehicles, merging, and the lights that detectors drive, but for
     those that are searched. Nobody is rescued, as that would reward a plan under which a network locks."""
     lights = driven_lights(run, mapping)
-    own = replace(
+    driven = replace(
         lights,
-        driven=tuple(one for one in lights.driven if one.name not in searched),
+        driven=tuple(light for light in lights.driven if light.name not in searched),
         listed={name: why for name, why in lights.listed.items() if name not in searched},
-        idle=tuple(one for one in lights.idle if one.name not in searched),
-        switches=tuple(one for one in lights.switches if one[1] not in searched),
+        idle=tuple(light for light in lights.idle if light.name not in searched),
+        switches=tuple(switch for switch in lights.switches if switch[1] not in searched),
     )
-    return Settings(reading.until, rescue=0, lights=own, buses=planned(run, mapping))
+    return Settings(reading.until, rescue=0, lights=driven, buses=planned(run, mapping))
 
 
 def searched_lights(reading: Reading, run: Run, mapping: Map, net: SumoNet) -> tuple[dict[str, PlannedLight], Plan]:
     """({name: light that is searched}, their plan as given); which lights are left as they are, and why, is written to
     standard error. Fault where a light of the map has no program in the plans, --fixed names a light that the map does
     not have, or no light may be changed."""
-    names, asked = lights_of(reading, mapping, net), set(reading.keep)
-    if unknown := sorted(asked - set(names)):
+    names, fixed_lights = lights_of(reading, mapping, net), set(reading.keep)
+    if unknown := sorted(fixed_lights - set(names)):
         raise Fault(f"--fixed: the map has no light {unknown[0]!r}")
     timed_nodes = {signal_node(line) for _, line in run.timed}
     timed = {light for light, node in mapping.signals if node in timed_nodes}
@@ -143,13 +143,13 @@ def searched_lights(reading: Reading, run: Run, mapping: Map, net: SumoNet) -> t
         program = net.programs[name]
         if reading.fixed and program.kind in (ACTUATED, NEMA):
             program = replace(program, kind=STATIC)
-        if why := why_kept(name, program, asked, timed):
+        if why := why_kept(name, program, fixed_lights, timed):
             reasons.setdefault(why, []).append(name)
         else:
             lights[name], plan[name] = light_and_timing(name, program, reading.least, promises.of(name, program))
     promises.tell()
-    for why, kept in reasons.items():
-        print(f"not changed, {why}: {first_few(kept)}", file=sys.stderr)
+    for why, kept_names in reasons.items():
+        print(f"not changed, {why}: {first_few(kept_names)}", file=sys.stderr)
     if not lights:
         raise Fault(f"{reading.map}: no light whose plan may be changed")
     return lights, plan
@@ -165,12 +165,12 @@ def lights_of(reading: Reading, mapping: Map, net: SumoNet) -> list[str]:
 
 def warn_of_signals(reading: Reading, town: SignalTown) -> None:
     """Warns on standard error where signals of the run differ from those of the plans given, which count."""
-    ours = [line.command for line in town.run.first if signal_node(line) is not None]
-    given = [json.loads(text) for text in town.plan_lines(town.plan).splitlines()]
-    others = [command for command in given if command not in ours]
-    if others:
-        told = f"{len(others)} of {len(given)} signals of {reading.run} are others than those of the plans given"
-        print(f"warning: {told}, which count", file=sys.stderr)
+    run_signals = [line.command for line in town.run.first if signal_node(line) is not None]
+    plan_signals = [json.loads(text) for text in town.plan_lines(town.plan).splitlines()]
+    differing = [command for command in plan_signals if command not in run_signals]
+    if differing:
+        count = f"{len(differing)} of {len(plan_signals)} signals of {reading.run}"
+        print(f"warning: {count} are others than those of the plans given, which count", file=sys.stderr)
 
 
 class Runner:
@@ -191,12 +191,12 @@ class Runner:
     def outcomes(self, plans: Sequence[Plan], seeds: Sequence[int], jobs: int) -> list[list[Outcome]]:
         """For each plan and each seed, what the plan gives by the session of the report, with gaps found under it;
         shows on the terminal how many of the runs, so many side by side (jobs), are done."""
-        shown, found = WorkProgress("runs by other seeds", len(plans) * len(seeds), abreast=jobs), []
+        shown, results = WorkProgress("runs by other seeds", len(plans) * len(seeds), abreast=jobs), []
         for outcome in self.ordered(outcome_giving_way, plans, seeds):
-            found.append(outcome)
-            shown.show(len(found))
+            results.append(outcome)
+            shown.show(len(results))
         shown.end()
-        return [found[begin : begin + len(seeds)] for begin in range(0, len(found), len(seeds))]
+        return [results[begin : begin + len(seeds)] for begin in range(0, len(results), len(seeds))]
 
     def gaps_by_seed(self, seeds: Sequence[int]) -> list[Any]:
         """For each seed (signal lines, (clock, line), by which vehicles give way without a light under the given plan;
@@ -208,14 +208,14 @@ class Runner:
         function: Function,
         plans: Iterable[Plan],
         seeds: Sequence[int],
-        places: Mapping[int, int] = MappingProxyType({}),
-        place: int = EXACT,
+        sessions: Mapping[int, int] = MappingProxyType({}),
+        session: int = EXACT,
     ) -> Iterator[Any]:
         """What a function of a worker, of (session, signal lines of a plan as bytes, seed), gives for each plan with
-        each seed, in this order. A seed is run by the session at places[seed], or at place where places does not have
-        the seed."""
+        each seed, in this order. A seed is run by the session at sessions[seed], or at session where sessions does not
+        have the seed."""
         return self.workers.ordered([
-            (f"the run with seed {seed}", function, places.get(seed, place), self.town.plan_lines(plan), seed)
+            (f"the run with seed {seed}", function, sessions.get(seed, session), self.town.plan_lines(plan), seed)
             for plan in plans for seed in seeds
         ])  # fmt: skip
 
@@ -224,15 +224,15 @@ def sessions_of(town: SignalTown, seeds: Sequence[int], runner: Runner) -> tuple
     """(the sessions that workers get: that of the report, that of the search, and where vehicles give way without a
     light one for each seed, with the gaps of the given plan; by seed the places of these). How many give way is said on
     standard error. runner: by whose runs, of the session of the report, these gaps are found."""
-    places: dict[int, int] = {}
+    session_of_seed: dict[int, int] = {}
     sessions = [town.session, town.careful]
     if town.session.giving is None:
-        return sessions, places
+        return sessions, session_of_seed
     for seed, (lines, yielding) in zip(seeds, runner.gaps_by_seed(seeds), strict=True):
-        places[seed] = len(sessions)
+        session_of_seed[seed] = len(sessions)
         sessions.append(for_search(town.careful, lines))
     if not yielding.junctions:
-        return sessions, places
-    told = f"{yielding.junctions:,} junctions without a light give way by {yielding.lines:,} signal lines"
-    print(f"{told} under the given plan; for the plan found these are made anew", file=sys.stderr)
-    return sessions, places
+        return sessions, session_of_seed
+    note = f"{yielding.junctions:,} junctions without a light give way by {yielding.lines:,} signal lines"
+    print(f"{note} under the given plan; for the plan found these are made anew", file=sys.stderr)
+    return sessions, session_of_seed

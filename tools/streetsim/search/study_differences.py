@@ -30,7 +30,7 @@ class VariantDifference:
     paired: float | None  # half width, of runs with equal seeds
     unpaired: float | None  # half width, as if their seeds were others
     runs: int
-    needed: int | None  # paired runs for the precision that is asked for; None too where 2^20 are too few
+    needed_paired: int | None  # paired runs for the precision that is asked for; None too where 2^20 are too few
     needed_unpaired: int | None
     day: float | None = None  # half width of the interval of a day's difference, where departures were drawn
     mean_of_day: float | None = None  # the same of a day's mean trip
@@ -40,15 +40,15 @@ def means_of(study: Study, results: Mapping[str, Sequence[Outcome]], name: str) 
     """Of each run of a variant, in the order of the seeds, the mean trip, seconds, of the vehicles that depart before
     the end: from the wished departure to the arrival, or to the end of the run."""
     variant = study.variants[name]
-    return [one.seconds / max(1, variant.cars(at)) for at, one in enumerate(results[name])]
+    return [outcome.seconds / max(1, variant.cars(at)) for at, outcome in enumerate(results[name])]
 
 
 def run_rows(study: Study, results: Mapping[str, Sequence[Outcome]]) -> Iterator[Entry]:
     """The rows of runs.csv, as RUNS has the columns: one for each variant and seed."""
     for name, outcomes in results.items():
-        for seed, one, mean in zip(study.seeds, outcomes, means_of(study, results, name), strict=True):
-            ends = one.seconds, one.end, one.ended.partition(": ")[2] or "until"
-            yield name, seed, one.arrived, f"{mean:.3f}", *ends, one.waiting, one.junctions, one.lines, one.digest
+        for seed, run, mean in zip(study.seeds, outcomes, means_of(study, results, name), strict=True):
+            ends = run.seconds, run.end, run.ended.partition(": ")[2] or "until"
+            yield name, seed, run.arrived, f"{mean:.3f}", *ends, run.waiting, run.junctions, run.lines, run.digest
 
 
 def differences(study: Study, results: Mapping[str, Sequence[Outcome]], precision: float) -> list[VariantDifference]:
@@ -60,16 +60,16 @@ def differences(study: Study, results: Mapping[str, Sequence[Outcome]], precisio
         means = means_of(study, results, name)
         if name == study.base or len(means) < 2:
             difference = None if name == study.base else fmean(means) - fmean(base)
-            own = mean_and_day(means)[1] if study.drawn else None
+            day_half_width = mean_and_day(means)[1] if study.drawn else None
             nothing = None, None, len(means), None, None, None
-            rows.append(VariantDifference(name, fmean(means), difference, *nothing, own))
+            rows.append(VariantDifference(name, fmean(means), difference, *nothing, day_half_width))
             continue
         difference, half = paired(base, means)
-        other = unpaired_half_width(base, means)
-        apart = [there - here for here, there in zip(base, means, strict=True)]
+        unpaired = unpaired_half_width(base, means)
+        apart = [variant_s - base_s for base_s, variant_s in zip(base, means, strict=True)]
         needed = runs_needed(stdev(apart), error), runs_needed((stdev(base) ** 2 + stdev(means) ** 2) ** 0.5, error)
         days = (paired_day(base, means)[1], mean_and_day(means)[1]) if study.drawn else (None, None)
-        rows.append(VariantDifference(name, fmean(means), difference, half, other, len(means), *needed, *days))
+        rows.append(VariantDifference(name, fmean(means), difference, half, unpaired, len(means), *needed, *days))
     return rows
 
 

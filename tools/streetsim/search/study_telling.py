@@ -24,13 +24,13 @@ def draw_differences(study: Study, rows: Sequence[VariantDifference], path: str)
     if pyplot is None or not shown:
         return
     figure, axes = pyplot.subplots(figsize=(7, 1.2 + 0.4 * len(shown)))
-    for place, row in enumerate(reversed(shown)):
+    for height, row in enumerate(reversed(shown)):
         for width, size, label in intervals_of(row):
             if width is not None and row.difference is not None:
                 ends = row.difference - width, row.difference + width
-                named = f"95 % interval of {label}" if place == 0 else None
-                axes.plot(ends, (place, place), color=LINE, linewidth=size, label=named)
-        axes.plot([row.difference], [place], marker="o", color="black", markersize=5)
+                named = f"95 % interval of {label}" if height == 0 else None
+                axes.plot(ends, (height, height), color=LINE, linewidth=size, label=named)
+        axes.plot([row.difference], [height], marker="o", color="black", markersize=5)
     axes.axvline(0, color="black", linewidth=0.8)
     axes.set_yticks(range(len(shown)), [row.variant for row in reversed(shown)])
     axes.set(xlabel=f"mean trip less that of {study.base} (s)", ylim=(-0.6, len(shown) - 0.4))
@@ -50,17 +50,18 @@ def intervals_of(row: VariantDifference) -> Sequence[tuple[float | None, float, 
 def doubts(study: Study, name: str, outcomes: Sequence[Outcome]) -> Iterator[str]:
     """What speaks against the runs of a variant, by its name, a text each; outcomes: of its runs, one at least."""
     variant = study.variants[name]
-    arrived = fmean(one.arrived for one in outcomes)
+    arrived = fmean(outcome.arrived for outcome in outcomes)
     due = [variant.due_with(at) for at in range(len(outcomes))]
-    in_time = fmean(bisect_right(own, one.end) for own, one in zip(due, outcomes, strict=True))
+    in_time = fmean(bisect_right(arrivals, outcome.end) for arrivals, outcome in zip(due, outcomes, strict=True))
     yield from trust.missing_doubts({"": arrived}, in_time)
     vehicles = round(fmean(map(len, due)))
-    yield from trust.waiting_doubts({"": [(one.waiting, one.waiting_at) for one in outcomes]}, vehicles)
-    early = [one for own, one in zip(due, outcomes, strict=True) if one.ended and one.arrived < len(own)]
+    yield from trust.waiting_doubts({"": [(outcome.waiting, outcome.waiting_at) for outcome in outcomes]}, vehicles)
+    vehicle_counts = map(len, due)
+    early = [run for run, cars in zip(outcomes, vehicle_counts, strict=True) if run.ended and run.arrived < cars]
     if early:
         yield f"{len(early):,} of {len(outcomes):,} runs ended before all had arrived, who count until then"
-    yield from trust.works_doubts(variant.works, [(one.end, one.gone) for one in outcomes])
-    yield from in_runs([one.at_works for one in outcomes])
+    yield from trust.works_doubts(variant.works, [(outcome.end, outcome.all_arrived_at) for outcome in outcomes])
+    yield from in_runs([outcome.at_works for outcome in outcomes])
     yield from variant.doubts
 
 
@@ -70,15 +71,15 @@ def tell_ends(study: Study, results: Mapping[str, Sequence[Outcome]]) -> None:
     if study.until is not None:
         return
     clocks = []
-    others: dict[tuple[str, str], list[str]] = {}
+    unfinished: dict[tuple[str, str], list[str]] = {}
     for name, outcomes in results.items():
-        for seed, one in zip(study.seeds, outcomes, strict=True):
-            clocks.append(one.end)
-            if not one.ended.endswith(ALL_ARRIVED):
-                others.setdefault((name, one.ended.partition(": ")[2]), []).append(f"seed {seed} at {one.end:,} s")
-    for (name, why), seeds in others.items():
+        for seed, run in zip(study.seeds, outcomes, strict=True):
+            clocks.append(run.end)
+            if not run.ended.endswith(ALL_ARRIVED):
+                unfinished.setdefault((name, run.ended.partition(": ")[2]), []).append(f"seed {seed} at {run.end:,} s")
+    for (name, why), seeds in unfinished.items():
         print(f"{name}: {why}: {', '.join(seeds)}")
-    if not others:
+    if not unfinished:
         until = f"{min(clocks):,}" + (f" to {max(clocks):,}" if max(clocks) > min(clocks) else "")
         print(f"runs ended at {until} s: {ALL_ARRIVED}")
 
@@ -93,8 +94,8 @@ def tell_differences(rows: Sequence[VariantDifference]) -> None:
         if row.paired is not None:
             half, what = (row.paired, "dawdling alone") if row.day is None else (row.day, "a day")
             line += f" ± {half:.2f} (95 % interval of {what}, {row.runs} paired runs)"
-        if row.needed is not None and row.needed > row.runs:
-            line += f"; the wanted precision needs {row.needed:,} runs"
+        if row.needed_paired is not None and row.needed_paired > row.runs:
+            line += f"; the wanted precision needs {row.needed_paired:,} runs"
         print(line)
 
 
@@ -110,7 +111,7 @@ def tell_how_sure(study: Study) -> None:
 def tell_giving_way(results: Mapping[str, Sequence[Outcome]]) -> None:
     """Prints at how many junctions vehicles give way without a light (in the run with the most), and by how many lines
     in the mean of the runs; nothing where no run has lines."""
-    outcomes = [one for found in results.values() for one in found]
-    if any(one.lines for one in outcomes):
-        junctions, lines = max(one.junctions for one in outcomes), fmean(one.lines for one in outcomes)
+    outcomes = [outcome for of_variant in results.values() for outcome in of_variant]
+    if any(outcome.lines for outcome in outcomes):
+        junctions, lines = max(outcome.junctions for outcome in outcomes), fmean(outcome.lines for outcome in outcomes)
         print(f"{junctions:,} junctions without a light give way by some {lines:,.0f} signal lines in each run")

@@ -96,7 +96,7 @@ def read_study(path: str, simulator: str, rounds: int | None = None, departures:
             raise Fault(f"{path}: no {key!r} in it")
     value["until"] = until = read_until(path, value.get("until"))
     variants = value["variant"]
-    if not isinstance(variants, dict) or not all(isinstance(one, dict) for one in variants.values()) or not variants:
+    if not isinstance(variants, dict) or not all(isinstance(item, dict) for item in variants.values()) or not variants:
         raise Fault(f"{path}: variants are tables [variant.NAME]")
     if len(variants) > MOST_VARIANTS:
         raise Fault(f"{path}: {len(variants):,} variants are more than {MOST_VARIANTS:,}")
@@ -112,15 +112,15 @@ def read_study(path: str, simulator: str, rounds: int | None = None, departures:
         raise Fault(f"{path}: departures = {value['departures']!r} is neither {DRAWN!r} nor {LISTED!r}")
     seeds = seeds_of(value["seeds"], f"{path}: seeds")
     lanes = joint_lanes(path, value)
-    made = {}
-    for name, one in variants.items():
+    variants_read = {}
+    for name, table in variants.items():
         with naming(where := f"{path}: variant {name!r}"):
-            made[name] = read_variant(where, path, value, one, lanes, simulator)
-    for name, variant in made.items():
+            variants_read[name] = read_variant(where, path, value, table, lanes, simulator)
+    for name, variant in variants_read.items():
         if name != base:
-            growth = variant.cars(0) / max(1, made[base].cars(0))
-            variant.doubts += forecast_doubts(variant.loaded, made[base].loaded, growth)
-    return Study(until, seeds, base, made, value["departures"] == DRAWN)
+            growth = variant.cars(0) / max(1, variants_read[base].cars(0))
+            variant.doubts += forecast_doubts(variant.loaded, variants_read[base].loaded, growth)
+    return Study(until, seeds, base, variants_read, value["departures"] == DRAWN)
 
 
 def refuse_large(text: str) -> None:
@@ -158,17 +158,17 @@ def joint_lanes(path: str, study: Json) -> dict[tuple[str, str], dict[str, None]
     """The lanes that are joint in all variants of a run, as works of one of them need it: {(run, map): lanes}; the
     lanes are keys, in order. study: the table of the file at path, with `until` as read_until gives it. Fault where a
     value of a variant or a map is wrong."""
-    found: dict[tuple[str, str], dict[str, None]] = {}
+    lanes_by_run: dict[tuple[str, str], dict[str, None]] = {}
     for name, variant in study["variant"].items():
         with naming(where := f"{path}: variant {name!r}"):
             check_types(where, {**study, **variant})
             if "lost" in variant and not variant.get("close"):
                 raise Fault(f"{where}: lost is of works: close = [..] is needed too")
-            lanes = found.setdefault(pair_of(study, variant), {})
+            lanes = lanes_by_run.setdefault(pair_of(study, variant), {})
             if closed := variant.get("close"):
                 mapping = read_map(os.path.join(os.path.dirname(os.path.abspath(path)), pair_of(study, variant)[1]))
                 lanes.update(dict.fromkeys(lanes_to_join(all_works(closed, mapping, 0, study["until"]), mapping)))
-    return found
+    return lanes_by_run
 
 
 def pair_of(study: Json, variant: Json) -> tuple[str, str]:
@@ -190,24 +190,24 @@ def read_variant(
     works = all_works(variant.get("close", ()), mapping, run.start(), study["until"])
     ends = study["until"] or mapping.end
     until = ends or after_departures(run)
-    told: list[str] = []
-    found: list[str] = []
+    notes: list[str] = []
+    route_doubts: list[str] = []
     drives = variant.get("lights", study.get("lights")) != "listed" and "plans" not in variant
     lanes, lost = tuple(joint[pair_of(study, variant)]), variant.get("lost", study.get("lost", "lead"))
     if variant.get("route"):
         close, knowing = variant.get("close", ()), variant.get("knowing", 1.0)
         seeds = seeds_of(study["seeds"], f"{path}: seeds")
         wished = Wished(close, knowing, lanes, simulator, until, study["rounds"], seeds, drives, lost)
-        run, mapping, found = run_on_found_ways(run, mapping, map_path, wished, where)
+        run, mapping, route_doubts = run_on_found_ways(run, mapping, map_path, wished, where)
     else:
-        run, mapping, told = with_works(
+        run, mapping, notes = with_works(
             run, mapping, map_path, works, WorksOptions(lanes, lost, variant.get("works_limit"))
         )
     run = with_load(run, **{"dawdle": variant["dawdle"]} if "dawdle" in variant else {})
-    words = {**study, **variant}
-    lights, buses = lights_and_buses(run, mapping, words, drives)
-    told += [*lights.notes(), *buses.notes()]
-    print(*(f"{where}: {text}" for text in told), sep="\n", end="\n" if told else "", file=sys.stderr)
+    merged = {**study, **variant}
+    lights, buses = lights_and_buses(run, mapping, merged, drives)
+    notes += [*lights.notes(), *buses.notes()]
+    print(*(f"{where}: {text}" for text in notes), sep="\n", end="\n" if notes else "", file=sys.stderr)
     nodes: frozenset[int] = frozenset()
     signals, sensing, full = b"", lights.listed_lights(mapping), None
     if "plans" in variant:
@@ -217,13 +217,14 @@ def read_variant(
     merging = variant.get("merge", study.get("merge")) != "none"
     settings = Settings(until, open_end=not ends, merging=merging, lights=lights, buses=buses)
     sessions, due = [], []
-    for own, names in replications(run, mapping, study, path):
-        lights, buses = lights_and_buses(own, names, words, drives)
-        asked = replace(settings, lights=lights, buses=buses)
-        sessions.append(giving_session(simulator, own, names, asked, study["rounds"], nodes))
-        due.append(trust.free_arrivals(own, names))
-    doubts = [*found, *trust.length_doubts(until, run, mapping), *trust.actuated_doubts(until, run, mapping, sensing)]
-    begins = [(one.lane, one.begin) for one in works]
+    for drawn_run, drawn_map in replications(run, mapping, study, path):
+        lights, buses = lights_and_buses(drawn_run, drawn_map, merged, drives)
+        run_settings = replace(settings, lights=lights, buses=buses)
+        sessions.append(giving_session(simulator, drawn_run, drawn_map, run_settings, study["rounds"], nodes))
+        due.append(trust.free_arrivals(drawn_run, drawn_map))
+    doubts = [*route_doubts, *trust.length_doubts(until, run, mapping)]
+    doubts += trust.actuated_doubts(until, run, mapping, sensing)
+    begins = [(site.lane, site.begin) for site in works]
     return Variant(sessions, signals, due, doubts, begins, loaded_lanes(mapping, full))
 
 
@@ -234,11 +235,11 @@ def replications(run: Run, mapping: Map, study: Json, path: str) -> Iterator[tup
         yield run, mapping
         return
     for seed in seeds_of(study["seeds"], f"{path}: seeds"):
-        own, names = drawn(with_load(run, seed=seed), mapping)
+        drawn_run, drawn_map = drawn(with_load(run, seed=seed), mapping)
         until = study["until"]
-        if not any(until is None or line.command["depart"] < until for line in own.enters):
+        if not any(until is None or line.command["depart"] < until for line in drawn_run.enters):
             raise Fault(f"seed {seed}: nobody departs where departures are drawn: departures = {LISTED!r}")
-        yield own, names
+        yield drawn_run, drawn_map
 
 
 def lights_and_buses(run: Run, mapping: Map, value: Json, drives: bool) -> tuple[ActuatedLights, Planned]:
@@ -260,13 +261,13 @@ def check_types(where: str, value: Json) -> None:
         if not isinstance(value[key], str):
             raise Fault(f"{where}: {key} = {value[key]!r} is no path")
     for key in ("plans", "close"):
-        if not isinstance(value.get(key, []), list) or not all(isinstance(one, str) for one in value.get(key, ())):
+        if not isinstance(value.get(key, []), list) or not all(isinstance(text, str) for text in value.get(key, ())):
             raise Fault(f"{where}: {key} = {value[key]!r} is no list of texts")
     if value.get("plans") == []:
         raise Fault(f"{where}: plans = []: the network is the first of them")
-    for key, (wanted, unit) in RANGES.items():
-        if key in value and (type(value[key]) is not int or value[key] not in wanted):
-            raise Fault(f"{where}: {key} = {value[key]!r} is not {wanted[0]:,} to {wanted[-1]:,}{unit}")
+    for key, (allowed, unit) in RANGES.items():
+        if key in value and (type(value[key]) is not int or value[key] not in allowed):
+            raise Fault(f"{where}: {key} = {value[key]!r} is not {allowed[0]:,} to {allowed[-1]:,}{unit}")
     if type(value.get("route", False)) is not bool:
         raise Fault(f"{where}: route = {value['route']!r} is neither true nor false")
     if type(value.get("knowing", 1)) not in (int, float) or not 0 <= value.get("knowing", 1) <= 1:
@@ -275,9 +276,9 @@ def check_types(where: str, value: Json) -> None:
         raise Fault(f"{where}: lost = {value['lost']!r} is none of {', '.join(map(repr, LOST))}")
     if "works_limit" in value and (value.get("route") or not value.get("close")):
         raise Fault(f"{where}: works_limit is of works without a search for ways: close = [..] is needed, and no route")
-    for key, words in EITHER.items():
-        if value.get(key, words[0]) not in words:
-            raise Fault(f"{where}: {key} = {value[key]!r} is neither {words[0]!r} nor {words[1]!r}")
+    for key, choices in EITHER.items():
+        if value.get(key, choices[0]) not in choices:
+            raise Fault(f"{where}: {key} = {value[key]!r} is neither {choices[0]!r} nor {choices[1]!r}")
     check_priority(where, value)
     if "knowing" in value and not (value.get("route") and value.get("close")):
         raise Fault(f"{where}: knowing is of who goes round works: close = [..] and route = true are needed too")
@@ -293,15 +294,16 @@ def check_priority(where: str, value: Json) -> None:
         raise Fault(f"{where}: priority and plans: lights that wait for buses do not show plans")
 
 
-def signals_of(asked: Reading, run: Run, mapping: Map) -> tuple[bytes, list[str], list[FullLane]]:
+def signals_of(plan_files: Reading, run: Run, mapping: Map) -> tuple[bytes, list[str], list[FullLane]]:
     """(signal lines of all lights under a variant's plans; names of those that SUMO times by detectors; lanes that are
-    nearly full at lights under these plans). asked: the paths; run, mapping: read of these. Fault where a plan cannot
-    be read, or none has a program for a light."""
-    net = read_plans(asked.plans, mapping)
-    found = {name: light_and_timing(name, net.programs[name]) for name in lights_of(asked, mapping, net)}
-    kept = ((name, net.programs[name], light.constraints) for name, (light, _) in found.items())
-    broken = [text for one in kept for text in broken_in(*one)]
-    print(*(f"{asked.plans[-1]}: {text}" for text in broken), sep="\n", end="\n" if broken else "", file=sys.stderr)
-    plan = {name: timing for name, (_, timing) in found.items()}
-    lines = LightLines(net, run, mapping).signal_lines(plan, {name: light for name, (light, _) in found.items()})
-    return lines, lights_not_static(net, found), full_lanes_under(net, run, mapping)
+    nearly full at lights under these plans). plan_files: the paths; run, mapping: read of these. Fault where a plan
+    cannot be read, or none has a program for a light."""
+    net = read_plans(plan_files.plans, mapping)
+    timed = {name: light_and_timing(name, net.programs[name]) for name in lights_of(plan_files, mapping, net)}
+    promised = ((name, net.programs[name], light.constraints) for name, (light, _) in timed.items())
+    broken = [text for promise in promised for text in broken_in(*promise)]
+    path = plan_files.plans[-1]
+    print(*(f"{path}: {text}" for text in broken), sep="\n", end="\n" if broken else "", file=sys.stderr)
+    plan = {name: timing for name, (_, timing) in timed.items()}
+    lines = LightLines(net, run, mapping).signal_lines(plan, {name: light for name, (light, _) in timed.items()})
+    return lines, lights_not_static(net, timed), full_lanes_under(net, run, mapping)
