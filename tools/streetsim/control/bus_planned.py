@@ -50,23 +50,23 @@ NONE = Planned()  # nobody stops
 def planned(run: Run, mapping: Map) -> Planned:
     """The stops of a map that a run makes: those on the ways of its vehicles, but for those at road works; the others
     are in unmade, by reason. No lights wait for anybody yet."""
-    ways = [line.command["plan"] for line in run.enters]
-    kept: list[Visit] = []
+    plans = [line.command["plan"] for line in run.enters]
+    visits: list[Visit] = []
     off: list[Visit] = []
     unmade: defaultdict[str, list[str]] = defaultdict(list)
     closed = closures_of(run, limits.CLOCK) if mapping.visits else []
     for visit in mapping.visits:
-        way = ways[visit.vehicle] if visit.vehicle < len(ways) else ()
-        if visit.at >= len(way) or way[visit.at] != visit.link:
+        plan = plans[visit.vehicle] if visit.vehicle < len(plans) else ()
+        if visit.at >= len(plan) or plan[visit.at] != visit.link:
             why = OTHER_WAY
         elif any(map(partial(meets, visit, run.enters[visit.vehicle].command["depart"]), closed)):
             why = AT_WORKS
         else:
-            kept.append(visit)
+            visits.append(visit)
             continue
         unmade[why].append(f"{mapping.cars[visit.vehicle]} at {visit.stop}")
-        off += [visit] if way else []
-    return Planned(tuple(kept), {why: tuple(names) for why, names in unmade.items()}, tuple(off))
+        off += [visit] if plan else []
+    return Planned(tuple(visits), {why: tuple(names) for why, names in unmade.items()}, tuple(off))
 
 
 def meets(visit: Visit, depart: int, closed: Closure) -> bool:

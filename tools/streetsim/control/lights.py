@@ -59,9 +59,9 @@ class Sensors:
     """When detectors last had anybody: by detector the clock from which its gap counts, half a second sooner where a
     vehicle passed within a second."""
 
-    def __init__(self, places: Iterable[tuple[int, int, int]], vehicles: Vehicles) -> None:
-        """places: (link, lane, cell) of each detector."""
-        keys = np.array([(2 * link + lane) * LENGTH + cell for link, lane, cell in places], np.int64)
+    def __init__(self, detectors: Iterable[tuple[int, int, int]], vehicles: Vehicles) -> None:
+        """detectors: (link, lane, cell) of each."""
+        keys = np.array([(2 * link + lane) * LENGTH + cell for link, lane, cell in detectors], np.int64)
         self.order = np.argsort(keys, kind="stable")
         self.keys, self.vehicles = np.append(keys[self.order], np.iinfo(np.int64).max), vehicles
         self.last = np.full(len(keys), -np.inf)

@@ -106,12 +106,12 @@ class RecordReader:
             if self.ahead:
                 raise self.torn(HEAD.size)
             return None
-        clock, rows, arrived, taken = HEAD.unpack_from(self.ahead)
-        self.check(clock, rows, arrived + taken, min(entered, VEHICLES))
+        clock, rows, arrived, taken_out = HEAD.unpack_from(self.ahead)
+        self.check(clock, rows, arrived + taken_out, min(entered, VEHICLES))
         size = HEAD.size + ROW * rows
         if not self.holds(size):
             raise self.torn(size)
-        block = RecordedStep(clock, arrived, taken, self.columns(rows))
+        block = RecordedStep(clock, arrived, taken_out, self.columns(rows))
         if rows and (most := int(block.car.max())) >= min(entered, VEHICLES):
             raise self.bad(f"has vehicle {most:,}, which was not entered")
         self.ahead = self.ahead[size:]
@@ -124,13 +124,13 @@ class RecordReader:
 
     def holds(self, size: int) -> bool:
         """Reads until so many bytes are there, or to the end: whether they are there."""
-        parts, there = ([self.ahead] if self.ahead else []), len(self.ahead)
-        while there < size and (more := self.more()):
+        parts, count = ([self.ahead] if self.ahead else []), len(self.ahead)
+        while count < size and (more := self.more()):
             parts.append(memoryview(more))
-            there += len(more)
+            count += len(more)
         if parts:
             self.ahead = parts[0] if len(parts) == 1 else memoryview(b"".join(parts))
-        return there >= size
+        return count >= size
 
     def more(self) -> bytes:
         """The next bytes of the file, empty at its end; Fault where it cannot be read."""
@@ -148,9 +148,9 @@ class RecordReader:
         if not 1 <= clock <= CLOCK or self.last and clock != self.last.clock + 1:
             raise self.bad(f"has the clock {clock:,}{f' behind {self.last.clock:,}' if self.last else ''}")
 
-    def bad(self, told: str) -> BadRecord:
+    def bad(self, problem: str) -> BadRecord:
         """The fault of the block that is read."""
-        return BadRecord(f"{self.told()} {told}")
+        return BadRecord(f"{self.told()} {problem}")
 
     def torn(self, size: int) -> TornBlock:
         """The fault of a record that ends inside the block that is read, of so many bytes."""

@@ -109,13 +109,13 @@ def frames_in(path: FilePath, every: int) -> Iterator[Json]:
     closed: Stretches = {}
     with reading(path), open(path, "rb") as file:
         for part in parts_of(file, path, every):
-            changes = list(zip(*(one.tolist() for one in part.closed), strict=True))
+            changes = list(zip(*(column.tolist() for column in part.closed), strict=True))
             for second in range(len(part.first) - 1):
                 clock = part.clock + second
                 while changes and changes[0][0] <= clock:
                     at = changes[0][0], changes[0][1]
-                    own = [changes.pop(0) for _ in range(sum(one[:2] == at for one in changes))]
-                    closed[at[1]] = [[first, last] for _, _, first, last in own if last >= first]
+                    group = [changes.pop(0) for _ in range(sum(one[:2] == at for one in changes))]
+                    closed[at[1]] = [[first, last] for _, _, first, last in group if last >= first]
                 if clock % every == 0:
                     yield part.frame(second, closed)
 
