@@ -217,6 +217,6 @@ def present_by(
         if found is None:
             return False
         leaving = area.at_end and any(ready > clock for _, _, ready, *_ in found.buffer)
-        return leaving or any(area.first <= cell <= area.last for _, cell, *_ in found.cells)
+        return leaving or any(area.first_cell <= cell <= area.last_cell for _, cell, *_ in found.cells)
 
     return present

@@ -33,8 +33,8 @@ class DetectorArea:
 
     link: int
     lane: int
-    first: int
-    last: int
+    first_cell: int
+    last_cell: int
     at_end: bool = True  # the last cell is the lane's
 
 

@@ -72,7 +72,7 @@ class Actuated:
     since: int = 0  # its begin
     due: int = 0
     ended: list[EndedPhase] = field(default_factory=list)
-    first: dict[int, int] = field(default_factory=dict)  # by phase: the detector that extended it last
+    last_extender: dict[int, int] = field(default_factory=dict)  # by phase: the detector that extended it last
     told_to_end: bool = False  # by a script, when it is looked at next
     called: Collection[int] = ()  # phases that buses keep, or fetch, within bounds
 
@@ -170,13 +170,13 @@ class Actuated:
     def wait(self, phase: ActuatedPhase, gap: GapOf) -> int:
         """The seconds until the phase that is shown can end by its detectors, 0 if it can now, as each has seen nobody
         for its gap. One that has seen somebody within its gap wants that, or `lead` if longer, since then. The one that
-        extended the phase last (kept in `first`) is asked first. Once one wants nearly its whole gap those after it may
+        extended the phase last (`last_extender`) is asked first. Once one wants nearly its whole gap those after it may
         be left out, so that it may be too few seconds."""
         longest, enough = 0, self.lead <= min(self.gaps, default=0.0)
-        for detector in sorted(phase.detectors, key=lambda one: one != self.first.get(self.at)):
+        for detector in sorted(phase.detectors, key=lambda one: one != self.last_extender.get(self.at)):
             seen, most = gap(detector), self.gaps[detector]
             if seen < most:
-                self.first[self.at] = detector
+                self.last_extender[self.at] = detector
                 longest = max(longest, ceil(max(most, self.lead) - seen))
                 if enough and longest >= most - 1:
                     break

@@ -31,7 +31,7 @@ class Done:
     state: str
     lane: int | None = None
     arrived: int | None = None
-    left: int | None = None
+    departed: int | None = None
 
 
 class Dwell(NamedTuple):
@@ -40,22 +40,22 @@ class Dwell(NamedTuple):
 
     link: int
     arrived: int
-    left: int
+    departed: int
     stood: int
 
     @property
     def seconds(self) -> int:
         """The seconds for which it was at its stop, until its doors closed."""
-        return self.left - self.arrived
+        return self.departed - self.arrived
 
 
 def dwells(stops: Iterable[Done]) -> dict[int, list[Dwell]]:
     """By vehicle (its number in the file) the stops that it has left, of what became of all stops."""
     by_vehicle: defaultdict[int, list[Dwell]] = defaultdict(list)
     for stop in stops:
-        if stop.arrived is not None and stop.left is not None:
+        if stop.arrived is not None and stop.departed is not None:
             moving = round(stop.visit.braking) + round(stop.visit.starting)
-            dwell = Dwell(stop.visit.link, stop.arrived, stop.left, stop.left - stop.arrived + moving)
+            dwell = Dwell(stop.visit.link, stop.arrived, stop.departed, stop.departed - stop.arrived + moving)
             by_vehicle[stop.visit.vehicle].append(dwell)
     return dict(by_vehicle)
 
@@ -107,7 +107,7 @@ class BusFleet:
         """plan: the stops to make, and the lights that wait for vehicles of the run."""
         self.mapping, self.turns = mapping, {(turn.link, turn.lane, turn.next) for turn in mapping.turns}
         self.plan, self.calls = plan, PriorityCalls()
-        self.done: list[Done] = []
+        self.outcomes: list[Done] = []
         self.closed: frozenset[Closed] = frozenset()  # by all
         self.works = closures_of(run, limits.CLOCK) if plan.visits else []
         visits: defaultdict[int, list[Visit]] = defaultdict(list)
@@ -153,7 +153,7 @@ class BusFleet:
         is closed for it."""
         bus = self.buses.pop(owner)
         self.calls.set(owner, None)
-        self.done += [Done(visit, UNMADE) for visit in bus.visits]
+        self.outcomes += [Done(visit, UNMADE) for visit in bus.visits]
         yield from self.closing_commands(clock)
 
     def locate(self, clock: int, bus: Bus, reply: Vehicle) -> None:
@@ -184,7 +184,8 @@ class BusFleet:
         for it any more. at: the index of its link in its plan; cell: of that link; waits: seconds that it stays in the
         junction."""
         ahead = bus.lights[0] if bus.lights else None
-        if ahead and (stops_before(bus, ahead) or waits + self.seconds_to_light(bus, at, cell, ahead) > self.plan.seen):
+        seen_seconds = self.plan.seen_seconds - waits
+        if ahead and (stops_before(bus, ahead) or self.seconds_to_light(bus, at, cell, ahead) > seen_seconds):
             ahead = None
         self.calls.set(bus.owner, ahead)
 
@@ -226,7 +227,7 @@ class BusFleet:
             cells = visit.last - self.approach_cells(visit) - (cell if at == visit.at else 0)
             seconds.append(self.seconds_to_link(bus, at, cell, visit.at) + cells / self.mapping.links[visit.link].limit)
         if bus.lights and not stops_before(bus, bus.lights[0]):
-            seconds.append(self.seconds_to_light(bus, at, cell, bus.lights[0]) - self.plan.seen)
+            seconds.append(self.seconds_to_light(bus, at, cell, bus.lights[0]) - self.plan.seen_seconds)
         return max(0, int(min(seconds)))
 
     def attend(self, clock: int, bus: Bus, replies: Mapping[Place, Lane], ask_vehicles: Ask) -> None:
@@ -255,7 +256,7 @@ class BusFleet:
         """Keeps what became of a bus's next stop, which is then over for it."""
         bus.stopping = None
         bus.visits.pop(0)
-        self.done.append(outcome)
+        self.outcomes.append(outcome)
 
     def closing_commands(self, clock: int) -> Iterator[Command]:
         """The commands at a clock that close and open cells, so that just those are closed that buses need now, or
@@ -269,8 +270,9 @@ class BusFleet:
 
     def is_at_works(self, clock: int, link: int, lane: int, cell: int) -> bool:
         """Whether works have a cell closed at a clock."""
-        own = (one for one in self.works if (one.link, one.lane) == (link, lane) and one.first <= cell <= one.last)
-        return any(one.begin <= clock < one.end for one in own)
+        on_lane = (closure for closure in self.works if (closure.link, closure.lane) == (link, lane))
+        own = (closure for closure in on_lane if closure.first_cell <= cell <= closure.last_cell)
+        return any(closure.begin <= clock < closure.end for closure in own)
 
     def stop_outcomes(self) -> list[Done]:
         """What became of all stops of vehicles in the run, those to come and those not made too; asked at its end."""
@@ -280,7 +282,7 @@ class BusFleet:
             if (stopping := bus.stopping) and stopping.state == STANDING:
                 ahead[0] = Done(stopping.visit, STANDING, stopping.lane, stopping.arrived)
             to_come += ahead
-        return [*self.done, *to_come, *(Done(visit, UNMADE) for visit in self.plan.off)]
+        return [*self.outcomes, *to_come, *(Done(visit, UNMADE) for visit in self.plan.off)]
 
 
 def stops_before(bus: Bus, ahead: Ahead) -> bool:

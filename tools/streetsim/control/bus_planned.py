@@ -34,12 +34,12 @@ class Planned:
     unmade: Mapping[str, tuple[str, ...]] = field(default_factory=dict)  # by reason, vehicle at stop
     off: tuple[Visit, ...] = ()  # those of unmade whose vehicles are in the run
     ahead: Mapping[int, tuple[Ahead, ...]] = field(default_factory=dict)
-    seen: int = 0  # seconds before a stop line from which on lights wait for them
-    told: tuple[str, ...] = ()  # of priority
+    seen_seconds: int = 0  # seconds before a stop line from which on lights wait for them
+    priority_notes: tuple[str, ...] = ()  # of priority
 
     def notes(self) -> Iterator[str]:
         """The texts to tell: what lights do for vehicles with priority, and which stops are not made, by reason."""
-        yield from self.told
+        yield from self.priority_notes
         for why, names in self.unmade.items():
             yield f"{len(names):,} stops of vehicles are not made, {why}: {first_few(names)}"
 
@@ -73,4 +73,4 @@ def meets(visit: Visit, depart: int, closed: Closure) -> bool:
     """Whether a closed stretch has cells of a stop, or the cell beyond it, and ends after the vehicle departs, whenever
     it begins; depart: the clock at which it does."""
     at_stop = (closed.link, closed.lane) == (visit.link, visit.lane)
-    return at_stop and closed.first <= visit.last + 1 and closed.last >= visit.first and closed.end > depart
+    return at_stop and closed.first_cell <= visit.last + 1 and closed.last_cell >= visit.first and closed.end > depart

@@ -66,8 +66,8 @@ class Ending(Controller):
         self.looks: list[int] = []  # clocks at which it looked, but for full minutes
         self.figures: tuple[int, ...] = ()  # of the last census that differed from the one before it
         self.since = 0  # its clock
-        self.stand: Array | None = None  # who stood where at `looked`, where the census stayed as it was for a cycle
-        self.looked = 0
+        self.stand: Array | None = None  # who stood where at `stand_clock`, with one census for a cycle
+        self.stand_clock = 0
 
     def begin(self, kernel: Kernel) -> None:
         """Nothing is known yet."""
@@ -95,7 +95,7 @@ class Ending(Controller):
         if all_ended(kernel, now):
             self.end(clock, ALL_ARRIVED)
         elif self.is_still(clock, now, longest):
-            still = f"no vehicle has changed its cell for {clock - self.looked:,} s"
+            still = f"no vehicle has changed its cell for {clock - self.stand_clock:,} s"
             self.end(clock, f"{still}, longer than the longest cycle, {longest:,} s")
         elif clock == kernel.until and clock + HOUR > limits.CLOCK:
             self.end(clock, "the clock goes no further")
@@ -114,9 +114,9 @@ class Ending(Controller):
             return False
         stand = np.stack([block.car, block.slot, np.maximum(-1, block.cell)])
         if self.stand is None or not np.array_equal(stand, self.stand):
-            self.stand, self.looked = stand, clock
+            self.stand, self.stand_clock = stand, clock
             return False
-        return clock - self.looked > longest
+        return clock - self.stand_clock > longest
 
     def end(self, clock: int, why: str) -> None:
         """Has the run end at a clock, and keeps why."""

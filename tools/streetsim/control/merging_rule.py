@@ -59,12 +59,12 @@ class Change:
 
     command: str  # close or reopen
     lane: int
-    first: int
-    last: int
+    first_cell: int
+    last_cell: int
 
     def command_on(self, link: int) -> dict[str, str | int]:
         """The command for a link, {"cmd", "link", "lane", "first", "last"}: close or reopen."""
-        return {"cmd": self.command, "link": link, "lane": self.lane, "first": self.first, "last": self.last}
+        return {"cmd": self.command, "link": link, "lane": self.lane, "first": self.first_cell, "last": self.last_cell}
 
 
 @dataclass(slots=True, frozen=True)
@@ -73,7 +73,7 @@ class MergePoint:
 
     lane: int
     low: int  # the first cell from which one comes to the works
-    first: int  # of the works
+    works_cell: int  # the first of the works
 
 
 @dataclass(slots=True)
@@ -88,9 +88,9 @@ class MergeTurn:
         """Begins or ends the hold of the other lane at a point, by what stands on both lanes (sides) at a clock. A hold
         begins when the same one has stood first for PATIENCE seconds; it ends when nobody is on the held cells or the
         AHEAD ones after them, when nobody stands first, or when the same one has for more than MOST_WAIT seconds."""
-        before = [vehicle for vehicle in sides[point.lane].vehicles if point.low <= vehicle.cell < point.first]
+        before = [vehicle for vehicle in sides[point.lane].vehicles if point.low <= vehicle.cell < point.works_cell]
         front = before[0] if before else None
-        head = front.car if front and front.speed == 0 and front.cell >= point.first - NEAR else None
+        head = front.car if front and front.speed == 0 and front.cell >= point.works_cell - NEAR else None
         if head != self.head:
             self.head, self.since = head, clock
         waited = clock - self.since
@@ -101,7 +101,7 @@ class MergeTurn:
                 self.held, self.since = None, clock
         elif front and head is not None and waited >= PATIENCE:
             rears = [vehicle.rear for vehicle in before if vehicle.speed == 0]
-            rear = min(rears[0], *(cell for cell in rears if cell >= point.first - PLATOON))
+            rear = min(rears[0], *(cell for cell in rears if cell >= point.works_cell - PLATOON))
             self.held = max(point.low, rear - BEHIND), front.cell
 
 
@@ -119,8 +119,8 @@ class MergingRule:
         cells = no_cells()
         known, self.turns = self.turns, {}
         for point in self.merge_points([side.closed for side in sides]):
-            turn = known.get((point.lane, point.first)) or MergeTurn()
-            self.turns[point.lane, point.first] = turn
+            turn = known.get((point.lane, point.works_cell)) or MergeTurn()
+            self.turns[point.lane, point.works_cell] = turn
             turn.update_hold(clock, point, sides)
             if turn.held:
                 cells[1 - point.lane].update(range(turn.held[0], turn.held[1] + 1))

@@ -65,16 +65,17 @@ class Nema:
 
     def __init__(self, rings: Rings) -> None:
         """rings: the program; the light begins with `begin_at`."""
-        self.rings, self.now, self.due, self.changes = rings, 0, 0, 0
+        self.rings, self.clock, self.due, self.changes = rings, 0, 0, 0
         self.ended: list[EndedPhase] = []
         recalls = any(phase.is_recalled for phase in rings.phases)
-        self.all = [self.new_running(number, ring, recalls) for ring in range(2) for number in rings.numbers_of(ring)]
-        self.by_ring = [[running for running in self.all if running.ring == ring] for ring in range(2)]
-        for running in self.all:
+        orders = [rings.numbers_of(ring) for ring in range(2)]
+        self.by_ring = [[self.new_running(number, ring, recalls) for number in orders[ring]] for ring in range(2)]
+        self.phases = [running for phases in self.by_ring for running in phases]
+        for running in self.phases:
             running.phase_changes = self.changes_from(running)
         self.active = [own[0] for own in self.by_ring]
         self.present: PresentAt = lambda area: False
-        self.wanted: Collection[int] = ()  # numbers of the phases that buses keep, or fetch, within bounds
+        self.called: Collection[int] = ()  # numbers of the phases that buses keep, or fetch, within bounds
 
     def new_running(self, number: int, ring: int, recalls: bool) -> RunningPhase:
         """A phase before it begins, by its number; ring: 0 or 1; recalls: whether any phase has a recall."""
@@ -130,24 +131,24 @@ class Nema:
     def begin_at(self, clock: int, _offset: int = 0) -> None:
         """Begins at `clock` with the first phase of each ring, as SUMO's without coordination; offset: no
         effect."""
-        self.now, self.due = clock, clock + 1
+        self.clock, self.due = clock, clock + 1
         for own in self.by_ring:
             self.begin_green(own[0])
 
     def moves_on(self, clock: int, present: PresentAt) -> bool:
         """Makes a second of both rings at `clock`; says whether what is green changed. Sets `due`, when to look
         again. present: whether anybody is on an area, by its position."""
-        self.now, self.present, before, state = clock, present, self.green_by_ring(), self.state()
-        for running in self.all:
+        self.clock, self.present, before, state = clock, present, self.green_by_ring(), self.state()
+        for running in self.phases:
             if running.phase.latching and not running.called:
                 running.called = any(map(self.present, running.phase.areas))
         for running in self.active:
             self.update(running)
-        for running in self.active if self.wanted else ():
+        for running in self.active if self.called else ():
             self.serve_buses(running)
         if any(running.ready for running in self.active):
             self.go_on()
-        for running in self.all:
+        for running in self.phases:
             running.called = running.called and running.phase.latching and not running.is_green
         self.due = clock + max(1, min(map(self.wait, self.active)))
         self.changes += self.state() != state
@@ -156,11 +157,11 @@ class Nema:
     def wait(self, running: RunningPhase) -> int:
         """The seconds in which nothing can happen in the ring of a phase that is shown, whatever the other ring does;
         `moves_on` takes one at least."""
-        phase, to_go = running.phase, running.lasts - (self.now - running.since)
-        if self.wanted or any(other.phase.latching for other in self.all) or running.stage > GREEN:
+        phase, to_go = running.phase, running.lasts - (self.clock - running.since)
+        if self.called or any(other.phase.latching for other in self.phases) or running.stage > GREEN:
             return 1
         if running.stage < GREEN:
-            changed = self.now - running.end
+            changed = self.clock - running.end
             return ceil((phase.yellow if changed < phase.yellow else phase.change_seconds) - changed)
         # Who is on an area before that does not make the green longer.
         return ceil(to_go) if running.lasts >= running.most else min(ceil(to_go), int(to_go - phase.extension) + 1)
@@ -168,7 +169,7 @@ class Nema:
     def is_on(self, running: RunningPhase) -> bool:
         """Whether somebody is on the areas of a phase, or was since its last green where it is latching, or a bus calls
         it."""
-        return running.called or running.phase.number in self.wanted or any(map(self.present, running.phase.areas))
+        return running.called or running.phase.number in self.called or any(map(self.present, running.phase.areas))
 
     def is_called(self, running: RunningPhase) -> bool:
         """Whether a phase wants to be green: by a recall, by somebody on its areas, or by a bus."""
@@ -183,11 +184,11 @@ class Nema:
         if not running.is_green:
             running.ready = True
             return
-        since, phase = self.now - running.since, running.phase
+        since, phase = self.clock - running.since, running.phase
         if running.stage != TRANSFER and running.lasts < running.most and self.extends(running, since):
             running.lasts = min(max(since + phase.extension, phase.least), running.most)
         if running.stage == REST:
-            self.rest(running, since)
+            self.rest_in_green(running, since)
         if since >= running.lasts:
             running.ready = True
 
@@ -195,13 +196,13 @@ class Nema:
         """From now on buses call some phases, by their numbers: those that are shown stay green until their greatest
         length, greens in their way end at their least. Empty: no bus is seen any more. `due` comes forward to now, or
         behind a second that was looked at."""
-        self.wanted = phases
-        self.due = min(self.due, max(clock, self.now + 1))
+        self.called = phases
+        self.due = min(self.due, max(clock, self.clock + 1))
 
     def serve_buses(self, running: RunningPhase) -> None:
         """Has a green that is shown go on, or end, for the buses that call phases."""
-        green = self.now - running.began
-        if running.is_green and running.phase.number in self.wanted:
+        green = self.clock - running.began
+        if running.is_green and running.phase.number in self.called:
             running.ready = running.ready and green >= running.phase.most
         elif running.is_green and green >= running.phase.least and self.is_in_the_way(running):
             running.ready = True
@@ -209,7 +210,8 @@ class Nema:
     def is_in_the_way(self, running: RunningPhase) -> bool:
         """Whether a green has to end before one that a bus calls: in the same ring, beyond the barrier, or where the
         other ring comes to it only by way of the other side."""
-        called = (each for each in self.all if each.phase.number in self.wanted and self.active[each.ring] is not each)
+        hidden = (each for each in self.phases if self.active[each.ring] is not each)
+        called = (each for each in hidden if each.phase.number in self.called)
         ring, side = running.ring, running.side
         return any(each.ring == ring or each.side != side or self.active[each.ring].at_barrier for each in called)
 
@@ -219,20 +221,20 @@ class Nema:
         longer = max(since + running.phase.extension, running.phase.least) > running.lasts
         return (longer or running.stage == REST) and self.is_on(running)
 
-    def rest(self, running: RunningPhase, since: float) -> None:
+    def rest_in_green(self, running: RunningPhase, since: float) -> None:
         """A second of resting in green. From when another phase is called it lasts its greatest time on, and then may
         end, and so may the other ring's phase if it waits or rests; since: seconds of green so far."""
         most, least = running.phase.most, running.phase.least
         other_phase = self.shown_by_other_ring(running)
         shown = running.phase.number, other_phase.phase.number
-        if any(self.is_called(each) for each in self.all if each.phase.number not in shown):
+        if any(self.is_called(each) for each in self.phases if each.phase.number not in shown):
             running.resting -= 1
             if running.resting + 1 >= most:
                 running.most = least + most
         else:
             running.resting = most
             if since >= least:
-                running.since, running.most = self.now - least, least + most
+                running.since, running.most = self.clock - least, least + most
                 running.lasts = least + max(0.0, running.lasts - since)
         if running.resting < 1:
             running.ready = True
@@ -243,7 +245,7 @@ class Nema:
 
     def begin_green(self, running: RunningPhase) -> None:
         """Begins the green of a phase now; it becomes the one that its ring shows."""
-        running.since, running.began, running.ready = self.now, self.now, False
+        running.since, running.began, running.ready = self.clock, self.clock, False
         running.chosen, running.stage = None, GREEN
         if running.rests:
             running.stage, running.resting = REST, running.phase.most
@@ -267,11 +269,11 @@ class Nema:
             self.keep_green(running, following)
             return
         running.chosen = target
-        changed = self.now - running.end
+        changed = self.clock - running.end
         if running.is_green:
-            seconds = self.now - running.began
+            seconds = self.clock - running.began
             self.ended.append(EndedPhase(running.phase.number, running.began, seconds, self.why(running)))
-            running.end, running.stage, running.changing = self.now, YELLOW, True
+            running.end, running.stage, running.changing = self.clock, YELLOW, True
         elif changed >= running.phase.change_seconds:
             running.ready, running.changing, running.stage = False, False, RED
             self.begin_green(target)
@@ -282,7 +284,7 @@ class Nema:
         """Why a green ends now: one of the words BY_.. of logic."""
         if running.stage != GREEN:
             return BY_OTHER if running.stage == TRANSFER else BY_CALL
-        if self.wanted and self.now - running.since < running.lasts:
+        if self.called and self.clock - running.since < running.lasts:
             return BY_BUS
         return BY_MOST if running.lasts >= running.most else BY_GAP
 
@@ -292,7 +294,7 @@ class Nema:
         running.ready = False
         both = following[other_phase.ring] is other_phase and other_phase.ready
         if both or (other_phase.stage == REST and other_phase.resting >= other_phase.phase.most):
-            running.stage, running.since, running.lasts = REST, self.now - phase.least, phase.least
+            running.stage, running.since, running.lasts = REST, self.clock - phase.least, phase.least
             running.resting = phase.most * running.rests
         else:
             running.stage = TRANSFER
@@ -357,4 +359,4 @@ class Nema:
     def change_left(self, running: RunningPhase) -> float:
         """The seconds of a change that are to come, as SUMO counts them: 0 while a change is under way."""
         seconds = running.phase.change_seconds
-        return max(0.0, self.now - running.end - seconds) if running.changing else seconds
+        return max(0.0, self.clock - running.end - seconds) if running.changing else seconds

@@ -8,12 +8,12 @@ from streetsim.model.runs import Run
 
 @dataclass(slots=True, frozen=True)
 class Closure:
-    """Cells first to last of a lane that are closed from the clock begin to the clock end."""
+    """Cells first_cell to last_cell of a lane that are closed from the clock begin to the clock end."""
 
     link: int
     lane: int
-    first: int  # cell
-    last: int
+    first_cell: int
+    last_cell: int
     begin: int  # clock of the close
     end: int
     beyond: float = 0.0  # metres for which it goes on, on the next part of the edge
@@ -23,7 +23,7 @@ class Closure:
         goes on beyond the link."""
         link = mapping.links[self.link]
         size = link.metres / link.cells
-        return self.first * size, (self.last + 1) * size + self.beyond
+        return self.first_cell * size, (self.last_cell + 1) * size + self.beyond
 
 
 def closures_of(run: Run, until: int) -> list[Closure]:
@@ -50,11 +50,11 @@ def begun_here(closures: Iterable[Closure], mapping: Map) -> list[Closure]:
     """The closures before which a queue can begin. One that continues another with the same clocks, from the part of
     the edge before, is left out, as its queue is seen at that other one, which gets its metres in beyond."""
     closures = list(closures)
-    first_cells = [closure for closure in closures if closure.first <= 1]
+    first_cells = [closure for closure in closures if closure.first_cell <= 1]
     begins = {(closure.link, closure.lane, closure.begin, closure.end): closure for closure in first_cells}
     further: dict[Closure, Closure] = {}
     for closure in closures:
-        if closure.last == mapping.links[closure.link].cells - 1:
+        if closure.last_cell == mapping.links[closure.link].cells - 1:
             edge = mapping.links[closure.link].edge
             turns = [turn for turn in mapping.turns if (turn.link, turn.lane) == (closure.link, closure.lane)]
             parts = [turn for turn in turns if mapping.links[turn.next].edge.rpartition(".")[0] == edge]

@@ -41,7 +41,7 @@ def works_rows(watched: Sequence[Watched], mapping: Map, start: int, seconds: in
     for works in watched:
         link, (begin, end) = mapping.links[works.closure.link], works.closure.metres(mapping)
         name = link.edge, link.lanes[works.closure.lane], f"{begin:.1f}", f"{end:.1f}"
-        last = min(works.closure.end, works.last or works.closure.begin)
+        last = min(works.closure.end, works.last_look or works.closure.begin)
         for period in periods_of(works.closure.begin, last, start, seconds):
             yield period.begin, period.end, *name, *seen_in(works, period)
 

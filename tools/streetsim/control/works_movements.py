@@ -32,12 +32,12 @@ class Lost:
 
     movement: Movement
     lanes: tuple[Place, ...]  # from which SUMO's network lets one turn, all closed
-    others: tuple[Place, ...]  # open ones from which turns were added
+    open_lanes: tuple[Place, ...]  # open ones from which turns were added
     vehicles: int  # that come while all are closed
 
     def is_joint(self) -> bool:
         """Whether those who turn can be led from the other lane of the same link, not of another link beside."""
-        return bool(self.others) and self.others[0][0] == self.lanes[0][0]
+        return bool(self.open_lanes) and self.open_lanes[0][0] == self.lanes[0][0]
 
 
 def lost_movements(run: Run, mapping: Map, closures: Collection[Closure]) -> list[Lost]:
@@ -61,7 +61,7 @@ def closed_ends(closures: Iterable[Closure], mapping: Map) -> dict[Place, list[T
     the works; they rise, with open ones between. Lanes without any are left out."""
     by_lane: defaultdict[Place, list[Times]] = defaultdict(list)
     for closure in sorted(closures, key=lambda closure: closure.begin):
-        if mapping.links[closure.link].cells - 1 - closure.last < BEHIND:
+        if mapping.links[closure.link].cells - 1 - closure.last_cell < BEHIND:
             times = by_lane[closure.link, closure.lane]
             first, last = times.pop() if times and closure.begin <= times[-1][1] else (closure.begin, closure.end)
             times.append((first, max(last, closure.end)))
@@ -110,8 +110,8 @@ def told_of_lost(lost: Iterable[Lost], mapping: Map, how: str, searched: bool = 
 
 def what_those_do(lost: Lost, mapping: Map, how: str, searched: bool) -> str:
     """What those do who lose their lane, as the end of a sentence; how, searched: as of told_of_lost."""
-    if how == "lead" and lost.others:
-        beside = mapping.lane_name(*min(lost.others, key=partial(lanes_apart, lost.lanes[0], mapping)))
+    if how == "lead" and lost.open_lanes:
+        beside = mapping.lane_name(*min(lost.open_lanes, key=partial(lanes_apart, lost.lanes[0], mapping)))
         time = "from which all may turn in the whole run" if lost.is_joint() else "for that time alone"
         return f"these are led from {beside}, {time} (--lost wait: they wait until the works end)"
     if how == "bar":
@@ -131,7 +131,7 @@ def without_led_turns(run: Run, mapping: Map, lost: Iterable[Lost]) -> tuple[Run
     """(the run, its map) without the turns by which those who lose their lane would be led from the lane beside on
     their link, so that they wait, in the load, its signals and the map; the same ones where there are no such turns.
     Turns from other links of the edge stay, as plans have them."""
-    left = {(place, one.movement[1]) for one in lost for place in one.others if place[0] in dict(one.lanes)}
+    left = {(place, one.movement[1]) for one in lost for place in one.open_lanes if place[0] in dict(one.lanes)}
     turns = ((turn, mapping.links[turn.next].edge) for turn in mapping.turns)
     led_turns = {(turn.link, turn.lane, turn.next) for turn, edge in turns if ((turn.link, turn.lane), edge) in left}
     if not led_turns:

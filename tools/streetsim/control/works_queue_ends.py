@@ -45,13 +45,13 @@ class Reach:
 @dataclass(slots=True, frozen=True)
 class Piece:
     """A link that the queue may reach, seen from a cell upstream of the works. end: the cell before which vehicles
-    count; last: where the last one stands so far, in cells of this link; behind: metres from its cell end to the
+    count; last_cell: where the last one stands so far, on this link; behind: metres from its cell end to the
     works; begin: the cell from which on vehicles count, above 0 where other works begin there."""
 
     link: int
     lanes: Collection[int]
     end: int
-    last: int
+    last_cell: int
     behind: float
     begin: int = 0
 
@@ -80,9 +80,9 @@ def reach_of(
 
 
 def add_standing(piece: Piece, lanes: Mapping[Place, Lane], scale: float, reach: Reach) -> int:
-    """Adds those who stand on a piece to the queue (reach); gives the cell of the last one, `last` of the piece where
-    nobody is added. scale: metres of a cell."""
-    last_cell = piece.last
+    """Adds those who stand on a piece to the queue (reach); gives the cell of the last one, `last_cell` of the piece
+    where nobody is added. scale: metres of a cell."""
+    last_cell = piece.last_cell
     for cell, speed, size in vehicles_on(piece, lanes):
         if last_cell - cell > APART or cell < piece.begin:
             break

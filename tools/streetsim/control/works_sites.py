@@ -39,10 +39,10 @@ NEAR = 150  # metres of an edge before works on a lane to its end, up to which w
 
 @dataclass(slots=True, frozen=True)
 class WorksOptions:
-    """What else a run with works is asked for. others: lanes and edges that are to be joint as well, as if they had
+    """What else a run with works is asked for. joint: lanes and edges that are to be joint as well, as if they had
     works; lost: what those do who lose their only lane, of movements.LOST."""
 
-    others: Collection[str] = ()
+    joint: Collection[str] = ()
     lost: str = "lead"
     limit: int | None = None  # km/h along works
 
@@ -52,7 +52,7 @@ def with_works(
 ) -> tuple[Run, Map, list[str]]:
     """(the run with works, its map, the texts to tell). Both are imported anew where lanes must be joint or led from,
     or edges cut; map_path: from which the imported files are found. Fault where that cannot be done, a name of
-    options.others cannot be joint, or the works cannot have the limit."""
+    options.joint cannot be joint, or the works cannot have the limit."""
     notes: list[str] = []
     if options.limit and works:
         slow = limits_of(works, mapping, options.limit)
@@ -60,7 +60,7 @@ def with_works(
         works = list(works_on_parts(works, slow, mapping))
         with imported_for(f"--works-limit {options.limit}"):
             run, mapping = imported_anew(run, mapping, map_path, slow=[one.text() for one in slow])
-    names = parallel_names(options.others, mapping)
+    names = parallel_names(options.joint, mapping)
     names += [name for name in lanes_to_join(works, mapping) if name not in names]
     led = [name for name in lanes_to_lead(works, mapping) if options.lost == "lead" and name not in names]
     if names or led:

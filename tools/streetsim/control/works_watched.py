@@ -73,19 +73,19 @@ class Watched:
     queues: list[WorksQueue] = field(default_factory=list)
     stands: list[Stand] = field(default_factory=list)
     long: set[int] = field(default_factory=set)  # cars that stood for longer than LONG
-    left: int | None = None  # the clock at which the queue first left the network
-    last: int | None = None  # look
+    left_network: int | None = None  # the clock at which the queue first left the network
+    last_look: int | None = None  # look
 
     def reach(self, clock: int, lanes: Mapping[Place, Lane]) -> Reach:
         """The queue before the works at a clock, on whatever lane of their link, and on the lanes upstream that lead to
         it; who stands before other works upstream on the lane belongs to their queue alone. lanes: the replies on the
         lanes of the link and of those that `further` asks for, those without one are empty."""
-        return reach_of(lanes, self.streets, self.closure.link, self.closure.first, self.first_cell(clock))
+        return reach_of(lanes, self.streets, self.closure.link, self.closure.first_cell, self.first_cell(clock))
 
     def first_cell(self, clock: int) -> int:
         """The cell of the link from which on vehicles stand before these works at a clock: where the last works before
         them on the lane begin; 0 where there are none."""
-        return max((one.first for one in self.upstream if one.begin < clock <= one.end), default=0)
+        return max((one.first_cell for one in self.upstream if one.begin < clock <= one.end), default=0)
 
     def further(self, clock: int, lanes: Mapping[Place, Lane]) -> list[int]:
         """The links upstream whose lanes must be looked at too at a clock, by what the lanes so far show; empty where
@@ -102,7 +102,7 @@ class Watched:
         self.note_passing(clock, lanes, bound)
         self.note_standing(clock, lanes)
         self.note_queue(clock, self.reach(clock, lanes))
-        self.last = clock
+        self.last_look = clock
 
     def rescue(self, car: int, anew: int) -> None:
         """Notes that a car was taken out and entered anew as another one; its seconds on the way to the works go on."""
@@ -131,7 +131,7 @@ class Watched:
 
     def sights(self, lanes: Mapping[Place, Lane]) -> tuple[dict[int, Sight], set[int]]:
         """(the vehicles before the works, by number in the program; those on the link past their begin)."""
-        link, works_cell = self.closure.link, self.closure.first
+        link, works_cell = self.closure.link, self.closure.first_cell
         before: dict[int, Sight] = {}
         beyond: set[int] = set()
         behind = self.seconds_behind({other_link for other_link, _ in lanes})
@@ -156,7 +156,7 @@ class Watched:
         seconds, reached = {self.closure.link: 0.0}, deque([self.closure.link])
         while reached:
             link = reached.popleft()
-            ahead = self.closure.first * self.pace[link]
+            ahead = self.closure.first_cell * self.pace[link]
             if link != self.closure.link:
                 ahead = seconds[link] + self.streets.across[link] + self.streets.cells[link] * self.pace[link]
             new = [one for one in self.streets.before.get(link, ()) if one in links and one not in seconds]
@@ -167,7 +167,7 @@ class Watched:
     def note_standing(self, clock: int, lanes: Mapping[Place, Lane]) -> None:
         """Notes who stands before the works on their link, since when, for how long the longest does, and who for more
         than LONG seconds."""
-        link, begin, works_cell = self.closure.link, self.first_cell(clock), self.closure.first
+        link, begin, works_cell = self.closure.link, self.first_cell(clock), self.closure.first_cell
         standing = [
             (car, lane, cell)
             for (other, lane), reply in lanes.items()
@@ -181,10 +181,10 @@ class Watched:
     def note_queue(self, clock: int, reach: Reach) -> None:
         """Notes how far the queue reaches, and whether it has left the network: it reaches the begin of a link to which
         nothing leads."""
-        seconds = clock - (self.closure.begin if self.last is None else self.last)
+        seconds = clock - (self.closure.begin if self.last_look is None else self.last_look)
         self.queues.append(WorksQueue(clock, seconds, reach.metres))
-        if reach.vehicles and self.left is None and any(link not in self.streets.before for link in reach.full):
-            self.left = clock
+        if reach.vehicles and self.left_network is None and any(link not in self.streets.before for link in reach.full):
+            self.left_network = clock
 
 
 def in_runs(texts: Sequence[Sequence[str]]) -> Iterator[str]:
@@ -206,8 +206,8 @@ def doubts_of(watched: Iterable[Watched], mapping: Map) -> Iterator[str]:
                 f"before the works on {name} {len(works.long):,} stood for more than {LONG} s in one cell, "
                 f"one for {longest:,} s"
             )
-        if works.left is not None:
+        if works.left_network is not None:
             yield (
-                f"the queue before the works on {name} left the network at {works.left:,} s: "
+                f"the queue before the works on {name} left the network at {works.left_network:,} s: "
                 "who waits beyond is in no queue or delay"
             )

@@ -41,14 +41,14 @@ class Areas:
 
     detectors: list[Detector]
     start: int
-    seen: dict[tuple[str, int], Area] = field(default_factory=dict)  # by name and begin
+    by_period: dict[tuple[str, int], Area] = field(default_factory=dict)  # by name and begin
 
     def sample(self, clock: int, cells_of: Callable[[tuple[int, int]], Cells]) -> None:
-        """Adds to `seen` the vehicles whose fronts are in each e2 at a poll of the lanes at a clock, which counts to
-        the period of the second before it; cells_of gives the cells of the lane's reply of a (link, lane)."""
+        """Adds to `by_period` the vehicles whose fronts are in each e2 at a poll of the lanes at a clock, which counts
+        to the period of the second before it; cells_of gives the cells of the lane's reply of a (link, lane)."""
         for detector in self.detectors:
             begin = self.start + (clock - 1 - self.start) // detector.period * detector.period
-            area = self.seen.setdefault((detector.name, begin), Area())
+            area = self.by_period.setdefault((detector.name, begin), Area())
             cells = cells_of((detector.link, detector.lane))
             inside = [entry for entry in cells if detector.first <= entry[1] <= detector.last]
             jam = longest_jam(inside)

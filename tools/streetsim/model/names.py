@@ -25,7 +25,7 @@ class Names:
         self.mapping = mapping
         self.edges: Mapping[str, str] = mapping.names.get(EDGES, {})
         self.junctions: Mapping[str, str] = mapping.names.get(JUNCTIONS, {})
-        self.made = self.junctions_by_streets() if self.edges else {}
+        self.by_streets = self.junctions_by_streets() if self.edges else {}
 
     def __bool__(self) -> bool:
         """Whether the map has any name."""
@@ -48,7 +48,7 @@ class Names:
 
     def junction(self, name: str) -> str:
         """The name of a junction, else those of its streets; empty where it has neither."""
-        return self.junctions.get(name, "") or self.made.get(name, "")
+        return self.junctions.get(name, "") or self.by_streets.get(name, "")
 
     def junction_told(self, name: str) -> str:
         """What a junction is called, else 'Junction' and its id."""
