@@ -205,7 +205,7 @@ class Reading(unittest.TestCase):
         as if somebody had left then: in SUMO too a max-gap of 10 s holds the first green for 10 s."""
         for start, clock, last, seconds in ((10, 12, 10.5, 1.5), (10, 12, 11, 1), (11, 12, -inf, 1), (0, 99, -inf, 32)):
             lights = Lights(None)
-            lights.kernel, lights.sensors = SimpleNamespace(start=start), SimpleNamespace(last=[last])
+            lights.kernel, lights.sensors = SimpleNamespace(start=start), SimpleNamespace(last_clock=[last])
             self.assertEqual(lights.gap(clock, 0), seconds)
 
     def test_bounds_as_sumo_reads_them(self):

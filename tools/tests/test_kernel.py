@@ -234,7 +234,7 @@ class Examples(Case):
         with open("zero/rows.bin", "rb") as file:
             part = next(rows.parts_of(file, "rows.bin"))
         stands = (part.cell >= 0) & (part.speed == 0)
-        self.assertEqual(without[60], int(stands[part.first[59] : part.first[60]].sum()))
+        self.assertEqual(without[60], int(stands[part.first_rows[59] : part.first_rows[60]].sum()))
 
 
 if __name__ == "__main__":

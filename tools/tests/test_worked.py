@@ -174,10 +174,10 @@ class Seen(unittest.TestCase):
         self.assertEqual(one.further(120, lanes(a0=near, a1=(), z0=(), z1=())), [])
         one.note_look(110, lanes(a0=near, a1=(), z0=[(50, 39, 0)], z1=[(51, 38, 0)]), lambda car, *_: car != 51)
         self.assertEqual((one.coming[50].free, 51 in one.coming), (0.5 + 1 + 15, False))
-        self.assertEqual(one.left, None)
+        self.assertEqual(one.left_network, None)
         full = [(car, 38 - 3 * car, 0) for car in range(13)]
         one.note_look(115, lanes(a0=near, a1=(), z0=full, z1=()), lambda *_: True)
-        self.assertEqual(one.left, 115)
+        self.assertEqual(one.left_network, 115)
         [told] = doubts_of([one], TWO)
         self.assertIn("the queue before the works on a_0 left the network at 115 s", told)
 

@@ -64,36 +64,36 @@ class Layout:
 
     def indexes(self) -> dict[str, set[int]]:
         """By lane the places in a state, from 0, of the signals of its turns."""
-        found: defaultdict[str, set[int]] = defaultdict(set)
+        by_lane: defaultdict[str, set[int]] = defaultdict(set)
         for turn in self.turns:
-            found[turn.lane].add(turn.index)
-        return found
+            by_lane[turn.lane].add(turn.index)
+        return by_lane
 
 
 def spots(layout: Layout, phases: Sequence[ActuatedPhase]) -> dict[str, DetectorSpot]:
     """By lane, where its detector lies: on each lane of shortest_greens, detector-gap seconds before the stop line, or
     nearer where fewer vehicles pass in its least green. Lanes whose name is a parameter (a detector of the user's own,
     or NO_DETECTOR) are left out."""
-    found = {}
+    spot_by_lane = {}
     for lane, least in shortest_greens(layout, phases).items():
         if lane not in layout.parameters:
             before = min(
                 layout.value("detector-gap", LEAD) * layout.lanes[lane].speed,
                 (least / layout.value("passing-time", PASSING) + 0.5) * ROOM,
             )
-            found[lane] = spot_before(layout.lanes[lane].stretches, before)
-    return found
+            spot_by_lane[lane] = spot_before(layout.lanes[lane].stretches, before)
+    return spot_by_lane
 
 
 def shortest_greens(layout: Layout, phases: Sequence[ActuatedPhase]) -> dict[str, int]:
     """By lane the shortest of the least seconds of the phases in which a signal of it is green (G or g) and whose
     bounds differ, so that detectors decide their length; lanes without such a phase are left out."""
-    found: dict[str, int] = {}
+    least_by_lane: dict[str, int] = {}
     for lane, indexes in sorted(layout.indexes().items()):
         own = [one.least for one in phases if one.least != one.most and any(one.state[at] in GO for at in indexes)]
         if own:
-            found[lane] = min(own)
-    return found
+            least_by_lane[lane] = min(own)
+    return least_by_lane
 
 
 def spot_before(stretches: Iterable[LeadingLane], metres: float) -> DetectorSpot:
@@ -117,13 +117,13 @@ def extending(layout: Layout, phases: Sequence[ActuatedPhase], detected: Iterabl
     for turn in layout.turns:
         if not turn.turns_back:
             leads[turn.lane].add(turn.target)
-    found = []
+    lanes_by_phase = []
     for phase in phases:
         green = green_indexes(layout, phases, phase.state) if phase.least != phase.most else set()
         usable = [lane for lane in detected if indexes[lane] and indexes[lane] <= green]
         beyond = {lane: leads[lane] & {*detected} for lane in usable}
-        found.append([lane for lane in usable if all(indexes[other] <= green for other in beyond[lane])])
-    return found
+        lanes_by_phase.append([lane for lane in usable if all(indexes[other] <= green for other in beyond[lane])])
+    return lanes_by_phase
 
 
 def green_indexes(layout: Layout, phases: Sequence[ActuatedPhase], state: str) -> set[int]:
@@ -134,11 +134,11 @@ def green_indexes(layout: Layout, phases: Sequence[ActuatedPhase], state: str) -
     for turn in layout.turns:
         by_index[turn.index].append(turn)
     first = {turn.lane for turn in layout.turns if state[turn.index] == MAJOR}
-    found = set()
+    greens = set()
     for at, turns in by_index.items():
         never = all(phase.state[at] != MAJOR for phase in phases) or all(turn.turns_back for turn in turns)
         beside = never and any(turn.lane in first for turn in turns)
         alone = any(layout.lanes[turn.lane].alone for turn in turns)
         if state[at] == MAJOR or (state[at] == MINOR and (beside or alone)):
-            found.add(at)
-    return found
+            greens.add(at)
+    return greens

@@ -49,50 +49,50 @@ class DrivenProgram:
         """SUMO's name of the light."""
         return self.light.name
 
-    def starts(self, now: int) -> Iterator[Command]:
+    def starts(self, clock: int) -> Iterator[Command]:
         """Begins the logic at the clock of a run's begin, and gives the commands that show the phase in which it
         begins; none where this program is not in force."""
-        self.logic.begin_at(now, self.light.offset)
-        self.spans = [[now, inf]] if self.in_force else []
-        yield from self.begins(now)
+        self.logic.begin_at(clock, self.light.offset)
+        self.spans = [[clock, inf]] if self.in_force else []
+        yield from self.begins(clock)
 
-    def moves_on(self, now: int, senses: Senses) -> bool:
+    def moves_on(self, clock: int, senses: Senses) -> bool:
         """Has the logic look at its detectors or areas, and says whether another phase begins now; of a NEMA light,
         whether what is green changes."""
         if isinstance(self.logic, Nema):
-            return self.logic.moves_on(now, present_by(now, senses.lane, self.light.areas))
-        return self.logic.moves_on(now, lambda detector: senses.gap(self.meters.start + detector))
+            return self.logic.moves_on(clock, present_by(clock, senses.lane, self.light.areas))
+        return self.logic.moves_on(clock, lambda detector: senses.gap(self.meters.start + detector))
 
-    def begins(self, now: int) -> Iterator[Command]:
+    def begins(self, clock: int) -> Iterator[Command]:
         """The commands that show the phase that begins at a clock; none where this program is not in force. In force or
         not they are kept, for `goes_on` and `resumes`."""
-        self.shows, self.wraps = list(self.plans(now)), now + limits.PHASE_STEPS
+        self.shows, self.wraps = list(self.plans(clock)), clock + limits.PHASE_STEPS
         yield from self.shows if self.in_force else ()
 
-    def plans(self, now: int) -> Iterator[Command]:
+    def plans(self, clock: int) -> Iterator[Command]:
         """The commands that show from a clock on what the logic has come to."""
         if isinstance(self.logic, Actuated) and isinstance(self.shown, NodesOfLight):
-            return self.shown.plans(self.logic, now)
+            return self.shown.plans(self.logic, clock)
         assert isinstance(self.logic, Nema) and isinstance(self.shown, ShownRings)
-        return self.shown.plans(self.logic, now)
+        return self.shown.plans(self.logic, clock)
 
     def goes_on(self) -> Iterator[Command]:
         """The commands that keep a phase on for more than the 600 s of its plan; none where it is not in force."""
         self.wraps = inf
         yield from map(lasting, self.shows if self.in_force else ())
 
-    def resumes(self, now: int) -> Iterator[Command]:
+    def resumes(self, clock: int) -> Iterator[Command]:
         """Puts this program, which must be out of force, in force, and gives the commands that show from now on what
         its logic has come to."""
         self.in_force = True
-        self.spans.append([now, inf])
-        since = self.logic.since if isinstance(self.logic, Actuated) else now
-        yield from self.begins(since) if now - since < limits.PHASE_STEPS else map(lasting, self.shows)
+        self.spans.append([clock, inf])
+        since = self.logic.since if isinstance(self.logic, Actuated) else clock
+        yield from self.begins(since) if clock - since < limits.PHASE_STEPS else map(lasting, self.shows)
 
-    def leaves(self, now: int) -> None:
-        """Takes this program out of force at the clock `now`; it goes on unseen. Nothing where it is so already."""
+    def leaves(self, clock: int) -> None:
+        """Takes this program out of force at `clock`; it goes on unseen. Nothing where it is so already."""
         if self.in_force:
-            self.in_force, self.spans[-1][1] = False, now
+            self.in_force, self.spans[-1][1] = False, clock
 
     def phase_rows(self, until: int) -> Iterator[PhaseRow]:
         """The rows of phases.csv of the phases, or parts of them, that were shown until a clock; one that this clock or
@@ -121,14 +121,14 @@ class Driver:
         self.switches = deque(switches)
         self.cells: list[Cell] = []
         self.controllers: list[DrivenProgram] = []
-        for one, in_force in (*((one, True) for one in lights), *((one, False) for one in idle)):
-            meters = range(len(self.cells), len(self.cells) + len(one.cells))
-            self.cells += one.cells
+        for light, in_force in (*((light, True) for light in lights), *((light, False) for light in idle)):
+            meters = range(len(self.cells), len(self.cells) + len(light.cells))
+            self.cells += light.cells
             shown: NodesOfLight | ShownRings = (
-                NodesOfLight(one, mapping) if isinstance(one, Driven) else ShownRings(one, mapping)
+                NodesOfLight(light, mapping) if isinstance(light, Driven) else ShownRings(light, mapping)
             )
-            self.controllers.append(DrivenProgram(one, one.new_logic(), shown, meters, in_force=in_force))
-        self.lights = {one.name for one in self.controllers}
+            self.controllers.append(DrivenProgram(light, light.new_logic(), shown, meters, in_force=in_force))
+        self.lights = {program.name for program in self.controllers}
 
     def controller_of(self, light: str, program: str | None = None) -> DrivenProgram | None:
         """The controller of a light's program, or of the one in force where none is named; none where there is none."""
@@ -186,13 +186,13 @@ class Driver:
 
     def commands_after_look(self, clock: int, senses: Senses) -> Iterator[Command]:
         """Looks at the lights that are due at a clock, and gives the commands to send before the next step."""
-        for one in self.controllers:
-            if one.stopped < inf:
+        for program in self.controllers:
+            if program.stopped < inf:
                 continue
-            if one.logic.due <= clock and one.moves_on(clock, senses):
-                yield from one.begins(clock)
-            elif one.wraps <= clock:
-                yield from one.goes_on()
+            if program.logic.due <= clock and program.moves_on(clock, senses):
+                yield from program.begins(clock)
+            elif program.wraps <= clock:
+                yield from program.goes_on()
 
     def phase_rows(self, until: int) -> list[PhaseRow]:
         """The rows of phases.csv, rising. Those under way at the clock `until` end there, with an empty reason."""
@@ -217,6 +217,6 @@ def present_by(
         if found is None:
             return False
         leaving = area.at_end and any(ready > clock for _, _, ready, *_ in found.buffer)
-        return leaving or any(area.first <= cell <= area.last for _, cell, *_ in found.cells)
+        return leaving or any(area.first_cell <= cell <= area.last_cell for _, cell, *_ in found.cells)
 
     return present

@@ -33,8 +33,8 @@ class DetectorArea:
 
     link: int
     lane: int
-    first: int
-    last: int
+    first_cell: int
+    last_cell: int
     at_end: bool = True  # the last cell is the lane's
 
 
@@ -70,18 +70,18 @@ def number_of(text: str) -> float:
     raise Listed(f"as {text!r} of their parameters is no number")
 
 
-def phase_bounds(kept: list[Any]) -> tuple[float, float]:
+def phase_bounds(phase: list[Any]) -> tuple[float, float]:
     """(least, greatest) seconds of a phase, as kept: [seconds, state, least or none, greatest or none, next ones].
     Without a least that is its listed seconds, and so is the greatest where there is neither; with a least and no
     greatest it has no end, as in SUMO (LONGEST). The greatest is never below the least."""
-    seconds, _, least, most, *_ = kept
+    seconds, _, least, most, *_ = phase
     shortest = seconds if least is None else least
     longest = most if most is not None else seconds if least is None else LONGEST
     return shortest, max(shortest, longest)
 
 
-def node_of(kept: Mapping[str, Any]) -> NodeOf:
+def node_of(entry: Mapping[str, Any]) -> NodeOf:
     """A node with a light, from what a map keeps of it."""
-    connections = tuple(NetConnection(*one) for one in kept["connections"])
-    yields = {request: frozenset(foes) for request, foes in kept["yields"]}
-    return NodeOf(kept["node"], connections, yields, {(begin, end): flow for begin, end, flow in kept["flows"]})
+    connections = tuple(NetConnection(*one) for one in entry["connections"])
+    yields = {request: frozenset(foes) for request, foes in entry["yields"]}
+    return NodeOf(entry["node"], connections, yields, {(begin, end): flow for begin, end, flow in entry["flows"]})

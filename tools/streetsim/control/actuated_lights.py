@@ -102,35 +102,35 @@ def driven_lights(run: Run, mapping: Map) -> ActuatedLights:
     idle: list[DrivenLight] = []
     listed: dict[str, str] = {}
     use, later = passing(run.enters, mapping), {(light, program) for _, light, program in mapping.switches}
-    for light in sorted(mapping.actuated, key=lambda one: -use[one]):
+    for light in sorted(mapping.actuated, key=lambda light: -use[light]):
         try:
-            own = kept_of(mapping.programs, light, {program for name, program in later if name == light})
-            if any(node in timed for name, node in mapping.signals if name == light) and any(map(is_long, own)):
+            programs = kept_of(mapping.programs, light, {program for name, program in later if name == light})
+            if any(node in timed for name, node in mapping.signals if name == light) and any(map(is_long, programs)):
                 raise Listed("as lines of the run show their phases one by one")
-            found = [driven_of(one, mapping) for one in own]
-            for kept, one in zip(own, found, strict=True):
-                (idle if kept.get("idle") else driven).append(one)
+            lights = [driven_of(program, mapping) for program in programs]
+            for program, driven_light in zip(programs, lights, strict=True):
+                (idle if program.get("idle") else driven).append(driven_light)
         except Listed as why:
             listed[light] = str(why)
-    names = {one.name for one in (*driven, *idle)}
-    switches = (one for one in mapping.switches if one[0] > run.start() and one[1] in names)
+    names = {driven_light.name for driven_light in (*driven, *idle)}
+    switches = (switch for switch in mapping.switches if switch[0] > run.start() and switch[1] in names)
     return ActuatedLights(tuple(driven), listed, tuple(idle), tuple(switches))
 
 
-def is_long(kept: Mapping[str, Any]) -> bool:
+def is_long(program: Mapping[str, Any]) -> bool:
     """Whether the listed seconds of a program, as a map keeps it, do not fit in one plan (9,600 s), so that the import
     tells it by lines with clocks."""
-    return sum(phase[0] for phase in kept["phases"]) > limits.PHASES * limits.PHASE_STEPS
+    return sum(phase[0] for phase in program["phases"]) > limits.PHASES * limits.PHASE_STEPS
 
 
 def idle_lights(mapping: Map, known: Iterable[DrivenLight]) -> Iterator[DrivenLight]:
     """Lights with a program that is not in force and that a script may put in force; programs that cannot be driven are
     passed over in silence, and so are those of `known`."""
     names = {(one.name, one.program) for one in known}
-    for kept in mapping.programs:
-        if kept.get("idle") and (kept["light"], kept["program"]) not in names:
+    for program in mapping.programs:
+        if program.get("idle") and (program["light"], program["program"]) not in names:
             with suppress(Listed):
-                yield driven_of(kept, mapping)
+                yield driven_of(program, mapping)
 
 
 def passing(enters: Iterable[Line], mapping: Map) -> Counter[str]:
@@ -141,21 +141,21 @@ def passing(enters: Iterable[Line], mapping: Map) -> Counter[str]:
     return Counter(light_at[pair] for pair in pairs if pair in light_at)
 
 
-def driven_of(kept: Mapping[str, Any], mapping: Map) -> DrivenLight:
+def driven_of(program: Mapping[str, Any], mapping: Map) -> DrivenLight:
     """A light that detectors drive, from what a map keeps of its program; raises Listed where it cannot be driven as in
     SUMO."""
-    if kept["kind"] == NEMA:
-        return driven_rings(kept, mapping)
-    refuse_unlike(kept)
-    phases = [phase_of(one) for one in kept["phases"]]
-    layout = layout_of(kept)
+    if program["kind"] == NEMA:
+        return driven_rings(program, mapping)
+    refuse_unlike(program)
+    phases = [phase_of(row) for row in program["phases"]]
+    layout = layout_of(program)
     cells = {lane: cell for lane, spot in spots(layout, phases).items() if (cell := cell_of(spot, mapping)) is not None}
     cells |= own_detectors(layout, mapping)
     number = {lane: at for at, lane in enumerate(cells)}
     loops = extending(layout, phases, cells)
     return Driven(
-        name=kept["light"],
-        offset=round(kept["offset"]),
+        name=program["light"],
+        offset=round(program["offset"]),
         phases=tuple(
             replace(phase, detectors=tuple(number[lane] for lane in own))
             for phase, own in zip(phases, loops, strict=True)
@@ -163,23 +163,24 @@ def driven_of(kept: Mapping[str, Any], mapping: Map) -> DrivenLight:
         lead=layout.value("detector-gap", LEAD),
         cells=tuple(cells.values()),
         gaps=tuple(max_gap_of(layout, lane) for lane in cells),
-        nodes=tuple(node_of(one) for one in kept["nodes"]),
-        program=kept.get("program", "0"),
+        nodes=tuple(node_of(node) for node in program["nodes"]),
+        program=program.get("program", "0"),
     )
 
 
-def refuse_unlike(kept: Mapping[str, Any]) -> None:
+def refuse_unlike(program: Mapping[str, Any]) -> None:
     """Raises Listed for a program that is not actuated, is wrong, or has something that is not driven here as in SUMO;
     more is refused by own_detectors and max_gap_of."""
-    if kept["kind"] != ACTUATED:
-        raise Listed(f"as {kept['kind']} is not driven here")
-    if kept["more"]:
-        raise Listed(f"as {', '.join(kept['more'])} of their programs is not driven here")
-    if any(len(following) > 1 for *_, following in kept["phases"]):
+    if program["kind"] != ACTUATED:
+        raise Listed(f"as {program['kind']} is not driven here")
+    if program["more"]:
+        raise Listed(f"as {', '.join(program['more'])} of their programs is not driven here")
+    if any(len(following) > 1 for *_, following in program["phases"]):
         raise Listed("as phases with several next ones are not driven here")
-    if beyond := [place for *_, following in kept["phases"] for place in following if place >= len(kept["phases"])]:
+    count = len(program["phases"])
+    if beyond := [index for *_, following in program["phases"] for index in following if index >= count]:
         raise Listed(f"as they have no phase {beyond[0]}, which one names as its next")
-    for name, value in kept["parameters"].items():
+    for name, value in program["parameters"].items():
         key = name.partition(":")[0]
         least = 0.1 if key == "passing-time" else 0.0
         unread = key in NUMBERS and number_of(value) < least
@@ -187,22 +188,22 @@ def refuse_unlike(kept: Mapping[str, Any]) -> None:
             raise Listed(f"as {name}={value} is not driven here")
 
 
-def phase_of(kept: list[Any]) -> ActuatedPhase:
+def phase_of(row: list[Any]) -> ActuatedPhase:
     """A phase, from what is kept of it: [seconds, state, least, greatest, next ones], in whole seconds, without
     detectors."""
-    seconds, state, *_, following = kept
+    seconds, state, *_, following = row
     step = following[0] if following and following[0] >= 0 else None
-    least, most = phase_bounds(kept)
+    least, most = phase_bounds(row)
     return ActuatedPhase(state, round(seconds), round(least), round(most), next=step)
 
 
-def layout_of(kept: Mapping[str, Any]) -> Layout:
+def layout_of(program: Mapping[str, Any]) -> Layout:
     """The lanes, turns and parameters at a light, from what a map keeps of its program."""
     lanes = {
-        name: LitLane(name, speed, alone, tuple(LeadingLane(*one) for one in stretches))
-        for name, speed, alone, stretches in kept["lanes"]
+        name: LitLane(name, speed, alone, tuple(LeadingLane(*stretch) for stretch in stretches))
+        for name, speed, alone, stretches in program["lanes"]
     }
-    return Layout([LitTurn(*one) for one in kept["ways"]], lanes, kept["parameters"])
+    return Layout([LitTurn(*turn) for turn in program["ways"]], lanes, program["parameters"])
 
 
 def max_gap_of(layout: Layout, lane: str) -> float:

@@ -72,39 +72,40 @@ class Actuated:
     since: int = 0  # its begin
     due: int = 0
     ended: list[EndedPhase] = field(default_factory=list)
-    first: dict[int, int] = field(default_factory=dict)  # by phase: the detector that extended it last
+    last_extender: dict[int, int] = field(default_factory=dict)  # by phase: the detector that extended it last
     told_to_end: bool = False  # by a script, when it is looked at next
     called: Collection[int] = ()  # phases that buses keep, or fetch, within bounds
 
-    def begin_at(self, now: int, offset: int = 0) -> None:
-        """Begins at the clock `now` with the phase in which a light with the listed seconds would be whose first phase
+    def begin_at(self, clock: int, offset: int = 0) -> None:
+        """Begins at `clock` with the phase in which a light with the listed seconds would be whose first phase
         began at the clock `offset`. As in SUMO this phase begins anew then, however much of it would be over."""
-        self.since, (self.at, _) = now, self.listed_at(now, offset)
-        self.due = now + self.phases[self.at].shortest
+        self.since, (self.at, _) = clock, self.listed_at(clock, offset)
+        self.due = clock + self.phases[self.at].shortest
 
-    def listed_at(self, now: int, offset: int) -> tuple[int, int]:
-        """(the place of the phase that a light with the listed seconds shows at the clock `now` whose first phase began
+    def listed_at(self, clock: int, offset: int) -> tuple[int, int]:
+        """(the place of the phase that a light with the listed seconds shows at `clock` whose first phase began
         at the clock `offset`; the seconds of this phase that are over, of the last one at most its own)."""
-        over = (now - offset) % max(1, sum(phase.seconds for phase in self.phases))
+        over = (clock - offset) % max(1, sum(phase.seconds for phase in self.phases))
         for place, phase in enumerate(self.phases):
             if over < phase.seconds:
                 return place, over
             over -= phase.seconds
         return len(self.phases) - 1, over
 
-    def moves_on(self, now: int, gap: GapOf) -> bool:
-        """Goes on to the next phase, and adds this one, of which `due` has come, to `ended`, if it is over at the clock
-        `now`; says whether. Sets `due`, when to look again. gap: seconds since a detector, by position, saw anybody."""
+    def moves_on(self, clock: int, gap: GapOf) -> bool:
+        """Goes on to the next phase, and adds this one, of which `due` has come, to `ended`, if it is over at
+        `clock`; says whether. Sets `due`, when to look again. gap: seconds since a detector, by position, saw
+        anybody."""
         phase = self.phases[self.at]
-        may_stay = phase.is_green and now - self.since < phase.most and not self.told_to_end
+        may_stay = phase.is_green and clock - self.since < phase.most and not self.told_to_end
         wait = self.stays(phase, gap) if may_stay else 0
         if wait:
-            self.due = min(max(now + wait, self.since + phase.least), self.since + phase.most)
+            self.due = min(max(clock + wait, self.since + phase.least), self.since + phase.most)
             return False
-        self.ended.append(EndedPhase(self.at, self.since, now - self.since, self.why(phase, now)))
+        self.ended.append(EndedPhase(self.at, self.since, clock - self.since, self.why(phase, clock)))
         self.told_to_end = False
         self.at = (self.at + 1) % len(self.phases) if phase.next is None else phase.next
-        self.since, self.due = now, now + self.phases[self.at].shortest
+        self.since, self.due = clock, clock + self.phases[self.at].shortest
         return True
 
     def stays(self, phase: ActuatedPhase, gap: GapOf) -> int:
@@ -112,12 +113,12 @@ class Actuated:
         extended, they decide: 1 where they call it, else 0; otherwise its detectors do."""
         return int(self.at in self.called) if self.called and phase.is_extended else self.wait(phase, gap)
 
-    def call(self, now: int, phases: Collection[int]) -> None:
+    def call(self, clock: int, phases: Collection[int]) -> None:
         """From now on buses call some phases, by their places: a green of these that is shown stays until its greatest
         length, any other ends at its least, for which `due` may come earlier. Empty: no bus is seen any more."""
         self.called = phases
         if phases and self.at not in phases:
-            self.due = min(self.due, max(now, self.since + self.phases[self.at].shortest))
+            self.due = min(self.due, max(clock, self.since + self.phases[self.at].shortest))
 
     def state(self) -> str:
         """The letters of the signals that are shown."""
@@ -135,14 +136,14 @@ class Actuated:
         """The clock at which it may go on, as scripts ask for it: when it is looked at next, as in SUMO."""
         return self.due
 
-    def go_to(self, index: int, now: int) -> bool:
-        """Goes on at the clock `now` with the phase at a place, from its begin, and adds the one that was shown to
+    def go_to(self, index: int, clock: int) -> bool:
+        """Goes on at `clock` with the phase at a place, from its begin, and adds the one that was shown to
         `ended`; nothing where it is shown already. Says whether it does. When it is looked at next stays as it was, as
         in SUMO."""
         if index == self.at:
             return False
-        self.ended.append(EndedPhase(self.at, self.since, now - self.since, BY_SCRIPT))
-        self.at, self.since = index, now
+        self.ended.append(EndedPhase(self.at, self.since, clock - self.since, BY_SCRIPT))
+        self.at, self.since = index, clock
         return True
 
     def end_at(self, clock: int) -> None:
@@ -156,26 +157,26 @@ class Actuated:
         for row in (*self.ended, *under_way):
             yield row, self.phases[row.phase].state
 
-    def why(self, phase: ActuatedPhase, now: int) -> str:
-        """Why the phase that is shown ends at the clock `now`: one of the words BY_..."""
+    def why(self, phase: ActuatedPhase, clock: int) -> str:
+        """Why the phase that is shown ends at `clock`: one of the words BY_..."""
         if self.told_to_end:
             return BY_SCRIPT
         if not phase.is_extended:
             return BY_LIST
-        if self.called and self.at not in self.called and now - self.since < phase.most:
+        if self.called and self.at not in self.called and clock - self.since < phase.most:
             return BY_BUS
-        return BY_MOST if now - self.since >= phase.most else BY_GAP
+        return BY_MOST if clock - self.since >= phase.most else BY_GAP
 
     def wait(self, phase: ActuatedPhase, gap: GapOf) -> int:
         """The seconds until the phase that is shown can end by its detectors, 0 if it can now, as each has seen nobody
         for its gap. One that has seen somebody within its gap wants that, or `lead` if longer, since then. The one that
-        extended the phase last (kept in `first`) is asked first. Once one wants nearly its whole gap those after it may
+        extended the phase last (`last_extender`) is asked first. Once one wants nearly its whole gap those after it may
         be left out, so that it may be too few seconds."""
         longest, enough = 0, self.lead <= min(self.gaps, default=0.0)
-        for detector in sorted(phase.detectors, key=lambda one: one != self.first.get(self.at)):
+        for detector in sorted(phase.detectors, key=lambda one: one != self.last_extender.get(self.at)):
             seen, most = gap(detector), self.gaps[detector]
             if seen < most:
-                self.first[self.at] = detector
+                self.last_extender[self.at] = detector
                 longest = max(longest, ceil(max(most, self.lead) - seen))
                 if enough and longest >= most - 1:
                     break

@@ -32,7 +32,7 @@ class NodesOfLight:
         """light: what is driven; mapping: of the run whose nodes show it."""
         self.light, self.limits = light, {link.edge: link.limit for link in mapping.links}
         cycle = [(float(phase.seconds), phase.state) for phase in light.phases]
-        self.nodes = [(one, lit_node(light.name, one, mapping, light.offset, cycle)) for one in light.nodes]
+        self.nodes = [(node, lit_node(light.name, node, mapping, light.offset, cycle)) for node in light.nodes]
         self.means = [float(phase.usual) for phase in light.phases]
         self.known = 0  # ended phases that are in the means
         self.rows: dict[tuple[int, Lengths], list[Green]] = {}  # by place of a node: green turns second by second
@@ -48,31 +48,31 @@ class NodesOfLight:
         self.known = len(logic.ended)
         return tuple(max(1, round(min(mean, limits.PHASE_STEPS))) for mean in self.means)
 
-    def plans(self, logic: Actuated, now: int) -> Iterator[Command]:
+    def plans(self, logic: Actuated, clock: int) -> Iterator[Command]:
         """The signal commands, one for each node, that show the phase that the logic is in, whose begin (or the run's)
-        is the clock `now`; first takes what ended into the means, as `learn`."""
+        is `clock`; first takes what ended into the means, as `learn`."""
         lengths = self.learn(logic)
         end = sum(lengths[: logic.at + 1])
         # At the begin of a run the end of a phase may be all that is left of it.
-        left = lengths[logic.at] if logic.ended else min(lengths[logic.at], logic.due - now)
-        for at, (kept, node) in enumerate(self.nodes):
+        remaining = lengths[logic.at] if logic.ended else min(lengths[logic.at], logic.due - clock)
+        for at, (map_node, node) in enumerate(self.nodes):
             if (at, lengths) not in self.rows:
-                self.rows[at, lengths] = self.greens_by_second(kept, node, lengths)
-            key = at, lengths, logic.at, left
+                self.rows[at, lengths] = self.greens_by_second(map_node, node, lengths)
+            key = at, lengths, logic.at, remaining
             if key not in self.phases:
                 phase = self.light.phases[logic.at]
-                rows: Sequence[Green] = self.rows[at, lengths][end - left : end]
-                if phase.detectors and left == lengths[logic.at]:
+                rows: Sequence[Green] = self.rows[at, lengths][end - remaining : end]
+                if phase.detectors and remaining == lengths[logic.at]:
                     rows = let_go_in_time(rows, phase.shortest, yielding(node, phase))
                 self.phases[key] = phases_of(rows)
-            yield command_of(node.node, self.phases[key], now)
+            yield command_of(node.node, self.phases[key], clock)
 
-    def greens_by_second(self, kept: NodeOf, node: LitNode, lengths: Lengths) -> list[Green]:
+    def greens_by_second(self, map_node: NodeOf, node: LitNode, lengths: Lengths) -> list[Green]:
         """The green turns in each second, from its begin, of a cycle whose phases have some lengths."""
         pairs = zip(self.light.phases, lengths, strict=True)
         states = [phase.state for phase, length in pairs for _ in range(length)]
-        own = settled(node, kept, states, self.limits)
-        return green_seconds(own, states, own.shown_seconds(states), 1, True)
+        settled_node = settled(node, map_node, states, self.limits)
+        return green_seconds(settled_node, states, settled_node.shown_seconds(states), 1, True)
 
 
 def yielding(node: LitNode, phase: ActuatedPhase) -> Green:
@@ -96,37 +96,36 @@ def let_go_in_time(rows: Sequence[Green], least: int, turns: Green) -> Sequence[
     return [*rows[: least - moved], *(row | late for row in rows[least - moved : least]), *after[least:-1], rows[-1]]
 
 
-def settled(node: LitNode, kept: NodeOf, states: Sequence[str], limits_of: Mapping[str, int]) -> LitNode:
+def settled(node: LitNode, map_node: NodeOf, states: Sequence[str], limits_of: Mapping[str, int]) -> LitNode:
     """A node with what the import's rules (where the import used them) find of who gives way there in a cycle of these
     states, one for each second; limits_of: of edges, cells a step."""
-    found: dict[int, CrossingMovement] = {}
-    if node.permissive is None and kept.flows and kept.yields:
-        found = movements_of(kept.connections, states, kept.yields, kept.flows, limits_of)
-        settle(list(found.values()))
-    return replace(node, found=found)
+    movements: dict[int, CrossingMovement] = {}
+    if node.permissive is None and map_node.flows and map_node.yields:
+        movements = movements_of(map_node.connections, states, map_node.yields, map_node.flows, limits_of)
+        settle(list(movements.values()))
+    return replace(node, found=movements)
 
 
-def lit_node(light: str, kept: NodeOf, mapping: Map, offset: int, cycle: list[tuple[float, str]]) -> LitNode:
+def lit_node(light: str, map_node: NodeOf, mapping: Map, offset: int, cycle: list[tuple[float, str]]) -> LitNode:
     """A node with a light as the import had it; offset: seconds; cycle: seconds and states of the light's phases."""
-    turns = [
-        (turn.link, turn.lane, turn.next, turn) for turn in mapping.turns if mapping.links[turn.link].end == kept.node
-    ]
+    own_turns = (turn for turn in mapping.turns if mapping.links[turn.link].end == map_node.node)
+    turns = [(turn.link, turn.lane, turn.next, turn) for turn in own_turns]
     edges = {link: mapping.links[link].edge for link, *_ in turns}
     program = LightProgram(offset, cycle, "actuated")
     cut, shares = measured_of(mapping)
     permissive = mapping.options.get("permissive")
-    return LitNode(kept.node, turns, edges, light, program, permissive, Report(), cut=cut, shares=shares)
+    return LitNode(map_node.node, turns, edges, light, program, permissive, Report(), cut=cut, shares=shares)
 
 
-def plan_command(node: int, rows: Sequence[Green], now: int) -> Command:
-    """The signal command that shows some seconds (green turns of each; one second at least) from the clock `now` on;
+def plan_command(node: int, rows: Sequence[Green], clock: int) -> Command:
+    """The signal command that shows some seconds (green turns of each; one second at least) from `clock` on;
     the last of the first 600 goes on for so long."""
-    return command_of(node, phases_of(rows), now)
+    return command_of(node, phases_of(rows), clock)
 
 
-def command_of(node: int, phases: list[list[Any]], now: int) -> Command:
-    """The signal command of a plan that begins at the clock `now`."""
-    return {"cmd": "signal", "node": node, "offset": -now % sum(seconds for seconds, _ in phases), "phases": phases}
+def command_of(node: int, phases: list[list[Any]], clock: int) -> Command:
+    """The signal command of a plan that begins at `clock`."""
+    return {"cmd": "signal", "node": node, "offset": -clock % sum(seconds for seconds, _ in phases), "phases": phases}
 
 
 def phases_of(rows: Sequence[Green]) -> list[list[Any]]:

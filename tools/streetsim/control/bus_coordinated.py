@@ -12,21 +12,21 @@ class Coordinated(Actuated):
 
     planned: int = 0  # clock at which the plan has the phase begin that is shown
 
-    def begin_at(self, now: int, offset: int = 0) -> None:
-        """Begins, at the clock now, in the phase in which the plan is then; offset: of the plan, seconds."""
-        Actuated.begin_at(self, now, offset)
-        self.planned = now - self.listed_at(now, offset)[1]
-        self.due = max(now + 1, self.planned + self.phases[self.at].seconds)
+    def begin_at(self, clock: int, offset: int = 0) -> None:
+        """Begins, at a clock, in the phase in which the plan is then; offset: of the plan, seconds."""
+        Actuated.begin_at(self, clock, offset)
+        self.planned = clock - self.listed_at(clock, offset)[1]
+        self.due = max(clock + 1, self.planned + self.phases[self.at].seconds)
 
-    def moves_on(self, now: int, gap: GapOf) -> bool:
-        """Goes on to the next phase where the present one is over at the clock now; gives whether it does. The plan's
+    def moves_on(self, clock: int, gap: GapOf) -> bool:
+        """Goes on to the next phase where the present one is over at a clock; gives whether it does. The plan's
         clock goes on with it, by whole cycles where it is far off."""
-        seconds, self.due = self.phases[self.at].seconds, now
-        if not Actuated.moves_on(self, now, gap):
+        seconds, self.due = self.phases[self.at].seconds, clock
+        if not Actuated.moves_on(self, clock, gap):
             return False
         cycle = sum(phase.seconds for phase in self.phases)
         self.planned += seconds
-        self.planned += cycle * ((now - self.planned + cycle // 2) // cycle)
+        self.planned += cycle * ((clock - self.planned + cycle // 2) // cycle)
         return True
 
     def wait(self, phase: ActuatedPhase, gap: GapOf) -> int:
@@ -34,9 +34,9 @@ class Coordinated(Actuated):
         is over. gap: not asked."""
         return max(0, self.planned + phase.seconds - self.due)
 
-    def why(self, phase: ActuatedPhase, now: int) -> str:
+    def why(self, phase: ActuatedPhase, clock: int) -> str:
         """Why a phase ends now: "listed" where the plan says so, else what Actuated says."""
-        why = Actuated.why(self, phase, now)
+        why = Actuated.why(self, phase, clock)
         return "listed" if why == "gap" else why
 
 

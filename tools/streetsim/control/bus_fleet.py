@@ -31,7 +31,7 @@ class Done:
     state: str
     lane: int | None = None
     arrived: int | None = None
-    left: int | None = None
+    departed: int | None = None
 
 
 class Dwell(NamedTuple):
@@ -40,24 +40,24 @@ class Dwell(NamedTuple):
 
     link: int
     arrived: int
-    left: int
+    departed: int
     stood: int
 
     @property
     def seconds(self) -> int:
         """The seconds for which it was at its stop, until its doors closed."""
-        return self.left - self.arrived
+        return self.departed - self.arrived
 
 
 def dwells(stops: Iterable[Done]) -> dict[int, list[Dwell]]:
     """By vehicle (its number in the file) the stops that it has left, of what became of all stops."""
-    found: defaultdict[int, list[Dwell]] = defaultdict(list)
-    for one in stops:
-        if one.arrived is not None and one.left is not None:
-            moving = round(one.visit.braking) + round(one.visit.starting)
-            dwell = Dwell(one.visit.link, one.arrived, one.left, one.left - one.arrived + moving)
-            found[one.visit.vehicle].append(dwell)
-    return dict(found)
+    by_vehicle: defaultdict[int, list[Dwell]] = defaultdict(list)
+    for stop in stops:
+        if stop.arrived is not None and stop.departed is not None:
+            moving = round(stop.visit.braking) + round(stop.visit.starting)
+            dwell = Dwell(stop.visit.link, stop.arrived, stop.departed, stop.departed - stop.arrived + moving)
+            by_vehicle[stop.visit.vehicle].append(dwell)
+    return dict(by_vehicle)
 
 
 @dataclass(slots=True)
@@ -95,9 +95,9 @@ class PriorityCalls:
     def take_changed(self) -> list[tuple[str, frozenset[int]]]:
         """(light, all phases called there) for the lights where calls have changed since this was asked last; no
         phases: nobody calls there any more."""
-        found = [(light, frozenset().union(*self.by_light[light].values())) for light in sorted(self.changed)]
+        calls = [(light, frozenset().union(*self.by_light[light].values())) for light in sorted(self.changed)]
         self.changed.clear()
-        return found
+        return calls
 
 
 class BusFleet:
@@ -107,7 +107,7 @@ class BusFleet:
         """plan: the stops to make, and the lights that wait for vehicles of the run."""
         self.mapping, self.turns = mapping, {(turn.link, turn.lane, turn.next) for turn in mapping.turns}
         self.plan, self.calls = plan, PriorityCalls()
-        self.done: list[Done] = []
+        self.outcomes: list[Done] = []
         self.closed: frozenset[Closed] = frozenset()  # by all
         self.works = closures_of(run, limits.CLOCK) if plan.visits else []
         visits: defaultdict[int, list[Visit]] = defaultdict(list)
@@ -130,19 +130,19 @@ class BusFleet:
         """Whether any bus stands at its stop now."""
         return any(bus.stopping and bus.stopping.state == STANDING for bus in self.buses.values())
 
-    def commands_after_look(self, clock: int, ask: Ask, lanes: Look) -> Iterator[Command]:
+    def commands_after_look(self, clock: int, ask_vehicles: Ask, lanes: Look) -> Iterator[Command]:
         """Looks at the buses that are due at a clock, and gives the commands to send before the next step; it looks as
-        these are taken. Buses with nothing to come are dropped. ask: gives replies on vehicles, by their numbers in the
-        file; lanes: gives what stands on lanes."""
+        these are taken. Buses with nothing to come are dropped. ask_vehicles: gives replies on vehicles, by their
+        numbers in the file; lanes: gives what stands on lanes."""
         due = [bus for bus in self.buses.values() if bus.due <= clock]
         far = [bus for bus in due if not bus.stopping]
-        for bus, reply in zip(far, ask(bus.owner for bus in far) if far else (), strict=True):
+        for bus, reply in zip(far, ask_vehicles(bus.owner for bus in far) if far else (), strict=True):
             self.locate(clock, bus, reply)
         near = [bus for bus in due if bus.stopping]
-        wanted = {(bus.visits[0].link, lane) for bus in near if bus.stopping for lane in bus.stopping.wants(clock)}
-        seen = lanes(sorted(wanted)) if wanted else {}
+        wished = {(bus.visits[0].link, lane) for bus in near if bus.stopping for lane in bus.stopping.wants(clock)}
+        replies = lanes(sorted(wished)) if wished else {}
         for bus in near:
-            self.attend(clock, bus, seen, ask)
+            self.attend(clock, bus, replies, ask_vehicles)
         for bus in due:
             if not bus.visits and not bus.lights:
                 del self.buses[bus.owner]
@@ -153,7 +153,7 @@ class BusFleet:
         is closed for it."""
         bus = self.buses.pop(owner)
         self.calls.set(owner, None)
-        self.done += [Done(visit, UNMADE) for visit in bus.visits]
+        self.outcomes += [Done(visit, UNMADE) for visit in bus.visits]
         yield from self.closing_commands(clock)
 
     def locate(self, clock: int, bus: Bus, reply: Vehicle) -> None:
@@ -184,7 +184,8 @@ class BusFleet:
         for it any more. at: the index of its link in its plan; cell: of that link; waits: seconds that it stays in the
         junction."""
         ahead = bus.lights[0] if bus.lights else None
-        if ahead and (stops_before(bus, ahead) or waits + self.seconds_to_light(bus, at, cell, ahead) > self.plan.seen):
+        seen_seconds = self.plan.seen_seconds - waits
+        if ahead and (stops_before(bus, ahead) or self.seconds_to_light(bus, at, cell, ahead) > seen_seconds):
             ahead = None
         self.calls.set(bus.owner, ahead)
 
@@ -195,14 +196,14 @@ class BusFleet:
         cells = link.cells - (cell if at == ahead.at else 0)
         return int(self.seconds_to_link(bus, at, cell, ahead.at) + cells / link.limit)
 
-    def seconds_to_link(self, bus: Bus, at: int, cell: int, last: int) -> float:
+    def seconds_to_link(self, bus: Bus, at: int, cell: int, target: int) -> float:
         """The fewest seconds from a cell of the link at an index of a bus's plan to the begin of that at the index
-        last."""
-        links, begin, found = self.mapping.links, cell, 0.0
-        for link in bus.plan[at:last]:
-            found += max(0, links[link].cells - begin) / links[link].limit + self.mapping.nodes[links[link].end][3]
+        target."""
+        links, begin, seconds = self.mapping.links, cell, 0.0
+        for link in bus.plan[at:target]:
+            seconds += max(0, links[link].cells - begin) / links[link].limit + self.mapping.nodes[links[link].end][3]
             begin = 0
-        return found
+        return seconds
 
     def approach_cells(self, visit: Visit) -> int:
         """How many cells before a stop the lanes begin to be looked at in each second."""
@@ -220,67 +221,68 @@ class BusFleet:
     def seconds_to_look(self, bus: Bus, at: int, cell: int) -> int:
         """The fewest seconds, from a cell of the link at an index of its plan, until a bus is to be looked at. It must
         have a stop or a light to come."""
-        found = []
+        seconds = []
         if bus.visits:
             visit = bus.visits[0]
             cells = visit.last - self.approach_cells(visit) - (cell if at == visit.at else 0)
-            found.append(self.seconds_to_link(bus, at, cell, visit.at) + cells / self.mapping.links[visit.link].limit)
+            seconds.append(self.seconds_to_link(bus, at, cell, visit.at) + cells / self.mapping.links[visit.link].limit)
         if bus.lights and not stops_before(bus, bus.lights[0]):
-            found.append(self.seconds_to_light(bus, at, cell, bus.lights[0]) - self.plan.seen)
-        return max(0, int(min(found)))
+            seconds.append(self.seconds_to_light(bus, at, cell, bus.lights[0]) - self.plan.seen_seconds)
+        return max(0, int(min(seconds)))
 
-    def attend(self, clock: int, bus: Bus, seen: Mapping[Place, Lane], ask: Ask) -> None:
-        """Looks at a bus on the link of its stop, by the replies on the lanes there (seen): sets which cells are closed
+    def attend(self, clock: int, bus: Bus, replies: Mapping[Place, Lane], ask_vehicles: Ask) -> None:
+        """Looks at a bus on the link of its stop, by the replies on the lanes there: sets which cells are closed
         for it and when it is looked at next, and notes the stop where that is over. Where the bus is not there any
         more, the stop counts as missed if it stood at it, and the bus is asked, a second later, where it is."""
         stopping, visit = bus.stopping, bus.visits[0]
         assert stopping is not None
-        lanes = {lane: seen_on(seen.get((visit.link, lane))) for lane in stopping.wants(clock)}
-        found = [(lane, one) for lane, some in lanes.items() for one in some if one.car == bus.car]
+        lanes = {lane: seen_on(replies.get((visit.link, lane))) for lane in stopping.wants(clock)}
+        spots = [(lane, vehicle) for lane, seen in lanes.items() for vehicle in seen if vehicle.car == bus.car]
         ends = clock >= (stopping.leaves if stopping.goes is None else stopping.goes)
-        if stopping.held and (not ends or ask([bus.owner])[0].car == bus.car):
-            found = [(stopping.lane, stopping.held)]
-        if not found:  # it was put down elsewhere, or left by the lane's end
+        if stopping.held and (not ends or ask_vehicles([bus.owner])[0].car == bus.car):
+            spots = [(stopping.lane, stopping.held)]
+        if not spots:  # it was put down elsewhere, or left by the lane's end
             bus.stopping, bus.closed, bus.due = None, frozenset(), clock + 1
             if stopping.held:
                 self.note_outcome(bus, Done(visit, MISSED, stopping.lane, stopping.arrived))
             return
-        stopping.lane, own = found[0]
-        bus.due = clock + stopping.decide_closed(clock, own, lanes)
+        stopping.lane, vehicle = spots[0]
+        bus.due = clock + stopping.decide_closed(clock, vehicle, lanes)
         bus.closed = frozenset((visit.link, lane, cell) for lane, cell in stopping.closed)
         if stopping.is_over:
             self.note_outcome(bus, Done(visit, stopping.state, stopping.lane, stopping.arrived, stopping.leaves))
 
-    def note_outcome(self, bus: Bus, done: Done) -> None:
+    def note_outcome(self, bus: Bus, outcome: Done) -> None:
         """Keeps what became of a bus's next stop, which is then over for it."""
         bus.stopping = None
         bus.visits.pop(0)
-        self.done.append(done)
+        self.outcomes.append(outcome)
 
     def closing_commands(self, clock: int) -> Iterator[Command]:
         """The commands at a clock that close and open cells, so that just those are closed that buses need now, or
         works; they count as sent."""
-        wanted = frozenset().union(*(bus.closed for bus in self.buses.values()))
-        shut = {one for one in self.closed - wanted if self.is_at_works(clock, *one)}
-        for command, cells in (("reopen", self.closed - wanted - shut), ("close", wanted - self.closed)):
+        needed = frozenset().union(*(bus.closed for bus in self.buses.values()))
+        shut = {one for one in self.closed - needed if self.is_at_works(clock, *one)}
+        for command, cells in (("reopen", self.closed - needed - shut), ("close", needed - self.closed)):
             for link, lane, cell in sorted(cells):
                 yield {"cmd": command, "link": link, "lane": lane, "first": cell, "last": cell}
-        self.closed = wanted
+        self.closed = needed
 
     def is_at_works(self, clock: int, link: int, lane: int, cell: int) -> bool:
         """Whether works have a cell closed at a clock."""
-        own = (one for one in self.works if (one.link, one.lane) == (link, lane) and one.first <= cell <= one.last)
-        return any(one.begin <= clock < one.end for one in own)
+        on_lane = (closure for closure in self.works if (closure.link, closure.lane) == (link, lane))
+        own = (closure for closure in on_lane if closure.first_cell <= cell <= closure.last_cell)
+        return any(closure.begin <= clock < closure.end for closure in own)
 
     def stop_outcomes(self) -> list[Done]:
         """What became of all stops of vehicles in the run, those to come and those not made too; asked at its end."""
-        left = []
+        to_come = []
         for bus in self.buses.values():
             ahead = [Done(visit, AHEAD) for visit in bus.visits]
-            if (one := bus.stopping) and one.state == STANDING:
-                ahead[0] = Done(one.visit, STANDING, one.lane, one.arrived)
-            left += ahead
-        return [*self.done, *left, *(Done(visit, UNMADE) for visit in self.plan.off)]
+            if (stopping := bus.stopping) and stopping.state == STANDING:
+                ahead[0] = Done(stopping.visit, STANDING, stopping.lane, stopping.arrived)
+            to_come += ahead
+        return [*self.outcomes, *to_come, *(Done(visit, UNMADE) for visit in self.plan.off)]
 
 
 def stops_before(bus: Bus, ahead: Ahead) -> bool:

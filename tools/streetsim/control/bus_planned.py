@@ -34,12 +34,12 @@ class Planned:
     unmade: Mapping[str, tuple[str, ...]] = field(default_factory=dict)  # by reason, vehicle at stop
     off: tuple[Visit, ...] = ()  # those of unmade whose vehicles are in the run
     ahead: Mapping[int, tuple[Ahead, ...]] = field(default_factory=dict)
-    seen: int = 0  # seconds before a stop line from which on lights wait for them
-    told: tuple[str, ...] = ()  # of priority
+    seen_seconds: int = 0  # seconds before a stop line from which on lights wait for them
+    priority_notes: tuple[str, ...] = ()  # of priority
 
     def notes(self) -> Iterator[str]:
         """The texts to tell: what lights do for vehicles with priority, and which stops are not made, by reason."""
-        yield from self.told
+        yield from self.priority_notes
         for why, names in self.unmade.items():
             yield f"{len(names):,} stops of vehicles are not made, {why}: {first_few(names)}"
 
@@ -50,27 +50,27 @@ NONE = Planned()  # nobody stops
 def planned(run: Run, mapping: Map) -> Planned:
     """The stops of a map that a run makes: those on the ways of its vehicles, but for those at road works; the others
     are in unmade, by reason. No lights wait for anybody yet."""
-    ways = [line.command["plan"] for line in run.enters]
-    kept: list[Visit] = []
+    plans = [line.command["plan"] for line in run.enters]
+    visits: list[Visit] = []
     off: list[Visit] = []
     unmade: defaultdict[str, list[str]] = defaultdict(list)
     closed = closures_of(run, limits.CLOCK) if mapping.visits else []
     for visit in mapping.visits:
-        way = ways[visit.vehicle] if visit.vehicle < len(ways) else ()
-        if visit.at >= len(way) or way[visit.at] != visit.link:
+        plan = plans[visit.vehicle] if visit.vehicle < len(plans) else ()
+        if visit.at >= len(plan) or plan[visit.at] != visit.link:
             why = OTHER_WAY
         elif any(map(partial(meets, visit, run.enters[visit.vehicle].command["depart"]), closed)):
             why = AT_WORKS
         else:
-            kept.append(visit)
+            visits.append(visit)
             continue
         unmade[why].append(f"{mapping.cars[visit.vehicle]} at {visit.stop}")
-        off += [visit] if way else []
-    return Planned(tuple(kept), {why: tuple(names) for why, names in unmade.items()}, tuple(off))
+        off += [visit] if plan else []
+    return Planned(tuple(visits), {why: tuple(names) for why, names in unmade.items()}, tuple(off))
 
 
 def meets(visit: Visit, depart: int, closed: Closure) -> bool:
     """Whether a closed stretch has cells of a stop, or the cell beyond it, and ends after the vehicle departs, whenever
     it begins; depart: the clock at which it does."""
     at_stop = (closed.link, closed.lane) == (visit.link, visit.lane)
-    return at_stop and closed.first <= visit.last + 1 and closed.last >= visit.first and closed.end > depart
+    return at_stop and closed.first_cell <= visit.last + 1 and closed.last_cell >= visit.first and closed.end > depart

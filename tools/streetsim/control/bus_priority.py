@@ -29,36 +29,36 @@ Turns = list[tuple[str, int]]  # lights, and indexes in their states
 
 
 def prioritised(
-    run: Run, mapping: Map, names: Sequence[str], seen: int | None, lights: ActuatedLights, buses: Planned
+    run: Run, mapping: Map, names: Sequence[str], seen_seconds: int | None, lights: ActuatedLights, buses: Planned
 ) -> tuple[ActuatedLights, Planned]:
     """(the lights, the buses) of a run in which lights wait for vehicles of the classes and lines in names; with the
     buses it is told which cannot, and why. lights: those that detectors drive, which wait too; buses: the stops that
-    are made; seen: seconds before the stop line, None: SEEN. Fault where a name has no vehicle."""
-    owners, seen = named(run, mapping, names), SEEN if seen is None else seen
+    are made; seen_seconds: those before the stop line, None: SEEN. Fault where a name has no vehicle."""
+    owners, seen_seconds = named(run, mapping, names), SEEN if seen_seconds is None else seen_seconds
     timed = {line.command["node"] for _, line in run.timed if line.command["cmd"] == "signal"}
     changed = {light for light, node in mapping.signals if node in timed}
-    found: dict[str, DrivenLight] = {one.name: one for one in lights.driven}
-    kept, mine = {one["light"]: one for one in mapping.fixed}, []
+    waiting: dict[str, DrivenLight] = {light.name: light for light in lights.driven}
+    programs, mine = {program["light"]: program for program in mapping.fixed}, []
     unable: defaultdict[str, list[str]] = defaultdict(list)
     for light in sorted(passing((run.enters[owner] for owner in owners), mapping)):
         try:
             if light in changed:
-                found.pop(light, None)
+                waiting.pop(light, None)
                 raise Listed("as lines of the run change their plans")
-            if light not in found:
-                mine.append(fixed_light(light, kept, seen))
-                found[light] = mine[-1]
+            if light not in waiting:
+                mine.append(fixed_light(light, programs, seen_seconds))
+                waiting[light] = mine[-1]
         except Listed as why:
             unable[str(why)].append(light)
     turns, plans = turns_of(mapping), {owner: run.enters[owner].command["plan"] for owner in owners}
-    ahead = {owner: way for owner, plan in plans.items() if (way := tuple(ahead_of(plan, turns, found)))}
+    ahead = {owner: way for owner, plan in plans.items() if (way := tuple(ahead_of(plan, turns, waiting)))}
     waits = {one.light for way in ahead.values() for one in way}
-    told = [f"{len(waits):,} lights wait for {len(ahead):,} vehicles that are seen {seen} s before"]
-    if by_detectors := sorted(waits & {one.name for one in lights.driven}):
-        told.append(f"{LESS_GAIN}: {first_few(by_detectors)}")
-    told += [f"lights do not wait for them, {why}: {first_few(those)}" for why, those in unable.items()]
-    made = replace(lights, driven=(*lights.driven, *mine))
-    return made, replace(buses, ahead=ahead, seen=seen, told=tuple(told))
+    notes = [f"{len(waits):,} lights wait for {len(ahead):,} vehicles that are seen {seen_seconds} s before"]
+    if by_detectors := sorted(waits & {driven.name for driven in lights.driven}):
+        notes.append(f"{LESS_GAIN}: {first_few(by_detectors)}")
+    notes += [f"lights do not wait for them, {why}: {first_few(those)}" for why, those in unable.items()]
+    all_lights = replace(lights, driven=(*lights.driven, *mine))
+    return all_lights, replace(buses, ahead=ahead, seen=seen_seconds, told=tuple(notes))
 
 
 def named(run: Run, mapping: Map, names: Sequence[str]) -> list[int]:
@@ -71,30 +71,31 @@ def named(run: Run, mapping: Map, names: Sequence[str]) -> list[int]:
     return [owner for owner in range(count) if classes[owner] in names or lines[owner] in names]
 
 
-def fixed_light(light: str, kept: Mapping[str, Any], seen: int) -> Fixed:
-    """A light with listed seconds, of what the map keeps of its program (kept, by light). seen: seconds before the stop
-    line at which a vehicle is seen. Raises Listed, with the reason, where it cannot wait."""
-    if light not in kept:
+def fixed_light(light: str, programs: Mapping[str, Any], seen_seconds: int) -> Fixed:
+    """A light with listed seconds, of what the map keeps of its program (programs, by light). seen_seconds: those
+    before the stop line at which a vehicle is seen. Raises Listed, with the reason, where it cannot wait."""
+    if light not in programs:
         raise Listed("as detectors drive them in SUMO and not here, or an older streetsim-import wrote the map")
-    program = kept[light]
+    program = programs[light]
     if any(seconds != round(seconds) or seconds < 1 for seconds, *_ in program["phases"]):
         raise Listed("as their phases are no whole seconds")
-    phases = tuple(bounded(row, seen) for row in program["phases"])
+    phases = tuple(bounded(row, seen_seconds) for row in program["phases"])
     nodes = tuple(node_of(one) for one in program["nodes"])
     return Fixed(light, round(program["offset"]), phases, 2.0, (), (), nodes, (), program["program"])
 
 
-def bounded(kept: Sequence[Any], seen: int) -> ActuatedPhase:
+def bounded(row: Sequence[Any], seen_seconds: int) -> ActuatedPhase:
     """A phase, as kept ([seconds, state, least or none, greatest or none]), with its bounds in seconds. A green has
     those of the file (its most never below its least), else it may be as short as half its seconds (LEAST at least, but
-    never above its own), and as long as its own and the seconds (seen) that a vehicle is seen before the stop line; any
-    other phase lasts its listed seconds."""
-    seconds, state, least, most, *_ = kept
+    never above its own), and as long as its own and seen_seconds, those that a vehicle is seen before the stop line;
+    any other phase lasts its listed seconds."""
+    seconds, state, least, most, *_ = row
     phase = ActuatedPhase(state, round(seconds), round(seconds), round(seconds))
     if not phase.is_green:
         return phase
     least = min(phase.seconds, max(LEAST, ceil(seconds / 2))) if least is None else round(least)
-    return ActuatedPhase(state, phase.seconds, least, phase.seconds + seen if most is None else max(least, round(most)))
+    longest = phase.seconds + seen_seconds if most is None else max(least, round(most))
+    return ActuatedPhase(state, phase.seconds, least, longest)
 
 
 def ahead_of(
@@ -102,16 +103,16 @@ def ahead_of(
 ) -> Iterator[Ahead]:
     """The lights on a vehicle's way (plan: links) that wait for it, in their order; lights: all that wait, by name."""
     for at, pair in enumerate(pairwise(plan)):
-        own = [(light, index) for light, index in turns.get(pair, ()) if light in lights]
-        if own:
-            light = lights[own[0][0]]
-            yield Ahead(at, light.name, light.phases_serving({index for _, index in own}))
+        signals = [(light, index) for light, index in turns.get(pair, ()) if light in lights]
+        if signals:
+            light = lights[signals[0][0]]
+            yield Ahead(at, light.name, light.phases_serving({index for _, index in signals}))
 
 
 def turns_of(mapping: Map) -> dict[LinkPair, Turns]:
     """By (link, next link) the lights of its turns, each with the turn's index in the light's state."""
-    found: defaultdict[LinkPair, Turns] = defaultdict(list)
+    by_pair: defaultdict[LinkPair, Turns] = defaultdict(list)
     for turn in mapping.turns:
         if turn.light:
-            found[turn.link, turn.next].append((turn.light, turn.index))
-    return found
+            by_pair[turn.link, turn.next].append((turn.light, turn.index))
+    return by_pair

@@ -76,12 +76,12 @@ class BusAtStop:
             return 1
         if self.has_come(bus):
             return self.arrive(clock, bus, lanes)
-        own = [one for one in lanes.get(self.lane, ()) if one.cell > bus.cell]
+        ahead = [vehicle for vehicle in lanes.get(self.lane, ()) if vehicle.cell > bus.cell]
         if self.is_astray:
-            self.change_lane(bus, own, lanes.get(self.lane_beside, ()))
+            self.change_lane(bus, ahead, lanes.get(self.lane_beside, ()))
         else:
-            self.halt_at(bus, own, self.visit.last)
-            self.keep_lane(bus, own, lanes.get(self.lane_beside, ()))
+            self.halt_at(bus, ahead, self.visit.last)
+            self.keep_lane(bus, ahead, lanes.get(self.lane_beside, ()))
         return 1
 
     @property
@@ -140,41 +140,41 @@ class BusAtStop:
         for lane, cells in enumerate(self.passing.held):
             self.closed |= {(lane, cell) for cell in cells}
 
-    def halt_at(self, bus: SeenVehicle, ahead: Sequence[SeenVehicle], last: int) -> None:
-        """Closes the cell beyond the cell last, where the bus could pass that in the next step and nobody before it is
+    def halt_at(self, bus: SeenVehicle, ahead: Sequence[SeenVehicle], last_cell: int) -> None:
+        """Closes the cell beyond last_cell, where the bus could pass that in the next step and nobody before it is
         at the cell beyond or nearer. ahead: vehicles before it on its lane."""
-        if min(bus.speed + 1, self.road.limit) > last - bus.cell and rear_of(ahead) > last + 1:
-            self.closed.add((self.lane, last + 1))
+        if min(bus.speed + 1, self.road.limit) > last_cell - bus.cell and rear_of(ahead) > last_cell + 1:
+            self.closed.add((self.lane, last_cell + 1))
 
-    def keep_lane(self, bus: SeenVehicle, ahead: Sequence[SeenVehicle], other: Sequence[SeenVehicle]) -> None:
+    def keep_lane(self, bus: SeenVehicle, ahead: Sequence[SeenVehicle], other_lane: Sequence[SeenVehicle]) -> None:
         """Closes a cell of the other lane where the bus would change to it, so that it stays on its own. ahead:
-        vehicles before it on its lane; other: those on the other lane."""
+        vehicles before it on its lane; other_lane: those on that."""
         if self.road.lanes == 1:
             return
         shut = min((cell for lane, cell in self.closed if lane == self.lane), default=bus.cell + SIGHT + 1)
         gap = min(rear_of(ahead), shut) - bus.cell - 1
         leads, beside = self.leads(self.lane), self.leads(self.lane_beside)
         wishes = (gap < bus.speed + 1 or not leads) and (beside or not leads)
-        if wishes and may_change(bus, other):
+        if wishes and may_change(bus, other_lane):
             self.closed.add((self.lane_beside, min(bus.cell + bus.speed + 2, self.road.cells - 1)))
 
     def leads(self, lane: int) -> bool:
         """Whether a lane of its link leads to the next link of its plan."""
         return self.road.leads[lane != self.visit.lane]
 
-    def change_lane(self, bus: SeenVehicle, ahead: Sequence[SeenVehicle], right: Sequence[SeenVehicle]) -> None:
+    def change_lane(self, bus: SeenVehicle, ahead: Sequence[SeenVehicle], stop_lane: Sequence[SeenVehicle]) -> None:
         """Closes cells so that it changes to the stop's lane where the rule allows; else so that it is slowed and waits
         two cells before the stop (its seconds of standing with a free cell ahead are counted), and those behind it on
-        that lane are held. ahead, right: vehicles before it on its lane, and those on the stop's lane."""
+        that lane are held. ahead, stop_lane: vehicles before it on its lane, and those on the stop's lane."""
         speed, reach = bus.speed, min(bus.speed + 1, self.road.limit)
         wait = self.visit.last - 2
-        if may_change(bus, right) and reach <= self.visit.last - bus.cell:
+        if may_change(bus, stop_lane) and reach <= self.visit.last - bus.cell:
             if rear_of(ahead) - bus.cell - 1 >= speed + 1:
                 self.closed.add((self.lane, min(bus.cell + speed + 1, self.road.cells - 1)))
             return
         slow = bus.cell + max(0, self.road.limit - 1)
-        last = min(slow, max(bus.cell, wait))
-        self.halt_at(bus, ahead, last)
+        last_cell = min(slow, max(bus.cell, wait))
+        self.halt_at(bus, ahead, last_cell)
         if (hold := bus.rear - BEHIND - 1) > 0:
             self.closed.add((self.visit.lane, hold))
         if bus.speed == 0 and rear_of(ahead) > bus.cell + 1:
@@ -186,8 +186,8 @@ def rear_of(vehicles: Sequence[SeenVehicle]) -> int:
     return min((one.rear for one in vehicles), default=1 << 30)
 
 
-def may_change(bus: SeenVehicle, other: Sequence[SeenVehicle]) -> bool:
+def may_change(bus: SeenVehicle, other_lane: Sequence[SeenVehicle]) -> bool:
     """Whether the simulator's rule would let it go to the other lane if it wishes to: the cells beside it are free, the
     gap ahead is longer than its speed and one, and that behind it longer than BEHIND."""
     nearest, farthest = bus.rear - BEHIND - 1, bus.cell + bus.speed + 2
-    return not any(one.cell >= nearest and one.rear <= farthest for one in other)
+    return not any(vehicle.cell >= nearest and vehicle.rear <= farthest for vehicle in other_lane)

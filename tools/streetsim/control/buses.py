@@ -28,7 +28,7 @@ class Buses(Controller):
     def act(self, clock: int, _now: Block) -> None:
         """Looks at the buses that are due, and sends what closes and opens cells for them; has lights called."""
         self.clock = clock
-        self.kernel.send(self.fleet.commands_after_look(clock, self.ask, self.kernel.lanes_now))
+        self.kernel.send(self.fleet.commands_after_look(clock, self.ask_vehicles, self.kernel.lanes_now))
         self.driver.call(clock, self.fleet.calls.take_changed())
 
     def let_go(self, owner: int) -> None:
@@ -38,7 +38,7 @@ class Buses(Controller):
             self.kernel.send(self.fleet.commands_to_let_go(self.kernel.clock, owner))
             self.driver.call(self.kernel.clock, self.fleet.calls.take_changed())
 
-    def ask(self, owners: Iterable[int]) -> list[Vehicle]:
+    def ask_vehicles(self, owners: Iterable[int]) -> list[Vehicle]:
         """The replies on vehicles of the file, by their numbers there."""
         cars = self.kernel.vehicles.car
         return self.kernel.ask_vehicles([cars[owner] for owner in owners])

@@ -25,16 +25,16 @@ def after_departures(run: Run, seconds: int = USUAL) -> int:
     return min(limits.CLOCK, max(last, run.start()) + seconds)
 
 
-def census_of(kernel: Kernel, now: Block) -> tuple[int, int, int]:
+def census_of(kernel: Kernel, block: Block) -> tuple[int, int, int]:
     """(vehicles that arrived, that were taken out, and that wished to depart by now, those entered anew among them) of
     a run whose last second is given."""
     early = kernel.entered - bisect_left(kernel.departs, kernel.clock)
-    return now.arrived_count, len(kernel.vehicles.takeouts), kernel.vehicles.entered - early
+    return block.arrived_count, len(kernel.vehicles.takeouts), kernel.vehicles.entered - early
 
 
-def all_ended(kernel: Kernel, now: Block) -> bool:
+def all_ended(kernel: Kernel, block: Block) -> bool:
     """Whether all vehicles of a run, whose last second is given, have departed and arrived or been taken out."""
-    arrived, taken, admitted = census_of(kernel, now)
+    arrived, taken, admitted = census_of(kernel, block)
     return not kernel.is_to_come(kernel.clock) and admitted == arrived + taken
 
 
@@ -66,8 +66,8 @@ class Ending(Controller):
         self.looks: list[int] = []  # clocks at which it looked, but for full minutes
         self.figures: tuple[int, ...] = ()  # of the last census that differed from the one before it
         self.since = 0  # its clock
-        self.stand: Array | None = None  # who stood where at `looked`, where the census stayed as it was for a cycle
-        self.looked = 0
+        self.stand: Array | None = None  # who stood where at `stand_clock`, with one census for a cycle
+        self.stand_clock = 0
 
     def begin(self, kernel: Kernel) -> None:
         """Nothing is known yet."""
@@ -95,28 +95,28 @@ class Ending(Controller):
         if all_ended(kernel, now):
             self.end(clock, ALL_ARRIVED)
         elif self.is_still(clock, now, longest):
-            still = f"no vehicle has changed its cell for {clock - self.looked:,} s"
+            still = f"no vehicle has changed its cell for {clock - self.stand_clock:,} s"
             self.end(clock, f"{still}, longer than the longest cycle, {longest:,} s")
         elif clock == kernel.until and clock + HOUR > limits.CLOCK:
             self.end(clock, "the clock goes no further")
         elif clock == kernel.until:
             kernel.until = clock + HOUR
 
-    def is_still(self, clock: int, now: Block, longest: int) -> bool:
+    def is_still(self, clock: int, block: Block, longest: int) -> bool:
         """Whether no vehicle has changed its cell for longer than the longest cycle of any light, none stands at a stop
         of its own, and no vehicle or line is still to come; notes what it saw, so it is asked once at each look."""
-        figures = *census_of(self.kernel, now), int(np.count_nonzero(now.cell >= 0)), len(now.car)
+        figures = *census_of(self.kernel, block), int(np.count_nonzero(block.cell >= 0)), len(block.car)
         waits = self.kernel.is_to_come(clock) or self.timed.next_clock() < NEVER
         if waits or self.buses.fleet.is_holding or figures != self.figures:
             self.figures, self.since, self.stand = figures, clock, None
             return False
         if clock - self.since <= longest:
             return False
-        stand = np.stack([now.car, now.slot, np.maximum(-1, now.cell)])
+        stand = np.stack([block.car, block.slot, np.maximum(-1, block.cell)])
         if self.stand is None or not np.array_equal(stand, self.stand):
-            self.stand, self.looked = stand, clock
+            self.stand, self.stand_clock = stand, clock
             return False
-        return clock - self.looked > longest
+        return clock - self.stand_clock > longest
 
     def end(self, clock: int, why: str) -> None:
         """Has the run end at a clock, and keeps why."""

@@ -44,7 +44,7 @@ class Lights(Controller):
         """Notes what detectors show, and sends what the lights show that are due."""
         self.clock = clock + 1
         if self.driver.cells:
-            self.sensors.see(clock, now)
+            self.sensors.note_second(clock, now)
         if self.driver.next_clock() <= clock:
             senses = Senses(partial(self.gap, clock), self.kernel.lane_now)
             self.kernel.send(self.driver.commands_after_look(clock, senses))
@@ -52,23 +52,23 @@ class Lights(Controller):
     def gap(self, clock: int, detector: int) -> float:
         """The seconds since a detector last had anybody; those since the run's begin, 32 at most, where it had nobody
         since: as in SUMO it is as if somebody had left then."""
-        return clock - max(self.sensors.last[detector], self.kernel.start, clock - limits.ROWS)
+        return clock - max(self.sensors.last_clock[detector], self.kernel.start, clock - limits.ROWS)
 
 
 class Sensors:
     """When detectors last had anybody: by detector the clock from which its gap counts, half a second sooner where a
     vehicle passed within a second."""
 
-    def __init__(self, places: Iterable[tuple[int, int, int]], vehicles: Vehicles) -> None:
-        """places: (link, lane, cell) of each detector."""
-        keys = np.array([(2 * link + lane) * LENGTH + cell for link, lane, cell in places], np.int64)
+    def __init__(self, detectors: Iterable[tuple[int, int, int]], vehicles: Vehicles) -> None:
+        """detectors: (link, lane, cell) of each."""
+        keys = np.array([(2 * link + lane) * LENGTH + cell for link, lane, cell in detectors], np.int64)
         self.order = np.argsort(keys, kind="stable")
         self.keys, self.vehicles = np.append(keys[self.order], np.iinfo(np.int64).max), vehicles
-        self.last = np.full(len(keys), -np.inf)
+        self.last_clock = np.full(len(keys), -np.inf)
         # By car: its link and cell a second ago.
         self.link, self.cell = np.full(limits.VEHICLES, -1), np.zeros(limits.VEHICLES, np.int64)
 
-    def see(self, clock: int, block: Block) -> None:
+    def note_second(self, clock: int, block: Block) -> None:
         """Takes each second. A detector counts who passed in the second, and who covers its cell at its end."""
         columns = zip((block.car, block.slot, block.cell), block.arrived, strict=True)
         car, slot, cell = (np.concatenate([one, more]) for one, more in columns)
@@ -85,4 +85,4 @@ class Sensors:
         """Marks the detectors from one key to another, by row, that one left out; few rows have any."""
         low = np.searchsorted(self.keys, begin)
         for row in np.flatnonzero(rows & (self.keys[low] < end)).tolist():
-            self.last[self.order[low[row] : np.searchsorted(self.keys, end[row])]] = clock
+            self.last_clock[self.order[low[row] : np.searchsorted(self.keys, end[row])]] = clock

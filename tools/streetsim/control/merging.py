@@ -22,8 +22,8 @@ class Merging(Controller):
         """Notes what the first lines of the run close."""
         self.kernel = kernel
         self.merges = Merges({})
-        for one in self.closures:
-            self.add_link(one.link)
+        for closure in self.closures:
+            self.add_link(closure.link)
         for line in kernel.run.first:
             self.merges.note_sent(kernel.start, line.command)
 

@@ -70,8 +70,8 @@ class Merges:
     def commands_by_turns(self, clock: int, link: int, lanes: tuple[Lane, Lane]) -> list[Command]:
         """The commands to send before the next step, by the replies on both lanes of a link that is due; they count as
         sent. Sets when it is due again."""
-        one = self.links[link]
+        due_link = self.links[link]
         sides = [Side([SeenVehicle(*entry) for entry in lane.cells], lane.closed) for lane in lanes]
-        changes = one.merging.changes_by_turns(clock, sides)
-        one.due = clock + one.merging.seconds_to_next_look()
+        changes = due_link.merging.changes_by_turns(clock, sides)
+        due_link.due = clock + due_link.merging.seconds_to_next_look()
         return [change.command_on(link) for change in changes]

@@ -59,12 +59,12 @@ class Change:
 
     command: str  # close or reopen
     lane: int
-    first: int
-    last: int
+    first_cell: int
+    last_cell: int
 
     def command_on(self, link: int) -> dict[str, str | int]:
         """The command for a link, {"cmd", "link", "lane", "first", "last"}: close or reopen."""
-        return {"cmd": self.command, "link": link, "lane": self.lane, "first": self.first, "last": self.last}
+        return {"cmd": self.command, "link": link, "lane": self.lane, "first": self.first_cell, "last": self.last_cell}
 
 
 @dataclass(slots=True, frozen=True)
@@ -73,7 +73,7 @@ class MergePoint:
 
     lane: int
     low: int  # the first cell from which one comes to the works
-    first: int  # of the works
+    works_cell: int  # the first of the works
 
 
 @dataclass(slots=True)
@@ -88,9 +88,9 @@ class MergeTurn:
         """Begins or ends the hold of the other lane at a point, by what stands on both lanes (sides) at a clock. A hold
         begins when the same one has stood first for PATIENCE seconds; it ends when nobody is on the held cells or the
         AHEAD ones after them, when nobody stands first, or when the same one has for more than MOST_WAIT seconds."""
-        before = [one for one in sides[point.lane].vehicles if point.low <= one.cell < point.first]
-        first = before[0] if before else None
-        head = first.car if first and first.speed == 0 and first.cell >= point.first - NEAR else None
+        before = [vehicle for vehicle in sides[point.lane].vehicles if point.low <= vehicle.cell < point.works_cell]
+        front = before[0] if before else None
+        head = front.car if front and front.speed == 0 and front.cell >= point.works_cell - NEAR else None
         if head != self.head:
             self.head, self.since = head, clock
         waited = clock - self.since
@@ -99,10 +99,10 @@ class MergeTurn:
             is_free = beside.isdisjoint(range(self.held[0], self.held[1] + AHEAD + 1))
             if head is None or waited > MOST_WAIT or is_free:
                 self.held, self.since = None, clock
-        elif first and head is not None and waited >= PATIENCE:
-            rears = [one.rear for one in before if one.speed == 0]
-            rear = min(rears[0], *(cell for cell in rears if cell >= point.first - PLATOON))
-            self.held = max(point.low, rear - BEHIND), first.cell
+        elif front and head is not None and waited >= PATIENCE:
+            rears = [vehicle.rear for vehicle in before if vehicle.speed == 0]
+            rear = min(rears[0], *(cell for cell in rears if cell >= point.works_cell - PLATOON))
+            self.held = max(point.low, rear - BEHIND), front.cell
 
 
 @dataclass(slots=True)
@@ -116,15 +116,15 @@ class MergingRule:
     def changes_by_turns(self, clock: int, sides: Sequence[Side]) -> list[Change]:
         """What to close and reopen before the next step, by what stands on both lanes at a clock, which then counts as
         done; sides: by lane."""
-        wanted = no_cells()
+        cells = no_cells()
         known, self.turns = self.turns, {}
         for point in self.merge_points([side.closed for side in sides]):
-            turn = known.get((point.lane, point.first)) or MergeTurn()
-            self.turns[point.lane, point.first] = turn
+            turn = known.get((point.lane, point.works_cell)) or MergeTurn()
+            self.turns[point.lane, point.works_cell] = turn
             turn.update_hold(clock, point, sides)
             if turn.held:
-                wanted[1 - point.lane].update(range(turn.held[0], turn.held[1] + 1))
-        return self.changes_to(wanted)
+                cells[1 - point.lane].update(range(turn.held[0], turn.held[1] + 1))
+        return self.changes_to(cells)
 
     def seconds_to_next_look(self) -> int:
         """In how many seconds it must be told again: 1 while a lane is held, else EVERY."""
@@ -148,13 +148,13 @@ class MergingRule:
                     yield MergePoint(lane, low, first)
                 low = last + 1
 
-    def changes_to(self, wanted: Cells) -> list[Change]:
-        """What to close and reopen so that of its own just the wanted cells are closed; they count as done."""
+    def changes_to(self, cells: Cells) -> list[Change]:
+        """What to close and reopen so that of its own just these cells are closed; they count as done."""
         changes = []
-        for name, more, less in (("reopen", self.held, wanted), ("close", wanted, self.held)):
+        for name, more, less in (("reopen", self.held, cells), ("close", cells, self.held)):
             for lane in (0, 1):
                 changes += [Change(name, lane, *one) for one in unbroken_stretches(more[lane] - less[lane])]
-        self.held = wanted
+        self.held = cells
         return changes
 
 

@@ -53,33 +53,33 @@ class DrivenRings:
         return Nema(self.rings)
 
 
-def driven_rings(kept: Mapping[str, Any], mapping: Map) -> DrivenRings:
+def driven_rings(program: Mapping[str, Any], mapping: Map) -> DrivenRings:
     """A NEMA light, from what a map keeps of its program; raises Listed where it cannot be driven as in SUMO."""
-    parameters = kept["parameters"]
-    refuse_unlike(kept)
+    parameters = program["parameters"]
+    refuse_unlike(program)
     orders = tuple(digits(parameters[f"ring{ring}"]) for ring in (1, 2))
-    areas = areas_of(kept, mapping)
+    areas = areas_of(program, mapping)
     number = {lane: at for at, lane in enumerate(areas)}
-    phases = phases_with_areas(kept, number)
+    phases = phases_with_areas(program, number)
     check_orders(orders, phases)
     return DrivenRings(
-        name=kept["light"],
+        name=program["light"],
         rings=Rings(phases, orders, barriers_of(parameters, orders)),
         areas=tuple(areas.values()),
-        nodes=tuple(node_of(one) for one in kept["nodes"]),
-        program=kept.get("program", "0"),
+        nodes=tuple(node_of(node) for node in program["nodes"]),
+        program=program.get("program", "0"),
     )
 
 
-def refuse_unlike(kept: Mapping[str, Any]) -> None:
+def refuse_unlike(program: Mapping[str, Any]) -> None:
     """Raises Listed for a NEMA program of which something is not driven here as in SUMO, or that lacks a parameter that
     SUMO asks for, and where the map is of an older streetsim-import; what reads rings, barriers, phases and areas
     refuses more."""
-    parameters = kept["parameters"]
-    if "timing" not in kept:
+    parameters = program["parameters"]
+    if "timing" not in program:
         raise Listed("as their map was written by an older streetsim-import")
-    if kept["more"]:
-        raise Listed(f"as {', '.join(kept['more'])} of their programs is not driven here")
+    if program["more"]:
+        raise Listed(f"as {', '.join(program['more'])} of their programs is not driven here")
     for name, value in parameters.items():
         if (name in UNLIKE or name.startswith(CROSSING)) and value not in OFF:
             raise Listed(f"as {name}={value} is not driven here")
@@ -114,54 +114,54 @@ def check_orders(orders: Iterable[tuple[int, ...]], phases: Iterable[RingPhase])
 def barriers_of(parameters: Mapping[str, str], orders: tuple[tuple[int, ...], ...]) -> tuple[tuple[int, ...], ...]:
     """By side of the barrier (0 before, 1 behind) the phase of each ring in which it waits for the other one; raises
     Listed where parameters do not name them so."""
-    found: list[dict[int, int]] = [{}, {}]
+    by_side: list[dict[int, int]] = [{}, {}]
     for pair in (digits(parameters["barrierPhases"]), second_barrier(parameters)):
         if len(pair) != 2 or not all(number and number in order for number, order in zip(pair, orders, strict=True)):
             raise Listed("as their barriers do not have a phase of each ring")
         for ring, (number, order) in enumerate(zip(pair, orders, strict=True)):
-            found[ring][order.index(number) // 2] = number
-    if any(len(own) != 2 for own in found):
+            by_side[ring][order.index(number) // 2] = number
+    if any(len(own) != 2 for own in by_side):
         raise Listed("as both their barriers are on one side, which SUMO refuses")
-    return tuple((found[0][side], found[1][side]) for side in (0, 1))
+    return tuple((by_side[0][side], by_side[1][side]) for side in (0, 1))
 
 
-def phases_with_areas(kept: Mapping[str, Any], number: Mapping[str, int]) -> list[RingPhase]:
+def phases_with_areas(program: Mapping[str, Any], number: Mapping[str, int]) -> list[RingPhase]:
     """The phases, each with the areas of the lanes that it has green first (G); number: by lane the position of its
     area. Raises Listed where the name of a phase has no digit or several."""
-    parameters, found = kept["parameters"], []
+    parameters, phases = program["parameters"], []
     recalls = {name: digits(parameters.get(name, usual)) for name, usual in (("minRecall", ALL), ("maxRecall", ""))}
     latching = digits(parameters.get("latchingDetectors", ""))
-    for phase, (text, extension, yellow, red) in zip(kept["phases"], kept["timing"], strict=True):
+    for phase, (text, extension, yellow, red) in zip(program["phases"], program["timing"], strict=True):
         name, state, (least, most) = digits(text), phase[1], phase_bounds(phase)
         if len(name) != 1:
             raise Listed(f"as {text!r} is no name of a phase")
-        lanes = dict.fromkeys(lane for index, lane, *_ in kept["ways"] if state[index] == "G" and lane in number)
+        lanes = dict.fromkeys(lane for index, lane, *_ in program["ways"] if state[index] == "G" and lane in number)
         areas = tuple(number[lane] for lane in lanes)
         own = name[0] in recalls["minRecall"], name[0] in recalls["maxRecall"], name[0] in latching
-        found.append(RingPhase(name[0], state, least, most, extension, yellow, red, areas, *own))
-    return found
+        phases.append(RingPhase(name[0], state, least, most, extension, yellow, red, areas, *own))
+    return phases
 
 
-def areas_of(kept: Mapping[str, Any], mapping: Map) -> dict[str, DetectorArea]:
+def areas_of(program: Mapping[str, Any], mapping: Map) -> dict[str, DetectorArea]:
     """By lane the area on which vehicles are looked for: the laneAreaDetector that a parameter of the lane's name
     names, else, where the map has the lane, the last cells before its stop line, one at least, as far as
     detector-length says (metres, LENGTH without it), or detector-length-leftTurnLane for a lane whose one turn goes
     left; both less STANDING. Raises Listed where the map does not have the detector, or a length is no number."""
-    parameters, own = kept["parameters"], {one.name: one for one in mapping.detectors if one.kind == E2}
+    parameters, detectors = program["parameters"], {one.name: one for one in mapping.detectors if one.kind == E2}
     by_lane: dict[str, list[str]] = {}
-    for _, lane, _, _, direction in kept["ways"]:
+    for _, lane, _, _, direction in program["ways"]:
         by_lane.setdefault(lane, []).append(direction)
-    found = {}
+    areas = {}
     for lane, directions in by_lane.items():
         if name := parameters.get(lane):
-            if name not in own:
+            if name not in detectors:
                 raise Listed(f"as the map has no laneAreaDetector {name}")
-            at = own[name]
+            at = detectors[name]
             ends = at.last == mapping.links[at.link].cells - 1
-            found[lane] = DetectorArea(at.link, at.lane, at.first, at.last, ends)
+            areas[lane] = DetectorArea(at.link, at.lane, at.first, at.last, ends)
         elif place := mapping.place_of(lane):
-            left = "detector-length-leftTurnLane" if directions == [LEFT] else "detector-length"
+            key = "detector-length-leftTurnLane" if directions == [LEFT] else "detector-length"
             link = mapping.links[place[0]]
-            reach = min((number_of(parameters.get(left, str(LENGTH))) - STANDING) / link.metres, 1.0) * link.cells
-            found[lane] = DetectorArea(*place, link.cells - max(1, ceil(reach)), link.cells - 1)
-    return found
+            reach = min((number_of(parameters.get(key, str(LENGTH))) - STANDING) / link.metres, 1.0) * link.cells
+            areas[lane] = DetectorArea(*place, link.cells - max(1, ceil(reach)), link.cells - 1)
+    return areas

@@ -65,16 +65,17 @@ class Nema:
 
     def __init__(self, rings: Rings) -> None:
         """rings: the program; the light begins with `begin_at`."""
-        self.rings, self.now, self.due, self.changes = rings, 0, 0, 0
+        self.rings, self.clock, self.due, self.changes = rings, 0, 0, 0
         self.ended: list[EndedPhase] = []
-        recalls = any(one.is_recalled for one in rings.phases)
-        self.all = [self.new_running(number, ring, recalls) for ring in range(2) for number in rings.numbers_of(ring)]
-        self.by_ring = [[one for one in self.all if one.ring == ring] for ring in range(2)]
-        for one in self.all:
-            one.phase_changes = self.changes_from(one)
+        recalls = any(phase.is_recalled for phase in rings.phases)
+        orders = [rings.numbers_of(ring) for ring in range(2)]
+        self.by_ring = [[self.new_running(number, ring, recalls) for number in orders[ring]] for ring in range(2)]
+        self.phases = [running for phases in self.by_ring for running in phases]
+        for running in self.phases:
+            running.phase_changes = self.changes_from(running)
         self.active = [own[0] for own in self.by_ring]
         self.present: PresentAt = lambda area: False
-        self.wanted: Collection[int] = ()  # numbers of the phases that buses keep, or fetch, within bounds
+        self.called: Collection[int] = ()  # numbers of the phases that buses keep, or fetch, within bounds
 
     def new_running(self, number: int, ring: int, recalls: bool) -> RunningPhase:
         """A phase before it begins, by its number; ring: 0 or 1; recalls: whether any phase has a recall."""
@@ -82,14 +83,14 @@ class Nema:
         others = [self.rings.phase(one) for one in self.rings.numbers_of(ring) if one != number]
         alone = phase.is_recalled and not any(one.is_recalled for one in others)
         side = self.rings.orders[ring].index(number) // 2
-        made = RunningPhase(phase, ring, side, self.rings.is_at_barrier(number), alone or not recalls)
-        made.most, made.lasts = phase.most, phase.least
-        return made
+        running = RunningPhase(phase, ring, side, self.rings.is_at_barrier(number), alone or not recalls)
+        running.most, running.lasts = phase.most, phase.least
+        return running
 
-    def changes_from(self, one: RunningPhase) -> list[PhaseChange]:
+    def changes_from(self, running: RunningPhase) -> list[PhaseChange]:
         """The changes from a phase to each of its ring, the nearest first, to itself last."""
-        own = self.by_ring[one.ring]
-        place = own.index(one)
+        own = self.by_ring[running.ring]
+        place = own.index(running)
         return [PhaseChange(own[(place + steps) % len(own)], steps) for steps in range(1, len(own) + 1)]
 
     # What is told
@@ -106,9 +107,9 @@ class Nema:
         """The numbers of both rings' phases, as 2+6."""
         return "+".join(str(one.phase.number) for one in self.active)
 
-    def next_switch(self, now: int) -> int:
+    def next_switch(self, clock: int) -> int:
         """The clock at which it may go on, as scripts ask for it: the next second, as in SUMO."""
-        return now + 1
+        return clock + 1
 
     def green_by_ring(self) -> tuple[tuple[int, bool], ...]:
         """For each of both rings (number of the phase, whether it is green)."""
@@ -127,129 +128,129 @@ class Nema:
 
     # The clock
 
-    def begin_at(self, now: int, _offset: int = 0) -> None:
-        """Begins at the clock `now` with the first phase of each ring, as SUMO's without coordination; offset: no
+    def begin_at(self, clock: int, _offset: int = 0) -> None:
+        """Begins at `clock` with the first phase of each ring, as SUMO's without coordination; offset: no
         effect."""
-        self.now, self.due = now, now + 1
+        self.clock, self.due = clock, clock + 1
         for own in self.by_ring:
             self.begin_green(own[0])
 
-    def moves_on(self, now: int, present: PresentAt) -> bool:
-        """Makes a second of both rings at the clock `now`; says whether what is green changed. Sets `due`, when to look
+    def moves_on(self, clock: int, present: PresentAt) -> bool:
+        """Makes a second of both rings at `clock`; says whether what is green changed. Sets `due`, when to look
         again. present: whether anybody is on an area, by its position."""
-        self.now, self.present, before, state = now, present, self.green_by_ring(), self.state()
-        for one in self.all:
-            if one.phase.latching and not one.called:
-                one.called = any(map(self.present, one.phase.areas))
-        for one in self.active:
-            self.update(one)
-        for one in self.active if self.wanted else ():
-            self.serve_buses(one)
-        if any(one.ready for one in self.active):
+        self.clock, self.present, before, state = clock, present, self.green_by_ring(), self.state()
+        for running in self.phases:
+            if running.phase.latching and not running.called:
+                running.called = any(map(self.present, running.phase.areas))
+        for running in self.active:
+            self.update(running)
+        for running in self.active if self.called else ():
+            self.serve_buses(running)
+        if any(running.ready for running in self.active):
             self.go_on()
-        for one in self.all:
-            one.called = one.called and one.phase.latching and not one.is_green
-        self.due = now + max(1, min(map(self.wait, self.active)))
+        for running in self.phases:
+            running.called = running.called and running.phase.latching and not running.is_green
+        self.due = clock + max(1, min(map(self.wait, self.active)))
         self.changes += self.state() != state
         return self.green_by_ring() != before
 
-    def wait(self, one: RunningPhase) -> int:
+    def wait(self, running: RunningPhase) -> int:
         """The seconds in which nothing can happen in the ring of a phase that is shown, whatever the other ring does;
         `moves_on` takes one at least."""
-        phase, left = one.phase, one.lasts - (self.now - one.since)
-        if self.wanted or any(other.phase.latching for other in self.all) or one.stage > GREEN:
+        phase, to_go = running.phase, running.lasts - (self.clock - running.since)
+        if self.called or any(other.phase.latching for other in self.phases) or running.stage > GREEN:
             return 1
-        if one.stage < GREEN:
-            changed = self.now - one.end
+        if running.stage < GREEN:
+            changed = self.clock - running.end
             return ceil((phase.yellow if changed < phase.yellow else phase.change_seconds) - changed)
         # Who is on an area before that does not make the green longer.
-        return ceil(left) if one.lasts >= one.most else min(ceil(left), int(left - phase.extension) + 1)
+        return ceil(to_go) if running.lasts >= running.most else min(ceil(to_go), int(to_go - phase.extension) + 1)
 
-    def is_on(self, one: RunningPhase) -> bool:
+    def is_on(self, running: RunningPhase) -> bool:
         """Whether somebody is on the areas of a phase, or was since its last green where it is latching, or a bus calls
         it."""
-        return one.called or one.phase.number in self.wanted or any(map(self.present, one.phase.areas))
+        return running.called or running.phase.number in self.called or any(map(self.present, running.phase.areas))
 
-    def is_called(self, one: RunningPhase) -> bool:
+    def is_called(self, running: RunningPhase) -> bool:
         """Whether a phase wants to be green: by a recall, by somebody on its areas, or by a bus."""
-        return one.phase.is_recalled or self.is_on(one)
+        return running.phase.is_recalled or self.is_on(running)
 
-    def shown_by_other_ring(self, one: RunningPhase) -> RunningPhase:
+    def shown_by_other_ring(self, running: RunningPhase) -> RunningPhase:
         """The phase that the other ring shows."""
-        return self.active[not one.ring]
+        return self.active[not running.ring]
 
-    def update(self, one: RunningPhase) -> None:
+    def update(self, running: RunningPhase) -> None:
         """Makes a second of a phase that is shown: how long it lasts by who is on its areas, and whether it may end."""
-        if not one.is_green:
-            one.ready = True
+        if not running.is_green:
+            running.ready = True
             return
-        since, phase = self.now - one.since, one.phase
-        if one.stage != TRANSFER and one.lasts < one.most and self.extends(one, since):
-            one.lasts = min(max(since + phase.extension, phase.least), one.most)
-        if one.stage == REST:
-            self.rest(one, since)
-        if since >= one.lasts:
-            one.ready = True
+        since, phase = self.clock - running.since, running.phase
+        if running.stage != TRANSFER and running.lasts < running.most and self.extends(running, since):
+            running.lasts = min(max(since + phase.extension, phase.least), running.most)
+        if running.stage == REST:
+            self.rest_in_green(running, since)
+        if since >= running.lasts:
+            running.ready = True
 
-    def call(self, now: int, phases: Collection[int]) -> None:
+    def call(self, clock: int, phases: Collection[int]) -> None:
         """From now on buses call some phases, by their numbers: those that are shown stay green until their greatest
         length, greens in their way end at their least. Empty: no bus is seen any more. `due` comes forward to now, or
         behind a second that was looked at."""
-        self.wanted = phases
-        self.due = min(self.due, max(now, self.now + 1))
+        self.called = phases
+        self.due = min(self.due, max(clock, self.clock + 1))
 
-    def serve_buses(self, one: RunningPhase) -> None:
+    def serve_buses(self, running: RunningPhase) -> None:
         """Has a green that is shown go on, or end, for the buses that call phases."""
-        green = self.now - one.began
-        if one.is_green and one.phase.number in self.wanted:
-            one.ready = one.ready and green >= one.phase.most
-        elif one.is_green and green >= one.phase.least and self.is_in_the_way(one):
-            one.ready = True
+        green = self.clock - running.began
+        if running.is_green and running.phase.number in self.called:
+            running.ready = running.ready and green >= running.phase.most
+        elif running.is_green and green >= running.phase.least and self.is_in_the_way(running):
+            running.ready = True
 
-    def is_in_the_way(self, one: RunningPhase) -> bool:
+    def is_in_the_way(self, running: RunningPhase) -> bool:
         """Whether a green has to end before one that a bus calls: in the same ring, beyond the barrier, or where the
         other ring comes to it only by way of the other side."""
-        wanted = (each for each in self.all if each.phase.number in self.wanted and self.active[each.ring] is not each)
-        return any(
-            each.ring == one.ring or each.side != one.side or self.active[each.ring].at_barrier for each in wanted
-        )
+        hidden = (each for each in self.phases if self.active[each.ring] is not each)
+        called = (each for each in hidden if each.phase.number in self.called)
+        ring, side = running.ring, running.side
+        return any(each.ring == ring or each.side != side or self.active[each.ring].at_barrier for each in called)
 
-    def extends(self, one: RunningPhase, since: float) -> bool:
+    def extends(self, running: RunningPhase, since: float) -> bool:
         """Whether a green is given its extension anew, by somebody on its areas or a bus: where that makes it longer,
         and always as it rests; since: seconds of green so far. Areas are not asked where it would not."""
-        longer = max(since + one.phase.extension, one.phase.least) > one.lasts
-        return (longer or one.stage == REST) and self.is_on(one)
+        longer = max(since + running.phase.extension, running.phase.least) > running.lasts
+        return (longer or running.stage == REST) and self.is_on(running)
 
-    def rest(self, one: RunningPhase, since: float) -> None:
+    def rest_in_green(self, running: RunningPhase, since: float) -> None:
         """A second of resting in green. From when another phase is called it lasts its greatest time on, and then may
         end, and so may the other ring's phase if it waits or rests; since: seconds of green so far."""
-        most, least = one.phase.most, one.phase.least
-        other = self.shown_by_other_ring(one)
-        if any(
-            self.is_called(each) for each in self.all if each.phase.number not in (one.phase.number, other.phase.number)
-        ):
-            one.resting -= 1
-            if one.resting + 1 >= most:
-                one.most = least + most
+        most, least = running.phase.most, running.phase.least
+        other_phase = self.shown_by_other_ring(running)
+        shown = running.phase.number, other_phase.phase.number
+        if any(self.is_called(each) for each in self.phases if each.phase.number not in shown):
+            running.resting -= 1
+            if running.resting + 1 >= most:
+                running.most = least + most
         else:
-            one.resting = most
+            running.resting = most
             if since >= least:
-                one.since, one.most = self.now - least, least + most
-                one.lasts = least + max(0.0, one.lasts - since)
-        if one.resting < 1:
-            one.ready = True
-            if other.stage > GREEN:
-                other.ready = True
+                running.since, running.most = self.clock - least, least + most
+                running.lasts = least + max(0.0, running.lasts - since)
+        if running.resting < 1:
+            running.ready = True
+            if other_phase.stage > GREEN:
+                other_phase.ready = True
 
     # Changes
 
-    def begin_green(self, one: RunningPhase) -> None:
+    def begin_green(self, running: RunningPhase) -> None:
         """Begins the green of a phase now; it becomes the one that its ring shows."""
-        one.since, one.began, one.ready, one.chosen, one.stage = self.now, self.now, False, None, GREEN
-        if one.rests:
-            one.stage, one.resting = REST, one.phase.most
-        one.lasts = one.most if one.phase.most_recall else one.phase.least
-        self.active[one.ring] = one
+        running.since, running.began, running.ready = self.clock, self.clock, False
+        running.chosen, running.stage = None, GREEN
+        if running.rests:
+            running.stage, running.resting = REST, running.phase.most
+        running.lasts = running.most if running.phase.most_recall else running.phase.least
+        self.active[running.ring] = running
 
     def go_on(self) -> None:
         """Has the phases that may end go on towards the nearest pair that may follow; nothing happens where there is no
@@ -257,65 +258,66 @@ class Nema:
         pair = min(self.pairs_to_follow(), key=lambda pair: pair[0], default=None)
         if pair is not None:
             _, *following = pair
-            for one in list(self.active):
-                if one.ready:
-                    self.leave(one, following)
+            for running in list(self.active):
+                if running.ready:
+                    self.leave(running, following)
 
-    def leave(self, one: RunningPhase, following: Sequence[RunningPhase]) -> None:
+    def leave(self, running: RunningPhase, following: Sequence[RunningPhase]) -> None:
         """Takes a phase that may end one second on towards its ring's one of `following`: yellow (its green is then in
         `ended`), red, that one's green; or it stays green where that is itself."""
-        if (target := following[one.ring]) is one:
-            self.keep_green(one, following)
+        if (target := following[running.ring]) is running:
+            self.keep_green(running, following)
             return
-        one.chosen = target
-        changed = self.now - one.end
-        if one.is_green:
-            self.ended.append(EndedPhase(one.phase.number, one.began, self.now - one.began, self.why(one)))
-            one.end, one.stage, one.changing = self.now, YELLOW, True
-        elif changed >= one.phase.change_seconds:
-            one.ready, one.changing, one.stage = False, False, RED
+        running.chosen = target
+        changed = self.clock - running.end
+        if running.is_green:
+            seconds = self.clock - running.began
+            self.ended.append(EndedPhase(running.phase.number, running.began, seconds, self.why(running)))
+            running.end, running.stage, running.changing = self.clock, YELLOW, True
+        elif changed >= running.phase.change_seconds:
+            running.ready, running.changing, running.stage = False, False, RED
             self.begin_green(target)
-        elif changed >= one.phase.yellow:
-            one.stage = RED
+        elif changed >= running.phase.yellow:
+            running.stage = RED
 
-    def why(self, one: RunningPhase) -> str:
+    def why(self, running: RunningPhase) -> str:
         """Why a green ends now: one of the words BY_.. of logic."""
-        if one.stage != GREEN:
-            return BY_OTHER if one.stage == TRANSFER else BY_CALL
-        if self.wanted and self.now - one.since < one.lasts:
+        if running.stage != GREEN:
+            return BY_OTHER if running.stage == TRANSFER else BY_CALL
+        if self.called and self.clock - running.since < running.lasts:
             return BY_BUS
-        return BY_MOST if one.lasts >= one.most else BY_GAP
+        return BY_MOST if running.lasts >= running.most else BY_GAP
 
-    def keep_green(self, one: RunningPhase, following: Sequence[RunningPhase]) -> None:
+    def keep_green(self, running: RunningPhase, following: Sequence[RunningPhase]) -> None:
         """Keeps a phase green that could end: it rests where neither ring goes on, else it waits for the other ring."""
-        other, phase = self.shown_by_other_ring(one), one.phase
-        one.ready = False
-        both = following[other.ring] is other and other.ready
-        if both or (other.stage == REST and other.resting >= other.phase.most):
-            one.stage, one.since, one.lasts = REST, self.now - phase.least, phase.least
-            one.resting = phase.most * one.rests
+        other_phase, phase = self.shown_by_other_ring(running), running.phase
+        running.ready = False
+        both = following[other_phase.ring] is other_phase and other_phase.ready
+        if both or (other_phase.stage == REST and other_phase.resting >= other_phase.phase.most):
+            running.stage, running.since, running.lasts = REST, self.clock - phase.least, phase.least
+            running.resting = phase.most * running.rests
         else:
-            one.stage = TRANSFER
-            if one.at_barrier:
-                one.lasts = other.lasts + other.since - one.since
+            running.stage = TRANSFER
+            if running.at_barrier:
+                running.lasts = other_phase.lasts + other_phase.since - running.since
 
     def pairs_to_follow(self) -> Iterator[tuple[float, RunningPhase, RunningPhase]]:
         """The pairs of phases, one of each ring and both on one side of the barrier, that may follow: (how far away,
         first, second)."""
-        first, second = self.active
-        one, other = map(self.wished_change, self.active)
-        if one.target.side == other.target.side:
-            yield self.pair(one, other)
+        first_phase, second_phase = self.active
+        change, beside = map(self.wished_change, self.active)
+        if change.target.side == beside.target.side:
+            yield self.pair(change, beside)
             return
-        if first.ready and (usual := self.usual_change(second, one)).target.side == one.target.side:
-            yield self.pair(one, usual)
-        if second.ready and (usual := self.usual_change(first, other)).target.side == other.target.side:
-            yield self.pair(usual, other)
+        if first_phase.ready and (usual := self.usual_change(second_phase, change)).target.side == change.target.side:
+            yield self.pair(change, usual)
+        if second_phase.ready and (usual := self.usual_change(first_phase, beside)).target.side == beside.target.side:
+            yield self.pair(usual, beside)
 
-    def pair(self, one: PhaseChange, other: PhaseChange) -> tuple[float, RunningPhase, RunningPhase]:
+    def pair(self, change: PhaseChange, beside: PhaseChange) -> tuple[float, RunningPhase, RunningPhase]:
         """Two changes as (how far away on the mean, phase of the first ring, phase of the second)."""
-        distance = (self.distance(one, other, 0) + self.distance(other, one, 1)) / 2
-        return distance, one.target, other.target
+        distance = (self.distance(change, beside, 0) + self.distance(beside, change, 1)) / 2
+        return distance, change.target, beside.target
 
     def distance(self, change: PhaseChange, beside: PhaseChange, ring: int) -> int:
         """How far away a change of a ring (0 or 1) is, in phases of its order; one that waits in green is as far as the
@@ -324,36 +326,37 @@ class Nema:
         waits = change.target is own and own.side == beside.target.side and own.stage in (GREEN, TRANSFER)
         return beside.steps if waits else change.steps
 
-    def usual_change(self, one: RunningPhase, beside: PhaseChange) -> PhaseChange:
+    def usual_change(self, running: RunningPhase, beside: PhaseChange) -> PhaseChange:
         """Where a ring goes that wished for another side of the barrier than the other ring's change `beside`: nowhere,
         if it may not go or is green on that side, else to the phase in which it waits at the barrier on that side."""
-        if not one.ready or (one.side == beside.target.side and one.is_green):
-            return one.change_to(one)
-        number = self.rings.barriers[beside.target.side][one.ring]
-        return one.change_to(next(each for each in self.by_ring[one.ring] if each.phase.number == number))
+        if not running.ready or (running.side == beside.target.side and running.is_green):
+            return running.change_to(running)
+        number = self.rings.barriers[beside.target.side][running.ring]
+        return running.change_to(next(each for each in self.by_ring[running.ring] if each.phase.number == number))
 
-    def wished_change(self, one: RunningPhase) -> PhaseChange:
+    def wished_change(self, running: RunningPhase) -> PhaseChange:
         """The change that a ring wishes for from the phase that it shows: the nearest that it may make now, where a
         next phase was decided on (`chosen`) on that one's side of the barrier. Where it may make none, to the phase
         that was decided on, or to itself."""
-        decided, usual = one.chosen, one.change_to(one.chosen or one)
-        fitting = (each for each in one.phase_changes if decided is None or each.target.side == decided.side)
-        return next((each for each in fitting if one.ready and self.may_follow(one, each.target)), usual)
+        decided, usual = running.chosen, running.change_to(running.chosen or running)
+        fitting = (each for each in running.phase_changes if decided is None or each.target.side == decided.side)
+        return next((each for each in fitting if running.ready and self.may_follow(running, each.target)), usual)
 
-    def may_follow(self, one: RunningPhase, target: RunningPhase) -> bool:
+    def may_follow(self, running: RunningPhase, target: RunningPhase) -> bool:
         """Whether a phase may be followed by another one of its ring, or stay itself, now."""
-        if target is one:
-            return one.is_green
+        if target is running:
+            return running.is_green
         if not self.is_called(target):
             return False
-        other = self.shown_by_other_ring(one)
-        if one.side != target.side:
-            return other.ready and self.change_left(other) == self.change_left(one)
-        if one.at_barrier and one.is_green:
-            beyond: Iterable[RunningPhase] = (each for each in self.by_ring[one.ring] if each.side != one.side)
+        other = self.shown_by_other_ring(running)
+        if running.side != target.side:
+            return other.ready and self.change_left(other) == self.change_left(running)
+        if running.at_barrier and running.is_green:
+            beyond: Iterable[RunningPhase] = (each for each in self.by_ring[running.ring] if each.side != running.side)
             return not any(map(self.is_called, beyond))
         return True
 
-    def change_left(self, one: RunningPhase) -> float:
+    def change_left(self, running: RunningPhase) -> float:
         """The seconds of a change that are to come, as SUMO counts them: 0 while a change is under way."""
-        return max(0.0, self.now - one.end - one.phase.change_seconds) if one.changing else one.phase.change_seconds
+        seconds = running.phase.change_seconds
+        return max(0.0, self.clock - running.end - seconds) if running.changing else seconds

@@ -25,9 +25,9 @@ class ShownRings:
         """light: what is driven; mapping: of the run whose nodes show it."""
         self.light, self.limits = light, {link.edge: link.limit for link in mapping.links}
         phases = light.rings.phases
-        cycle = [(one.usual, one.state) for one in phases]
-        self.nodes = [(one, lit_node(light.name, one, mapping, 0, cycle)) for one in light.nodes]
-        self.means = {one.number: min(one.usual, float(limits.PHASE_STEPS)) for one in phases}
+        cycle = [(phase.usual, phase.state) for phase in phases]
+        self.nodes = [(map_node, lit_node(light.name, map_node, mapping, 0, cycle)) for map_node in light.nodes]
+        self.means = {phase.number: min(phase.usual, float(limits.PHASE_STEPS)) for phase in phases}
         self.known = 0  # ended phases that are in the means
         self.cycles: dict[Lengths, list[str]] = {}
         self.greens: dict[tuple[int, Lengths], list[Green]] = {}
@@ -41,43 +41,43 @@ class ShownRings:
         self.known = len(logic.ended)
         return tuple(max(1, round(min(mean, limits.PHASE_STEPS))) for mean in self.means.values())
 
-    def plans(self, logic: Nema, now: int) -> Iterator[Command]:
-        """The signal commands, one for each node, that show from the clock `now` on what the logic shows; first takes
+    def plans(self, logic: Nema, clock: int) -> Iterator[Command]:
+        """The signal commands, one for each node, that show from `clock` on what the logic shows; first takes
         what ended into the means, as `learn`, and notes in `letters` what each signal shows, and since when."""
         lengths, state = self.learn(logic), logic.state()
-        before = self.letters or [("", now)] * len(state)
+        before = self.letters or [("", clock)] * len(state)
         pairs = zip(state, before, strict=True)
-        self.letters = [(letter, since if letter == old else now) for letter, (old, since) in pairs]
+        self.letters = [(letter, since if letter == old else clock) for letter, (old, since) in pairs]
         if lengths not in self.cycles:
             self.cycles[lengths] = cycle_of(self.light.rings, dict(zip(self.means, lengths, strict=True)))
         cycle = self.cycles[lengths]
-        for at, (kept, node) in enumerate(self.nodes):
+        for at, (map_node, node) in enumerate(self.nodes):
             if (at, lengths) not in self.greens:
-                own = settled(node, kept, cycle, self.limits)
-                self.greens[at, lengths] = green_seconds(own, cycle, own.shown_seconds(cycle), 1, True)
-            yield plan_command(node.node, self.greens_by_second(node, cycle, self.greens[at, lengths], now), now)
+                lit = settled(node, map_node, cycle, self.limits)
+                self.greens[at, lengths] = green_seconds(lit, cycle, lit.shown_seconds(cycle), 1, True)
+            yield plan_command(node.node, self.greens_by_second(node, cycle, self.greens[at, lengths], clock), clock)
 
-    def greens_by_second(self, node: LitNode, cycle: Sequence[str], greens: Sequence[Green], now: int) -> list[Green]:
-        """The green turns of a node in each second from the clock `now` on (not from a cycle's begin), the last of
+    def greens_by_second(self, node: LitNode, cycle: Sequence[str], greens: Sequence[Green], clock: int) -> list[Green]:
+        """The green turns of a node in each second from `clock` on (not from a cycle's begin), the last of
         which goes on, by the `letters` that `plans` notes; turns that the light does not control are always green.
         cycle, greens: the letters, and the green turns, in each second of a cycle."""
         shown = {}
         for link, lane, following, turn in node.turns:
-            letter, since = self.letters[turn.index] if turn.light == node.light else ("", now)
+            letter, since = self.letters[turn.index] if turn.light == node.light else ("", clock)
             key = link, lane, following
             if turn.light != node.light:
                 shown[key] = [True]
             elif letter in LIT and letter:
                 own = "".join(state[turn.index] for state in cycle)
-                shown[key] = green_in_remaining_seconds(own, [key in green for green in greens], letter, now - since)
+                shown[key] = green_in_remaining_seconds(own, [key in green for green in greens], letter, clock - since)
         count = max(map(len, shown.values()), default=1)
         return [
             frozenset(key for key, own in shown.items() if own[min(second, len(own) - 1)]) for second in range(count)
         ]
 
 
-def green_in_remaining_seconds(letters: str, shown: Sequence[bool], letter: str, gone: int) -> list[bool]:
-    """Whether a signal is shown green in each second that remains of its longest run of a letter, of which `gone`
+def green_in_remaining_seconds(letters: str, shown: Sequence[bool], letter: str, seconds_over: int) -> list[bool]:
+    """Whether a signal is shown green in each second that remains of its longest run of a letter, of which so many
     seconds are over, one at least; green for one second where no second has the letter. letters, shown: of each second
     of a cycle."""
     runs = spans_of(letters, letter)
@@ -85,7 +85,7 @@ def green_in_remaining_seconds(letters: str, shown: Sequence[bool], letter: str,
         return [True]
     start, length = max(runs, key=lambda run: run[1])
     own = [shown[(start + second) % len(shown)] for second in range(length)]
-    return own[min(gone, len(own) - 1) :]
+    return own[min(seconds_over, len(own) - 1) :]
 
 
 def cycle_of(rings: Rings, seconds: dict[int, int]) -> list[str]:

@@ -14,12 +14,12 @@ class Timed(Controller):
 
     def begin(self, kernel: Kernel) -> None:
         """All lines are to come."""
-        self.kernel, self.place = kernel, 0
+        self.kernel, self.next_index = kernel, 0
         self.lines = kernel.run.timed
 
     def next_clock(self) -> int:
         """That of the next line."""
-        return self.lines[self.place][0] if self.place < len(self.lines) else NEVER
+        return self.lines[self.next_index][0] if self.next_index < len(self.lines) else NEVER
 
     def act(self, clock: int, _now: Block) -> None:
         """Sends what is due. Fault where a line is refused."""
@@ -27,8 +27,8 @@ class Timed(Controller):
             return
         due: list[Line] = []
         while self.next_clock() <= clock:
-            due.append(self.lines[self.place][1])
-            self.place += 1
+            due.append(self.lines[self.next_index][1])
+            self.next_index += 1
         self.kernel.pass_on(line for line in due if line.command.get("node") not in self.left_out)
 
     def unsent(self) -> int:
@@ -37,7 +37,7 @@ class Timed(Controller):
         mapping = self.kernel.map
         changing = {light for _, light, _ in mapping.switches}
         nodes = {node for light, node in mapping.signals if light in changing}
-        left = (line for _, line in self.lines[self.place :] if line.number > 0)
+        left = (line for _, line in self.lines[self.next_index :] if line.number > 0)
         return sum(line.command.get("node") not in nodes for line in left)
 
 

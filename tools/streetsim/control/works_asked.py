@@ -54,17 +54,17 @@ def all_works(texts: Iterable[str], mapping: Map, start: int, until: int | None)
 def works_of(text: str, mapping: Map) -> AskedWorks:
     """The works that a text LANE:METRES-METRES:S-S asks for, each S as clock_of reads it; Fault where it has another
     form, one of its pairs does not rise, or the map has no such lane or metres."""
-    found = FORM.fullmatch(text)
-    clocks = [second for clock in found.groups()[3:] if (second := clock_of(clock)) is not None] if found else []
-    if not found or len(clocks) < 2 or int(found[2]) >= int(found[3]) or clocks[0] >= clocks[1]:
+    match = FORM.fullmatch(text)
+    clocks = [second for clock in match.groups()[3:] if (second := clock_of(clock)) is not None] if match else []
+    if not match or len(clocks) < 2 or int(match[2]) >= int(match[3]) or clocks[0] >= clocks[1]:
         raise Fault(f"--close {text!r}: expected LANE:METRES-METRES:S-S, whole numbers that rise")
-    place = mapping.place_of(found[1])
+    place = mapping.place_of(match[1])
     if place is None:
-        raise Fault(f"--close {text!r}: the map has no lane {found[1]!r}{meant(found[1], mapping)}")
+        raise Fault(f"--close {text!r}: the map has no lane {match[1]!r}{meant(match[1], mapping)}")
     metres = mapping.links[place[0]].metres
-    if int(found[3]) > math.ceil(metres):
+    if int(match[3]) > math.ceil(metres):
         raise Fault(f"--close {text!r}: the lane ends at {metres:g} m")
-    return AskedWorks(text, found[1], int(found[2]), int(found[3]), clocks[0], clocks[1])
+    return AskedWorks(text, match[1], int(match[2]), int(match[3]), clocks[0], clocks[1])
 
 
 def meant(name: str, mapping: Map) -> str:
@@ -73,8 +73,8 @@ def meant(name: str, mapping: Map) -> str:
     lanes = [mapping.lane_name(*place) for place in mapping.lanes(mapping.links_of.get(name, ()))]
     if lanes:
         return f", but {first_few(lanes)}"
-    streets = mapping.names.get(EDGES, {})
-    edges = [edge for edge in mapping.links_of if streets.get(edge) == name]
+    named = (edge for edge, street in mapping.names.get(EDGES, {}).items() if street == name)
+    edges = [edge for edge in named if edge in mapping.links_of]
     return f": {name} is the name of edges {first_few(edges)}" if edges else ""
 
 
@@ -88,12 +88,12 @@ def clock_of(text: str) -> int | None:
 def sites_of(works: Iterable[AskedWorks], mapping: Map) -> list[Site]:
     """Works on the cells of a map; the map must have their lanes."""
     places = {mapping.lane_name(*place): place for place in mapping.lanes()}
-    found = []
+    sites = []
     for one in works:
         link, lane = places[one.lane]
         first, last = mapping.links[link].closed_between(one.from_metres, one.to_metres)
-        found.append(Site(one, link, lane, (min(1, last) if one.goes_on else first, last)))
-    return found
+        sites.append(Site(one, link, lane, (min(1, last) if one.goes_on else first, last)))
+    return sites
 
 
 def really_closed(sites: Iterable[Site], mapping: Map) -> Iterator[str]:

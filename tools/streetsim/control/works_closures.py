@@ -8,12 +8,12 @@ from streetsim.model.runs import Run
 
 @dataclass(slots=True, frozen=True)
 class Closure:
-    """Cells first to last of a lane that are closed from the clock begin to the clock end."""
+    """Cells first_cell to last_cell of a lane that are closed from the clock begin to the clock end."""
 
     link: int
     lane: int
-    first: int  # cell
-    last: int
+    first_cell: int
+    last_cell: int
     begin: int  # clock of the close
     end: int
     beyond: float = 0.0  # metres for which it goes on, on the next part of the edge
@@ -23,7 +23,7 @@ class Closure:
         goes on beyond the link."""
         link = mapping.links[self.link]
         size = link.metres / link.cells
-        return self.first * size, (self.last + 1) * size + self.beyond
+        return self.first_cell * size, (self.last_cell + 1) * size + self.beyond
 
 
 def closures_of(run: Run, until: int) -> list[Closure]:
@@ -32,7 +32,7 @@ def closures_of(run: Run, until: int) -> list[Closure]:
     first close; one that begins at until or later is left out."""
     timed = [*((run.start(), line) for line in run.first), *run.timed]
     open_: dict[tuple[int, int, int, int], int] = {}
-    found = []
+    closures = []
     for clock, line in timed:
         command = line.command
         if command["cmd"] not in ("close", "reopen"):
@@ -41,24 +41,28 @@ def closures_of(run: Run, until: int) -> list[Closure]:
         if command["cmd"] == "close":
             open_.setdefault(key, clock)
         elif key in open_:
-            found.append(Closure(*key, open_.pop(key), min(clock, until)))
-    found += [Closure(*key, clock, until) for key, clock in open_.items()]
-    return sorted((one for one in found if one.begin < one.end), key=lambda one: (one.begin, one.link, one.lane))
+            closures.append(Closure(*key, open_.pop(key), min(clock, until)))
+    closures += [Closure(*key, clock, until) for key, clock in open_.items()]
+    return sorted((one for one in closures if one.begin < one.end), key=lambda one: (one.begin, one.link, one.lane))
 
 
 def begun_here(closures: Iterable[Closure], mapping: Map) -> list[Closure]:
     """The closures before which a queue can begin. One that continues another with the same clocks, from the part of
     the edge before, is left out, as its queue is seen at that other one, which gets its metres in beyond."""
     closures = list(closures)
-    begins = {(one.link, one.lane, one.begin, one.end): one for one in closures if one.first <= 1}
+    first_cells = [closure for closure in closures if closure.first_cell <= 1]
+    begins = {(closure.link, closure.lane, closure.begin, closure.end): closure for closure in first_cells}
     further: dict[Closure, Closure] = {}
-    for one in closures:
-        if one.last == mapping.links[one.link].cells - 1:
-            edge = mapping.links[one.link].edge
-            ways = [turn for turn in mapping.turns if (turn.link, turn.lane) == (one.link, one.lane)]
-            parts = [turn for turn in ways if mapping.links[turn.next].edge.rpartition(".")[0] == edge]
-            places = [(turn.next, turn.next_lane, one.begin, one.end) for turn in parts]
-            further.update((one, begins[place]) for place in places if place in begins)
+    for closure in closures:
+        if closure.last_cell == mapping.links[closure.link].cells - 1:
+            edge = mapping.links[closure.link].edge
+            turns = [turn for turn in mapping.turns if (turn.link, turn.lane) == (closure.link, closure.lane)]
+            parts = [turn for turn in turns if mapping.links[turn.next].edge.rpartition(".")[0] == edge]
+            keys = [(turn.next, turn.next_lane, closure.begin, closure.end) for turn in parts]
+            further.update((closure, begins[key]) for key in keys if key in begins)
     going_on = set(further.values())
-    begun = [one for one in closures if one not in going_on]
-    return [replace(one, beyond=further[one].metres(mapping)[1]) if one in further else one for one in begun]
+    begun = (closure for closure in closures if closure not in going_on)
+    return [
+        replace(closure, beyond=further[closure].metres(mapping)[1]) if closure in further else closure
+        for closure in begun
+    ]

@@ -30,20 +30,20 @@ def told_of_crowding(run: Run, mapping: Map, closures: Sequence[Closure]) -> Ite
 def crowded_works(run: Run, mapping: Map, closures: Sequence[Closure]) -> list[str]:
     """What doubts a run, a text for each link with works: how full the open lanes are where that is NEARLY or more of
     what they pass, and the texts of told_of_crowding of edges with further links, to which nobody changes."""
-    found = []
+    doubts = []
     for link in sorted({one.link for one in closures}):
-        hourly, left = worst(run, mapping, [one for one in closures if one.link == link])
-        if left and hourly >= NEARLY * PASSES * left:
-            open_ = "the open lane passes" if left == 1 else f"the {left} open lanes pass"
-            share = f"demand {hourly / left / PASSES:.2f} of what {open_}"
-            found.append(f"works on {mapping.links[link].edge}: {share}, and what they add may be far from SUMO's")
-    return found + [text for text in told_of_crowding(run, mapping, closures) if text.endswith(BESIDE)]
+        hourly, open_lanes = worst(run, mapping, [one for one in closures if one.link == link])
+        if open_lanes and hourly >= NEARLY * PASSES * open_lanes:
+            open_ = "the open lane passes" if open_lanes == 1 else f"the {open_lanes} open lanes pass"
+            share = f"demand {hourly / open_lanes / PASSES:.2f} of what {open_}"
+            doubts.append(f"works on {mapping.links[link].edge}: {share}, and what they add may be far from SUMO's")
+    return doubts + [text for text in told_of_crowding(run, mapping, closures) if text.endswith(BESIDE)]
 
 
-def too_many(run: Run, mapping: Map, here: Sequence[Closure]) -> str:
-    """The text on the works on one link (here: one closure at least) at their worst; empty where these leave no lane,
+def too_many(run: Run, mapping: Map, closures: Sequence[Closure]) -> str:
+    """The text on the works on one link (closures: one at least) at their worst; empty where these leave no lane,
     or the open ones let all pass."""
-    lanes, (hourly, left) = len(mapping.links[here[0].link].lanes), worst(run, mapping, here)
+    lanes, (hourly, left) = len(mapping.links[closures[0].link].lanes), worst(run, mapping, closures)
     if hourly <= PASSES * left:
         return ""
     return (
@@ -52,38 +52,38 @@ def too_many(run: Run, mapping: Map, here: Sequence[Closure]) -> str:
     )
 
 
-def worst(run: Run, mapping: Map, here: Sequence[Closure]) -> tuple[float, int]:
+def worst(run: Run, mapping: Map, closures: Sequence[Closure]) -> tuple[float, int]:
     """(vehicles an hour that come by their plans, lanes that are left) where most come for each lane, with the works on
-    one link (here: one closure at least), by the lanes that are closed together for SHORT at least, or else longest;
+    one link (closures: one at least), by the lanes that are closed together for SHORT at least, or else longest;
     (0, 0) where these leave none."""
-    link, found = here[0].link, (0.0, 0.0, 0)
-    lanes, together = len(mapping.links[link].lanes), closed_together(here)
+    link, most_crowded = closures[0].link, (0.0, 0.0, 0)
+    lanes, together = len(mapping.links[link].lanes), closed_together(closures)
     lasting = {closed: sum(end - begin for begin, end in times) for closed, times in together.items()}
     least = min(SHORT, max(lasting.values()))
     for closed, times in together.items():
         hourly, left = coming(run, mapping, [(link,)], times) * 3600 / lasting[closed], lanes - len(closed)
         if left and lasting[closed] >= least:
-            found = max(found, (hourly / left, hourly, left))
-    return found[1:]
+            most_crowded = max(most_crowded, (hourly / left, hourly, left))
+    return most_crowded[1:]
 
 
-def closed_together(here: Sequence[Closure]) -> dict[frozenset[int], list[Times]]:
+def closed_together(closures: Sequence[Closure]) -> dict[frozenset[int], list[Times]]:
     """By lanes of a link that works close at the same time, one at least: when they do, rising."""
     found: defaultdict[frozenset[int], list[Times]] = defaultdict(list)
-    for begin, end in pairwise(sorted({clock for one in here for clock in (one.begin, one.end)})):
-        if closed := frozenset(one.lane for one in here if one.begin <= begin and end <= one.end):
+    for begin, end in pairwise(sorted({clock for one in closures for clock in (one.begin, one.end)})):
+        if closed := frozenset(one.lane for one in closures if one.begin <= begin and end <= one.end):
             found[closed].append((begin, end))
     return dict(found)
 
 
-def coming(run: Run, mapping: Map, ways: Iterable[tuple[int, ...]], times: Collection[Times]) -> int:
-    """How often vehicles would come to the begin of one of some ways (links that stand one after the other in their
+def coming(run: Run, mapping: Map, paths: Iterable[tuple[int, ...]], times: Collection[Times]) -> int:
+    """How often vehicles would come to the begin of one of some paths (links that stand one after the other in their
     plan) at some times, if nobody were in their way."""
-    free_flow, count, ways = FreeFlow(mapping, run.load.command.get("dawdle", 0) / 1000), 0, list(ways)
+    free_flow, count, paths = FreeFlow(mapping, run.load.command.get("dawdle", 0) / 1000), 0, list(paths)
     for line in run.enters:
         plan, depart = line.command["plan"], line.command["depart"]
         for at in range(len(plan)):
-            if any(tuple(plan[at : at + len(way)]) == way for way in ways):
+            if any(tuple(plan[at : at + len(path)]) == path for path in paths):
                 clock = depart + free_flow(plan[:at])
                 count += any(first <= clock < last for first, last in times)
     return count

@@ -38,12 +38,12 @@ def works_rows(watched: Sequence[Watched], mapping: Map, start: int, seconds: in
     """The rows of works.csv, (begin, end, edge, SUMO's index of the lane, metres where the works begin and end, what
     seen_in gives), as far as works were looked at: one for each place of works and each period in which it is closed.
     start: the clock at which the run begins; seconds: of a period."""
-    for one in watched:
-        link, (begin, end) = mapping.links[one.closure.link], one.closure.metres(mapping)
-        name = link.edge, link.lanes[one.closure.lane], f"{begin:.1f}", f"{end:.1f}"
-        last = min(one.closure.end, one.last or one.closure.begin)
-        for period in periods_of(one.closure.begin, last, start, seconds):
-            yield period.begin, period.end, *name, *seen_in(one, period)
+    for works in watched:
+        link, (begin, end) = mapping.links[works.closure.link], works.closure.metres(mapping)
+        name = link.edge, link.lanes[works.closure.lane], f"{begin:.1f}", f"{end:.1f}"
+        last = min(works.closure.end, works.last_look or works.closure.begin)
+        for period in periods_of(works.closure.begin, last, start, seconds):
+            yield period.begin, period.end, *name, *seen_in(works, period)
 
 
 def seen_in(watched: Watched, period: Period) -> tuple[object, ...]:

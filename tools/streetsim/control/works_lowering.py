@@ -24,18 +24,18 @@ def limits_of(works: Iterable[AskedWorks], mapping: Map, kmh: int) -> list[SlowS
     known = {text.partition(":")[0] for text in mapping.options.get("slow", ())}
     for one in works:
         stretches[edge_of(one, mapping)][one.from_metres, one.to_metres] = None
-    found = []
+    slow_stretches = []
     for edge, places in stretches.items():
         where, (begin, end) = f"--works-limit {kmh}: edge {edge!r}", next(iter(places))
-        first = max(begin, OPEN) + FIRST
+        limit_begin = max(begin, OPEN) + FIRST
         if len(places) > 1:
             raise Fault(f"{where} has works on several stretches, and can have one limit on one of them")
         if known & {edge, edge.rpartition(".")[0]}:
             raise Fault(f"{where} has another lower limit since its import (--slow)")
-        if end < first + FIRST:
-            raise Fault(f"{where}: works to {end} m are too short for a limit, which would begin at {first} m")
-        found.append(SlowStretch(edge, first, end, kmh))
-    return found
+        if end < limit_begin + FIRST:
+            raise Fault(f"{where}: works to {end} m are too short for a limit, which would begin at {limit_begin} m")
+        slow_stretches.append(SlowStretch(edge, limit_begin, end, kmh))
+    return slow_stretches
 
 
 def edge_of(works: AskedWorks, mapping: Map) -> str:
@@ -53,13 +53,13 @@ def parts_on(slow: SlowStretch, mapping: Map) -> list[EdgePart]:
 def works_on_parts(works: Iterable[AskedWorks], slow: Sequence[SlowStretch], mapping: Map) -> Iterator[AskedWorks]:
     """The works on the parts of their edges: each as one that begins before the limit, and one that goes on along it.
     slow: one for each edge with works, as limits_of gives them; mapping: from before the cut."""
-    limited = {one.edge: one for one in slow}
-    for one in works:
-        limit = limited[edge_of(one, mapping)]
-        index, part = one.lane.rpartition("_")[2], next(part for part in parts_on(limit, mapping) if part.slow)
-        yield replace(one, to_metres=limit.begin)
-        name, to_metres = f"{part.name}_{index}", one.to_metres - limit.begin
-        yield replace(one, lane=name, from_metres=0, to_metres=to_metres, goes_on=True)
+    limited = {stretch.edge: stretch for stretch in slow}
+    for whole in works:
+        limit = limited[edge_of(whole, mapping)]
+        index, part = whole.lane.rpartition("_")[2], next(part for part in parts_on(limit, mapping) if part.slow)
+        yield replace(whole, to_metres=limit.begin)
+        name, to_metres = f"{part.name}_{index}", whole.to_metres - limit.begin
+        yield replace(whole, lane=name, from_metres=0, to_metres=to_metres, goes_on=True)
 
 
 def told_of_limits(slow: Iterable[SlowStretch], mapping: Map) -> Iterator[str]:

@@ -32,23 +32,23 @@ class Lost:
 
     movement: Movement
     lanes: tuple[Place, ...]  # from which SUMO's network lets one turn, all closed
-    others: tuple[Place, ...]  # open ones from which turns were added
+    open_lanes: tuple[Place, ...]  # open ones from which turns were added
     vehicles: int  # that come while all are closed
 
     def is_joint(self) -> bool:
         """Whether those who turn can be led from the other lane of the same link, not of another link beside."""
-        return bool(self.others) and self.others[0][0] == self.lanes[0][0]
+        return bool(self.open_lanes) and self.open_lanes[0][0] == self.lanes[0][0]
 
 
 def lost_movements(run: Run, mapping: Map, closures: Collection[Closure]) -> list[Lost]:
     """The movements of lost_times, with who would take them meanwhile; those that nobody would are left out."""
-    ended, own, added = closed_ends(closures, mapping), lanes_of(mapping, False), lanes_of(mapping, True)
-    found = []
+    ended, usual_lanes, added = closed_ends(closures, mapping), lanes_of(mapping, False), lanes_of(mapping, True)
+    lost = []
     for movement, times in lost_times(closures, mapping).items():
         others = sorted(added.get(movement, set()) - ended.keys())
         if count := coming(run, mapping, product(*(mapping.links_of[edge] for edge in movement)), times):
-            found.append(Lost(movement, tuple(sorted(own[movement])), tuple(others), count))
-    return found
+            lost.append(Lost(movement, tuple(sorted(usual_lanes[movement])), tuple(others), count))
+    return lost
 
 
 def closures_at(sites: Iterable[Site]) -> list[Closure]:
@@ -59,13 +59,13 @@ def closures_at(sites: Iterable[Site]) -> list[Closure]:
 def closed_ends(closures: Iterable[Closure], mapping: Map) -> dict[Place, list[Times]]:
     """By lane, (link, lane), the times at which it is closed so near to its end that nobody can come back to it behind
     the works; they rise, with open ones between. Lanes without any are left out."""
-    found: defaultdict[Place, list[Times]] = defaultdict(list)
-    for one in sorted(closures, key=lambda one: one.begin):
-        if mapping.links[one.link].cells - 1 - one.last < BEHIND:
-            times = found[one.link, one.lane]
-            first, last = times.pop() if times and one.begin <= times[-1][1] else (one.begin, one.end)
-            times.append((first, max(last, one.end)))
-    return found
+    by_lane: defaultdict[Place, list[Times]] = defaultdict(list)
+    for closure in sorted(closures, key=lambda closure: closure.begin):
+        if mapping.links[closure.link].cells - 1 - closure.last_cell < BEHIND:
+            times = by_lane[closure.link, closure.lane]
+            first, last = times.pop() if times and closure.begin <= times[-1][1] else (closure.begin, closure.end)
+            times.append((first, max(last, closure.end)))
+    return by_lane
 
 
 def lanes_of(mapping: Map, added: bool) -> dict[Movement, set[Place]]:
@@ -81,13 +81,13 @@ def lanes_of(mapping: Map, added: bool) -> dict[Movement, set[Place]]:
 def lost_times(closures: Iterable[Closure], mapping: Map) -> dict[Movement, list[Times]]:
     """By movement the times, rising, at which all its lanes are closed at their end. Edges of which each lane is closed
     there at some time, if not all at once, are left out."""
-    found, ended = {}, closed_ends(closures, mapping)
+    by_movement, ended = {}, closed_ends(closures, mapping)
     for movement, lanes in lanes_of(mapping, False).items():
         every = set(mapping.lanes(mapping.links_of[movement[0]]))
         if lanes <= ended.keys() and not every <= ended.keys():
             if times := list(in_common(ended[lane] for lane in lanes)):
-                found[movement] = times
-    return found
+                by_movement[movement] = times
+    return by_movement
 
 
 def in_common(times: Iterable[Sequence[Times]]) -> Iterator[Times]:
@@ -108,11 +108,11 @@ def told_of_lost(lost: Iterable[Lost], mapping: Map, how: str, searched: bool = 
         yield f"works on {lanes} close {only} from which {who}: {what_those_do(one, mapping, how, searched)}"
 
 
-def what_those_do(one: Lost, mapping: Map, how: str, searched: bool) -> str:
+def what_those_do(lost: Lost, mapping: Map, how: str, searched: bool) -> str:
     """What those do who lose their lane, as the end of a sentence; how, searched: as of told_of_lost."""
-    if how == "lead" and one.others:
-        beside = mapping.lane_name(*min(one.others, key=partial(lanes_apart, one.lanes[0], mapping)))
-        time = "from which all may turn in the whole run" if one.is_joint() else "for that time alone"
+    if how == "lead" and lost.open_lanes:
+        beside = mapping.lane_name(*min(lost.open_lanes, key=partial(lanes_apart, lost.lanes[0], mapping)))
+        time = "from which all may turn in the whole run" if lost.is_joint() else "for that time alone"
         return f"these are led from {beside}, {time} (--lost wait: they wait until the works end)"
     if how == "bar":
         ways = "ways round are searched for those who come meanwhile"
@@ -121,9 +121,9 @@ def what_those_do(one: Lost, mapping: Map, how: str, searched: bool) -> str:
     return "these wait until the works end" + (", as no lane beside leads there" if how == "lead" else "")
 
 
-def lanes_apart(place: Place, mapping: Map, other: Place) -> int:
+def lanes_apart(first_place: Place, mapping: Map, second_place: Place) -> int:
     """How far apart two lanes of an edge, each a (link, lane), lie by SUMO's indexes: 1 for neighbours."""
-    one, beside = (mapping.links[link].lanes[lane] for link, lane in (place, other))
+    one, beside = (mapping.links[link].lanes[lane] for link, lane in (first_place, second_place))
     return abs(one - beside)
 
 
@@ -131,23 +131,24 @@ def without_led_turns(run: Run, mapping: Map, lost: Iterable[Lost]) -> tuple[Run
     """(the run, its map) without the turns by which those who lose their lane would be led from the lane beside on
     their link, so that they wait, in the load, its signals and the map; the same ones where there are no such turns.
     Turns from other links of the edge stay, as plans have them."""
-    left = {(place, one.movement[1]) for one in lost for place in one.others if place[0] in dict(one.lanes)}
+    left = {(place, one.movement[1]) for one in lost for place in one.open_lanes if place[0] in dict(one.lanes)}
     turns = ((turn, mapping.links[turn.next].edge) for turn in mapping.turns)
-    gone = {(turn.link, turn.lane, turn.next) for turn, edge in turns if ((turn.link, turn.lane), edge) in left}
-    if not gone:
+    led_turns = {(turn.link, turn.lane, turn.next) for turn, edge in turns if ((turn.link, turn.lane), edge) in left}
+    if not led_turns:
         return run, mapping
-    load = {**run.load.command, "turns": [turn for turn in run.load.command["turns"] if tuple(turn[:3]) not in gone]}
-    first = [line_without(line, gone) for line in run.first]
-    timed = [(clock, line_without(line, gone)) for clock, line in run.timed]
-    kept = [turn for turn in mapping.turns if (turn.link, turn.lane, turn.next) not in gone]
+    load_turns = [turn for turn in run.load.command["turns"] if tuple(turn[:3]) not in led_turns]
+    load = {**run.load.command, "turns": load_turns}
+    first = [line_without(line, led_turns) for line in run.first]
+    timed = [(clock, line_without(line, led_turns)) for clock, line in run.timed]
+    kept = [turn for turn in mapping.turns if (turn.link, turn.lane, turn.next) not in led_turns]
     return replace(run, load=rewritten(run.load, load), first=first, timed=timed), replace(mapping, turns=kept)
 
 
-def line_without(line: Line, gone: Collection[TurnKey]) -> Line:
-    """A line in which no signal shows green for turns that are gone; lines of other commands stay as they are."""
+def line_without(line: Line, turns: Collection[TurnKey]) -> Line:
+    """A line in which no signal shows green for some turns; lines of other commands stay as they are."""
     if line.command["cmd"] != "signal":
         return line
-    kept = partial(filter, lambda turn: tuple(turn[:3]) not in gone)
+    kept = partial(filter, lambda turn: tuple(turn[:3]) not in turns)
     phases = [[seconds, list(kept(green))] for seconds, green in line.command["phases"]]
     return rewritten(line, {**line.command, "phases": phases})
 

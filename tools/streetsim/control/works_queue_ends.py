@@ -45,51 +45,53 @@ class Reach:
 @dataclass(slots=True, frozen=True)
 class Piece:
     """A link that the queue may reach, seen from a cell upstream of the works. end: the cell before which vehicles
-    count; last: where the last one stands so far, in cells of this link; behind: metres from its cell end to the
+    count; last_cell: where the last one stands so far, on this link; behind: metres from its cell end to the
     works; begin: the cell from which on vehicles count, above 0 where other works begin there."""
 
     link: int
     lanes: Collection[int]
     end: int
-    last: int
+    last_cell: int
     behind: float
     begin: int = 0
 
 
-def reach_of(lanes: Mapping[Place, Lane], streets: UpstreamStreets, link: int, first: int, begin: int = 0) -> Reach:
-    """The queue before works that begin in the cell first of a link: all who stand, each at most APART cells behind the
+def reach_of(
+    lanes: Mapping[Place, Lane], streets: UpstreamStreets, link: int, first_cell: int, begin: int = 0
+) -> Reach:
+    """The queue before works that begin in first_cell of a link: all who stand, each at most APART cells behind the
     one before it, on lanes that lead to the works. lanes: replies on lanes of the link and upstream, those without one
     are empty; begin: the first cell of other works upstream on the link, whose queue begins there, else 0."""
-    found, known = Reach(), {link}
-    pieces = [Piece(link, [lane for other, lane in lanes if other == link], first, first, 0.0, begin)]
+    reach, known = Reach(), {link}
+    pieces = [Piece(link, [lane for other, lane in lanes if other == link], first_cell, first_cell, 0.0, begin)]
     while pieces:
         piece = pieces.pop()
-        last = add_standing(piece, lanes, streets.scale[piece.link], found)
-        if last > APART or piece.begin:
+        last_cell = add_standing(piece, lanes, streets.scale[piece.link], reach)
+        if last_cell > APART or piece.begin:
             continue
-        found.full.append(piece.link)
+        reach.full.append(piece.link)
         behind = piece.behind + piece.end * streets.scale[piece.link]
         for feeder, leading in streets.before.get(piece.link, {}).items():
             if feeder not in known:
                 known.add(feeder)
                 cells = streets.cells[feeder]
-                pieces.append(Piece(feeder, leading, cells, cells + last, behind))
-    return found
+                pieces.append(Piece(feeder, leading, cells, cells + last_cell, behind))
+    return reach
 
 
-def add_standing(piece: Piece, lanes: Mapping[Place, Lane], scale: float, found: Reach) -> int:
-    """Adds those who stand on a piece to the queue found; gives the cell of the last one, `last` of the piece where
-    nobody is added. scale: metres of a cell."""
-    last = piece.last
+def add_standing(piece: Piece, lanes: Mapping[Place, Lane], scale: float, reach: Reach) -> int:
+    """Adds those who stand on a piece to the queue (reach); gives the cell of the last one, `last_cell` of the piece
+    where nobody is added. scale: metres of a cell."""
+    last_cell = piece.last_cell
     for cell, speed, size in vehicles_on(piece, lanes):
-        if last - cell > APART or cell < piece.begin:
+        if last_cell - cell > APART or cell < piece.begin:
             break
         if speed == 0:
-            last = cell
-            found.vehicles += 1
+            last_cell = cell
+            reach.vehicles += 1
             rear = max(0, cell - size + 1)
-            found.metres = max(found.metres, piece.behind + (piece.end - rear) * scale)
-    return last
+            reach.metres = max(reach.metres, piece.behind + (piece.end - rear) * scale)
+    return last_cell
 
 
 def vehicles_on(piece: Piece, lanes: Mapping[Place, Lane]) -> Iterable[tuple[int, int, int]]:

@@ -39,10 +39,10 @@ NEAR = 150  # metres of an edge before works on a lane to its end, up to which w
 
 @dataclass(slots=True, frozen=True)
 class WorksOptions:
-    """What else a run with works is asked for. others: lanes and edges that are to be joint as well, as if they had
+    """What else a run with works is asked for. joint: lanes and edges that are to be joint as well, as if they had
     works; lost: what those do who lose their only lane, of movements.LOST."""
 
-    others: Collection[str] = ()
+    joint: Collection[str] = ()
     lost: str = "lead"
     limit: int | None = None  # km/h along works
 
@@ -52,15 +52,15 @@ def with_works(
 ) -> tuple[Run, Map, list[str]]:
     """(the run with works, its map, the texts to tell). Both are imported anew where lanes must be joint or led from,
     or edges cut; map_path: from which the imported files are found. Fault where that cannot be done, a name of
-    options.others cannot be joint, or the works cannot have the limit."""
-    told: list[str] = []
+    options.joint cannot be joint, or the works cannot have the limit."""
+    notes: list[str] = []
     if options.limit and works:
         slow = limits_of(works, mapping, options.limit)
-        told += told_of_limits(slow, mapping)
+        notes += told_of_limits(slow, mapping)
         works = list(works_on_parts(works, slow, mapping))
         with imported_for(f"--works-limit {options.limit}"):
             run, mapping = imported_anew(run, mapping, map_path, slow=[one.text() for one in slow])
-    names = parallel_names(options.others, mapping)
+    names = parallel_names(options.joint, mapping)
     names += [name for name in lanes_to_join(works, mapping) if name not in names]
     led = [name for name in lanes_to_lead(works, mapping) if options.lost == "lead" and name not in names]
     if names or led:
@@ -70,13 +70,13 @@ def with_works(
             run, mapping = imported_anew(run, mapping, map_path, joint=names, led=led)
     if names:
         edges = first_few(sorted(edges_of_names(names, mapping)))
-        told.append(f"joint for this run, so that vehicles change lane: edges {edges}")
+        notes.append(f"joint for this run, so that vehicles change lane: edges {edges}")
     run, mapping, lost = with_closures(run, mapping, works, options.lost)
     sites = sites_of(works, mapping)
-    told += [*really_closed(sites, mapping), *all_closed(run, mapping, shut_links(sites, mapping))]
+    notes += [*really_closed(sites, mapping), *all_closed(run, mapping, shut_links(sites, mapping))]
     closures = begun_here(while_vehicles_depart(run, closures_of(run, limits.CLOCK)), mapping) if sites else ()
-    told += [*told_of_crowding(run, mapping, closures), *lost]
-    return run, mapping, told
+    notes += [*told_of_crowding(run, mapping, closures), *lost]
+    return run, mapping, notes
 
 
 def while_vehicles_depart(run: Run, closures: Iterable[Closure]) -> list[Closure]:
@@ -108,14 +108,14 @@ def with_closures(
 def works_lines(sites: Sequence[Site]) -> list[tuple[int, Line]]:
     """The timed lines of works, (clock, line), rising: a close and a reopen of each. In a second in which works end,
     others that last on cells of theirs are closed once more behind that, as reopening has opened these cells."""
-    found = [(site.works.end, works_line("reopen", site)) for site in sites]
-    found += [(site.works.begin, works_line("close", site)) for site in sites]
+    lines = [(site.works.end, works_line("reopen", site)) for site in sites]
+    lines += [(site.works.begin, works_line("close", site)) for site in sites]
     for ended, other in product(sites, sites):
         same_lane = (ended.link, ended.lane) == (other.link, other.lane)
         if same_lane and ended.cells[0] <= other.cells[1] and other.cells[0] <= ended.cells[1]:
             if other.works.begin < ended.works.end < other.works.end:
-                found.append((ended.works.end, works_line("close", other)))
-    return sorted(found, key=lambda pair: (pair[0], pair[1].command["cmd"] == "close"))
+                lines.append((ended.works.end, works_line("close", other)))
+    return sorted(lines, key=lambda pair: (pair[0], pair[1].command["cmd"] == "close"))
 
 
 def works_line(name: str, site: Site) -> Line:
@@ -130,21 +130,21 @@ def shut_links(sites: Collection[Site], mapping: Map) -> Shut:
     on_lane = defaultdict(list)
     for site in sites:
         on_lane[site.link, site.lane].append(site)
-    found: Shut = defaultdict(list)
+    shut: Shut = defaultdict(list)
     for link in sorted({site.link for site in sites}):
         lanes = [on_lane[link, lane] for lane in range(len(mapping.links[link].lanes))]
         for together in product(*lanes):
             first, last = max(one.works.begin for one in together), min(one.works.end for one in together)
             begin, end = max(one.cells[0] for one in together), min(one.cells[1] for one in together)
             if first < last and begin <= end + 1:
-                found[link].append((first, last))
-    return found
+                shut[link].append((first, last))
+    return shut
 
 
 def parallel_names(names: Iterable[str], mapping: Map) -> list[str]:
     """The names of edges and lanes to be joint, among some, whose edges are several links and that are not joint yet.
     Fault where the map has no such name, or the edge has one lane."""
-    found, known = [], mapping.options.get("joint", ())
+    parallel, known = [], mapping.options.get("joint", ())
     for name in dict.fromkeys(names):
         if name not in mapping.links_of and mapping.place_of(name) is None:
             raise Fault(f"--joint: the map has no edge or lane {name!r}")
@@ -152,8 +152,8 @@ def parallel_names(names: Iterable[str], mapping: Map) -> list[str]:
         if len(links) == 1 and len(mapping.links[links[0]].lanes) == 1:
             raise Fault(f"--joint: edge {mapping.links[links[0]].edge!r} has one lane, and none beside it")
         if len(links) > 1 and name not in known:
-            found.append(name)
-    return found
+            parallel.append(name)
+    return parallel
 
 
 def lanes_to_join(works: Collection[AskedWorks], mapping: Map) -> list[str]:
@@ -220,12 +220,12 @@ def named_in_parts(mapping: Map, anew: Map) -> Json:
 
 
 @contextmanager
-def imported_for(what: str, advice: str = "") -> Iterator[None]:
+def imported_for(cause: str, advice: str = "") -> Iterator[None]:
     """A context in which a Fault of an import is raised anew between what needed it and an advice."""
     try:
         yield
     except Fault as fault:
-        raise Fault(f"{what} needs the import anew: {fault}{advice}") from None
+        raise Fault(f"{cause} needs the import anew: {fault}{advice}") from None
 
 
 def edges_of_names(names: Iterable[str], mapping: Map) -> set[str]:
@@ -236,30 +236,30 @@ def edges_of_names(names: Iterable[str], mapping: Map) -> set[str]:
 def round_works(run: Run, mapping: Map, shut: Shut, stay: Collection[Movement]) -> Run:
     """The run in which vehicles that may come to a shut link while it is shut take another link of its edge, where one
     has their turns. stay: movements for which nobody changes to added turns."""
-    ways: defaultdict[Pair, list[int]] = defaultdict(list)
+    turn_lanes: defaultdict[Pair, list[int]] = defaultdict(list)
     use: Counter[int] = Counter()
     enters = list(run.enters)
     for turn in mapping.turns:
         if not turn.added or (mapping.links[turn.link].edge, mapping.links[turn.next].edge) not in stay:
-            ways[turn.link, turn.next].append(turn.lane)
+            turn_lanes[turn.link, turn.next].append(turn.lane)
     free_flow = FreeFlow(mapping, run.load.command.get("dawdle", 0) / 1000)
     for at, line in enumerate(enters):
         if shut.keys().isdisjoint(line.command["plan"]):
             continue
-        plan = plan_round(line.command, mapping, shut, ways, use, free_flow)
+        plan = plan_round(line.command, mapping, shut, turn_lanes, use, free_flow)
         if plan != line.command["plan"]:
             command: Command = {**line.command, "plan": plan}
             if plan[0] != line.command["plan"][0]:
-                command["lane"] = ways[plan[0], plan[1]][0] if len(plan) > 1 else 0
+                command["lane"] = turn_lanes[plan[0], plan[1]][0] if len(plan) > 1 else 0
             enters[at] = replace(line, command=command, text=json.dumps(command, separators=(",", ":")))
     return replace(run, enters=enters)
 
 
 def plan_round(
-    command: Command, mapping: Map, shut: Shut, ways: Collection[Pair], use: Counter[int], free_flow: FreeFlow
+    command: Command, mapping: Map, shut: Shut, turns: Collection[Pair], use: Counter[int], free_flow: FreeFlow
 ) -> list[int]:
     """The plan of an enter command, with other links of the same edges, which are never shut, in place of links that
-    are shut when it may come, where there are any. ways: those with a turn; use: how many were led over each
+    are shut when it may come, where there are any. turns: those with a turn; use: how many were led over each
     link so far, to which it adds."""
     plan = list(command["plan"])
     for at, link in enumerate(plan):
@@ -268,14 +268,14 @@ def plan_round(
         if not any(soonest < last and first <= latest for first, last in shut.get(link, ())):
             continue
         beside = [
-            other
-            for other in mapping.links_of[mapping.links[link].edge]
-            if other not in shut
-            and (at == 0 or (plan[at - 1], other) in ways)
-            and (at + 1 == len(plan) or (other, plan[at + 1]) in ways)
+            neighbour
+            for neighbour in mapping.links_of[mapping.links[link].edge]
+            if neighbour not in shut
+            and (at == 0 or (plan[at - 1], neighbour) in turns)
+            and (at + 1 == len(plan) or (neighbour, plan[at + 1]) in turns)
         ]
         if beside:
-            plan[at] = min(beside, key=lambda other: use[other] / len(mapping.links[other].lanes))
+            plan[at] = min(beside, key=lambda neighbour: use[neighbour] / len(mapping.links[neighbour].lanes))
             use[plan[at]] += 1
     return plan
 

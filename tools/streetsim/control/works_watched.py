@@ -73,19 +73,19 @@ class Watched:
     queues: list[WorksQueue] = field(default_factory=list)
     stands: list[Stand] = field(default_factory=list)
     long: set[int] = field(default_factory=set)  # cars that stood for longer than LONG
-    left: int | None = None  # the clock at which the queue first left the network
-    last: int | None = None  # look
+    left_network: int | None = None  # the clock at which the queue first left the network
+    last_look: int | None = None  # look
 
     def reach(self, clock: int, lanes: Mapping[Place, Lane]) -> Reach:
         """The queue before the works at a clock, on whatever lane of their link, and on the lanes upstream that lead to
         it; who stands before other works upstream on the lane belongs to their queue alone. lanes: the replies on the
         lanes of the link and of those that `further` asks for, those without one are empty."""
-        return reach_of(lanes, self.streets, self.closure.link, self.closure.first, self.first_cell(clock))
+        return reach_of(lanes, self.streets, self.closure.link, self.closure.first_cell, self.first_cell(clock))
 
     def first_cell(self, clock: int) -> int:
         """The cell of the link from which on vehicles stand before these works at a clock: where the last works before
         them on the lane begin; 0 where there are none."""
-        return max((one.first for one in self.upstream if one.begin < clock <= one.end), default=0)
+        return max((one.first_cell for one in self.upstream if one.begin < clock <= one.end), default=0)
 
     def further(self, clock: int, lanes: Mapping[Place, Lane]) -> list[int]:
         """The links upstream whose lanes must be looked at too at a clock, by what the lanes so far show; empty where
@@ -102,7 +102,7 @@ class Watched:
         self.note_passing(clock, lanes, bound)
         self.note_standing(clock, lanes)
         self.note_queue(clock, self.reach(clock, lanes))
-        self.last = clock
+        self.last_look = clock
 
     def rescue(self, car: int, anew: int) -> None:
         """Notes that a car was taken out and entered anew as another one; its seconds on the way to the works go on."""
@@ -115,12 +115,12 @@ class Watched:
         delay of 0."""
         before, beyond = self.sights(lanes)
         looked = {link for link, _ in lanes}
-        gone = [car for car, one in self.coming.items() if car not in before and one.link in looked]
-        for car in gone:
+        passed_cars = [car for car, one in self.coming.items() if car not in before and one.link in looked]
+        for car in passed_cars:
             one = self.coming.pop(car)
             self.passed.append(WorksPassing(clock, max(0.0, clock - one.since - one.free)))
         if self.beyond is not None:  # who was never seen before them has come between two looks
-            self.passed += [WorksPassing(clock, 0.0) for _ in beyond - self.beyond - set(gone)]
+            self.passed += [WorksPassing(clock, 0.0) for _ in beyond - self.beyond - set(passed_cars)]
         self.beyond = beyond
         self.coming.update((car, self.rescued.pop(car)) for car in before.keys() & self.rescued.keys())
         for car, sight in before.items():
@@ -131,82 +131,83 @@ class Watched:
 
     def sights(self, lanes: Mapping[Place, Lane]) -> tuple[dict[int, Sight], set[int]]:
         """(the vehicles before the works, by number in the program; those on the link past their begin)."""
-        link, first = self.closure.link, self.closure.first
+        link, works_cell = self.closure.link, self.closure.first_cell
         before: dict[int, Sight] = {}
         beyond: set[int] = set()
-        behind = self.seconds_behind({other for other, _ in lanes})
-        for (other, _), lane in lanes.items():
-            cells, pace = self.streets.cells[other], self.pace[other]
-            if other != link:
-                to_works, across = behind[other], self.streets.across[other]
+        behind = self.seconds_behind({other_link for other_link, _ in lanes})
+        for (other_link, _), lane in lanes.items():
+            cells, pace = self.streets.cells[other_link], self.pace[other_link]
+            if other_link != link:
+                to_works, across = behind[other_link], self.streets.across[other_link]
                 before.update(
-                    (car, Sight((cells - cell) * pace + across + to_works, other)) for car, cell, *_ in lane.cells
+                    (car, Sight((cells - cell) * pace + across + to_works, other_link)) for car, cell, *_ in lane.cells
                 )
-                before.update((car, Sight(to_works, other)) for car, *_ in lane.buffer)
+                before.update((car, Sight(to_works, other_link)) for car, *_ in lane.buffer)
                 continue
-            before.update((car, Sight((first - cell) * pace, link)) for car, cell, *_ in lane.cells if cell < first)
-            beyond.update(car for car, cell, *_ in lane.cells if cell >= first)
+            on_the_way = ((car, works_cell - cell) for car, cell, *_ in lane.cells if cell < works_cell)
+            before.update((car, Sight(cells_to_go * pace, link)) for car, cells_to_go in on_the_way)
+            beyond.update(car for car, cell, *_ in lane.cells if cell >= works_cell)
             beyond.update(car for car, *_ in lane.buffer)
         return before, beyond
 
     def seconds_behind(self, links: Collection[int]) -> dict[int, float]:
         """By link the seconds from the junction at its end to the works, alone, on the way of the fewest links; 0 on
         the link of the works. links: those that are looked at, each of which leads to it over others of them."""
-        found, reached = {self.closure.link: 0.0}, deque([self.closure.link])
+        seconds, reached = {self.closure.link: 0.0}, deque([self.closure.link])
         while reached:
             link = reached.popleft()
-            ahead = self.closure.first * self.pace[link]
+            ahead = self.closure.first_cell * self.pace[link]
             if link != self.closure.link:
-                ahead = found[link] + self.streets.across[link] + self.streets.cells[link] * self.pace[link]
-            new = [one for one in self.streets.before.get(link, ()) if one in links and one not in found]
-            found.update(dict.fromkeys(new, ahead))
+                ahead = seconds[link] + self.streets.across[link] + self.streets.cells[link] * self.pace[link]
+            new = [one for one in self.streets.before.get(link, ()) if one in links and one not in seconds]
+            seconds.update(dict.fromkeys(new, ahead))
             reached.extend(new)
-        return found
+        return seconds
 
     def note_standing(self, clock: int, lanes: Mapping[Place, Lane]) -> None:
         """Notes who stands before the works on their link, since when, for how long the longest does, and who for more
         than LONG seconds."""
-        link, begin, first = self.closure.link, self.first_cell(clock), self.closure.first
-        now = [
+        link, begin, works_cell = self.closure.link, self.first_cell(clock), self.closure.first_cell
+        standing = [
             (car, lane, cell)
             for (other, lane), reply in lanes.items()
             for car, cell, speed, *_ in reply.cells
-            if other == link and begin <= cell < first and speed == 0
+            if other == link and begin <= cell < works_cell and speed == 0
         ]
-        self.standing = {key: self.standing.get(key, clock) for key in now}
+        self.standing = {key: self.standing.get(key, clock) for key in standing}
         self.stands.append(Stand(clock, max((clock - since for since in self.standing.values()), default=0)))
         self.long.update(car for (car, *_), since in self.standing.items() if clock - since > LONG)
 
     def note_queue(self, clock: int, reach: Reach) -> None:
         """Notes how far the queue reaches, and whether it has left the network: it reaches the begin of a link to which
         nothing leads."""
-        seconds = clock - (self.closure.begin if self.last is None else self.last)
+        seconds = clock - (self.closure.begin if self.last_look is None else self.last_look)
         self.queues.append(WorksQueue(clock, seconds, reach.metres))
-        if reach.vehicles and self.left is None and any(link not in self.streets.before for link in reach.full):
-            self.left = clock
+        if reach.vehicles and self.left_network is None and any(link not in self.streets.before for link in reach.full):
+            self.left_network = clock
 
 
-def in_runs(told: Sequence[Sequence[str]]) -> Iterator[str]:
+def in_runs(texts: Sequence[Sequence[str]]) -> Iterator[str]:
     """One text on what was seen before works in several runs: in how many of them, with the texts of the first run that
-    has any. told: the texts of each run. Nothing where no run has a text."""
-    doubted = [one for one in told if one]
+    has any. texts: those of each run. Nothing where no run has a text."""
+    doubted = [one for one in texts if one]
     if doubted:
-        where = f"in {len(doubted):,} of {len(told):,} runs " if len(told) > 1 else ""
+        where = f"in {len(doubted):,} of {len(texts):,} runs " if len(texts) > 1 else ""
         yield f"{where}{'; '.join(doubted[0])}"
 
 
 def doubts_of(watched: Iterable[Watched], mapping: Map) -> Iterator[str]:
     """What speaks against a run, by what was seen before its works, a text each."""
-    for one in watched:
-        name = mapping.lane_name(one.closure.link, one.closure.lane)
-        if one.long:
-            longest = max(stand.seconds for stand in one.stands)
+    for works in watched:
+        name = mapping.lane_name(works.closure.link, works.closure.lane)
+        if works.long:
+            longest = max(stand.seconds for stand in works.stands)
             yield (
-                f"before the works on {name} {len(one.long):,} stood for more than {LONG} s in one cell, "
+                f"before the works on {name} {len(works.long):,} stood for more than {LONG} s in one cell, "
                 f"one for {longest:,} s"
             )
-        if one.left is not None:
+        if works.left_network is not None:
             yield (
-                f"the queue before the works on {name} left the network at {one.left:,} s: "
+                f"the queue before the works on {name} left the network at {works.left_network:,} s: "
                 "who waits beyond is in no queue or delay"
             )

@@ -41,20 +41,21 @@ class Areas:
 
     detectors: list[Detector]
     start: int
-    seen: dict[tuple[str, int], Area] = field(default_factory=dict)  # by name and begin
+    by_period: dict[tuple[str, int], Area] = field(default_factory=dict)  # by name and begin
 
     def sample(self, clock: int, cells_of: Callable[[tuple[int, int]], Cells]) -> None:
-        """Adds to `seen` the vehicles whose fronts are in each e2 at a poll of the lanes at a clock, which counts to
-        the period of the second before it; cells_of gives the cells of the lane's reply of a (link, lane)."""
-        for one in self.detectors:
-            begin = self.start + (clock - 1 - self.start) // one.period * one.period
-            area = self.seen.setdefault((one.name, begin), Area())
-            inside = [entry for entry in cells_of((one.link, one.lane)) if one.first <= entry[1] <= one.last]
+        """Adds to `by_period` the vehicles whose fronts are in each e2 at a poll of the lanes at a clock, which counts
+        to the period of the second before it; cells_of gives the cells of the lane's reply of a (link, lane)."""
+        for detector in self.detectors:
+            begin = self.start + (clock - 1 - self.start) // detector.period * detector.period
+            area = self.by_period.setdefault((detector.name, begin), Area())
+            cells = cells_of((detector.link, detector.lane))
+            inside = [entry for entry in cells if detector.first <= entry[1] <= detector.last]
             jam = longest_jam(inside)
             area.samples, area.vehicles, area.jams = area.samples + 1, area.vehicles + len(inside), area.jams + jam
             area.most, area.longest = max(area.most, len(inside)), max(area.longest, jam)
             area.speeds += sum(entry[2] for entry in inside)
-            area.covered += sum(metres_in(entry, one.first, one.cell_metres) for entry in inside)
+            area.covered += sum(metres_in(entry, detector.first, detector.cell_metres) for entry in inside)
 
 
 def size_of(entry: Sequence[int]) -> int:
@@ -62,10 +63,10 @@ def size_of(entry: Sequence[int]) -> int:
     return entry[3] if len(entry) > 3 else 1
 
 
-def metres_in(entry: Sequence[int], first: int, cell_metres: float = limits.CELL_METRES) -> float:
-    """The metres of a vehicle, without its gap, that lie in the cells from `first` on, in which its front is; entry:
-    [car, cell, speed], with the size where it is above 1; cell_metres: metres of a cell of its lane."""
-    return min(size_of(entry) * limits.CELL_METRES - limits.GAP_METRES, (entry[1] - first + 1) * cell_metres)
+def metres_in(entry: Sequence[int], first_cell: int, cell_metres: float = limits.CELL_METRES) -> float:
+    """The metres of a vehicle, without its gap, that lie in the cells from `first_cell` on, in which its front is;
+    entry: [car, cell, speed], with the size where it is above 1; cell_metres: metres of a cell of its lane."""
+    return min(size_of(entry) * limits.CELL_METRES - limits.GAP_METRES, (entry[1] - first_cell + 1) * cell_metres)
 
 
 def longest_jam(cells: Cells) -> int:

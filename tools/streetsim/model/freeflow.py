@@ -64,13 +64,13 @@ def seconds_alone(cells: int, limit: int, slower: float, speed: int) -> float:
 def steps_by_cells(limit: int, slower: float) -> list[array[float]]:
     """By speed, and then by cells (0 to 1,000) that are to be left behind: the mean steps of a vehicle alone that gains
     a cell a step in each step, up to the limit, and with the chance `slower` goes on by one less."""
-    found = [array("d", [0.0]) for _ in range(limit + 1)]
+    steps_by_speed = [array("d", [0.0]) for _ in range(limit + 1)]
     for cells in range(1, FAR + 1):
-        for speed, steps in enumerate(found):
+        for speed, steps in enumerate(steps_by_speed):
             fast = min(limit, speed + 1)
             if fast == 1:  # who goes on by one less stands, and tries again
-                steps.append(1 / (1 - slower) + found[1][cells - 1])
+                steps.append(1 / (1 - slower) + steps_by_speed[1][cells - 1])
             else:
-                behind, less = (found[gone][max(0, cells - gone)] for gone in (fast, fast - 1))
+                behind, less = (steps_by_speed[gone][max(0, cells - gone)] for gone in (fast, fast - 1))
                 steps.append(1 + (1 - slower) * behind + slower * less)
-    return found
+    return steps_by_speed

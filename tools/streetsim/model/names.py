@@ -25,7 +25,7 @@ class Names:
         self.mapping = mapping
         self.edges: Mapping[str, str] = mapping.names.get(EDGES, {})
         self.junctions: Mapping[str, str] = mapping.names.get(JUNCTIONS, {})
-        self.made = self.junctions_by_streets() if self.edges else {}
+        self.by_streets = self.junctions_by_streets() if self.edges else {}
 
     def __bool__(self) -> bool:
         """Whether the map has any name."""
@@ -34,12 +34,12 @@ class Names:
     def junctions_by_streets(self) -> dict[str, str]:
         """{junction: the names of up to three streets that meet there, those of most links first, as 'Hill Street /
         Market Street'}. Junctions without a named street are left out."""
-        found: dict[str, Counter[str]] = {}
+        links_by_street: dict[str, Counter[str]] = {}
         for link in self.mapping.links:
             if name := self.edges.get(link.edge):
                 for node in {link.begin, link.end}:
-                    found.setdefault(self.mapping.nodes[node][0], Counter())[name] += 1
-        ranked = {node: sorted(names, key=lambda name: (-names[name], name)) for node, names in found.items()}
+                    links_by_street.setdefault(self.mapping.nodes[node][0], Counter())[name] += 1
+        ranked = {node: sorted(names, key=lambda name: (-names[name], name)) for node, names in links_by_street.items()}
         return {node: " / ".join(names[:MOST_STREETS]) for node, names in ranked.items()}
 
     def street(self, edge: str) -> str:
@@ -48,7 +48,7 @@ class Names:
 
     def junction(self, name: str) -> str:
         """The name of a junction, else those of its streets; empty where it has neither."""
-        return self.junctions.get(name, "") or self.made.get(name, "")
+        return self.junctions.get(name, "") or self.by_streets.get(name, "")
 
     def junction_told(self, name: str) -> str:
         """What a junction is called, else 'Junction' and its id."""
@@ -131,12 +131,12 @@ def read_own(path: FilePath, mapping: Map) -> None:
     nodes, lights = {name for name, *_ in mapping.nodes}, junctions_of(mapping)
     own = own_rows(path, {*mapping.links_of, *nodes, *lights})
     by_light = {node: name for light, name in own.items() if light not in nodes for node in lights.get(light, ())}
-    found = {
-        EDGES: {**mapping.names.get(EDGES, {}), **{one: own[one] for one in own if one in mapping.links_of}},
-        JUNCTIONS: {**mapping.names.get(JUNCTIONS, {}), **by_light, **{one: own[one] for one in own if one in nodes}},
+    names_by_kind = {
+        EDGES: {**mapping.names.get(EDGES, {}), **{key: own[key] for key in own if key in mapping.links_of}},
+        JUNCTIONS: {**mapping.names.get(JUNCTIONS, {}), **by_light, **{key: own[key] for key in own if key in nodes}},
     }
-    kept = {kind: {one: name for one, name in names.items() if name} for kind, names in found.items()}
-    mapping.names = {kind: names for kind, names in kept.items() if names}
+    named = {kind: {key: name for key, name in names.items() if name} for kind, names in names_by_kind.items()}
+    mapping.names = {kind: names for kind, names in named.items() if names}
 
 
 def junctions_of(mapping: Map) -> dict[str, list[str]]:
@@ -149,19 +149,19 @@ def junctions_of(mapping: Map) -> dict[str, list[str]]:
 
 def own_rows(path: FilePath, known: Container[str]) -> dict[str, str]:
     """{id: name, without blanks around it} of a file of one's own names; Faults as read_own has them. known: ids."""
-    found: dict[str, str] = {}
+    names: dict[str, str] = {}
     with reading(path), open_text(path) as file:
         rows = csv.DictReader(lines_of(file))
         if tuple(rows.fieldnames or ()) != COLUMNS:
             raise Fault(f"{path}: expected the columns {', '.join(COLUMNS)}")
         for row in rows:
-            own, name = row["id"], row["name"]
-            if own is None or name is None or None in row:
+            name_id, name = row["id"], row["name"]
+            if name_id is None or name is None or None in row:
                 raise Fault(f"{path}: line {rows.line_num}: expected the columns {', '.join(COLUMNS)}")
-            own, name = unguarded(own), unguarded(name)
-            if own in found:
-                raise Fault(f"{path}: line {rows.line_num}: {own!r} twice")
-            if own not in known:
-                raise Fault(f"{path}: line {rows.line_num}: the map has no edge or junction {own!r}")
-            found[own] = name.strip()
-    return found
+            name_id, name = unguarded(name_id), unguarded(name)
+            if name_id in names:
+                raise Fault(f"{path}: line {rows.line_num}: {name_id!r} twice")
+            if name_id not in known:
+                raise Fault(f"{path}: line {rows.line_num}: the map has no edge or junction {name_id!r}")
+            names[name_id] = name.strip()
+    return names

@@ -90,7 +90,7 @@ class RecordReader:
         self.file, self.name = file, name
         self.ahead = memoryview(b"")  # what was read of blocks that were not asked for yet
         self.blocks = 0  # given so far
-        self.last: RecordedStep | None = None
+        self.last_block: RecordedStep | None = None
 
     def __iter__(self) -> Iterator[RecordedStep]:
         """All blocks to the end of the record; faults as of `read`."""
@@ -106,16 +106,16 @@ class RecordReader:
             if self.ahead:
                 raise self.torn(HEAD.size)
             return None
-        clock, rows, arrived, taken = HEAD.unpack_from(self.ahead)
-        self.check(clock, rows, arrived + taken, min(entered, VEHICLES))
+        clock, rows, arrived, taken_out = HEAD.unpack_from(self.ahead)
+        self.check(clock, rows, arrived + taken_out, min(entered, VEHICLES))
         size = HEAD.size + ROW * rows
         if not self.holds(size):
             raise self.torn(size)
-        block = RecordedStep(clock, arrived, taken, self.columns(rows))
+        block = RecordedStep(clock, arrived, taken_out, self.columns(rows))
         if rows and (most := int(block.car.max())) >= min(entered, VEHICLES):
             raise self.bad(f"has vehicle {most:,}, which was not entered")
         self.ahead = self.ahead[size:]
-        self.blocks, self.last = self.blocks + 1, block
+        self.blocks, self.last_block = self.blocks + 1, block
         return block
 
     def columns(self, rows: int) -> Array:
@@ -124,13 +124,13 @@ class RecordReader:
 
     def holds(self, size: int) -> bool:
         """Reads until so many bytes are there, or to the end: whether they are there."""
-        parts, there = ([self.ahead] if self.ahead else []), len(self.ahead)
-        while there < size and (more := self.more()):
+        parts, count = ([self.ahead] if self.ahead else []), len(self.ahead)
+        while count < size and (more := self.more()):
             parts.append(memoryview(more))
-            there += len(more)
+            count += len(more)
         if parts:
             self.ahead = parts[0] if len(parts) == 1 else memoryview(b"".join(parts))
-        return there >= size
+        return count >= size
 
     def more(self) -> bytes:
         """The next bytes of the file, empty at its end; Fault where it cannot be read."""
@@ -142,20 +142,20 @@ class RecordReader:
     def check(self, clock: int, rows: int, ended: int, entered: int) -> None:
         """BadRecord where a head cannot be: ended: how many have arrived or were taken out, in all."""
         if rows > entered:
-            raise TooManyRows(f"{self.told()} promises {rows:,} rows, and {entered:,} vehicles were entered")
+            raise TooManyRows(f"{self.block_name()} promises {rows:,} rows, and {entered:,} vehicles were entered")
         if ended > entered:
             raise self.bad(f"has {ended:,} vehicles that ended, and {entered:,} were entered")
-        if not 1 <= clock <= CLOCK or self.last and clock != self.last.clock + 1:
-            raise self.bad(f"has the clock {clock:,}{f' behind {self.last.clock:,}' if self.last else ''}")
+        if not 1 <= clock <= CLOCK or self.last_block and clock != self.last_block.clock + 1:
+            raise self.bad(f"has the clock {clock:,}{f' behind {self.last_block.clock:,}' if self.last_block else ''}")
 
-    def bad(self, told: str) -> BadRecord:
+    def bad(self, problem: str) -> BadRecord:
         """The fault of the block that is read."""
-        return BadRecord(f"{self.told()} {told}")
+        return BadRecord(f"{self.block_name()} {problem}")
 
     def torn(self, size: int) -> TornBlock:
         """The fault of a record that ends inside the block that is read, of so many bytes."""
-        return TornBlock(f"{self.told()} is torn: {len(self.ahead):,} of {size:,} bytes")
+        return TornBlock(f"{self.block_name()} is torn: {len(self.ahead):,} of {size:,} bytes")
 
-    def told(self) -> str:
+    def block_name(self) -> str:
         """The block that is read, as faults tell it."""
         return f"{self.name}: block {self.blocks + 1:,}"

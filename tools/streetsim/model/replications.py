@@ -40,13 +40,13 @@ def drawn(run: Run, mapping: Map) -> tuple[Run, Map]:
     if any("car" in line.command for line in (*run.first, *(line for _, line in run.timed))):
         raise Fault(f"{run.path}: a line names a vehicle by its number: its departures cannot be drawn")
     names = names_of(run, mapping)
-    found = drawn_of(run, mapping, names)
-    own = copies_named(names, found)
-    lines = [entering(run.enters[at], depart) for at, depart in zip(found.number.tolist(), found.depart.tolist())]
+    draw = drawn_of(run, mapping, names)
+    names_of_copies = copies_named(names, draw)
+    lines = [entering(run.enters[at], depart) for at, depart in zip(draw.number.tolist(), draw.depart.tolist())]
     timed = [replace(line, command={**line.command, "at": clock}) for clock, line in run.timed]
-    made = run_of(run.path, [run.load, *run.first, *timed, *lines])
-    made.timed = run.timed
-    return made, map_of(made, mapping, own, found)
+    drawn_run = run_of(run.path, [run.load, *run.first, *timed, *lines])
+    drawn_run.timed = run.timed
+    return drawn_run, map_of(drawn_run, mapping, names_of_copies, draw)
 
 
 def names_of(run: Run, mapping: Map) -> list[str]:
@@ -80,10 +80,10 @@ def keys_of(names: Sequence[str], seed: int) -> Array:
     return np.frombuffer(texts, "<u8").astype(np.uint64)
 
 
-def uniform(keys: Array, place: int | Array) -> Array:
-    """Numbers from 0 to below 1, one for each key; another one for each place of its row."""
+def uniform(keys: Array, position: int | Array) -> Array:
+    """Numbers from 0 to below 1, one for each key; another one for each position in its row."""
     with np.errstate(over="ignore"):
-        mixed = keys + np.asarray(place, np.uint64) * np.uint64(STEP) + np.uint64(STEP)
+        mixed = keys + np.asarray(position, np.uint64) * np.uint64(STEP) + np.uint64(STEP)
         mixed = (mixed ^ (mixed >> np.uint64(30))) * np.uint64(FIRST)
         mixed = (mixed ^ (mixed >> np.uint64(27))) * np.uint64(SECOND)
         mixed = mixed ^ (mixed >> np.uint64(31))
@@ -96,15 +96,15 @@ def poisson_of(shares: Array) -> Array:
     return np.searchsorted(np.cumsum(parts), shares, side="right")
 
 
-def copies_named(names: Sequence[str], found: Draw) -> list[str]:
+def copies_named(names: Sequence[str], draw: Draw) -> list[str]:
     """The names of the vehicles of a draw: ID, ID#2, ..; a number that a name of the file has is passed over."""
-    known, own = {*names}, []
-    for number, copy in zip(found.number.tolist(), found.copy.tolist()):
+    known, copies = {*names}, []
+    for number, copy in zip(draw.number.tolist(), draw.copy.tolist()):
         name, at = names[number], copy
         while copy > 1 and (name := f"{names[number]}#{at}") in known:
             at += MOST
-        own.append(name)
-    return own
+        copies.append(name)
+    return copies
 
 
 def entering(line: Line, depart: int) -> Line:
@@ -115,19 +115,19 @@ def entering(line: Line, depart: int) -> Line:
     return Line(line.number, json.dumps(command, separators=(",", ":")), command)
 
 
-def map_of(run: Run, mapping: Map, names: list[str], found: Draw) -> Map:
+def map_of(run: Run, mapping: Map, names: list[str], draw: Draw) -> Map:
     """The map of a drawn run, whose vehicles have other numbers."""
-    numbers = found.number.tolist()
+    numbers = draw.number.tolist()
     kinds = dict(mapping.kinds)
     for key, filler in (("type", 0), ("route", ""), ("line", "")):
         if values := kinds.get(key):
             kinds[key] = [values[at] if at < len(values) else filler for at in numbers]
-    place = {number: at for at, (number, copy) in enumerate(zip(numbers, found.copy.tolist())) if copy == 1}
-    visits = [replace(visit, vehicle=place[visit.vehicle]) for visit in mapping.visits]
-    made = replace(mapping, cars=names, kinds=kinds, visits=visits)
+    position = {number: at for at, (number, copy) in enumerate(zip(numbers, draw.copy.tolist())) if copy == 1}
+    visits = [replace(visit, vehicle=position[visit.vehicle]) for visit in mapping.visits]
+    drawn_map = replace(mapping, cars=names, kinds=kinds, visits=visits)
     if "ends" in kinds:
-        kinds["ends"] = sum_of_lines(ends_of(run, made))
-    return made
+        kinds["ends"] = sum_of_lines(ends_of(run, drawn_map))
+    return drawn_map
 
 
 def listed_in_map(mapping: Map) -> Json:
@@ -136,9 +136,9 @@ def listed_in_map(mapping: Map) -> Json:
     return {key: written.get(key, []) for key in ("cars", "vehicles", "visits")}
 
 
-def is_drawn(made: Mapping[str, object]) -> bool:
+def is_drawn(record: Mapping[str, object]) -> bool:
     """Whether the departures of a run were drawn, by what its folder says of how it was made."""
-    words = made.get("words")
+    words = record.get("words")
     return isinstance(words, list) and WORD in words
 
 

@@ -32,7 +32,7 @@ class RowsPart:
     which are by second, then by lane, and on it from the stop line on; and the columns of closed stretches."""
 
     clock: int
-    first: Array
+    first_rows: Array
     vehicle: Array
     slot: Array
     cell: Array
@@ -42,7 +42,7 @@ class RowsPart:
 
     def frame(self, second: int, closed: Stretches) -> Json:
         """What stood on the lanes in a second, by its number from 0, as `Folder.polls` gives it."""
-        here = slice(*self.first[second : second + 2])
+        here = slice(*self.first_rows[second : second + 2])
         lanes: dict[int, list[Any]] = {slot: [slot >> 1, slot & 1, [], [], one] for slot, one in closed.items() if one}
         columns = (one[here].tolist() for one in (self.vehicle, self.slot, self.cell, self.speed, self.size))
         for vehicle, slot, cell, speed, size in zip(*columns, strict=True):
@@ -109,13 +109,13 @@ def frames_in(path: FilePath, every: int) -> Iterator[Json]:
     closed: Stretches = {}
     with reading(path), open(path, "rb") as file:
         for part in parts_of(file, path, every):
-            changes = list(zip(*(one.tolist() for one in part.closed), strict=True))
-            for second in range(len(part.first) - 1):
+            changes = list(zip(*(column.tolist() for column in part.closed), strict=True))
+            for second in range(len(part.first_rows) - 1):
                 clock = part.clock + second
                 while changes and changes[0][0] <= clock:
                     at = changes[0][0], changes[0][1]
-                    own = [changes.pop(0) for _ in range(sum(one[:2] == at for one in changes))]
-                    closed[at[1]] = [[first, last] for _, _, first, last in own if last >= first]
+                    group = [changes.pop(0) for _ in range(sum(one[:2] == at for one in changes))]
+                    closed[at[1]] = [[first, last] for _, _, first, last in group if last >= first]
                 if clock % every == 0:
                     yield part.frame(second, closed)
 

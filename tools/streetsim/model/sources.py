@@ -36,19 +36,19 @@ class Sources:
         }
 
 
-def sources_of(kept: dict, map_path: FilePath, run_path: FilePath) -> Sources:
-    """The sources that a map keeps (`kept`, of `Sources.written`). Fault where it keeps none, or one of the files, or
+def sources_of(entry: dict, map_path: FilePath, run_path: FilePath) -> Sources:
+    """The sources that a map keeps (`entry`, of `Sources.written`). Fault where it keeps none, or one of the files, or
     the run, is gone or has changed since the import."""
-    if not kept:
+    if not entry:
         raise Fault(f"{map_path}: does not name the files that it was imported from")
     beside = partial(os.path.join, os.path.dirname(os.path.realpath(map_path)))
-    lists = (list(map(beside, kept.get(name, ()))) for name in ("additional", "routes", "trips"))
-    sources = Sources(beside(kept["net"]), *lists)
-    for path, known in zip(sources.paths(), kept["sums"], strict=True):
+    lists = (list(map(beside, entry.get(name, ()))) for name in ("additional", "routes", "trips"))
+    sources = Sources(beside(entry["net"]), *lists)
+    for path, known in zip(sources.paths(), entry["sums"], strict=True):
         if not os.path.isfile(path) or sum_of(path) != known:
             raise Fault(f"{path}: has changed since it was imported")
     with reading(run_path), open_text(run_path) as file:
-        if sum_of_lines(line.rstrip("\n") for line in file) != kept["run"]:
+        if sum_of_lines(line.rstrip("\n") for line in file) != entry["run"]:
             raise Fault(f"{run_path}: has changed since it was imported")
     return sources
 
@@ -61,10 +61,10 @@ def sum_of(path: str) -> str:
 
 def sum_of_lines(lines: Iterable[str]) -> str:
     """The SHA-256, in hex, of lines, to each of which its line end is added."""
-    found = hashlib.sha256()
+    digest = hashlib.sha256()
     for line in lines:
-        found.update(line.encode() + b"\n")
-    return found.hexdigest()
+        digest.update(line.encode() + b"\n")
+    return digest.hexdigest()
 
 
 @functools.cache

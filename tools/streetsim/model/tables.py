@@ -111,14 +111,14 @@ def read_table(path: FilePath, header: Sequence[str]) -> list[dict[str, str]]:
         rows = csv.DictReader(lines_of(file))
         if [name for name in rows.fieldnames or () if name in header or not name.endswith("_name")] != [*header]:
             raise Fault(f"{path}: expected the columns {', '.join(header)}")
-        found = []
+        entries = []
         for row in rows:
             if None in row or None in row.values():
                 raise Fault(f"{path}: line {rows.line_num}: expected {len(rows.fieldnames or ())} cells")
             if wrong := next((name for name in header if name not in TEXTS and not is_number(row[name])), None):
                 raise Fault(f"{path}: line {rows.line_num}: {wrong} = {row[wrong]!r} is no number")
-            found.append({name: unguarded(text) for name, text in row.items()})
-        return found
+            entries.append({name: unguarded(text) for name, text in row.items()})
+        return entries
 
 
 def is_number(text: str) -> bool:

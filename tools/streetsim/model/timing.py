@@ -46,13 +46,13 @@ class Timing:
 
     def pairs(self) -> Iterator[tuple[SignalMovement, SignalMovement]]:
         """The pairs (movement, other) that come from different edges and whose ways cross or join, each once."""
-        for one, other in combinations(self.movements, 2):
-            if one.edge != other.edge and self.crossings(one, other):
-                yield one, other
+        for movement, beside in combinations(self.movements, 2):
+            if movement.edge != beside.edge and self.crossings(movement, beside):
+                yield movement, beside
 
-    def crossings(self, one: SignalMovement, other: SignalMovement) -> list[tuple[int, int]]:
+    def crossings(self, movement: SignalMovement, beside: SignalMovement) -> list[tuple[int, int]]:
         """The pairs of indexes, of one movement and another, whose ways cross or join."""
-        return [pair for pair in product(one.indexes, other.indexes) if frozenset(pair) in self.conflicts]
+        return [pair for pair in product(movement.indexes, beside.indexes) if frozenset(pair) in self.conflicts]
 
     def has_gaps(self) -> bool:
         """Whether a movement has a green in which it waits for gaps in another, which may go too."""
@@ -62,11 +62,11 @@ class Timing:
     def clashes(self) -> Iterator[tuple[SignalMovement, SignalMovement, int]]:
         """(movement, other, seconds) for those of `pairs` that have main greens (G) on conflicting indexes together."""
         states = Counter(self.states())
-        for one, other in self.pairs():
-            both = self.crossings(one, other)
+        for movement, beside in self.pairs():
+            both = self.crossings(movement, beside)
             clashing = (count for state, count in states.items() if any(state[a] == state[b] == MAIN for a, b in both))
             if seconds := sum(clashing):
-                yield one, other, seconds
+                yield movement, beside, seconds
 
     def written(self) -> Json:
         """The program as a dict to be dumped as JSON, which `timing_of` reads."""
@@ -91,12 +91,12 @@ def timing_of(value: Json) -> Timing:
 def states_of(phases: Iterable[tuple[float, str]]) -> list[str]:
     """The state in each second of a cycle of phases, (seconds, state); durations are rounded so that each phase ends at
     the second nearest to its end, the last one too."""
-    found: list[str] = []
+    states: list[str] = []
     clock = 0.0
     for duration, state in phases:
         clock += duration
-        found += [state] * (round(clock) - len(found))
-    return found
+        states += [state] * (round(clock) - len(states))
+    return states
 
 
 def spans_of(signs: str, those: str) -> list[tuple[int, int]]:
@@ -115,21 +115,22 @@ def known_spans(signs: str, those: str) -> tuple[tuple[int, int], ...]:
     return tuple(runs)
 
 
-def intergreen(first: str, second: str) -> int | None:
-    """The least seconds from the end of any green of the first movement to the next begin of a green of the second;
-    first, second: a letter for each second of the cycle. None where both have green together, or one has none."""
-    count = len(first)
-    if any(one in OPEN and other in OPEN for one, other in zip(first, second, strict=True)):
+def intergreen(ending: str, beginning: str) -> int | None:
+    """The least seconds from the end of any green of one movement to the next begin of a green of another; ending,
+    beginning: of these a letter for each second of the cycle. None where both have green together, or one has none."""
+    count = len(ending)
+    if any(one in OPEN and other in OPEN for one, other in zip(ending, beginning, strict=True)):
         return None
-    ends = [(begin + seconds) % count for begin, seconds in spans_of(first, OPEN)]
-    begins = [begin for begin, _ in spans_of(second, OPEN)]
+    ends = [(begin + seconds) % count for begin, seconds in spans_of(ending, OPEN)]
+    begins = [begin for begin, _ in spans_of(beginning, OPEN)]
     gaps = [min((begin - end) % count for end in ends) for begin in begins] if ends else []
     return min(gaps, default=None)
 
 
 def movements_by_edges(movements: Iterable[tuple[str, str, int]]) -> list[SignalMovement]:
     """The movements, sorted, of (edge, next edge, index in the state): one for each pair of edges."""
-    found: dict[tuple[str, str], list[int]] = {}
+    indexes_by_edges: dict[tuple[str, str], list[int]] = {}
     for edge, to, index in movements:
-        found.setdefault((edge, to), []).append(index)
-    return [SignalMovement(edge, to, tuple(sorted(set(indexes)))) for (edge, to), indexes in sorted(found.items())]
+        indexes_by_edges.setdefault((edge, to), []).append(index)
+    rows = sorted(indexes_by_edges.items())
+    return [SignalMovement(edge, to, tuple(sorted(set(indexes)))) for (edge, to), indexes in rows]

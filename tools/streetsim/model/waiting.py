@@ -77,13 +77,13 @@ class GivingWay:
 
 def giving_way_of(value: Iterable[object]) -> list[GivingWay]:
     """Those who give way, of a map's file."""
-    found = (one_of(GivingWay, one) for one in value)
+    entries = (one_of(GivingWay, row) for row in value)
     return [
         replace(
-            one, turns=tuple((link, lane, following) for link, lane, following in one.turns),
-            foes=tuple(map(foe_of, one.foes)), pace=one_of(Pace, one.pace) if one.pace else None,
+            entry, turns=tuple((link, lane, following) for link, lane, following in entry.turns),
+            foes=tuple(map(foe_of, entry.foes)), pace=one_of(Pace, entry.pace) if entry.pace else None,
         )
-        for one in found
+        for entry in entries
     ]
 
 

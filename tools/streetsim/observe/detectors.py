@@ -79,7 +79,8 @@ class Detectors(Observer):
         """The rows of areas.csv, (begin, end, id, mean and most vehicles, km/h, occupancy in percent, mean and longest
         jam in vehicles), of each period of each lane area (e2); km/h is empty where nobody was seen."""
         for detector in self.kernel.map.detectors:
-            for (_, begin), area in sorted(item for item in self.areas.seen.items() if item[0][0] == detector.name):
+            periods = (item for item in self.areas.by_period.items() if item[0][0] == detector.name)
+            for (_, begin), area in sorted(periods):
                 metres = (detector.last - detector.first + 1) * detector.cell_metres
                 vehicles = f"{area.vehicles / area.samples:.2f}", area.most
                 speed = f"{area.speeds / area.vehicles * 3.6 * detector.cell_metres:.1f}" if area.vehicles else ""

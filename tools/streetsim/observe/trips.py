@@ -77,9 +77,9 @@ def stop_rows(stops: Iterable[Done], run: Run, mapping: Map) -> Iterator[Entry]:
         visit, link = stop.visit, mapping.links[stop.visit.link]
         lane = link.lanes[visit.lane if stop.lane is None else stop.lane]
         dwell = late = None
-        if stop.left is not None and stop.arrived is not None:
-            dwell, late = stop.left - stop.arrived, None if visit.until is None else stop.left - visit.until
-        times = ["" if time is None else time for time in (stop.arrived, stop.left, dwell, visit.until, late)]
+        if stop.departed is not None and stop.arrived is not None:
+            dwell, late = stop.departed - stop.arrived, None if visit.until is None else stop.departed - visit.until
+        times = ["" if time is None else time for time in (stop.arrived, stop.departed, dwell, visit.until, late)]
         yield vehicles[visit.vehicle], lines[visit.vehicle], visit.stop, link.edge, lane, *times, stop.state
 
 

@@ -120,7 +120,7 @@ def upstream_of(closure: Closure, closures: Iterable[Closure]) -> list[Closure]:
     """The works on the lane of some works that begin upstream of these, whenever they are there."""
     lane_key = closure.link, closure.lane
     on_lane = [closure_before for closure_before in closures if (closure_before.link, closure_before.lane) == lane_key]
-    return [closure_before for closure_before in on_lane if closure_before.first < closure.first]
+    return [closure_before for closure_before in on_lane if closure_before.first_cell < closure.first_cell]
 
 
 def due_after(watched: Watched, clock: int) -> int | None:
