@@ -58,7 +58,7 @@ def prioritised(
         notes.append(f"{LESS_GAIN}: {first_few(by_detectors)}")
     notes += [f"lights do not wait for them, {why}: {first_few(those)}" for why, those in unable.items()]
     all_lights = replace(lights, driven=(*lights.driven, *mine))
-    return all_lights, replace(buses, ahead=ahead, seen=seen_seconds, told=tuple(notes))
+    return all_lights, replace(buses, ahead=ahead, seen_seconds=seen_seconds, priority_notes=tuple(notes))
 
 
 def named(run: Run, mapping: Map, names: Sequence[str]) -> list[int]:
