@@ -228,7 +228,8 @@ class Fields(Case):
 
     def test_files_of_another_day(self):
         """The counts and the times, or the queues too."""
-        words = ["x.net.xml", "--times", "t", "--counts", "c", "-o", "drivers.toml", "--out", "out", "--validate"]
+        words = ["x.net.xml", "--times", "t", "--counts", "c", "-o", str(self.folder / "drivers.toml")]
+        words += ["--out", str(self.folder / "fit"), "--validate"]
         for count in (1, 4):
             with self.subTest(count), self.assertRaisesRegex(Fault, "--validate: .* two or three files"):
                 calibrate.check_words(calibrate.parser().parse_args([*words, *"abcd"[:count]]))

@@ -76,8 +76,8 @@ class Nets(Case):
         self.assertLessEqual(set(halts), stops)
 
     def test_what_is_asked_wrongly_ends_in_one_line(self):
-        told = self.made(7, "--work", self.folder, "--kinds", "villages", status=1)
-        self.assertRegex(told, r"^no kind is called villages: street, .*\n$")
+        told = self.made(7, "--work", self.folder, "--kinds", "villages", status=2)
+        self.assertRegex(told, r"^bench/run unseen-nets: argument --kinds: 'villages' is none of street, .*\n$")
         self.assertIn("a seed and --work FOLDER are needed", self.made("--work", self.folder, status=2))
 
 
