@@ -10,15 +10,16 @@ use Rattle.street_base.specs.State.{State}
 use Rattle.street_base.specs.Machine.{refusal}
 use Rattle.street_base.specs.Outcomes.{MayStarveUnder, Answers}
 
--- whatever is answered under whatever outcome, the state stays
+-- that a command with this refusal never changes the state, whatever its reply and outcome
 abbrev pub StaysRefused : State → Command → Refusal → Type 0
 StaysRefused old c r = refusal old c ≡ Some r → (reply : Reply) (outcome : Outcome) (new : State) → Answers old c reply outcome new → new ≡ old
 
--- a command with this refusal, done whole, is answered by the refusal, and changes nothing
+-- that a command with this refusal, unless it runs out of memory, is answered by the refusal
 abbrev pub IsToldRefused : State → Command → Refusal → Type 0
 IsToldRefused old c r = refusal old c ≡ Some r → (reply : Reply) (new : State) → Answers old c reply Whole new → reply ≡ Refused r
 
--- a command with this refusal is done whole; or starved, where memory may run out for a command with such a refusal
+-- that a command with this refusal has the outcome whole; or starved, only where a command with such a refusal takes
+-- memory
 abbrev pub IsWholeRefused : State → Command → Refusal → Type 0
 IsWholeRefused old c r = refusal old c ≡ Some r → (reply : Reply) (outcome : Outcome) (new : State)
     → Answers old c reply outcome new → (outcome ≡ Whole) ⊎ ((outcome ≡ Starved) × MayStarveUnder (Some r))
