@@ -9,18 +9,18 @@ use Rattle.street_net.specs.declared.faults.PlanFault.{PlanFault}
 use Rattle.street_net.specs.declared.faults.PlanFault.TheVariants.{Bad as BadPlan, Lane, Starved as StarvedPlan}
 use Rattle.std.specs.List.{list_any, range_with_len}
 
--- the fault of a load is the first that the load has; or it is that memory ran out, which says nothing of the load
+-- that the fault told of a load is its first fault; or that it is lack of memory, which says nothing of the load
 abbrev pub TellsFault : Option Fault → NetFault → Type 0
 TellsFault first (BadLoad part at) = first ≡ Some (record { part = part; at = at })
 TellsFault first StarvedLoad = Unit {0}
 
 -- ---- plans
 
--- some lane of this link serves the next link
+-- whether some lane of the link at a position has a turn to the next link, both named by position
 abbrev pub has_turn : NetSpec → ℕ → ℕ → Bool
 has_turn net link next = list_any (λ lane. serves net (record { link = link; lane = lane }) next) (range_with_len 0 (link_at net link).lanes)
 
--- a link is found just where this entry of a plan is good
+-- that looking an entry of a plan up finds a link if the entry is good, and none if it is bad
 abbrev pub TellsEntry : NetSpec → List ℕ → ℕ → Option ℕ → Type 0
 TellsEntry net plan at found =
     let is_bad = is_bad_entry net plan at (slice_index plan at) in
@@ -30,15 +30,16 @@ TellsEntry net plan at found =
 abbrev pub entry_lanes : NetSpec → List ℕ → ℕ → ℕ
 entry_lanes net plan lane = (link_at net (entry_of net plan lane).link).lanes
 
--- why a vehicle's plan without a bad entry is refused: its first link has no such lane
+-- why a plan without bad entries is refused, if it is: its first link has no lane of this number
 abbrev pub lane_refusal : NetSpec → List ℕ → ℕ → Option PlanFault
 lane_refusal net plan lane = if nat_le (entry_lanes net plan lane) lane then Some Lane else None
 
--- why a vehicle's plan is refused, if it is: its first bad entry; or, where no entry is bad, the lane
+-- why a vehicle's plan and lane are refused, if they are: the first bad entry, or else the first link has no such lane
 abbrev pub plan_refusal : NetSpec → List ℕ → ℕ → Option PlanFault
 plan_refusal net plan lane = option_map_or (λ at. Some (BadPlan at)) (plan_fault net plan) (lane_refusal net plan lane)
 
--- the refusal of a vehicle's plan is the reason for which the plan is refused; a plan without a reason is refused only for lack of memory
+-- that the refusal told of a plan is the reason why it is refused; or, where there is no reason, that it is lack of
+-- memory
 abbrev pub TellsRefusal : Option PlanFault → PlanFault → Type 0
 TellsRefusal reason StarvedPlan = reason ≡ None
 TellsRefusal reason (BadPlan at) = reason ≡ Some (BadPlan at)

@@ -17,120 +17,127 @@ use Rattle.street_net.specs.declared.nexts.Pair.{Pair}
 
 -- ---- what a step asks of a link
 
--- the brief of a link has the position of the node to which the link runs, and the length, lanes and limit of the load
+-- that the brief of a link (what a step asks of it) has the link's length, lanes and limit, and the position of the
+-- node to which it runs
 pub record IsBrief (net : NetSpec) (link : ℕ) (brief : Brief) : Type 0 where
   pub runs_to : node_of net (link_at net link).to ≡ Some brief.end
   pub same_length : brief.length ≡ (link_at net link).length
   pub same_lanes : brief.lanes ≡ (link_at net link).lanes
   pub same_limit : brief.limit ≡ (link_at net link).limit
 
--- there is a brief for each link, in the order of the links
+-- that there is one brief for each link, in the order of the links
 pub record AreBriefs (net : NetSpec) (briefs : List Brief) : Type 0 where
   pub one_each : length briefs ≡ length net.links
   pub told : (link : ℕ) (d : Brief) → link < length net.links → IsBrief net link (slice_index_or briefs link d)
 
 -- ---- the lanes that run to a node
 
--- the lane's link runs to the node at this position
+-- whether the link of this lane runs to the node at this position
 abbrev pub ends_at : NetSpec → ℕ → Place → Bool
 ends_at net node place = option_map_or (λ end. end == node) (node_of net (link_at net place.link).to) false
 
--- the lanes that run to a node, in the order of release: by the position of the link, then by the lane
+-- the lanes that run to the node at a position, in the order of release: by the position of the link, then by the lane
 abbrev pub in_places : NetSpec → ℕ → List Place
 in_places net node = filter (ends_at net node) (places net)
 
--- there is a list for each node, of the lanes that run to that node
+-- that there is one list for each node, of the lanes that run to it in the order of release
 pub record AreInLanes (net : NetSpec) (listed : List (Vec Place Global)) : Type 0 where
   pub one_each : length listed ≡ length net.nodes
   pub lists : (node : ℕ) (d : Vec Place Global) → node < length net.nodes → (slice_index_or listed node d).items ≡ in_places net node
 
 -- ---- the turns from a lane
 
--- a turn from this lane to this next link, by the positions of its links
+-- a turn of the load from this lane to this next link, with both links named by position
 abbrev pub turn_by_position : Place → ℕ → TurnSpec → Turn
 turn_by_position place next t = record { link = place.link; lane = place.lane; next = next; next_lane = t.next_lane }
 
--- a turn of the load, by the positions of its links; 0 for one that is not there
+-- a turn of the load with both links named by position in place of identifier; 0 where no link has the identifier
 abbrev pub seen_turn : NetSpec → TurnSpec → Turn
 seen_turn net t = record { link = unwrap_or (link_of net t.link) 0; lane = t.lane; next = unwrap_or (link_of net t.next) 0; next_lane = t.next_lane }
 
--- a turn leaves this lane
+-- whether a turn of the load leaves this lane
 abbrev pub is_from : NetSpec → Place → TurnSpec → Bool
 is_from net place t = names_link net t.link place.link && (t.lane == place.lane)
 
--- of these turns those that leave a lane
+-- those of these turns of the load that leave a lane, with their links named by position
 abbrev pub turns_from : NetSpec → Place → List TurnSpec → List Turn
 turns_from net place turns = map (seen_turn net) (filter (is_from net place) turns)
 
--- the turns from a lane, by the positions of their next links
+-- that a list has exactly the turns from a lane, in the order of their next links
 pub record AreTurnsFrom (net : NetSpec) (place : Place) (turns : List Turn) : Type 0 where
   pub same : IsPermutation (turns_from net place net.turns) turns
   pub rising : IsNonDecreasingBy (λ t. t.next) turns
 
--- the number of the list that a turn stands in: each link has two, one a lane
+-- the number of the list in which a turn stands: each lane has one, 2 * link + lane
 abbrev pub list_number : Turn → ℕ
 list_number t = 2 * t.link + t.lane
 
--- turns are sorted by their lists, and those of a list by their next links
+-- the number by which the table of turns is sorted: first by the turn's list, then by its next link
 abbrev pub turn_rank : Turn → ℕ
 turn_rank t = list_number t * 65536 + t.next
 
--- before the start of a list stand turns of lists before it, from there on those of this list and of later ones
+-- that list number `list` begins at position `start` of the sorted turns: turns of lower lists stand before it, no such
+-- turn from there on
 pub record IsStart (turns : List Turn) (list start : ℕ) : Type 0 where
   pub within : start ≤ length turns
   pub before : (k : ℕ) (d : Turn) → k < start → list_number (slice_index_or turns k d) < list
   pub after : (k : ℕ) (d : Turn) → start ≤ k → k < length turns → list ≤ list_number (slice_index_or turns k d)
 
--- there is a start for each list of turns
+-- that each entry of `starts` is the position where the list of that number begins
 abbrev pub AreStarts : List ℕ → List Turn → Type 0
 AreStarts starts turns = (list d : ℕ) → list < length starts → IsStart turns list (slice_index_or starts list d)
 
--- the turns of a list, from the position where that list starts to the position where the next list starts
+-- the turns of list number `list`, cut out of the sorted turns between its start and the start of the next list
 abbrev pub list_at : List ℕ → List Turn → ℕ → List Turn
 list_at starts turns list = between (slice_index_or starts list 0) (slice_index_or starts (list + 1) 0) turns
 
--- all turns of the load, sorted, and where the lists start; the last start is where all end
+-- that the table has all turns of the load, sorted, and the start of each list; one start more says where the last list
+-- ends
 pub record IsTurnTable (net : NetSpec) (starts : List ℕ) (turns : List Turn) : Type 0 where
   pub same : IsPermutation (map (seen_turn net) net.turns) turns
   pub rising : IsNonDecreasingBy turn_rank turns
   pub two_each : length starts ≡ 2 * length net.links + 1
   pub cut : AreStarts starts turns
 
--- the tables of a network: a brief for each link, the lanes that run to each node, and all turns with where each list of them starts
+-- that the tables beside a network are right: a brief for each link, the lanes that run to each node, and all turns
+-- with the start of each lane's list
 abbrev pub AreTables : NetSpec → List Brief → List (Vec Place Global) → List ℕ → List Turn → Type 0
 AreTables net briefs in_lanes starts turns = AreBriefs net briefs × AreInLanes net in_lanes × IsTurnTable net starts turns
 
--- the turn that was found is one of these turns and leads to the next link; nothing is found where none of these turns leads there
+-- that the turn found leads to this next link and is one of these turns; or that none was found and none of them leads
+-- there
 abbrev pub FindsTurn : List Turn → ℕ → Option Turn → Type 0
 FindsTurn turns next found =
     MatchOption found ((k : ℕ) (d : Turn) → k < length turns → (slice_index_or turns k d).next ≢ next) (λ t. Contains turns t × (t.next ≡ next))
 
 -- ---- next links that are kept
 
--- a link is one of at most four next links
+-- whether a link is one of the at most four next links kept for a lane; 65535 stands for an empty entry
 abbrev pub has_next : Nexts → ℕ → Bool
 has_next n next = nat_lt next 65535 && (((n.first == next || n.second == next) || n.third == next) || n.fourth == next)
 
--- a lane serves the next link, where `next` is the position of a link: it is none from 65535 on
+-- that a lane serves the link at position `next`, unless `next` is 65535 or more, which names no link
 abbrev pub IsServedOrNone : NetSpec → Place → ℕ → Type 0
 IsServedOrNone net place next = next < 65535 → serves net place next ≡ true
 
--- a lane serves each of these next links
+-- that a lane serves every next link that is kept for it
 abbrev pub AreServed : NetSpec → Place → Nexts → Type 0
 AreServed net place n = (next : ℕ) → has_next n next ≡ true → serves net place next ≡ true
 
--- the next links that are kept for the two lanes of a link are links that these lanes serve
+-- that the next links kept for the two lanes of a link are links that these lanes serve; not all that they serve need
+-- be kept
 pub record IsKept (net : NetSpec) (link : ℕ) (pair : Pair) : Type 0 where
   pub zero : AreServed net (record { link = link; lane = 0 }) pair.zero
   pub one : AreServed net (record { link = link; lane = 1 }) pair.one
 
--- what is kept of each link, or of none
+-- that the next links kept for each link are served by its lanes; the list may be shorter than that of links
 abbrev pub AreKept : NetSpec → List Pair → Type 0
 AreKept net pairs = (link : ℕ) (d : Pair) → link < length pairs → IsKept net link (slice_index_or pairs link d)
 
 -- ---- a network
 
--- a load without faults, with its identifiers in order and its tables
+-- that a network is ready for steps: its load has no fault, its identifiers are listed in the order of the load, and
+-- its tables are right
 pub record IsChecked (net : NetSpec) (nodes links : List ℕ) (briefs : List Brief) (in_lanes : List (Vec Place Global)) (starts : List ℕ)
     (turns : List Turn) (nexts : List Pair) : Type 0 where
   pub faultless : network_fault net ≡ None

@@ -7,48 +7,52 @@ use Rattle.street_base.specs.Prelude.{most_plan, vehicle_of, Queued}
 use Rattle.street_net.specs.Prelude.{in_places}
 use Rattle.street_yard.specs.Prelude.{Yard, list_at, car_of, car_set, list_set, IsApart}
 
--- the position of a node, how many vehicles each of its buffers holds, and their lists
+-- the buffers of a node: its position, how many vehicles each may hold, and the list of each lane that runs to it, in
+-- the order of release
 pub record Buffers : Type 0 where
   pub node : ℕ
   pub capacity : ℕ
   pub lists : List ℕ
 
--- the list of the buffer of a lane, by the lane's position among those that run to the node
+-- the list of the buffer of a node's lane, which is named by its position among the lanes that run to the node; 0 where
+-- there is none
 abbrev pub list_of : Buffers → ℕ → ℕ
 list_of b lane = slice_index_or b.lists lane 0
 
--- the node at a position
+-- the node at a position of the network; one of identifier, residence and capacity 0 past the last
 abbrev pub node_at : NetSpec → ℕ → NodeSpec
 node_at net node = slice_index_or net.nodes node (record { id = 0; residence = 0; capacity = 0 })
 
--- these are the buffers of a node of the network, one for each lane that runs to the node
+-- that these buffers fit the network: their node is one of its nodes, with its capacity, and each lane that runs to it
+-- has one list
 pub record AreOf (net : NetSpec) (b : Buffers) : Type 0 where
   pub node : b.node < length net.nodes
   pub capacity : b.capacity ≡ (node_at net b.node).capacity
   pub one_each : length b.lists ≡ length (in_places net b.node)
 
--- these numbers are lists of the yard, no two the same
+-- that all these numbers are lists of the yard, and no two are the same
 pub record AreListed (y : Yard) (ns : List ℕ) : Type 0 where
   pub within : All (λ n. n < length y.lists) ns
   pub apart : IsApart ns
 
--- the buffers are lists of the yard, no two the same
+-- that the buffers of a node are lists of the yard, and no two are the same
 abbrev pub AreIn : Yard → Buffers → Type 0
 AreIn y b = AreListed y b.lists
 
--- no car of the yard has a longer plan than may be
+-- that no car of the yard has a plan of more links than the most allowed
 abbrev pub HaveShortPlans : Yard → Type 0
 HaveShortPlans y = (key : ℕ) (car : Car) → car_of y key ≡ Some car → length car.plan.value ≤ most_plan
 
--- a car in a buffer, and the step from which it may go on
+-- the buffered vehicle of the definitions that a car of the code stands for; the car's step is the one from which it
+-- may go on
 abbrev pub queued_of : Car → Queued
 queued_of car = record { vehicle = vehicle_of car; ready = car.step }
 
--- the queue that a list of the yard stands for
+-- the buffer of the definitions that list n of the yard stands for, its front first
 abbrev pub queue_of : Yard → ℕ → List Queued
 queue_of y n = filter_map (λ k. option_map queued_of (car_of y k)) (list_at y n)
 
--- key k comes last on a list, and may go on from the step `ready`
+-- the yard after key k was put at the back of list n, a buffer, to go on from the step `ready`
 abbrev pub taken_in : Yard → ℕ → ℕ → ℕ → Yard
 taken_in y n k ready = record y {
   lists = slice_set y.lists n (list_at y n ++ k ∷ []);

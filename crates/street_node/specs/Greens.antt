@@ -13,73 +13,74 @@ use Rattle.street_node.specs.declared.faults.SignalFault.{SignalFault}
 use Rattle.street_node.specs.declared.faults.SignalFault.TheVariants.{Bad, Starved}
 use Rattle.street_base.specs.declared.command.PhaseSpec.{PhaseSpec}
 
--- turns by their links, then by their lanes, then by their next links
+-- the order of two green turns: by link, then by lane, then by next link
 abbrev pub turn_cmp : GreenTurn → GreenTurn → Ordering
 turn_cmp = then_cmp (on (λ t. t.link) nat_cmp) (then_cmp (on (λ t. t.lane) nat_cmp) (on (λ t. t.next) nat_cmp))
 
--- a turn as one number; turns with lanes of 8 bits and links of 16 are in the order of these
+-- a green turn as one number, which gives the same order as `turn_cmp` where lanes have 8 bits and links 16
 abbrev pub turn_rank : GreenTurn → ℕ
 turn_rank t = t.link * 16777216 + t.lane * 65536 + t.next
 
--- the turns stand in this order
+-- that green turns stand in the order of link, lane and next link, and none twice
 abbrev pub IsInOrder : List GreenTurn → Type 0
 IsInOrder turns = IsSortedBy (λ a b. is_lt (turn_cmp a b)) turns
 
--- the mark of a link, one of 64
+-- the bit, 0 to 63, that stands for a link among the marks of a phase; links 64 apart share one
 abbrev pub mark_of : ℕ → ℕ
 mark_of link = link % 64
 
--- among the marks is that of the link of each of these turns
+-- that for each of these green turns the bit of its link is set among the marks; other bits may be set too
 abbrev pub HasMarks : ℕ → List GreenTurn → Type 0
 HasMarks marks turns = All (λ t. bit_at marks (mark_of t.link) ≡ 1) turns
 
--- the turns stand in order, and their links have marks
+-- that the green turns kept of a phase are in order, and that the bit of each one's link is set among the marks
 pub record AreKeptGreens (marks : ℕ) (turns : List GreenTurn) : Type 0 where
   pub ordered : IsInOrder turns
   pub marked : HasMarks marks turns
 
--- a green turn of the definitions
+-- the green turn of the definitions that one of the code stands for
 abbrev pub green_seen : GreenTurn → Green
 green_seen t = record { link = t.link; lane = t.lane; next = t.next }
 
--- a phase of the definitions
+-- the phase of the definitions that a duration and the green turns of the code stand for
 abbrev pub phase_seen : ℕ → List GreenTurn → Phase
 phase_seen duration turns = record { duration = duration; greens = map green_seen turns }
 
--- a plan of the definitions
+-- the signal plan of the definitions that an offset and phases stand for
 abbrev pub plan_seen : ℕ → List Phase → SignalPlan
 plan_seen offset phases = record { offset = offset; phases = phases }
 
--- the cycle that is kept is that of the phases, and the offset is less than the cycle
+-- that the number kept is the cycle of these phases (the sum of their durations), and that the offset is below it
 pub record IsCycle (offset kept : ℕ) (phases : List Phase) : Type 0 where
   pub cycle_is : kept ≡ cycle (plan_seen offset phases)
   pub within : offset < kept
 
--- a phase lasts as long as another and has the same green turns
+-- that a phase lasts as long as another and has the same green turns, in whatever order
 pub record IsSamePhase (phase other : Phase) : Type 0 where
   pub duration : phase.duration ≡ other.duration
   pub greens : IsPermutation other.greens phase.greens
 
--- these phases are, one by one, the phases of the command, with links by position
+-- that these phases are, one by one, those of the command, with links named by position and greens in whatever order
 abbrev pub AreSamePhases : NetSpec → List PhaseSpec → List Phase → Type 0
 AreSamePhases net told phases =
     (k : ℕ) (d : Phase) (e : PhaseSpec) → k < length told → IsSamePhase (slice_index_or phases k d) (phase_of_spec net (slice_index_or told k e))
 
--- a plan shows the same turns green as another, in every step
+-- that two signal plans show the same turns green in every step and have cycles of the same length
 pub record ShowsAs (plan other : SignalPlan) : Type 0 where
   pub cycle_is : cycle plan ≡ cycle other
   pub green_is : (place : Place) (next step : ℕ) → is_green (Some plan) place next step ≡ is_green (Some other) place next step
 
--- whether the phase at a time shows a turn green, phase after phase
+-- whether the phase at a time from the start of these phases shows a turn from the lane at `place` to `next` green; no
+-- past the last phase
 abbrev pub shown : Place → ℕ → List Phase → ℕ → Bool
 shown place next [] time = false
 shown place next (phase ∷ phases) time = if nat_lt time phase.duration then lists phase place next else shown place next phases (time - phase.duration)
 
--- the identifier of the node at a position
+-- the identifier of the node at a position; 0 past the last node
 abbrev pub node_id : NetSpec → ℕ → ℕ
 node_id net node = (slice_index_or net.nodes node (record { id = 0; residence = 0; capacity = 0 })).id
 
--- the fault of a refused signal plan: the plan's first fault; lack of memory only where the plan has no fault
+-- that the fault told of a signal plan is the plan's first; or, where it has none, that it is lack of memory
 abbrev pub TellsSignalFault : Option ℕ → SignalFault → Type 0
 TellsSignalFault first (Bad at) = first ≡ Some at
 TellsSignalFault first Starved = first ≡ None

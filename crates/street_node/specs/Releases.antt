@@ -14,28 +14,29 @@ use Rattle.street_node.specs.declared.release.Released.{Released}
 
 -- ---- who crosses, by the machine
 
--- a crossing: a vehicle on the way from a buffer into a lane, as it enters that lane
+-- a vehicle on its way over a node: the lane whose buffer it leaves, the lane that it enters, and the vehicle as it
+-- enters
 pub record Crossing : Type 0 where
   pub from : Place
   pub to : Place
   pub vehicle : Vehicle
 
--- the crossing from this buffer, if its front goes in this step: the vehicle, as it enters the lane to which its turn leads
+-- the crossing of the front of this lane's buffer in this step; none where that buffer gives no vehicle away
 abbrev pub crossing : Traffic → Place → Option Crossing
 crossing m from =
     if gives m from then option_and_then (λ to. option_map (λ v. record { from = from; to = to; vehicle = v }) (entering m to)) (target m from) else None
 
--- the queue of this buffer after the releases
+-- the buffer of this lane after the releases of a step: without its front if that one was given away
 abbrev pub queue_after : Traffic → Place → List Queued
 queue_after m from = if gives m from then drop 1 (lane_at m from).queue else (lane_at m from).queue
 
 -- ---- mouths
 
--- the link of this lane begins at this node
+-- whether the link of this lane begins at the node at this position
 abbrev pub begins_at : NetSpec → ℕ → Place → Bool
 begins_at net node p = option_map_or (λ begin. begin == node) (node_of net (link_at net p.link).from) false
 
--- the lane is one of the network, and its link begins at this node
+-- that a lane is one of the network's and begins at this node: vehicles from the node's buffers may enter it
 pub record IsAhead (net : NetSpec) (node : ℕ) (p : Place) : Type 0 where
   pub link : p.link < length net.links
   pub lane : p.lane < (link_at net p.link).lanes
@@ -43,11 +44,13 @@ pub record IsAhead (net : NetSpec) (node : ℕ) (p : Place) : Type 0 where
 
 -- ---- what the buffers and the mouths of a node stand for
 
--- these lists stand for queues: the list of each lane that runs to the node for the queue of that lane
+-- that list k of these lists is the buffer of the k-th lane that runs to the node: its keys' vehicles and ready steps
+-- are that queue
 abbrev pub StandFor : NetSpec → ℕ → List ℕ → Yard → (Place → List Queued) → Type 0
 StandFor net node ns y queue = (k : ℕ) (p : Place) → slice_get (in_places net node) k ≡ Some p → queue_of y (slice_index_or ns k 0) ≡ queue p
 
--- traffic in which the lists are the buffers, and the mouths show whether cell 0 is free of the lanes ahead
+-- that lists and mouths show this traffic at a node: the lists are its buffers, and a lane ahead has an open mouth
+-- exactly if its cell 0 is free
 pub record Shows (net : NetSpec) (node clock : ℕ) (ns : List ℕ) (y : Yard) (mouths : List Bool) (m : Traffic) : Type 0 where
   pub network : m.network ≡ net
   pub in_time : m.clock ≡ clock
@@ -56,23 +59,25 @@ pub record Shows (net : NetSpec) (node clock : ℕ) (ns : List ℕ) (y : Yard) (
 
 -- ---- what the code tells
 
--- the lane that a released vehicle enters
+-- the lane that a released vehicle enters, by its turn
 abbrev pub lane_to : Released → Place
 lane_to r = record { link = r.turn.next; lane = r.turn.next_lane }
 
--- the lane whose buffer a released vehicle leaves
+-- the lane whose buffer a released vehicle leaves, by its turn
 abbrev pub lane_from : Released → Place
 lane_from r = record { link = r.turn.link; lane = r.turn.lane }
 
--- the crossing of a released vehicle, as the yard has the vehicle
+-- the crossing of a released vehicle, with the vehicle as the yard has it under its key; none where there is no car
 abbrev pub crossing_in : Yard → Released → Option Crossing
 crossing_in y r = option_map (λ v. record { from = lane_from r; to = lane_to r; vehicle = v }) (vehicle_with y r.key)
 
--- the entry of a vehicle that is sent on: on no list, no faster than the limit, and one link further in its plan
+-- the entry of a car that goes to its next link: loose, its speed cut to that link's limit, its position in the plan
+-- one further
 abbrev pub sent_on : ℕ → YardEntry → YardEntry
 sent_on limit e = record e { car = record e.car { speed = min e.car.speed limit; at = e.car.at + 1 }; list = None }
 
--- the lane to which the front of a buffer may go, if it is ready by the clock
+-- the lane that the front of a lane's buffer may enter; none where there is no front, it is not ready by the clock, or
+-- it has no turn
 abbrev pub way_out : NetSpec → ℕ → Place → Option Queued → Option Place
 way_out net clock from =
     option_and_then
@@ -81,7 +86,8 @@ way_out net clock from =
     then option_and_then (λ next. option_map (λ t. record { link = next; lane = t.next_lane }) (turn net from next)) (next_link q.vehicle)
     else None)
 
--- `r` is the front of list n, the buffer of the lane `from`, with the turn that this vehicle takes
+-- that `r` has the key at the front of list n, the buffer of lane `from`, and the turn that this vehicle takes to its
+-- next link
 pub record IsFront (net : NetSpec) (y : Yard) (from : Place) (n : ℕ) (r : Released) : Type 0 where
   pub car : Car
   pub held : car_of y r.key ≡ Some car
@@ -89,7 +95,8 @@ pub record IsFront (net : NetSpec) (y : Yard) (from : Place) (n : ℕ) (r : Rele
   pub next : next_link (vehicle_of car) ≡ Some r.turn.next
   pub turn : option_map (turn_by_position from r.turn.next) (turn net from r.turn.next) ≡ Some r.turn
 
--- the vehicle of a key on list n is sent on: the list loses it, it is loose, and nothing else is changed
+-- that the car of a key was taken off list n and made ready for its next link (loose, speed within the limit, one
+-- further in its plan), and nothing else changed
 pub record SendsOn (old new : Yard) (n key limit : ℕ) : Type 0 where
   pub list : list_at new n ≡ without key (list_at old n)
   pub others : (j : ℕ) → j ≢ n → list_at new j ≡ list_at old j
@@ -99,8 +106,8 @@ pub record SendsOn (old new : Yard) (n key limit : ℕ) : Type 0 where
   pub room : new.room ≡ old.room
   pub whole : IsWhole new
 
--- the front of list n stays where it finds the mouth of its next lane shut, and nothing is changed. Else it is sent on and added to those released, and
--- the mouth closes behind it
+-- that the front of list n was dealt with: if the mouth of its next lane is shut nothing changed; if open, it was sent
+-- on and told, and that mouth is shut now
 pub record SendsFront (net : NetSpec) (n : ℕ) (front : Released) (old new : Yard) (open_old open_new : List Bool) (before after : List Released) : Type 0 where
   pub shut : mouth open_old (lane_to front) ≡ false → (new ≡ old) × (open_new ≡ open_old) × (after ≡ before)
   pub goes : mouth open_old (lane_to front) ≡ true → SendsOn old new n front.key (link_at net front.turn.next).limit
@@ -109,7 +116,8 @@ pub record SendsFront (net : NetSpec) (n : ℕ) (front : Released) (old new : Ya
 
 -- ---- the walk over the first k buffers
 
--- the vehicles that are released are sent on, and no other; only these buffers are changed
+-- that exactly the released vehicles `more` were sent on to their next links, and that no lists but these buffers
+-- changed
 pub record Sends (net : NetSpec) (ns : List ℕ) (old new : Yard) (more : List Released) : Type 0 where
   pub sent : All (λ r. entry_at new r.key ≡ option_map (sent_on (link_at net r.turn.next).limit) (entry_at old r.key)) more
   pub rest : (key : ℕ) → All (λ r. key ≢ r.key) more → entry_at new key ≡ entry_at old key
@@ -117,14 +125,15 @@ pub record Sends (net : NetSpec) (ns : List ℕ) (old new : Yard) (more : List R
   pub count : length new.lists ≡ length old.lists
   pub room : new.room ≡ old.room
 
--- of the first k buffers each front that goes by the machine has gone, in the order of the buffers, and no other front; a mouth is still open where no
--- front of these buffers is ready to go there
+-- that of a node's first k buffers exactly the fronts went that the rule lets go, in order, and that mouths are shut
+-- that a ready front of these buffers may enter
 pub record ReleasesFirst (net : NetSpec) (node : ℕ) (ns : List ℕ) (m : Traffic) (k : ℕ) (new : Yard) (mouths : List Bool) (more : List Released) : Type 0 where
   pub queues : (j : ℕ) (p : Place) → j < k → slice_get (in_places net node) j ≡ Some p → queue_of new (slice_index_or ns j 0) ≡ queue_after m p
   pub shut : AreShut m (IsAhead net node) (in_places net node) k mouths
   pub crossings : map (crossing_in new) more ≡ map (λ c. Some c) (filter_map (crossing m) (take k (in_places net node)))
 
--- the releases of a node: in any traffic that the lists and the mouths stand for, those of its buffers
+-- that a node's buffers gave what the rule says, for any traffic that the lists and mouths show, and that who was
+-- released was added to those told before
 pub record Releases (net : NetSpec) (node clock : ℕ) (ns : List ℕ) (old new : Yard) (open_old open_new : List Bool)
     (before after : List Released) : Type 0 where
   pub more : List Released

@@ -5,22 +5,22 @@ use Rattle.street_base.specs.declared.names.Place.{Place}
 use Rattle.street_base.specs.Prelude.{is_place, places, is_free, Traffic, lane_at, one_if, may_give}
 use Rattle.street_net.specs.Prelude.{mouth}
 
--- how often a lane stands in a list
+-- how often lane q stands in a list of lanes
 abbrev pub times : Place → List Place → ℕ
 times q ps = sum_by (λ p. one_if (is_place q p)) ps
 
--- no lane stands in the list twice
+-- that no lane stands twice in a list of lanes
 abbrev pub AtMostOnce : List Place → Type 0
 AtMostOnce ps = (q : Place) → times q ps ≤ 1
 
--- the order of a walk over buffers: each buffer at most once; and of the buffers that lead to one lane, the first in the walk is the first in the whole
--- network
+-- that going through these buffers in order finds the same giver for each lane as the rule: none comes twice, and the
+-- first that may give to a lane is the network's first
 pub record IsWalk (m : Traffic) (ps : List Place) : Type 0 where
   pub once : AtMostOnce ps
   pub firsts : (k : ℕ) (to from : Place) → slice_get ps k ≡ Some from → may_give m to from ≡ true
       → find (may_give m to) ps ≡ find (may_give m to) (places m.network)
 
--- after the first k buffers of a walk the mouth of each lane of these is open if its cell 0 is free, and none of those buffers is
--- ready to go there
+-- that after the first k buffers of a walk a mouth is open exactly if its lane's cell 0 is free and no front of those
+-- buffers may go there; for the lanes `Among`
 abbrev pub AreShut : Traffic → (Place → Type 0) → List Place → ℕ → List Bool → Type 0
 AreShut m Among ps k mouths = (p : Place) → Among p → mouth mouths p ≡ is_free (lane_at m p).track 0 && not (list_any (may_give m p) (take k ps))

@@ -4,27 +4,29 @@ use Rattle.street_base.specs.Prelude.{Traffic, LaneState, changing_on, changed_l
 use Rattle.street_yard.specs.Prelude.{Yard, list_at, entry_at, car_of, list_on, Has, Away, IsWhole}
 use Rattle.street_rule.specs.Road.{Road, tracks}
 
--- the lists of a link stand for the tracks of these lanes
+-- that the lists of a road stand for these lanes: cells and closed marks are the same, lane by lane
 abbrev pub StandsFor : Yard → Road → List LaneState → Type 0
 StandsFor y road lanes = tracks y road ≡ map (λ lane. lane.track) lanes
 
--- the lists of a link stand for its lanes after lane changes, whatever lanes of whatever traffic they stood for before
+-- that the lists of a road stand for its lanes after a step's lane changes, in any traffic of this network and clock
+-- for whose lanes they stood before
 abbrev pub Changes : Yard → Yard → Road → ℕ → Type 0
 Changes old new road step =
     (m : Traffic) (lanes : List LaneState) → m.network ≡ road.network → m.clock ≡ step
     → StandsFor old road lanes → StandsFor new road (changed_lanes (changing_on m road.link) lanes)
 
--- the key is on none of the lists
+-- that key k is on none of these lists
 abbrev pub IsOff : Yard → List ℕ → ℕ → Type 0
 IsOff y lists k = (n : ℕ) → list_on y k ≡ Some n → Away n lists
 
--- the key is on one of the lists
+-- that key k is on one of these lists
 pub record IsOn (y : Yard) (lists : List ℕ) (k : ℕ) : Type 0 where
   pub list : ℕ
   pub among : Has lists list
   pub on : list_on y k ≡ Some list
 
--- what lane changes keep: the lists of all other lanes, every car, all of each key on no list of the link, and whoever is on one stays on the link
+-- that lane changes touched no more than the road's lists: all cars are as before, as is every key on other lists, and
+-- who was on the road is on it
 pub record KeepsRest (old new : Yard) (lists : List ℕ) : Type 0 where
   pub others : (n : ℕ) → Away n lists → list_at new n ≡ list_at old n
   pub cars : (k : ℕ) → car_of new k ≡ car_of old k

@@ -5,31 +5,35 @@ use Rattle.rand_chacha.specs.ChaCha.{ChaCha, word_at}
 use Rattle.street_base.specs.Prelude.{key_of_seed}
 use Rattle.street_rule.specs.declared.dice.KeptDraws.{KeptDraws}
 
--- the draw at a place of a vehicle's stream is below the odds
+-- whether the draw, 0 to 999, at a place of the vehicle's random stream is below the odds
 abbrev pub is_drawn : List ℕ → ℕ → ℕ → ℕ → Bool
 is_drawn key odds number place = nat_lt (word_at 10 key number place * 1000 / 2 ^ 32) odds
 
--- the answers to so many questions as a number, the first the lowest bit
+-- the number whose n lowest bits are the answers of a test at 0, 1, .. n - 1, the answer at 0 in the lowest bit
 abbrev pub bits_of : (ℕ → Bool) → ℕ → ℕ
 bits_of test zero = 0
 bits_of test (suc n) = (if test 0 then 1 else 0) + 2 * bits_of (λ i. test (suc i)) n
 
--- whether the word so many places on is at most the one number, or at odd places the other
+-- whether the word i places further on in a random stream is at most a bound: `lane` where i is even (lane draws),
+-- `slow` where it is odd (dawdle draws)
 abbrev pub is_within : ℕ → ℕ → ChaCha → ℕ → Bool
 is_within lane slow g i = nat_le (word_at 10 g.key g.stream (g.word_pos + i)) (if i % 2 == 0 then lane else slow)
 
--- the stream was asked for the words that the bits are made of
+-- that n words were taken from the random stream, and that the bits say of each whether it is within its bound: lane
+-- draws and dawdle draws in turn
 pub record Asked (n lane slow : ℕ) (old new : ChaCha) (bits : ℕ) : Type 0 where
   pub answers : bits ≡ bits_of (is_within lane slow old) n
   pub moved : new ≡ record old { word_pos = old.word_pos + n }
 
--- the bits are those of the vehicle and the block that they are kept for, where the odds leave a choice
+-- that the 64 bits kept for a vehicle and a block of 32 steps are its draws: lane draws on even bits, dawdle draws on
+-- odd ones; odds of 0 or 1,000 need none
 pub record IsKept (key : List ℕ) (dawdle change : ℕ) (kept : KeptDraws) : Type 0 where
   pub changes : 0 < change → change < 1000 → (i : ℕ) → i < 32 → (kept.bits / 2 ^ (2 * i) % 2 == 1) ≡ is_drawn key change kept.number (kept.block * 64 + 2 * i)
   pub dawdles : 0 < dawdle → dawdle < 1000 → (i : ℕ) → i < 32
       → (kept.bits / 2 ^ (2 * i + 1) % 2 == 1) ≡ is_drawn key dawdle kept.number (kept.block * 64 + 2 * i + 1)
 
--- all draws that are kept are right, in whatever entry they are kept
+-- that all draws kept are right for this seed and these odds, in the table and in the entries set aside, and that the
+-- two flags say which odds need a draw
 pub record IsSound (key : List ℕ) (seed dawdle change : ℕ) (dawdle_drawn change_drawn : Bool) (kept aside : List KeptDraws) : Type 0 where
   pub of_seed : key ≡ key_of_seed seed
   pub of_dawdle : IsTrue dawdle_drawn ↔ (0 < dawdle) × (dawdle < 1000)

@@ -7,52 +7,53 @@ use Rattle.street_gap.specs.Prelude.{IsWithin, closed_marks}
 use Rattle.street_rule.specs.declared.road.RoadLane.{RoadLane as Declared}
 use Rattle.street_yard.specs.Prelude.{Yard, IsApart, cells_at, IsLane}
 
--- a lane: the list of its vehicles, the front first, and its closed stretches
+-- a lane of a link: the list that has its vehicles, the front first, and its closed stretches
 pub record RoadLane : Type 0 where
   pub list : ℕ
   pub closed : List Stretch
 
--- a link by its position in a network, and its lanes
+-- a link, by its position in the network, with its lanes as lists of the yard; passes over a link work on it
 pub record Road : Type 0 where
   pub network : NetSpec
   pub link : ℕ
   pub lanes : List RoadLane
 
--- the lane that one of the code is
+-- the lane of the definitions that a lane of the code stands for: its list and its closed stretches
 abbrev pub lane_seen : Declared → RoadLane
 lane_seen lane = record { list = lane.list.0; closed = lane.closures.now }
 
--- what stands for a lane where there is none
+-- what stands for a lane that a road does not have: list 0 with no closed cells
 abbrev pub no_lane : RoadLane
 no_lane = record { list = 0; closed = [] }
 
--- the lane of a road with this number, 0 or 1
+-- the lane of a road with this number, 0 or 1; list 0 with no closed cells where the road has no such lane
 abbrev pub lane_of : Road → ℕ → RoadLane
 lane_of road lane = slice_index_or road.lanes lane no_lane
 
--- how many cells each lane of a road has
+-- how many cells each lane of a road has: the length of its link in the network
 abbrev pub length_of : Road → ℕ
 length_of road = (link_at road.network road.link).length
 
--- the cells and the closed marks that a lane stands for in a yard
+-- the cells and closed marks of a lane of `count` cells, made of the vehicles on its list and its closed stretches
 abbrev pub track_of : Yard → ℕ → RoadLane → Track
 track_of y count lane = record { cells = cells_at y lane.list count; closed = closed_marks lane.closed count }
 
--- the tracks of all lanes of a road
+-- the cells and closed marks of each lane of a road
 abbrev pub tracks : Yard → Road → List Track
 tracks y road = map (track_of y (length_of road)) road.lanes
 
--- the lane's list is one of the yard's and stands for `count` cells, and the lane's closed stretches lie within these
+-- that a lane of a road fits the yard: its list is there and stands for a lane of `count` cells, and its closed
+-- stretches lie within these
 pub record IsRoadLane (y : Yard) (count : ℕ) (lane : RoadLane) : Type 0 where
   pub listed : lane.list < length y.lists
   pub stands : IsLane y lane.list count
   pub within : IsWithin lane.closed count
 
--- the lists of a road's lanes
+-- the numbers of the lists of a road's lanes, lane 0 first
 abbrev pub lists_of : Road → List ℕ
 lists_of road = map (λ lane. lane.list) road.lanes
 
--- each lane of the road is a list of the yard that stands for cells, with its closed stretches within these, and no two lanes are one list
+-- that a road fits the yard: each of its lanes does, and no two lanes have one list
 pub record IsRoad (y : Yard) (road : Road) : Type 0 where
   pub lanes : All (IsRoadLane y (length_of road)) road.lanes
   pub apart : IsApart (lists_of road)

@@ -11,11 +11,12 @@ use Rattle.street_rule.specs.Road.{Road, RoadLane, lane_of, lane_seen, length_of
 use Rattle.street_rule.specs.declared.sight.Outlook.{Outlook}
 use Rattle.street_yard.specs.Prelude.{Yard, cell_at, vehicle_with}
 
--- the dice of a network have its seed and its odds
+-- the seed, the dawdle odds and the lane change odds that the load of a network gave
 abbrev pub odds_of : NetSpec → Odds
 odds_of net = record { seed = net.seed; dawdle = net.dawdle; change = net.change }
 
--- what all vehicles of a link share in a step
+-- what all vehicles of a road share in a step's lane changes: the turn zone, which lane serves which next link, and
+-- whose lane draw is low enough
 abbrev pub changing_of : Road → ℕ → Changing
 changing_of road step = record {
   zone = road.network.zone;
@@ -23,65 +24,74 @@ changing_of road step = record {
   may_change = λ number. nat_lt (lane_draw road.network.seed number step) road.network.change;
 }
 
--- the gap ahead of cell x up to an obstacle: 16 where there is none
+-- the gap ahead of cell x for lane changes, given the obstacle ahead: the cells up to it, or 16 where there is none
 abbrev pub gap_between : Option ℕ → ℕ → ℕ
 gap_between obstacle x = unwrap_or (option_map (λ y. y - x - 1) obstacle) 16
 
--- the gap ahead of cell x, up to the rear of the vehicle ahead or to an entrance
+-- the gap ahead of cell x for lane changes, given the rear of the vehicle ahead: up to that rear or the next entrance
+-- of a closed stretch; 16 where neither is
 abbrev pub gap_up : List Bool → Option ℕ → ℕ → ℕ
 gap_up closed ahead x = gap_between (lesser ahead (entrance_after closed x)) x
 
--- the gap behind a rear at x, down to the vehicle behind: 16 where there is none
+-- the gap behind a rear in cell x for lane changes, given the cell of the vehicle behind, if one is: 16 where there is
+-- none
 abbrev pub gap_down : Option ℕ → ℕ → ℕ
 gap_down below x = unwrap_or (option_map (λ y. x - y - 1) below) 16
 
--- a vehicle with this gap ahead wants the other lane: as it is slow, or in the turn zone for its next link
+-- whether a vehicle in cell x with this gap ahead wants the other lane: in the turn zone of a lane of `count` cells by
+-- its next link, elsewhere if it is slow
 abbrev pub wishes_with : Changing → ℕ → ℕ → ℕ → ℕ → ℕ → Option ℕ → Bool
 wishes_with changing lane count gap x speed next =
     if nat_le count (x + changing.zone)
     then option_map_or (λ n. zone_wish (changing.serves lane n) (changing.serves (1 - lane) n) (nat_lt gap (speed + 1))) next (nat_lt gap (speed + 1))
     else nat_lt gap (speed + 1)
 
--- there is room on the other lane for a vehicle with its front at x and its rear at r: the cells beside are free, the gap ahead is long enough to speed
--- up, the gap behind is above 5
+-- whether a vehicle with its front at x and its rear at r fits on the other lane: the cells beside are free, the gap
+-- ahead is above speed + 1, the gap behind above 5
 abbrev pub has_room : Track → ℕ → ℕ → ℕ → Bool
 has_room other x r speed = are_free other r x && (nat_lt (speed + 1) (free_ahead other x) && nat_lt 5 (free_behind other r))
 
--- as `has_room`, told by the rear of the vehicle above cell x on the other lane, by the cell of the vehicle at x or below, and by whether the cells
--- beside are open. A vehicle that covers a cell beside makes a gap 0, so it needs no test of its own
+-- `has_room` told by the rear of the vehicle above x on the other lane, the cell of the one at x or below, and whether
+-- the cells beside are open (a covered one makes a gap 0)
 abbrev pub has_room_between : List Bool → Bool → Option ℕ → Option ℕ → ℕ → ℕ → ℕ → Bool
 has_room_between closed is_open above below x r speed =
     is_open && (nat_lt (speed + 1) (gap_up closed above x) && nat_lt 5 (gap_down below r))
 
--- whether a vehicle in cell x goes to the other lane, where the rear of the vehicle ahead of it is in cell `ahead`
+-- whether vehicle v in cell x of a lane changes to the other lane, whose track is `other`, given the rear (`ahead`) of
+-- the vehicle ahead on its own
 abbrev pub decision : Changing → ℕ → ℕ → List Bool → Option ℕ → Track → ℕ → Vehicle → Bool
 decision changing lane count closed ahead other x v =
     wishes_with changing lane count (gap_up closed ahead x) x v.speed (next_link v) && (has_room other x (rear x v) v.speed && changing.may_change v.number)
 
--- whether the vehicle of a key, on a lane of a link, goes to the other lane in a step, where the rear of the vehicle ahead is in cell `ahead`
+-- whether the vehicle v of a key on a lane (0 or 1) of a road changes to the other lane in this step, given its own
+-- lane's closed marks and the rear of the vehicle ahead
 abbrev pub decision_of : Yard → Road → ℕ → ℕ → List Bool → Option ℕ → ℕ → Vehicle → Bool
 decision_of y road lane step closed ahead key v =
     decision (changing_of road step) lane (length_of road) closed ahead (track_of y (length_of road) (lane_of road (1 - lane))) (cell_at y key) v
 
 -- ---- what the code tells
 
--- `fits` tells whether there is room on a lane for a vehicle with its front at x and its rear at r, whatever length the lane's list stands for
+-- that `fits` says whether a vehicle with its front at x and its rear at r fits on a lane, however many cells the
+-- lane's list stands for
 abbrev pub TellsRoom : Yard → RoadLane → ℕ → ℕ → ℕ → Bool → Type 0
 TellsRoom y lane x r speed fits = (count : ℕ) → IsRoadLane y count lane → fits ≡ has_room (track_of y count lane) x r speed
 
--- the outlook is that of the drivers on one of the two lanes of a link
+-- that an outlook has what the drivers on one lane of a two-lane road see: their lane, whether it has closed cells, and
+-- the cell where the turn zone begins
 pub record IsOutlook (road : Road) (outlook : Outlook) : Type 0 where
   pub lane : outlook.lane ≤ 1
   pub own : lane_seen outlook.own ≡ lane_of road outlook.lane
   pub closed : outlook.has_closed ≡ false → outlook.own.closures.now ≡ []
   pub zone : outlook.zone ≡ length_of road - road.network.zone
 
--- `goes` tells whether the vehicle of a key goes to the other lane, by the rear of the vehicle ahead and by the closed cells of its lane
+-- that `goes` says whether the vehicle of a key, if it has one, changes to the other lane in this step, given the rear
+-- of the vehicle ahead
 abbrev pub Decides : Yard → Road → ℕ → ℕ → Option ℕ → ℕ → Bool → Type 0
 Decides y road lane step ahead key goes =
     (v : Vehicle) → vehicle_with y key ≡ Some v → goes ≡ decision_of y road lane step (closed_marks (lane_of road lane).closed (length_of road)) ahead key v
 
--- `goes` tells whether the vehicle of a key goes to the other lane, by the gap ahead, whatever closed cells and vehicle ahead make this gap
+-- that `goes` says whether the vehicle of a key changes to the other lane in this step, given its gap ahead, however
+-- vehicle and closed cells ahead make it
 abbrev pub DecidesAt : Yard → Road → ℕ → ℕ → ℕ → ℕ → Bool → Type 0
 DecidesAt y road lane step gap key goes =
     (v : Vehicle) (closed : List Bool) (ahead : Option ℕ) → vehicle_with y key ≡ Some v

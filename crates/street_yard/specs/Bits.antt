@@ -4,24 +4,25 @@ use Rattle.std.specs.Int.{bit_at}
 use Rattle.std.specs.List.{range_with_len}
 use Rattle.street_yard.specs.Yard.{IsFirstBut}
 
--- the bit of a list: that of its lane, in the word of its lane and its kind
+-- whether the bit of a list is set among the words: bit lane % 64 of a word; each 64 lanes have three words, one for
+-- each kind of list
 abbrev pub bit_of : List ℕ → ℕ → Bool
 bit_of words list = bit_at (slice_index_or words (3 * (list / 3 / 64) + list % 3) 0) (list / 3 % 64) == 1
 
--- the bits, list by list
+-- the bits of all lists that the words have room for, by the number of the list
 abbrev pub bits_of : List ℕ → List Bool
 bits_of words = map (bit_of words) (range_with_len 0 (64 * length words))
 
--- three words for each 64 lanes, few enough that the bits are counted in 64 bits
+-- that the words come three for each 64 lanes, and are so few that their bits can be counted in 64 bits
 pub record AreWords (words : List ℕ) : Type 0 where
   pub even : length words % 3 ≡ 0
   pub few : length words < 2 ^ 32
 
--- a lane's list of this kind has a key, by its bit
+-- whether the list of this kind (0, 1 or 2) of lane n has a key, by the bits of all lists
 abbrev pub has_bit : List Bool → ℕ → ℕ → Bool
 has_bit bits class n = slice_index_or bits (3 * n + class) false
 
--- the first lane, from this one on, whose list of this kind has a key, if there is one
+-- that `next` is the first lane from this one on whose list of this kind has a key; none where no further lane has one
 abbrev pub IsNextBit : List Bool → ℕ → ℕ → Option ℕ → Type 0
 IsNextBit bits class lane None = (n : ℕ) → lane ≤ n → has_bit bits class n ≡ false
 IsNextBit bits class lane (Some next) = IsFirstBut (λ n. has_bit bits class n ≡ false) lane (next + 1) next
