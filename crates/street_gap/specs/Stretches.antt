@@ -5,20 +5,20 @@ use Rattle.street_gap.specs.declared.closures.Closures.TheInside.{Inside}
 use Rattle.street_gap.specs.declared.closures.Stretch.{Stretch}
 use Rattle.street_gap.specs.declared.stretches.Stretches.{Stretches}
 
--- the stretches that are kept
+-- the closed stretches that a lane keeps; none where it keeps no box for them
 abbrev pub kept_stretches : Option (Box Stretches) → List Stretch
 kept_stretches None = []
 kept_stretches (Some kept) = kept.value
 
--- what is kept has some stretch
+-- that a box of stretches, if there is one, is not empty
 abbrev pub KeepsSome : Option (Box Stretches) → Type 0
 KeepsSome None = Unit {0}
 KeepsSome (Some kept) = kept.value ≢ []
 
--- what contracts see of the closed cells of a lane
+-- the closed stretches of a lane, as contracts see them
 abbrev pub seen : Inside → List Stretch
 seen x = kept_stretches x.kept
 
--- a lane without closed cells keeps no stretches
+-- that a lane without closed cells keeps no box of stretches
 abbrev pub HasSome : Inside → Type 0
 HasSome x = KeepsSome x.kept

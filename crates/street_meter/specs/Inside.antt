@@ -6,7 +6,7 @@ use Rattle.street_base.specs.declared.reply.RunningRow.{RunningRow}
 use Rattle.street_meter.specs.declared.meter.Meter.TheInside.{Inside}
 use Rattle.street_meter.specs.Meter.{Meter}
 
--- what contracts see of a meter
+-- the meter, as contracts see it, that the fields stand for
 abbrev pub shown : Inside → Meter
 shown m = record {
   place = m.site.at;
@@ -17,7 +17,8 @@ shown m = record {
   running = m.running;
 }
 
--- a meter between two steps: its running row is not full, and sums no more than so many steps can; there is room for 32 full rows
+-- that a meter is as it is between two steps: its running row lacks a step at least, no sum can go past its word, and
+-- there is room for 32 full rows
 pub record IsSound (m : Inside) : Type 0 where
   pub some : 1 ≤ m.period
   pub short : m.period ≤ most_period
@@ -28,7 +29,7 @@ pub record IsSound (m : Inside) : Type 0 where
   pub occupied : m.running.occupied ≤ m.running.steps * 2 ^ 32
   pub room : m.rows.capacity ≡ 32
 
--- the running row with one step more
+-- the running row after one step more, whose passes, speeds and occupied are added to its sums
 abbrev pub row_with : RunningRow → ℕ → ℕ → ℕ → RunningRow
 row_with row passes speeds occupied = record {
   start = row.start;
@@ -38,10 +39,10 @@ row_with row passes speeds occupied = record {
   occupied = row.occupied + occupied;
 }
 
--- the running row as one that is full
+-- the full row that a running row becomes when its period is over
 abbrev pub row_full : RunningRow → MeterRow
 row_full row = record { start = row.start; passes = row.passes; speeds = row.speeds; occupied = row.occupied }
 
--- a running row of no steps
+-- the running row of a period that begins in step `start`: no steps yet, all sums 0
 abbrev pub row_from : ℕ → RunningRow
 row_from start = record { start = start; steps = 0; passes = 0; speeds = 0; occupied = 0 }

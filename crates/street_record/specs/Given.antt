@@ -3,13 +3,15 @@ use Rattle.std.specs.Prelude.{◌≡◌, ℕ, List, [], ◌++◌, Bool, false, O
 use Rattle.std.specs.Io.KnownBytes.{Appends}
 use Rattle.street_stream.specs.declared.counted.Counted.{Counted}
 
--- what contracts see of a writer: its stream, the bytes that wait for it, and whether a write has failed
+-- what contracts see of a record's writer: the stream that it writes to, the bytes that wait to be written, and whether
+-- a write has failed
 pub record WriterView (W : Type 0) : Type 0 where
   pub writer : Counted W
   pub waiting : List ℕ
   pub has_failed : Bool
 
--- since the writer's stream held `start` the writer was given these bytes: the stream has the first of them, and where no write failed the others wait
+-- that of the bytes `given` since the stream held `start` the stream has the first ones, and that the rest wait in the
+-- writer unless a write has failed
 pub record IsGiven {W : Type 0} (contents : W → Option (List ℕ)) (start : Option (List ℕ)) (given : List ℕ) (w : WriterView W) : Type 0 where
   pub out : List ℕ
   pub rest : List ℕ
@@ -17,14 +19,14 @@ pub record IsGiven {W : Type 0} (contents : W → Option (List ℕ)) (start : Op
   pub split : given ≡ out ++ rest
   pub waits : w.has_failed ≡ false → rest ≡ w.waiting
 
--- nothing waits to be written, unless a write has failed
+-- that no bytes wait in the writer; nothing is said where a write has failed
 abbrev pub HasNoRest : {W : Type 0} → WriterView W → Type 0
 HasNoRest w = w.has_failed ≡ false → w.waiting ≡ []
 
--- no write has failed, and nothing waits
+-- that no write of this writer has failed and no bytes wait in it
 abbrev pub IsFresh : {W : Type 0} → WriterView W → Type 0
 IsFresh w = (w.has_failed ≡ false) × (w.waiting ≡ [])
 
--- the writer was given these bytes, behind whatever it had been given
+-- that the writer was given these bytes behind all that it had been given before
 abbrev pub Adds : {W : Type 0} → (W → Option (List ℕ)) → List ℕ → WriterView W → WriterView W → Type 0
 Adds contents bytes old new = (start : Option (List ℕ)) (given : List ℕ) → IsGiven contents start given old → IsGiven contents start (given ++ bytes) new

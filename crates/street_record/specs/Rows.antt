@@ -4,22 +4,24 @@ use Rattle.street_base.specs.declared.names.Place.{Place}
 use Rattle.street_base.specs.declared.record.RecordRow.{RecordRow}
 use Rattle.street_base.specs.Prelude.{Vehicle, Traffic, lane_at, leaver_of, arrived_row, arriving, arrival_rows, lane_rows, slot_of}
 
--- a row with the lowest 32 bits of its spot, which are what is written of it
+-- a row as its bytes tell it: of the spot only the lowest 32 bits are written
 abbrev pub as_written : RecordRow → RecordRow
 as_written row = record row { spot = row.spot % 4294967296 }
 
--- the row of who arrives from a lane, if somebody does
+-- the row of the vehicle that arrives from a lane, given who left that lane in the step; none where nobody arrives
 abbrev pub arrival_row : Place → Option Vehicle → Option RecordRow
 arrival_row p leaver = option_map (arrived_row (slot_of p)) (arriving leaver)
 
--- the row of the vehicle that arrives from a lane, by the state behind the lane changes; none where no vehicle arrives
+-- the row of the vehicle that arrives from a lane in the step, given the traffic between lane changes and motion; none
+-- where nobody arrives
 abbrev pub arrival_at : Traffic → Place → Option RecordRow
 arrival_at m p = arrival_row p (leaver_of m p)
 
--- the rows of a lane in a step: of its vehicles after the step, and of who arrived in the step, by the state behind the lane changes
+-- the rows of one lane in a step: who is on it after the step, then who arrived from it; `before` is the traffic
+-- between lane changes and motion
 abbrev pub rows_at : Traffic → Traffic → Place → List RecordRow
 rows_at before after p = lane_rows (slot_of p) (lane_at after p) ++ arrival_rows (slot_of p) (leaver_of before p)
 
--- what is found of a lane's slot among rows: the row of that slot, or none where no row has the slot
+-- that the row found is one of these rows and has this lane's slot; or that none was found and no row has that slot
 abbrev pub FindsRow : List RecordRow → ℕ → Option RecordRow → Type 0
 FindsRow rows slot found = MatchOption found ((k : ℕ) (d : RecordRow) → k < length rows → (slice_index_or rows k d).slot ≢ slot) (λ row. Contains rows row × (row.slot ≡ slot))
