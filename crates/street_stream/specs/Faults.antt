@@ -10,34 +10,36 @@ use Rattle.street_stream.specs.declared.tally.Tally.{Tally}
 
 -- ---- causes
 
--- the cause of a fault where nothing is read: memory ran out, a write or a flush failed, or a write took no byte
+-- that the writer counted the cause of this fault where nothing is read: a call of it failed or took no byte; lack of
+-- memory is not counted
 abbrev pub IsCausedByWriting : {W : Type 0} → FaultKind → Counted W → Type 0
 IsCausedByWriting Write writer = HasFailed writer
 IsCausedByWriting Starved writer = ⊤
 IsCausedByWriting Read writer = ⊥
 IsCausedByWriting Endless writer = ⊥
 
--- the cause of a fault of this kind: a read that failed, behind which the writer was not called; as many reads as are allowed; or one of
--- `IsCausedByWriting`
+-- that the streams counted the cause of this fault: a failed read with no write behind it, as many reads as allowed, or
+-- a failed write or flush
 abbrev pub IsCaused : {R W : Type 0} → FaultKind → Counted R → Counted W → ℕ → Type 0
 IsCaused Read reader writer reads = (0 < reader.failures) × IsLastRead reader writer
 IsCaused Endless reader writer reads = reader.calls ≡ reads
 IsCaused Write reader writer reads = IsCausedByWriting Write writer
 IsCaused Starved reader writer reads = IsCausedByWriting Starved writer
 
--- the cause why a run ended: that of a fault of the run; a line that ends a run says why itself
+-- that the streams counted why a run stopped early; nothing is said where a line ended the run
 abbrev pub IsCausedBy : {S R W : Type 0} → StopCause S → Counted R → Counted W → ℕ → Type 0
 IsCausedBy (Run kind) reader writer reads = IsCaused kind reader writer reads
 IsCausedBy (Line stop) reader writer reads = ⊤
 
--- the cause why a run ended while a line was handled, when nothing is read
+-- that the writer counted why a run stopped while a line was handled; nothing is said where that line ended the run
 abbrev pub IsCausedByLine : {S W : Type 0} → StopCause S → Counted W → Type 0
 IsCausedByLine (Run kind) writer = IsCausedByWriting kind writer
 IsCausedByLine (Line stop) writer = ⊤
 
 -- ---- places
 
--- a read that failed, and the last read that was allowed, come between lines; the others while a line is handled
+-- that a fault of this kind comes at a read, between lines: a failed read or reads that ran out; all others come while
+-- a line is handled
 abbrev pub IsAtRead : FaultKind → Type 0
 IsAtRead Read = ⊤
 IsAtRead Endless = ⊤
@@ -46,11 +48,12 @@ IsAtRead Starved = ⊥
 
 -- ---- counts
 
--- the lines that were done are counted, and one more where memory ran out for it
+-- that a tally counts the lines that were done, and perhaps one more where memory ran out
 abbrev pub CountsLines : FaultKind → Tally → List (List ℕ) → Type 0
 CountsLines kind tally done = (tally.lines ≡ length done) ⊎ ((kind ≡ Starved) × (tally.lines ≡ length done + 1))
 
--- of an output of so many replies these bytes are written; the last reply alone may be cut off, and is then not counted
+-- that the tally counts all bytes and replies of an output; or fewer bytes and one reply less, which is the last one,
+-- cut off
 abbrev pub CountsReplies : Tally → List ℕ → ℕ → Type 0
 CountsReplies tally out replies =
     ((tally.bytes ≡ length out) × (tally.replies ≡ replies)) ⊎ ((tally.bytes < length out) × (tally.replies + 1 ≡ replies))

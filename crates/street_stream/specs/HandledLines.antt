@@ -14,68 +14,71 @@ use Rattle.street_stream.specs.declared.tally.Tally.{Tally}
 
 -- ---- one line
 
--- what a line gives: whether it is a call, and the text of its reply, if there is a reply
+-- what a line gives: whether it is a call (which is counted), and the text of its reply, if it gets one
 pub record Effect : Type 0 where
   pub is_call : Bool
   pub reply : Option (List ℕ)
 
--- there is a text, perhaps of no bytes
+-- whether there is a text, even one of no bytes
 abbrev pub has_text : Option (List ℕ) → Bool
 has_text None = false
 has_text (Some out) = true
 
--- the bytes of the text, none where there is no text
+-- the bytes of a text; no bytes where there is no text
 abbrev pub text_in : Option (List ℕ) → List ℕ
 text_in None = []
 text_in (Some out) = out
 
--- the line gets a reply
+-- whether a line gets a reply
 abbrev pub has_reply : Effect → Bool
 has_reply e = has_text e.reply
 
--- the text is that of the reply, or memory ran out for a reply of some bytes
+-- that the handler returned the text of this reply, or none where there is none; or that memory ran out for a reply
+-- that has bytes
 abbrev pub GivesText : Result (Option (Vec ℕ Global)) Starved → Option (List ℕ) → Type 0
 GivesText (Ok None) reply = reply ≡ None
 GivesText (Ok (Some text)) reply = reply ≡ Some text.items
 GivesText (Err starved) reply = (out : List ℕ) × (0 < length out) × (reply ≡ Some out)
 
--- the answer tells what the line gave
+-- that a handler's answer to a line says what the line gave: whether it is a call, and its reply, for which memory may
+-- have run out
 pub record Gives (answer : LineAnswer) (effect : Effect) : Type 0 where
   pub is_call : answer.is_call ≡ effect.is_call
   pub text : GivesText answer.reply effect.reply
 
--- what lines mean to a handler: the most bytes that one may have, what one gives and leads to, and which ends the run, why, and leading to what
+-- what lines mean to a handler: the most bytes of a line, from which state a line gives what and leads where (`takes`),
+-- and which line ends the run, why, and in what state (`stops`)
 pub record Meaning (S Stop : Type 0) : Type 1 where
   pub longest : ℕ
   pub takes : S → List ℕ → Effect → S → Type 0
   pub stops : S → List ℕ → Stop → S → Type 0
 
--- the line was handled, and the answer tells what it gave
+-- that the line was handled from the old state to the new one, and that the answer says what it gave
 abbrev pub Handled : {S : Type 0} → (S → List ℕ → Effect → S → Type 0) → S → List ℕ → S → LineAnswer → Type 0
 Handled takes old line new answer = (effect : Effect) × takes old line effect new × Gives answer effect
 
 -- ---- lines
 
--- the lines, one after another
+-- that these lines, handled one after another, give these effects and lead from the old state to the new one
 abbrev pub Handles : {S : Type 0} → (S → List ℕ → Effect → S → Type 0) → S → List (List ℕ) → List Effect → S → Type 0
 Handles takes old [] effects new = (new ≡ old) × (effects ≡ [])
 Handles {S} takes old (l ∷ ls) effects new =
     (mid : S) × (first : Effect) × (rest : List Effect) × takes old l first mid × Handles takes mid ls rest new × (effects ≡ first ∷ rest)
 
--- the texts of their replies, in their order
+-- the bytes of all replies to these lines, one behind another; a line without a reply adds none
 abbrev pub output : List Effect → List ℕ
 output [] = []
 output (e ∷ es) = text_in e.reply ++ output es
 
--- how many of the lines were calls
+-- how many of these lines were calls
 abbrev pub calls_in : List Effect → ℕ
 calls_in es = count_by (λ e. e.is_call) es
 
--- how many of the lines get a reply
+-- how many of these lines get a reply
 abbrev pub replies_in : List Effect → ℕ
 replies_in es = count_by has_reply es
 
--- the tally is that of these lines, and of the replies and calls that these lines gave
+-- that a tally counts these lines: how many, the calls among them, their replies and the bytes of these
 pub record IsTally (tally : Tally) (ls : List (List ℕ)) (es : List Effect) : Type 0 where
   pub lines : tally.lines ≡ length ls
   pub calls : tally.calls ≡ calls_in es
@@ -84,7 +87,8 @@ pub record IsTally (tally : Tally) (ls : List (List ℕ)) (es : List Effect) : T
 
 -- ---- whole runs
 
--- all lines of a text that was read to its end were handled
+-- that a run read its text to the end, handled all lines of it, and wrote all their replies behind what was in the
+-- writer (`before`, `after`), all counted
 pub record Whole {S : Type 0} (takes : S → List ℕ → Effect → S → Type 0) (start : S) (unread before : Option (List ℕ))
     (now : S) (left after : Option (List ℕ)) (tally : Tally) : Type 0 where
   pub text : List ℕ
@@ -97,11 +101,11 @@ pub record Whole {S : Type 0} (takes : S → List ℕ → Effect → S → Type 
 
 -- ---- broken runs
 
--- the text ends with the end of a line: LF, or the end of all
+-- that a text ends where a line ends: with LF, or, if the end of all was reached, with nothing following
 abbrev pub EndsLine : List ℕ → List ℕ → Type 0 → Type 0
 EndsLine text rest at_end = ((front : List ℕ) × (text ≡ front ++ 10 ∷ [])) ⊎ ((rest ≡ []) × at_end)
 
--- `line` of the text follows the lines `done`, and was read to its end
+-- that `line` is the line of the text right behind the lines `done`, and that it was read to its end
 pub record IsNext (at_end : Type 0) (text : List ℕ) (done : List (List ℕ)) (line : List ℕ) : Type 0 where
   pub first : List ℕ
   pub rest : List ℕ
@@ -109,8 +113,8 @@ pub record IsNext (at_end : Type 0) (text : List ℕ) (done : List (List ℕ)) (
   pub ended : EndsLine first rest at_end
   pub lines : lines_of first ≡ done ++ line ∷ []
 
--- a line that ended the run is counted, and all before it is whole; a fault of the run leaves the state of the lines that were handled, and at a read
--- these are all lines that were read to their end, and their replies are whole
+-- that state and tally are right where a run stopped: by a fault, in the state of the lines done; or by a line, which
+-- is counted but of which nothing is written
 abbrev pub Leaves : {S Stop : Type 0} → (S → List ℕ → Stop → S → Type 0)
     → Type 0 → List ℕ → List (List ℕ) → List Effect → S → S → StopCause Stop → Tally → Type 0
 Leaves stops at_end text done effects mid now (Run kind) tally =
@@ -118,7 +122,8 @@ Leaves stops at_end text done effects mid now (Run kind) tally =
 Leaves stops at_end text done effects mid now (Line stop) tally =
     (line : List ℕ) × IsNext at_end text done line × stops mid line stop now × (tally.lines ≡ length done + 1) × (tally.bytes ≡ length (output effects))
 
--- the first lines of the text were handled, and of their output the first bytes are written; the last reply alone may be cut off
+-- that a run which stopped early handled the first lines of the text and wrote the first bytes of their replies; of
+-- these at most the last is cut off
 pub record Breaks {S Stop : Type 0} (takes : S → List ℕ → Effect → S → Type 0) (stops : S → List ℕ → Stop → S → Type 0) (at_end : Type 0)
     (start : S) (before : Option (List ℕ)) (text : List ℕ) (now : S) (after : Option (List ℕ)) (cause : StopCause Stop) (tally : Tally) : Type 0 where
   -- the lines that were handled, those that were not, and what the first gave
@@ -135,8 +140,8 @@ pub record Breaks {S Stop : Type 0} (takes : S → List ℕ → Effect → S →
   pub replies : CountsReplies tally (output effects) (replies_in effects)
   pub leaves : Leaves stops at_end text done effects mid now cause tally
 
--- what a run left that was ended before the end of its input: of the text that was read the first lines were handled, and of their output the first
--- bytes are written
+-- that a run stopped before the end of its input: of what it had read the first lines were handled, and the first bytes
+-- of their replies are in the writer
 pub record Broke {S Stop : Type 0} (takes : S → List ℕ → Effect → S → Type 0) (stops : S → List ℕ → Stop → S → Type 0)
     (start : S) (unread before : Option (List ℕ)) (now : S) (left after : Option (List ℕ)) (cause : StopCause Stop) (tally : Tally) : Type 0 where
   pub text : List ℕ
@@ -146,18 +151,21 @@ pub record Broke {S Stop : Type 0} (takes : S → List ℕ → Effect → S → 
 -- ---- runs from one counted stream to another
 
 module _ {S Stop D W : Type 0} (meaning : Meaning S Stop) (remaining : D → Option (List ℕ)) (contents : W → Option (List ℕ)) where
-  -- the reader was read to its end, all of its lines were handled, and their replies are in the writer
+  -- that a run from reader to writer reached the reader's end, handled all of its lines, and put all their replies into
+  -- the writer
   abbrev pub HandlesAll : S → Counted D → Counted W → S → Counted D → Counted W → Tally → Type 0
   HandlesAll old reader writer new read written tally =
       Whole meaning.takes old (remaining reader.stream) (contents writer.stream) new (remaining read.stream) (contents written.stream) tally
 
-  -- of what was read the first lines were handled, and of their replies the first bytes are in the writer
+  -- that a run from reader to writer stopped early: of what it read the first lines were handled, and the first bytes
+  -- of their replies are in the writer
   abbrev pub HandlesFirst : S → Counted D → Counted W → S → Counted D → Counted W → Halt Stop → Type 0
   HandlesFirst old reader writer new read written halt =
       Broke meaning.takes meaning.stops old (remaining reader.stream) (contents writer.stream) new (remaining read.stream)
       (contents written.stream) halt.cause halt.tally
 
-  -- what became of a run of at most `reads` reads: all lines were handled; or the first lines were, and the fault has a cause that was counted
+  -- what a run of at most `reads` reads did: it handled all lines, or it stopped early with a cause that the streams
+  -- counted
   pub record Drives (reads : ℕ) (old : S) (reader : Counted D) (writer : Counted W) (run : Result Tally (Halt Stop))
       (new : S) (read : Counted D) (written : Counted W) : Type 0 where
     pub whole : IfOk run (HandlesAll old reader writer new read written)

@@ -6,13 +6,13 @@ use Rattle.street_stream.specs.declared.counted.Counted.{Counted}
 use Rattle.street_stream.specs.declared.log.KeepFault.{KeepFault}
 use Rattle.street_stream.specs.declared.log.KeepFault.TheVariants.{Log, Output}
 
--- the new contents begin with the old ones
+-- that the new contents are the old ones with some bytes, perhaps none, behind them
 abbrev pub Extends : Option (List ℕ) → Option (List ℕ) → Type 0
 Extends old new = (more : List ℕ) × Appends old new more
 
 module _ {L W : Type 0} (held synced : L → Option (List ℕ)) (has_failed : L → Type 0) (contents : W → Option (List ℕ)) where
-  -- what a fault left. Where the log failed, the log has the first bytes of the entries, of which the first may stay, and the writer was not called. Where
-  -- the writer failed, the log has all entries, synced, and the writer has the first bytes of the replies
+  -- what a fault left: of the log, it has the first bytes of the entries and the writer got nothing; of the output, all
+  -- entries are synced and the writer has the replies' first bytes
   abbrev pub KeepStops : L → Counted W → List ℕ → List ℕ → L → Counted W → KeepFault → Type 0
   KeepStops old writer entries replies new written Log =
       (written ≡ writer) × ((sent : ℕ) × (stayed : ℕ) × (stayed ≤ sent) × Appends (held old) (held new) (take sent entries) × Appends (synced old) (synced new) (take stayed entries))

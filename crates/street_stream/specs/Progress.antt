@@ -12,25 +12,26 @@ use Rattle.street_stream.specs.declared.driver.Progress.{Progress}
 use Rattle.street_stream.specs.declared.part.PartialLine.{PartialLine}
 use Rattle.street_stream.specs.declared.tally.Tally.{Tally}
 
--- every count is bounded by that of lines
+-- that a tally's calls and replies are at most its lines, and its bytes at most 2^64 a line
 pub record IsWithin (tally : Tally) : Type 0 where
   pub calls : tally.calls ≤ tally.lines
   pub replies : tally.replies ≤ tally.lines
   pub bytes : tally.bytes ≤ tally.lines * 2 ^ 64
 
--- at most n lines more
+-- that the new tally counts at most n lines more, and its other counts are within what its lines allow
 pub record Grows (old new : Tally) (n : ℕ) : Type 0 where
   pub lines : new.lines ≤ old.lines + n
   pub within : IsWithin new
 
--- a tally counts one line more, and what that line gave
+-- that the new tally counts one line more than the old one, and the call, the reply and the bytes that this line gave
 pub record Counts (old new : Tally) (e : Effect) : Type 0 where
   pub lines : new.lines ≡ old.lines + 1
   pub calls : new.calls ≡ old.calls + (if e.is_call then 1 else 0)
   pub replies : new.replies ≡ old.replies + (if has_reply e then 1 else 0)
   pub bytes : new.bytes ≡ old.bytes + length (text_in e.reply)
 
--- a line that ended the run: nothing was called or written of it
+-- that nothing was written, and that the tally counts one line more but no call and no reply: as for a line that ended
+-- the run
 pub record IsUntouched (before : Option (List ℕ)) (old : Tally) (after : Option (List ℕ)) (new : Tally) : Type 0 where
   pub written : Appends before after []
   pub lines : new.lines ≡ old.lines + 1
@@ -38,7 +39,8 @@ pub record IsUntouched (before : Option (List ℕ)) (old : Tally) (after : Optio
   pub replies : new.replies ≡ old.replies
   pub bytes : new.bytes ≡ old.bytes
 
--- a line that was handled, of whose reply only the first bytes were written
+-- that a line was handled, and counted with its call, but that only the first bytes of its reply were written, so that
+-- no reply is counted
 pub record IsHalf {S : Type 0} (takes : S → List ℕ → Effect → S → Type 0) (old : S) (before : Option (List ℕ)) (tally : Tally) (line : List ℕ)
     (new : S) (after : Option (List ℕ)) (counted : Tally) : Type 0 where
   pub effect : Effect
@@ -53,32 +55,35 @@ pub record IsHalf {S : Type 0} (takes : S → List ℕ → Effect → S → Type
   pub replies : counted.replies ≡ tally.replies
   pub bytes : counted.bytes ≡ tally.bytes + sent
 
--- a line ended the run, or its reply was not written whole
+-- that a run stopped at a line: by a fault while its reply was written, or because the line itself ended the run, of
+-- which nothing is written
 abbrev pub LineBreaks : {S Stop : Type 0} (takes : S → List ℕ → Effect → S → Type 0) (stops : S → List ℕ → Stop → S → Type 0)
     → S → Option (List ℕ) → Tally → List ℕ → S → Option (List ℕ) → StopCause Stop → Tally → Type 0
 LineBreaks takes stops old before tally line new after (Run kind) counted = (IsAtRead kind → ⊥) × IsHalf takes old before tally line new after counted
 LineBreaks takes stops old before tally line new after (Line stop) counted = stops old line stop new × IsUntouched before tally after counted
 
 module _ {S : Type 0} (takes : S → List ℕ → Effect → S → Type 0) (longest : ℕ) where
-  -- the line of this part was handled, and counted
+  -- that the line that was gathered in this part was handled, its reply written, and both counted
   abbrev pub Taken : S → Option (List ℕ) → PartialLine → Tally → S → Option (List ℕ) → Tally → Type 0
   Taken old before part tally new after counted =
       (line : List ℕ) → IsPart longest part line
       → (effect : Effect) × takes old line effect new × Appends before after (text_in effect.reply) × Counts tally counted effect
 
-  -- the lines that have ended were handled and counted, and the part is of the line that has not
+  -- that a run is right so far: of the bytes seen since `start` all ended lines were handled, replied to and counted,
+  -- and the part keeps the line that has not ended
   abbrev pub Stands : S → Option (List ℕ) → List ℕ → S → Option (List ℕ) → Progress → Type 0
   Stands start before seen now after progress =
       (effects : List Effect) × Handles takes start (cut seen).0 effects now × Appends before after (output effects)
       × IsPart longest progress.part (cut seen).1 × IsTally progress.tally (cut seen).0 effects
 
-  -- whatever a text had led to before these bytes, the text with them leads to the new state (`Stands`)
+  -- that a run which was right so far (`Stands`) is right again after these bytes, whatever it had seen before
   abbrev pub Feeds : S → Option (List ℕ) → Progress → List ℕ → S → Option (List ℕ) → Progress → Type 0
   Feeds old written progress bytes new written_then fed =
       (start : S) (before : Option (List ℕ)) (seen : List ℕ) → Stands start before seen old written progress
       → Stands start before (seen ++ bytes) new written_then fed
 
-  -- whatever a text had led to, at its end all of its lines are handled and counted
+  -- that a run which was right so far has, at the end of its text, handled, replied to and counted all lines, also a
+  -- last one without LF
   abbrev pub Finishes : S → Option (List ℕ) → Progress → S → Option (List ℕ) → Tally → Type 0
   Finishes old written progress new written_then tally =
       (start : S) (before : Option (List ℕ)) (seen : List ℕ) → Stands start before seen old written progress
@@ -86,13 +91,14 @@ module _ {S : Type 0} (takes : S → List ℕ → Effect → S → Type 0) (long
       × IsTally tally (lines_of seen) effects
 
 module _ {S Stop : Type 0} (takes : S → List ℕ → Effect → S → Type 0) (stops : S → List ℕ → Stop → S → Type 0) (longest : ℕ) where
-  -- the run ended while these bytes were fed, whatever follows them in the text
+  -- that a run which was right so far stopped early within these bytes (`Breaks`), whatever it had seen before and
+  -- whatever would follow
   abbrev pub FeedBreaks : S → Option (List ℕ) → Progress → List ℕ → S → Option (List ℕ) → StopCause Stop → Tally → Type 0
   FeedBreaks old written progress bytes new written_then cause tally =
       (start : S) (before : Option (List ℕ)) (seen : List ℕ) → Stands takes longest start before seen old written progress
       → (more : List ℕ) → Breaks takes stops ⊥ start before (seen ++ (bytes ++ more)) new written_then cause tally
 
-  -- the run ended at the end of the text
+  -- that a run which was right so far stopped early at the end of its text (`Breaks`), whatever it had seen before
   abbrev pub FinishBreaks : S → Option (List ℕ) → Progress → S → Option (List ℕ) → StopCause Stop → Tally → Type 0
   FinishBreaks old written progress new written_then cause tally =
       (start : S) (before : Option (List ℕ)) (seen : List ℕ) → Stands takes longest start before seen old written progress
@@ -101,37 +107,40 @@ module _ {S Stop : Type 0} (takes : S → List ℕ → Effect → S → Type 0) 
 -- ---- so where the replies go to a counted stream
 
 module _ {S Stop W : Type 0} (meaning : Meaning S Stop) (contents : W → Option (List ℕ)) where
-  -- the line of this part was handled and counted, and its reply is in the writer
+  -- that the line of this part was handled and counted, and that its reply is in the counted writer
   abbrev pub TakesTo : S → Counted W → PartialLine → Tally → S → Counted W → Tally → Type 0
   TakesTo old writer part tally new written counted =
       Taken meaning.takes meaning.longest old (contents writer.stream) part tally new (contents written.stream) counted
 
-  -- the line of this part ended the run, or its reply is not whole in the writer
+  -- that the run stopped at the line of this part: the line ended it, or its reply is not whole in the counted writer
   abbrev pub TakeStops : S → Counted W → PartialLine → Tally → S → Counted W → Tally → StopCause Stop → Type 0
   TakeStops old writer part tally new written counted cause = (line : List ℕ) → IsPart meaning.longest part line
       → LineBreaks meaning.takes meaning.stops old (contents writer.stream) tally line new (contents written.stream) cause counted
 
-  -- these bytes were fed, and the replies to the lines that end in them are in the writer
+  -- that a run which was right so far is right again after these bytes, with the replies to the lines that end in them
+  -- in the counted writer
   abbrev pub FeedsTo : S → Counted W → Progress → List ℕ → S → Counted W → Progress → Type 0
   FeedsTo old writer progress bytes new written fed =
       Feeds meaning.takes meaning.longest old (contents writer.stream) progress bytes new (contents written.stream) fed
 
-  -- the run ended while these bytes were fed; of the replies the first bytes are in the writer
+  -- that a run stopped early within these bytes, with the first bytes of its replies in the counted writer
   abbrev pub FeedStops : S → Counted W → Progress → List ℕ → S → Counted W → Progress → StopCause Stop → Type 0
   FeedStops old writer progress bytes new written fed cause =
       FeedBreaks meaning.takes meaning.stops meaning.longest old (contents writer.stream) progress bytes new (contents written.stream) cause fed.tally
 
-  -- the text ended, and the reply to its last line is in the writer
+  -- that the text ended and all its lines were handled, with the reply to the last one in the counted writer too
   abbrev pub FinishesTo : S → Counted W → Progress → S → Counted W → Progress → Type 0
   FinishesTo old writer progress new written ended =
       Finishes meaning.takes meaning.longest old (contents writer.stream) progress new (contents written.stream) ended.tally
 
-  -- the run ended at the end of the text, by a fault or by the last line
+  -- that a run stopped early at the end of its text, by a fault or by the last line, with the first bytes of its
+  -- replies in the counted writer
   abbrev pub FinishStops : S → Counted W → Progress → S → Counted W → Progress → StopCause Stop → Type 0
   FinishStops old writer progress new written ended cause =
       FinishBreaks meaning.takes meaning.stops meaning.longest old (contents writer.stream) progress new (contents written.stream) cause ended.tally
 
-  -- what became of the line of this part: the line was handled and counted; or it ended the run; or its reply is not whole. The result says which, and why
+  -- what `done` says of the line of this part: handled and counted; or the run stopped at it, for a cause that the
+  -- writer counted
   pub record TakesLine (old : S) (writer : Counted W) (part : PartialLine) (tally : Tally) (done : Result (Unit {0}) (StopCause Stop))
       (new : S) (written : Counted W) (counted : Tally) : Type 0 where
     pub taken : OnOk done (TakesTo old writer part tally new written counted)
@@ -139,7 +148,8 @@ module _ {S Stop W : Type 0} (meaning : Meaning S Stop) (contents : W → Option
     pub broken : IfErr done (TakeStops old writer part tally new written counted)
     pub caused : IfErr done (λ cause. IsCausedByLine cause written)
 
-  -- what became of these bytes, in which at most `lines` lines end: all were fed, or the run ended in them. The result says which, and why
+  -- what `done` says of these bytes, in which at most `lines` lines end: all were taken up; or the run stopped within
+  -- them, for a cause that the writer counted
   pub record FeedsBytes (old : S) (writer : Counted W) (progress : Progress) (bytes : List ℕ) (lines : ℕ) (done : Result (Unit {0}) (StopCause Stop))
       (new : S) (written : Counted W) (fed : Progress) : Type 0 where
     pub feeds : OnOk done (FeedsTo old writer progress bytes new written fed)
@@ -147,7 +157,8 @@ module _ {S Stop W : Type 0} (meaning : Meaning S Stop) (contents : W → Option
     pub broken : IfErr done (FeedStops old writer progress bytes new written fed)
     pub caused : IfErr done (λ cause. IsCausedByLine cause written)
 
-  -- what became of the end of the text: a last line without an end, if there was one, was handled, or it ended the run. The result says which, and why
+  -- what `done` says of the end of the text: a last line without LF, if any, was handled; or the run stopped there, for
+  -- a cause that the writer counted
   pub record FinishesText (old : S) (writer : Counted W) (progress : Progress) (done : Result (Unit {0}) (StopCause Stop))
       (new : S) (written : Counted W) (over : Progress) : Type 0 where
     pub finishes : OnOk done (FinishesTo old writer progress new written over)
@@ -155,7 +166,7 @@ module _ {S Stop W : Type 0} (meaning : Meaning S Stop) (contents : W → Option
     pub broken : IfErr done (FinishStops old writer progress new written over)
     pub caused : IfErr done (λ cause. IsCausedByLine cause written)
 
--- the result of a run that has come so far: its tally, and the cause if it broke off
+-- the result of a run from how far it came: its tally, and with it the cause where it stopped early
 abbrev pub ended : {T Stop : Type 0} → Result T (StopCause Stop) → Progress → Result Tally (Halt Stop)
 ended (Ok done) progress = Ok progress.tally
 ended (Err cause) progress = Err (record { cause = cause; tally = progress.tally })

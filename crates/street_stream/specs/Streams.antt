@@ -4,33 +4,35 @@ use Rattle.std.specs.Io.KnownBytes.{Appends}
 use Rattle.street_stream.specs.declared.counted.Counted.{Counted}
 use Rattle.street_stream.specs.declared.tally.Tally.{Tally}
 
--- one more, up to the greatest count
+-- a count one higher, but never above 2^64 - 1
 abbrev pub one_more : ℕ → ℕ
 one_more n = min (n + 1) (2 ^ 64 - 1)
 
--- nothing was called yet
+-- that no call of this counted stream has been made: all its counts are 0
 pub record IsFresh {T : Type 0} (c : Counted T) : Type 0 where
   pub calls : c.calls ≡ 0
   pub failures : c.failures ≡ 0
   pub empty_writes : c.empty_writes ≡ 0
 
--- a call failed, or a write took no byte
+-- that a call of this counted stream failed, or a write took no byte
 abbrev pub HasFailed : {T : Type 0} → Counted T → Type 0
 HasFailed c = 0 < c.failures + c.empty_writes
 
--- each read but the first was made right behind a flush of the writer that did not fail
+-- that each read of this reader but the first came right behind a flush of the writer that did not fail; nothing is
+-- said before any read
 abbrev pub IsPrompt : {T : Type 0} → Counted T → Type 0
 IsPrompt reader = 0 < reader.calls → reader.is_prompt ≡ true
 
--- the writer's last call was a flush that did not fail: nothing that it was given waits in it
+-- that the writer's last call was a flush that did not fail, so that none of its bytes wait in it
 abbrev pub IsFlushed : {T : Type 0} → Counted T → Type 0
 IsFlushed writer = writer.is_flushed ≡ true
 
--- no call of the writer was made behind the last read
+-- that the writer was not called again after the last read of the reader
 abbrev pub IsLastRead : {R W : Type 0} → Counted R → Counted W → Type 0
 IsLastRead reader writer = reader.writer_calls ≡ writer.calls
 
--- the text was written whole, and counted as a reply
+-- that the whole text was written behind what was there (`before`, `after`), and that the tally counts one reply and
+-- its bytes
 pub record IsWritten (before after : Option (List ℕ)) (text : List ℕ) (old new : Tally) : Type 0 where
   pub written : Appends before after text
   pub lines : new.lines ≡ old.lines
@@ -38,7 +40,8 @@ pub record IsWritten (before after : Option (List ℕ)) (text : List ℕ) (old n
   pub replies : new.replies ≡ old.replies + 1
   pub bytes : new.bytes ≡ old.bytes + length text
 
--- the first bytes of the text were written, not all, and no reply is counted
+-- that only the first bytes of the text were written, perhaps none and not all, and that the tally counts these bytes
+-- but no reply
 pub record IsCut (before after : Option (List ℕ)) (text : List ℕ) (old new : Tally) : Type 0 where
   pub sent : ℕ
   pub less : sent < length text

@@ -1,4 +1,5 @@
-//! What a line gave, and why a run of lines ends. A handler of lines gives them to `driver.rt` and `open_text.rt`.
+//! What a handler answers to one line, and for which cause a run of lines stops early. A handler makes the answers;
+//! `driver.rt` and `open_text.rt` return the cause, with the tally, to whoever runs lines.
 ghost use Rattle.std.specs.Prelude.{◌≡◌};
 ghost use Rattle.street_stream.specs.declared.tally.FaultKind.TheVariants as kinds;
 ghost use Rattle.street_stream.specs.declared.answer.StopCause.TheVariants as causes;

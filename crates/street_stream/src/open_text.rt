@@ -1,4 +1,6 @@
-//! A text whose lines are handled a part at a time. Kept sessions, and lines that are done again, are handled so.
+//! A text whose lines are handled a part at a time, as its bytes come: `street_line` handles kept sessions so, and
+//! lines that are done again. `whole_lines` finds where the last whole line of some bytes ends. `cut_off_text` is a law
+//! that only proofs call: of a text that is cut off, the ended lines are the first of the whole text's.
 ghost use Rattle.std.specs.Prelude.{◌≡◌, ◌+◌, ◌<◌, ◌≤◌, ◌^◌, ◌++◌, List, ℕ, [], IfOk, IfErr, IfSome, IsNone, length, take};
 ghost use Rattle.street_stream.specs.Faults.{IsCausedByLine};
 ghost use Rattle.street_stream.specs.Lines.{cut, if_any};

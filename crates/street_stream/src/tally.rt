@@ -1,4 +1,5 @@
-//! What a run counts, and how it may fail. `driver.rt` counts, and each run returns both.
+//! What a run of lines counts (lines, calls, replies, bytes), and the kinds of fault that may end it. `driver.rt`
+//! counts; each run returns its tally, and where a fault ended it the kind of that fault.
 ghost use Rattle.std.specs.Prelude.{◌≡◌};
 ghost use Rattle.street_stream.specs.declared.tally.FaultKind.{FaultKind};
 ghost use Rattle.street_stream.specs.declared.tally.FaultKind.TheVariants as kinds;

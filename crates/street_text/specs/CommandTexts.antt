@@ -10,33 +10,33 @@ use Rattle.street_text.specs.ReplyLines.{number_data, node_data, link_data, turn
 
 -- ---- objects, their keys in byte order
 
--- a network to be loaded
+-- the JSON object of a `load` of this network
 abbrev pub load_data : NetSpec → Data
 load_data net =
     object (number_at (codes "change") net.change (text_at (codes "cmd") (codes "load") (number_at (codes "dawdle") net.dawdle
     (list_at (codes "links") link_data net.links (list_at (codes "nodes") node_data net.nodes (number_at (codes "seed") net.seed
     (number_at (codes "start") net.start (list_at (codes "turns") turn_data net.turns (number_at (codes "zone") net.zone no_members)))))))))
 
--- cells of a lane from the first to the last
+-- the JSON object of a `close` or `reopen` (by its name) of a lane's cells from `first` to `last`
 abbrev pub stretch_data_of : List ℕ → ℕ → ℕ → ℕ → ℕ → Data
 stretch_data_of name link lane first last =
     object (text_at (codes "cmd") name (number_at (codes "first") first (number_at (codes "lane") lane (number_at (codes "last") last
     (number_at (codes "link") link no_members)))))
 
--- what is asked of one vehicle
+-- the JSON object of a command, by its name, that asks for or takes out the vehicle of a number
 abbrev pub car_data_of : List ℕ → ℕ → Data
 car_data_of name car = object (number_at (codes "car") car (text_at (codes "cmd") name no_members))
 
--- the text of this command has a size: it is the entry of a vehicle whose size is not 1
+-- whether the text of a command has the field of a size: only an `enter` of a vehicle whose size is not 1
 abbrev pub tells_size : Command → Bool
 tells_size (Enter plan lane depart size) = not (size == 1)
 tells_size c = false
 
--- the members of an `enter` with the size of the vehicle, where the size is not 1
+-- the members of an `enter` with the vehicle's size before these; without it where the size is 1
 abbrev pub size_at : ℕ → Members → Members
 size_at size more = if size == 1 then more else number_at (codes "size") size more
 
--- a command
+-- the JSON object by which a command is written, its keys in byte order
 abbrev pub command_data : Command → Data
 command_data (Load net) = load_data net
 command_data (Enter plan lane depart size) =
@@ -57,6 +57,6 @@ command_data (Vehicle car) = car_data_of (codes "vehicle") car
 command_data (Lane link lane) = object (text_at (codes "cmd") (codes "lane") (number_at (codes "lane") lane (number_at (codes "link") link no_members)))
 command_data Count = object (text_at (codes "cmd") (codes "count") no_members)
 
--- the text, with no line end
+-- the compact JSON text of a command, without a line end
 unfoldable pub text_of : Command → List ℕ
 text_of c = compact_text (command_data c)

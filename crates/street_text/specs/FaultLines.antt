@@ -4,6 +4,6 @@ use Rattle.street_text.specs.ReplyLines.{line_of, error_data}
 use Rattle.street_text.specs.declared.fault.LineFault.{LineFault}
 use Rattle.street_text.specs.Faults.{number_of, name_of}
 
--- the line of a fault: an object with the fault's number and name. Lack of memory has no line
+-- the line that answers a faulty line: an object with the fault's number and name, and LF; none for lack of memory
 abbrev pub fault_line : LineFault → Option (List ℕ)
 fault_line fault = option_map (λ n. line_of (error_data n (name_of fault))) (number_of fault)

@@ -3,14 +3,14 @@ use Rattle.std.specs.Prelude.{ℕ, List, Option, Some, None, codes}
 use Rattle.street_text.specs.declared.fault.LineFault.{LineFault}
 use Rattle.street_text.specs.declared.fault.LineFault.TheVariants.{LineTooLong, NotJson, BadCommand, Starved}
 
--- the number that a reply line tells a fault by; lack of memory ends a run, and has none
+-- the number by which a reply line tells a line's fault; none for lack of memory, which ends the run
 abbrev pub number_of : LineFault → Option ℕ
 number_of LineTooLong = Some 22
 number_of NotJson = Some 20
 number_of BadCommand = Some 21
 number_of Starved = None
 
--- the name of a line's fault, as the reply spells it
+-- the name of a line's fault, in the bytes that the reply spells
 abbrev pub name_of : LineFault → List ℕ
 name_of LineTooLong = codes "LineTooLong"
 name_of NotJson = codes "NotJson"

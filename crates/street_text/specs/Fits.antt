@@ -8,31 +8,31 @@ use Rattle.street_base.specs.declared.net.NodeSpec.{NodeSpec}
 use Rattle.street_base.specs.declared.net.LinkSpec.{LinkSpec}
 use Rattle.street_base.specs.declared.net.TurnSpec.{TurnSpec}
 
--- a number of 64 bits
+-- that a number is below 2^64
 abbrev pub IsWord : ℕ → Type 0
 IsWord n = n < 2 ^ 64
 
--- each number of a node is one of 64 bits
+-- that each number of a node is below 2^64
 abbrev pub NodeFits : NodeSpec → Type 0
 NodeFits n = IsWord n.id × IsWord n.residence × IsWord n.capacity
 
--- each number of a link is one of 64 bits
+-- that each number of a link is below 2^64
 abbrev pub LinkFits : LinkSpec → Type 0
 LinkFits l = IsWord l.id × IsWord l.from × IsWord l.to × IsWord l.lanes × IsWord l.length × IsWord l.limit
 
--- each number of a turn is one of 64 bits
+-- that each number of a turn is below 2^64
 abbrev pub TurnFits : TurnSpec → Type 0
 TurnFits t = IsWord t.link × IsWord t.lane × IsWord t.next × IsWord t.next_lane
 
--- each number of a green turn is one of 64 bits
+-- that each number of a green turn is below 2^64
 abbrev pub GreenFits : GreenSpec → Type 0
 GreenFits g = IsWord g.link × IsWord g.lane × IsWord g.next
 
--- each number of a phase and of its green turns is one of 64 bits
+-- that a phase's duration and each number of its green turns are below 2^64
 abbrev pub PhaseFits : PhaseSpec → Type 0
 PhaseFits p = IsWord p.duration × All GreenFits p.greens
 
--- each number of the command is one of 64 bits
+-- that each number of a command is below 2^64, so that its text is read as the same command
 abbrev pub Fits : Command → Type 0
 Fits (Load net) =
     All NodeFits net.nodes × All LinkFits net.links × All TurnFits net.turns

@@ -10,29 +10,32 @@ use Rattle.street_text.specs.declared.flat.FlatMember.{FlatMember}
 use Rattle.street_text.specs.declared.flat.FlatValue.{FlatValue}
 use Rattle.street_text.specs.declared.flat.FlatValue.TheVariants.{Number, Text, Numbers}
 
--- what stands under one name
+-- the JSON value of a flat line's member: a number, a text, or a list of numbers
 abbrev pub flat_data : FlatValue → Data
 flat_data (Number n) = number_data n
 flat_data (Text text) = string text.now
 flat_data (Numbers list) = array (numbers list.items)
 
--- members with these ones put to them, one after another: of two with one name the later one stays
+-- an object's members after these of a flat line were put under their names, one after another; of two with one name
+-- the later stays
 abbrev pub put_flat : List FlatMember → Members → Members
 put_flat [] found = found
 put_flat (m ∷ ms) found = put_flat ms (put m.name.now (flat_data m.value) found)
 
--- the members of an object that has these alone
+-- the members of the JSON object that a flat line with these members says; of two with one name the later stays
 abbrev pub flat_members : List FlatMember → Members
 flat_members ms = put_flat ms no_members
 
--- what the line says
+-- the JSON object that a flat line says
 abbrev pub flat_object : FlatLine → Data
 flat_object line = object (flat_members line.members.items)
 
--- the items of a list are read from these tokens up to the list's end, at any depth, and the tokens `rest` are left
+-- that the tokens `ts`, behind an opening bracket that was read already, begin with exactly these items and the closing
+-- bracket, and `rest` follows; no item is a list or an object
 abbrev pub ReadsItems : List Token → Items → List Token → Type 0
 ReadsItems ts found rest = (depth : ℕ) → converted of_items (items (value depth) (length ts) ts) ≡ Some (found, rest)
 
--- the members of an object are read from these tokens up to the object's end, at any depth, and the tokens `rest` are left
+-- that the tokens `ts`, behind an opening brace that was read already, begin with exactly these members and the closing
+-- brace, and `rest` follows; values are at most lists without lists
 abbrev pub ReadsMembers : List Token → Members → List Token → Type 0
 ReadsMembers ts found rest = (depth : ℕ) → converted (λ ms. of_members ms no_members) (members (value (suc depth)) (length ts) ts) ≡ Some (found, rest)

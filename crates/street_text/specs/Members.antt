@@ -6,7 +6,8 @@ use Rattle.street_text.specs.declared.members.Member.{Member}
 use Rattle.street_text.specs.declared.members.Member.TheVariants.{Number, Text, Numbers, Nodes, Links, Turns, Phases, Optional}
 use Rattle.street_text.specs.ReplyLines.{items_from, number_data, numbers, node_data, link_data, turn_data, phase_data}
 
--- what stands under one key
+-- the JSON value of a command's member: a number, a text, or a list of numbers or entries; null for an optional number
+-- that is missing
 abbrev pub member_data : Member → Data
 member_data (Number n) = number_data n
 member_data (Text text) = string text.now
@@ -18,20 +19,21 @@ member_data (Phases list) = array (items_from phase_data list.now)
 member_data (Optional (Some n)) = number_data n
 member_data (Optional None) = null
 
--- nothing stands under the key, so that there is none
+-- whether a member of a command is left out, key and all: an optional number that is missing
 abbrev pub is_absent : Member → Bool
 is_absent (Optional None) = true
 is_absent m = false
 
--- members with this one put to them, if it is not absent
+-- an object's members after this one was put under its key, in place of one that was there; as they were where this one
+-- is left out
 abbrev pub put_member : List ℕ → Member → Members → Members
 put_member key m found = if is_absent m then found else put key (member_data m) found
 
--- members with these ones put to them, one after another
+-- an object's members after these were put under their keys, one after another
 abbrev pub put_all : List (Bor (List ℕ) × Member) → Members → Members
 put_all [] found = found
 put_all ((key, m) ∷ rest) found = put_all rest (put_member key.now m found)
 
--- the object of these members
+-- the JSON object of a command with these members, without those that are left out
 abbrev pub object_of : List (Bor (List ℕ) × Member) → Data
 object_of members = object (put_all members no_members)

@@ -25,104 +25,105 @@ use Rattle.street_base.specs.Prelude.{number_of, name_of, part_name}
 
 -- ---- lists
 
--- each entry of a list, in order
+-- the items of a JSON list, made of the entries of a list in order; `one` gives the value of one entry
 abbrev pub items_from : {T : Type 0} → (T → Data) → List T → Items
 items_from one [] = no_items
 items_from one (x ∷ xs) = item (one x) (items_from one xs)
 
--- a number
+-- the JSON value of a number
 abbrev pub number_data : ℕ → Data
 number_data n = number (unsigned n)
 
--- a list of numbers
+-- the items of a JSON list of these numbers
 abbrev pub numbers : List ℕ → Items
 numbers ns = items_from number_data ns
 
 -- ---- rows
 
--- a full row of a detector
+-- the JSON list of a detector's full row: start, passes, speeds, occupied
 abbrev pub meter_data : MeterRow → Data
 meter_data r = array (numbers (r.start ∷ r.passes ∷ r.speeds ∷ r.occupied ∷ []))
 
--- the value of a detector's running row, with the steps so far
+-- the JSON list of a detector's running row: start, steps so far, passes, speeds, occupied
 abbrev pub running_data : RunningRow → Data
 running_data r = array (numbers (r.start ∷ r.steps ∷ r.passes ∷ r.speeds ∷ r.occupied ∷ []))
 
--- a vehicle in a buffer
+-- the JSON list of a vehicle in a buffer: number, speed, the step from which it may go on
 abbrev pub buffer_data : BufferEntry → Data
 buffer_data e = array (numbers (e.car ∷ e.speed ∷ e.ready ∷ []))
 
--- the value of a vehicle in a cell: its number, cell and speed, and its size where that is more than one cell
+-- the JSON list of a vehicle in a cell: number, cell, speed, and its size where it covers more than one cell
 abbrev pub cell_data : CellEntry → Data
 cell_data e = array (numbers (e.car ∷ e.cell ∷ e.speed ∷ (if nat_lt 1 e.size then e.size ∷ [] else [])))
 
--- a stretch of closed cells
+-- the JSON list of a closed stretch: first and last cell
 abbrev pub stretch_data : Stretch → Data
 stretch_data s = array (numbers (s.first ∷ s.last ∷ []))
 
--- a vehicle that waits
+-- the JSON list of a vehicle that waits: number, and the step from which it may depart
 abbrev pub waiting_data : WaitingEntry → Data
 waiting_data e = array (numbers (e.car ∷ e.depart ∷ []))
 
 -- ---- entries of a command
 
--- a node
+-- the JSON list of a node to be loaded: identifier, residence, capacity
 abbrev pub node_data : NodeSpec → Data
 node_data n = array (numbers (n.id ∷ n.residence ∷ n.capacity ∷ []))
 
--- a link
+-- the JSON list of a link to be loaded: identifier, from, to, lanes, length, limit
 abbrev pub link_data : LinkSpec → Data
 link_data l = array (numbers (l.id ∷ l.from ∷ l.to ∷ l.lanes ∷ l.length ∷ l.limit ∷ []))
 
--- a turn
+-- the JSON list of a turn to be loaded: link, lane, next link, next lane
 abbrev pub turn_data : TurnSpec → Data
 turn_data t = array (numbers (t.link ∷ t.lane ∷ t.next ∷ t.next_lane ∷ []))
 
--- a green turn
+-- the JSON list of a green turn: link, lane, next link
 abbrev pub green_data : GreenSpec → Data
 green_data g = array (numbers (g.link ∷ g.lane ∷ g.next ∷ []))
 
--- the value of a phase: its duration, and the list of its green turns
+-- the JSON list of a phase: its duration, and the list of its green turns
 abbrev pub phase_data : PhaseSpec → Data
 phase_data p = array (item (number_data p.duration) (item (array (items_from green_data p.greens)) no_items))
 
 -- ---- members
 
--- a number under a key, before other members
+-- the members of an object with a number under this key put before the members `more`
 abbrev pub number_at : List ℕ → ℕ → Members → Members
 number_at key n more = member key (number (unsigned n)) more
 
--- a text
+-- the members of an object with a text under this key put before the members `more`
 abbrev pub text_at : List ℕ → List ℕ → Members → Members
 text_at key text more = member key (string text) more
 
--- a list
+-- the members of an object with a list under this key put before the members `more`; `one` gives the value of one entry
 abbrev pub list_at : {T : Type 0} → List ℕ → (T → Data) → List T → Members → Members
 list_at key one list more = member key (array (items_from one list)) more
 
--- a plan, which is a list of numbers
+-- the members of an object with a vehicle's plan, a list of numbers, put before the members `more`
 abbrev pub plan_at : List ℕ → Members → Members
 plan_at plan more = list_at (codes "plan") number_data plan more
 
--- the members of a reply with the size of a vehicle, where the size is more than one cell
+-- the members of a reply with a vehicle's size put before the members `more`; without it where the size is 1
 abbrev pub size_at : ℕ → Members → Members
 size_at size more = if nat_lt 1 size then number_at (codes "size") size more else more
 
 -- ---- objects, their keys in byte order
 
--- the number and the name of an error
+-- the members of an object with the number and the name of an error put before the members `more`
 abbrev pub error_at : ℕ → List ℕ → Members → Members
 error_at n name more = number_at (codes "error") n (text_at (codes "name") name more)
 
--- the number and the name of a refusal
+-- the members of an object with the number and the name of a refusal put before the members `more`
 abbrev pub refusal_at : Refusal → Members → Members
 refusal_at r more = error_at (number_of r) (name_of r) more
 
--- an error without a place
+-- the JSON object of an error that has no place: its number and its name
 abbrev pub error_data : ℕ → List ℕ → Data
 error_data n name = object (error_at n name no_members)
 
--- the value of a refusal, with the place of its fault where it has one
+-- the JSON object of a refusal: its number and name, and the position of the fault where it has one, of a load also the
+-- part
 abbrev pub refused_data : Refusal → Data
 refused_data (BadNetwork part at) =
     object (number_at (codes "at") at (refusal_at (BadNetwork part at) (text_at (codes "part") (part_name part) no_members)))
@@ -130,11 +131,12 @@ refused_data (BadPlan at) = object (number_at (codes "at") at (refusal_at (BadPl
 refused_data (BadSignal at) = object (number_at (codes "at") at (refusal_at (BadSignal at) no_members))
 refused_data refusal = object (refusal_at refusal no_members)
 
--- a vehicle that has ended in this step, as this state says
+-- the JSON object of a vehicle that has ended, given its number, how it ended (`arrived` or `taken`), and in which step
 abbrev pub ended_data : ℕ → List ℕ → ℕ → Data
 ended_data car state step = object (number_at (codes "car") car (text_at (codes "state") state (number_at (codes "step") step no_members)))
 
--- the value of a reply to `vehicle`: where the vehicle is, or how it ended
+-- the JSON object of the reply to `vehicle`: the vehicle's number, where it is or how it ended, and its plan from the
+-- present link on
 abbrev pub vehicle_data : ℕ → Whereabouts → Data
 vehicle_data car (Cell link lane cell speed size plan) =
     object (number_at (codes "car") car (number_at (codes "cell") cell (number_at (codes "lane") lane (number_at (codes "link") link
@@ -148,7 +150,7 @@ vehicle_data car (Waiting link lane depart size plan) =
 vehicle_data car (Ended (Arrived step)) = ended_data car (codes "arrived") step
 vehicle_data car (Ended (Taken step)) = ended_data car (codes "taken") step
 
--- a reply
+-- the JSON object by which a reply is written, its keys in byte order
 abbrev pub reply_data : Reply → Data
 reply_data (Loaded links nodes turns) = object (number_at (codes "links") links (number_at (codes "nodes") nodes (number_at (codes "turns") turns no_members)))
 reply_data (Signalled cycle) = object (number_at (codes "cycle") cycle no_members)
@@ -171,10 +173,10 @@ reply_data Starved = object (member (codes "starved") (boolean true) no_members)
 
 -- ---- lines
 
--- the line of an object, with its end
+-- the line of a JSON value: its compact text and LF
 abbrev pub line_of : Data → List ℕ
 line_of d = compact_text d ++ 10 ∷ []
 
--- the line of a reply
+-- the line of a reply: its JSON object as compact text, and LF
 unfoldable pub reply_line : Reply → List ℕ
 reply_line r = line_of (reply_data r)

@@ -11,15 +11,16 @@ use Rattle.street_text.specs.declared.fields.Field.{Field}
 use Rattle.street_text.specs.declared.fields.Field.TheVariants.{Number, Text, Flag, Numbers, Running, Rows, Buffer, Cells, Stretches, Waiting, Optional}
 use Rattle.street_text.specs.ReplyLines.{items_from, number_data, numbers, meter_data, running_data, buffer_data, cell_data, stretch_data, waiting_data}
 
--- the tokens of a value
+-- the JSON tokens by which a value is printed
 abbrev pub tokens_of : Data → List Token
 tokens_of d = json_tokens (outline d)
 
--- these tokens were written behind those that had been written
+-- that exactly these tokens were written behind those written before
 abbrev pub Adds : List Token → Written → Written → Type 0
 Adds ts old new = (new.before ≡ old.before) × (new.tokens ≡ old.tokens ++ ts)
 
--- what stands under one key
+-- the JSON value of a reply's field: a number, text, truth value, or list of numbers or rows; null for an optional
+-- number that is missing
 abbrev pub field_data : Field → Data
 field_data (Number n) = number_data n
 field_data (Text text) = string text.now
@@ -34,16 +35,16 @@ field_data (Waiting list) = array (items_from waiting_data list.now)
 field_data (Optional (Some n)) = number_data n
 field_data (Optional None) = null
 
--- nothing stands under the key, so that there is none
+-- whether a field of a reply is left out, key and all: an optional number that is missing
 abbrev pub is_left_out : Field → Bool
 is_left_out (Optional None) = true
 is_left_out f = false
 
--- the members that these fields are, in their order
+-- the members of an object with these fields, in their order, without those that are left out
 abbrev pub members_of : List (Bor (List ℕ) × Field) → Members
 members_of [] = no_members
 members_of ((key, f) ∷ rest) = if is_left_out f then members_of rest else member key.now (field_data f) (members_of rest)
 
--- the tokens of one field
+-- the tokens of one field of an object: its key and its value, or no tokens where the field is left out
 abbrev pub field_tokens : List ℕ → Field → List Token
 field_tokens key f = if is_left_out f then [] else token.key key ∷ tokens_of (field_data f)

@@ -1,4 +1,5 @@
-//! The lists of a command, printed: numbers, and rows of numbers. `members.rt` and `commands.rt` print by it.
+//! The values in the lists of a command: numbers, and rows of numbers, as those of a node, a link or a phase.
+//! `members.rt` calls this for each member of a command that is a list, and `commands.rt` prints by `members.rt`.
 ghost use Rattle.std.specs.Prelude.{◌≡◌, IfOk};
 ghost use Rattle.serde_json.specs.Data.{Data, array};
 ghost use Rattle.serde_json.specs.View.{view};

@@ -1,4 +1,5 @@
-//! The lists of a reply, printed straight into bytes: numbers, and rows of numbers. `fields.rt` prints by it.
+//! The values in the lists of a reply, written straight as bytes: numbers, and rows of numbers, as those of a detector
+//! or of a vehicle in a cell. `fields.rt` calls this for each field of a reply that is a list.
 ghost use Rattle.std.specs.Prelude.{OnOk};
 ghost use Rattle.serde_json.specs.Data.{Data, array};
 ghost use Rattle.street_text.specs.Tokens.{tokens_of, Adds};
