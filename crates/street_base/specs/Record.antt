@@ -27,15 +27,17 @@ buffer_spot ready = 2147483648 + ready
 abbrev pub arrived_spot : ℕ
 arrived_spot = 4294967295
 
--- the row of a vehicle that a lane shows in its cells
+-- the record's row of a vehicle in a cell of the lane with this slot, made of the entry that shows it: its spot is the
+-- cell
 abbrev pub cell_row : ℕ → CellEntry → RecordRow
 cell_row slot e = record { car = e.car; slot = slot; spot = e.cell; speed = e.speed }
 
--- the row of a vehicle that a lane shows in its buffer
+-- the record's row of a vehicle in the buffer of the lane with this slot, made of the entry that shows it: its spot
+-- tells the ready step
 abbrev pub buffer_row : ℕ → BufferEntry → RecordRow
 buffer_row slot e = record { car = e.car; slot = slot; spot = buffer_spot e.ready; speed = e.speed }
 
--- the row of a vehicle that arrived, with the speed at which it left
+-- the record's row of a vehicle that arrived from the lane with this slot, with the speed at which it left
 abbrev pub arrived_row : ℕ → Vehicle → RecordRow
 arrived_row slot v = record { car = v.number; slot = slot; spot = arrived_spot; speed = v.speed }
 

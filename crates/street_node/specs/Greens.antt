@@ -21,7 +21,7 @@ turn_cmp = then_cmp (on (λ t. t.link) nat_cmp) (then_cmp (on (λ t. t.lane) nat
 abbrev pub turn_rank : GreenTurn → ℕ
 turn_rank t = t.link * 16777216 + t.lane * 65536 + t.next
 
--- that green turns stand in the order of link, lane and next link, and none twice
+-- that green turns stand in the order of link, then lane, then next link; equal ones may stand beside each other
 abbrev pub IsInOrder : List GreenTurn → Type 0
 IsInOrder turns = IsSortedBy (λ a b. is_lt (turn_cmp a b)) turns
 

@@ -20,7 +20,7 @@ pub record IsWalk (m : Traffic) (ps : List Place) : Type 0 where
   pub firsts : (k : ℕ) (to from : Place) → slice_get ps k ≡ Some from → may_give m to from ≡ true
       → find (may_give m to) ps ≡ find (may_give m to) (places m.network)
 
--- that after the first k buffers of a walk a mouth is open exactly if its lane's cell 0 is free and no front of those
--- buffers may go there; for the lanes `Among`
+-- that after the first k buffers of a walk the mouth of each lane `Among` is open exactly if its cell 0 is free and no
+-- front of those buffers may go there
 abbrev pub AreShut : Traffic → (Place → Type 0) → List Place → ℕ → List Bool → Type 0
 AreShut m Among ps k mouths = (p : Place) → Among p → mouth mouths p ≡ is_free (lane_at m p).track 0 && not (list_any (may_give m p) (take k ps))

@@ -10,8 +10,8 @@ pub record WriterView (W : Type 0) : Type 0 where
   pub waiting : List ℕ
   pub has_failed : Bool
 
--- that of the bytes `given` since the stream held `start` the stream has the first ones, and that the rest wait in the
--- writer unless a write has failed
+-- that of the bytes `given` the writer's stream has the first ones behind `start`, which it held before, and that the
+-- rest wait in the writer unless a write has failed
 pub record IsGiven {W : Type 0} (contents : W → Option (List ℕ)) (start : Option (List ℕ)) (given : List ℕ) (w : WriterView W) : Type 0 where
   pub out : List ℕ
   pub rest : List ℕ

@@ -4,7 +4,7 @@ use Rattle.street_base.specs.Prelude.{link_at}
 use Rattle.street_rule.specs.declared.road.Road.TheInside.{Inside}
 use Rattle.street_rule.specs.Road.{Road, lane_seen}
 
--- what contracts see of a road: its network, the link's position, and its lanes
+-- the road, as contracts see it, that the fields stand for: its network, its link's position, and its one or two lanes
 abbrev pub seen : Inside → Road
 seen r = record {
   network = r.network.now;
@@ -12,7 +12,8 @@ seen r = record {
   lanes = lane_seen r.first ∷ option_to_list (option_map lane_seen r.second);
 }
 
--- the link is one of the network's, and the length and the limit that are kept are the link's
+-- that a road's fields fit its network: the link is one of the network's, and the length and limit that are kept are
+-- that link's
 pub record IsSound (r : Inside) : Type 0 where
   pub within : r.link < length r.network.now.links
   pub length : r.length ≡ (link_at r.network.now r.link).length

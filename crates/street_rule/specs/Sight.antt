@@ -84,8 +84,8 @@ pub record IsOutlook (road : Road) (outlook : Outlook) : Type 0 where
   pub closed : outlook.has_closed ≡ false → outlook.own.closures.now ≡ []
   pub zone : outlook.zone ≡ length_of road - road.network.zone
 
--- that `goes` says whether the vehicle of a key, if it has one, changes to the other lane in this step, given the rear
--- of the vehicle ahead
+-- that `goes` says whether the vehicle of a key, if it has one, changes to the other lane in this step, given its
+-- lane's closed cells and the rear of the vehicle ahead
 abbrev pub Decides : Yard → Road → ℕ → ℕ → Option ℕ → ℕ → Bool → Type 0
 Decides y road lane step ahead key goes =
     (v : Vehicle) → vehicle_with y key ≡ Some v → goes ≡ decision_of y road lane step (closed_marks (lane_of road lane).closed (length_of road)) ahead key v

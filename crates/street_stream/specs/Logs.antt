@@ -11,8 +11,8 @@ abbrev pub Extends : Option (List ℕ) → Option (List ℕ) → Type 0
 Extends old new = (more : List ℕ) × Appends old new more
 
 module _ {L W : Type 0} (held synced : L → Option (List ℕ)) (has_failed : L → Type 0) (contents : W → Option (List ℕ)) where
-  -- what a fault left: of the log, it has the first bytes of the entries and the writer got nothing; of the output, all
-  -- entries are synced and the writer has the replies' first bytes
+  -- what a fault left: where the log failed, it has the first bytes of the entries and the writer got nothing; where
+  -- the writer failed, all entries are synced and it has the replies' first bytes
   abbrev pub KeepStops : L → Counted W → List ℕ → List ℕ → L → Counted W → KeepFault → Type 0
   KeepStops old writer entries replies new written Log =
       (written ≡ writer) × ((sent : ℕ) × (stayed : ℕ) × (stayed ≤ sent) × Appends (held old) (held new) (take sent entries) × Appends (synced old) (synced new) (take stayed entries))

@@ -32,7 +32,7 @@ GreenFits g = IsWord g.link × IsWord g.lane × IsWord g.next
 abbrev pub PhaseFits : PhaseSpec → Type 0
 PhaseFits p = IsWord p.duration × All GreenFits p.greens
 
--- that each number of a command is below 2^64, so that its text is read as the same command
+-- that each number of a command is below 2^64, as the numbers of lines must be
 abbrev pub Fits : Command → Type 0
 Fits (Load net) =
     All NodeFits net.nodes × All LinkFits net.links × All TurnFits net.turns
