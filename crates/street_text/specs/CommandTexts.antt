@@ -32,7 +32,7 @@ abbrev pub tells_size : Command → Bool
 tells_size (Enter plan lane depart size) = not (size == 1)
 tells_size c = false
 
--- the members of an `enter` with the vehicle's size before these; without it where the size is 1
+-- the members of an `enter` with the vehicle's size put before the members `more`; without it where the size is 1
 abbrev pub size_at : ℕ → Members → Members
 size_at size more = if size == 1 then more else number_at (codes "size") size more
 
