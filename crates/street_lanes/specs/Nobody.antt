@@ -5,7 +5,7 @@ use Rattle.street_yard.specs.declared.names.ListKind.{ListKind}
 use Rattle.street_yard.specs.declared.names.ListKind.TheVariants.{Cells as InCells, Buffer, Waiting}
 use Rattle.street_lanes.specs.Views.{LaneView}
 
--- nobody stands in any of the cells
+-- that no vehicle's front stands in any of the cells
 abbrev pub IsDeserted : Cells → Type 0
 IsDeserted cells = (x : ℕ) → vehicle_at cells x ≡ None
 
