@@ -34,15 +34,15 @@ pub record NoteView : Type 0 where
   pub seen : List Entry
   pub count : ℕ
 
--- the desk that a seat at this table is of
+-- the desk, as contracts see it, of a seat of view v at this table
 abbrev pub desk_view : TableId → SeatView → DeskView
 desk_view t v = record { table = t; calls = v.calls; sessions = v.sessions }
 
--- what contracts see of a pass with this seat
+-- a pass, as contracts see it, by the view v of its seat at this table
 abbrev pub pass_view : TableId → SeatView → PassView
 pass_view t v = record { desk = desk_view t v; seen = v.seen; count = v.count; least = v.least; greatest = v.greatest }
 
--- what contracts see of a note with this seat
+-- a note, as contracts see it, by the view v of its seat at this table
 abbrev pub note_view : TableId → SeatView → NoteView
 note_view t v = record { desk = desk_view t v; seen = v.seen; count = v.count }
 

@@ -48,7 +48,7 @@ abbrev pub TellsEntry : StreetsView → List ℕ → ℕ → ℕ → ℕ → Opt
 TellsEntry s plan lane depart size refusal = (m : Traffic) → m.network ≡ s.tiles.network → length m.ends ≡ length s.ends
     → refusal ≡ enter_refusal plan lane depart size m
 
--- the command that closes cells of a lane, or opens them
+-- the command for the cells `first` to `last` of a lane: to close them where the truth value is true, else to open them
 abbrev pub closing : Bool → ℕ → ℕ → ℕ → ℕ → Command
 closing true link lane first last = CloseLane link lane first last
 closing false link lane first last = ReopenLane link lane first last

@@ -35,7 +35,7 @@ said_by (Err f) = faulty f
 unfoldable pub said : List ℕ → Said
 said line = if is_blank line then silent else said_by (reading line)
 
--- the line calls a command
+-- whether a line calls a command; false of a blank line and of a faulty one
 abbrev pub is_call : Said → Bool
 is_call silent = false
 is_call (faulty f) = false

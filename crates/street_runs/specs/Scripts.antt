@@ -17,13 +17,14 @@ use Rattle.street_runs.specs.Outputs.{IsPrinted, TellsOutput, replies_of}
 abbrev pub new_pass : DeskView → ℕ → PassView
 new_pass desk session = record { desk = desk; seen = []; count = 0; least = session; greatest = session }
 
--- that these are new passes for the first sessions of a desk, below the number `sessions`, the greatest of them first
+-- that pass k of these, counted from 0, is the new pass of session `sessions - 1 - k`: the passes begin with the
+-- greatest session and go down
 abbrev pub ArePassesFrom : DeskView → ℕ → List PassView → Type 0
 ArePassesFrom desk sessions passes =
     (k session : ℕ) (d : PassView) → k < length passes → session + k + 1 ≡ sessions → slice_index_or passes k d ≡ new_pass desk session
 
--- that the script at this place has the new pass of the session of the same number and no replies, and either its file
--- is open or it has a fault
+-- that the script at this place has the new pass of the session of the same number and no replies, and has an open file
+-- just where it has no fault
 pub record IsOpened {R : Type 0} (desk : DeskView) (place : ℕ) (script : Script R) : Type 0 where
   pub session : script.session ≡ new_pass desk place
   pub replies : script.replies.items ≡ []

@@ -6,7 +6,7 @@ use Rattle.street_base.specs.Prelude.{Vehicle, is_place, link_at, Traffic, LaneS
 use Rattle.street_base.specs.declared.names.Place.{Place}
 use Rattle.street_node.specs.Prelude.{crossing as crosses}
 
--- a transfer: a vehicle on its way into a lane, and that lane
+-- a vehicle on its way between two lanes, as it enters the lane `to`
 pub record Transfer : Type 0 where
   pub to : Place
   pub vehicle : Vehicle
@@ -31,7 +31,7 @@ entries_to to entries = map (λ e. e.vehicle) (filter (λ e. is_place to e.to) e
 abbrev pub let_go_lane : Traffic → Place → LaneState → LaneState
 let_go_lane m place lane = record lane { queue = if gives m place then drop 1 lane.queue else lane.queue }
 
--- the first half of the releases, on all lanes: the buffers whose fronts go lose them
+-- the first half of the releases, on all lanes: each buffer whose front goes has lost it, and the vehicle is in no lane
 unfoldable pub let_go : Traffic → Traffic
 let_go m = record m { lanes = each_lane (let_go_lane m) m.lanes }
 

@@ -9,7 +9,7 @@ abbrev pub all_handed : List TileView → List Transfer
 all_handed [] = []
 all_handed (x ∷ xs) = all_handed xs ++ x.handed
 
--- the lanes of all tiles, those of the last tile first
+-- the own lanes of all tiles, those of the last tile first
 abbrev pub all_places : List TileView → List Place
 all_places [] = []
 all_places (x ∷ xs) = all_places xs ++ x.own.places

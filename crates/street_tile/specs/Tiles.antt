@@ -89,7 +89,7 @@ pub record IsTileOf (net : NetSpec) (x : TileView) : Type 0 where
 abbrev pub nth : List Place → ℕ → Place
 nth ps n = slice_index_or ps n no_place
 
--- the lane with this number of the same link
+-- the lane with number `lane` of the same link as p, whether it is there or not
 abbrev pub beside : Place → ℕ → Place
 beside p lane = record { link = p.link; lane = lane }
 
@@ -132,7 +132,7 @@ AreDue clock detectors = All (λ g. All (λ x. next_step x ≡ clock) g.meters) 
 abbrev pub IsBare : Detectors → Type 0
 IsBare g = (g.meters ≡ []) × (g.watches ≡ [])
 
--- none of these lanes has a detector
+-- that none of these lanes has a detector
 abbrev pub AreBare : List Detectors → Type 0
 AreBare detectors = All IsBare detectors
 
