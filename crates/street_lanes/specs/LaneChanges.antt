@@ -8,11 +8,13 @@ use Rattle.street_lanes.specs.Views.{LaneView, LaneStands, IsLaneOf}
 use Rattle.street_lanes.specs.Lanes.{Lanes, lane_of, place_at, Same}
 use Rattle.street_lanes.specs.Lists.{cells_list, lane_seen, NoneLoose, Touches}
 
--- that P holds of all traffic of the network at the clock and any two of the machine's lanes of which l and r are shown
+-- that P holds of all traffic of the network at the clock and any two lanes of the machine that l and r show
+-- (`IsLaneOf`)
 abbrev pub WhereBothSeen : NetSpec → ℕ → LaneView → LaneView → (Traffic → LaneState → LaneState → Type 0) → Type 0
 WhereBothSeen net clock l r P = (m : Traffic) (a b : LaneState) → m.network ≡ net → m.clock ≡ clock → IsLaneOf l a → IsLaneOf r b → P m a b
 
--- that P holds of all traffic of the network at the clock and any two of the machine's lanes for which l and r stand
+-- that P holds of all traffic of the network at the clock and any two lanes of the machine for which l and r stand
+-- (`LaneStands`)
 abbrev pub WhereBothStand : NetSpec → ℕ → LaneView → LaneView → (Traffic → LaneState → LaneState → Type 0) → Type 0
 WhereBothStand net clock l r P = (m : Traffic) (a b : LaneState) → m.network ≡ net → m.clock ≡ clock → LaneStands l a → LaneStands r b → P m a b
 

@@ -93,7 +93,7 @@ pub record Settles (list ready : ℕ) (car : Car) (old new : Yard) (told : Optio
 
 -- ---- the lane
 
--- that P holds of all traffic of the step whose lane at p is the one that the lists show, `lane`
+-- that P holds of all traffic of the step whose lane at p is the one that `lane` shows (`IsLaneOf`)
 abbrev pub WhereSeen : NetSpec → Option SignalPlan → ℕ → Place → LaneView → (Traffic → Type 0) → Type 0
 WhereSeen net signal step p lane P = (m : Traffic) → IsStepOf net signal step p m → IsLaneOf lane (lane_at m p) → P m
 

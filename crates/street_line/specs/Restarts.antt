@@ -7,8 +7,8 @@ use Rattle.street_line.specs.Redo.{Redoes}
 use Rattle.street_line.specs.Engines.{MachineServes}
 use Rattle.street_line.specs.Kept.{GoesKept}
 
--- that the file begins with lines that, done again, lead to the state after some lines of the session, and that all
--- that went out is the first part of these lines' output
+-- that the file begins with lines that, done again from `start`, lead to the state after some lines (`done`), served
+-- from some state (`mid`), and all that went out is the first part of these lines' output
 pub record KeepsAnswered (start : State) (file : List ℕ) (before after : Option (List ℕ)) : Type 0 where
   pub first : List ℕ
   pub more : List ℕ

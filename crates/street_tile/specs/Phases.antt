@@ -18,8 +18,8 @@ pub record GoesBy (net : NetSpec) (f : Traffic → Traffic) (x y : TileView) : T
   pub room : x.own.room ≤ y.own.room
   pub stands : (m : Traffic) → IsOn net m → StandsFor x m → StandsFor y (f m)
 
--- that the lanes stand for all traffic after lane changes, of that for which they stood before, of the network at this
--- clock
+-- that the lanes `new` stand for all traffic of the network at this clock, once its lane changes are made, for which
+-- the lanes `old` stood before them
 abbrev pub ChangeLanes : NetSpec → ℕ → Lanes → Lanes → Type 0
 ChangeLanes net clock old new = (m : Traffic) → IsOn net m → m.clock ≡ clock
     → LanesStand old.places old.lanes m → LanesStand new.places new.lanes (changed m)
@@ -70,8 +70,8 @@ pub record EnterPhase (net : NetSpec) (x y : TileView) : Type 0 where
 unfoldable pub ticked : Traffic → Traffic
 ticked m = record m { clock = m.clock + 1 }
 
--- that tile y is tile x with its clock one later, and that its detectors have noted the step, of whose motion from the
--- traffic `before` their watches have seen all
+-- that tile y is tile x with its clock one later and the step noted by its detectors, if their watches had seen the
+-- step's motion from the traffic `before`
 pub record MeterPhase (net : NetSpec) (x y : TileView) : Type 0 where
   pub goes : GoesBy net ticked x y
   pub arrived : y.arrived ≡ x.arrived

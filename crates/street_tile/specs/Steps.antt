@@ -6,8 +6,8 @@ use Rattle.street_record.specs.Rows.{arrival_at}
 use Rattle.street_tile.specs.Tiles.{TileView, IsIdle, IsPrepared, Each, AreTiles, AllStand, nobody}
 use Rattle.street_tile.specs.TileDetectors.{AllMetersStand}
 
--- that these tiles may make a step: they are the tiles of the network, at most `most_workers`, with nobody on the way,
--- no arrivals left and room in each lane, and they stand for some traffic before the last clock
+-- that these tiles may make a step: all tiles of the network, at most `most_workers`, with nobody on the way, no
+-- arrivals left, and room for a vehicle more on each lane, which stand for some traffic before the last clock
 pub record MayStep (net : NetSpec) (xs : List TileView) : Type 0 where
   pub tiles : AreTiles net xs
   pub few : length xs ≤ most_workers
