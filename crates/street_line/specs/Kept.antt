@@ -73,8 +73,8 @@ module _ {S : Type 0} (serves : S → Command → Served → S → Type 0) where
   KeepsLine old line effect new = (out : List ℕ) × (entry : List ℕ) × KeepsSaid old.0 (said line) line out entry new.0
       × (effect ≡ effect_of (said line) out) × (new.1 ≡ old.1 ++ entry)
 
-  -- that a line that says `what` was served, the handler's `answer` tells its effect, and what the log keeps of it is
-  -- put behind what is kept so far
+  -- that a line that says `what` was served, the handler's `answer` tells its effect, or that memory ran out for its
+  -- reply, and what the log keeps of the line is put behind what is kept so far
   abbrev pub AnswersKept : S × List ℕ → Said → List ℕ → LineAnswer → S × List ℕ → Type 0
   AnswersKept old what line answer new = (out : List ℕ) × (entry : List ℕ) × KeepsSaid old.0 what line out entry new.0
       × Gives answer (effect_of what out) × (new.1 ≡ old.1 ++ entry)

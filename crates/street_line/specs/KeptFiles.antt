@@ -68,15 +68,14 @@ module _ {S : Type 0} (serves : S → Command → Served → S → Type 0) where
     pub recovered : Recovered start had mid log redo
     pub whole : KeptWhole serves mid unread log before now left held synced after
 
-  -- what a fault left before a session went on from a file: at a line of it, or as it has no line, the file is as it
-  -- was; as it was written anew, no line that was synced is lost
+  -- what a fault left before a session went on from a file: where a line of it could not be done again, or it has none,
+  -- the file as it was; where it was to be written anew, at least its ended lines that had been synced
   abbrev pub BeginBreaks : S → Option (List ℕ) → Option (List ℕ) → S → Option (List ℕ) → Option (List ℕ) → BeginFault → Type 0
   BeginBreaks start had stayed now held synced (Recover fault) = ((rest : Option (List ℕ)) × RedoBroke serves start (sound_of had) fault now rest) × (held ≡ had) × (synced ≡ stayed)
   BeginBreaks start had stayed now held synced Foreign = ((redo : RedoneLines) × Redone start had now redo × (redo.bytes ≡ 0)) × (held ≡ had) × (synced ≡ stayed)
   BeginBreaks start had stayed now held synced Settle =
       (redo : RedoneLines) × Redone start had now redo × (Keeps had held ⊎ Keeps (first_of redo.bytes had) held) × Extends (first_of redo.bytes stayed) synced
 
-  -- a fault ended a session that goes on from a file: before any line was served; or in the session, of which no more is out or held than the fault left
   module _ (start : S) (had stayed unread before : Option (List ℕ)) (now : S) (left held synced after : Option (List ℕ)) where
     -- what a fault of a session that goes on from a file left: before any line was served (`BeginBreaks`, with nothing
     -- written); or in the session (`KeptUpTo`)

@@ -1,4 +1,5 @@
--- A session that is kept, as a function: what it replies and what its file has then, where memory is there and nothing fails.
+-- A session that is kept, as a function: what it replies and what its file has then, where memory is there and nothing
+-- fails.
 use Rattle.std.specs.Prelude.{◌≡◌, ℕ, ◌+◌, ◌-◌, List, [], ◌∷◌, ◌++◌, length, take, if◌then◌else◌, Option, Some, None, Result, Ok, Err}
 use Rattle.street_base.specs.declared.command.Command.{Command}
 use Rattle.street_base.specs.declared.reply.Outcome.TheVariants.{Whole}

@@ -12,13 +12,13 @@ abbrev pub reply_of : Bool → List ℕ → Option (List ℕ)
 reply_of false out = None
 reply_of true out = Some out
 
--- the effect of a line that says `what` and has this output, as a handler of lines tells it: whether the line calls a
--- command, and the output as its reply, or none where a blank line has none
+-- the effect of a line that says `what` and has the output `out`, as a handler of lines tells it: whether the line
+-- calls a command, and `out` as its reply; a blank line has no reply
 abbrev pub effect_of : Said → List ℕ → Effect
 effect_of what out = record { is_call = is_call what; reply = reply_of (has_reply what) out }
 
--- that `answer` is what a handler of lines answers to a command that was served so: a call, with the line of its reply;
--- a command that has no reply line (`Unrecorded`) has no such answer
+-- that `answer` is a handler's answer to a command that was served so: a call, with its line of reply or word that
+-- memory ran out for it; there is none for a command that has no reply line (`Unrecorded`)
 abbrev pub IsAnswerTo : Served → LineAnswer → Type 0
 IsAnswerTo served answer = (out : List ℕ) × (served_line served ≡ Some out) × Gives answer (record { is_call = true; reply = Some out })
 
@@ -27,8 +27,8 @@ IsAnswerTo served answer = (out : List ℕ) × (served_line served ≡ Some out)
 abbrev pub IsAnswered : {S : Type 0} → (S → Command → Served → S → Type 0) → S → Said → Effect → S → Type 0
 IsAnswered serves old what effect new = (out : List ℕ) × Done serves old what out new × (effect ≡ effect_of what out)
 
--- that a line that says `what` was served, from `old` to `new`, and the handler's `answer` tells the line's effect:
--- whether it called a command, and its reply
+-- that a line that says `what` was served, from `old` to `new`, and the handler's `answer` tells its effect: whether it
+-- called a command, and its reply, or that memory ran out for the reply
 abbrev pub IsAnsweredBy : {S : Type 0} → (S → Command → Served → S → Type 0) → S → Said → LineAnswer → S → Type 0
 IsAnsweredBy serves old what answer new = (effect : Effect) × IsAnswered serves old what effect new × Gives answer effect
 

@@ -79,8 +79,8 @@ is_said (Some word) = bytes_eq word (codes "true")
 abbrev pub SaysDeskless : List Row → Type 0
 SaysDeskless rows = (is_said (first_of (codes "endless") rows) ≡ true) ⊎ IsSome (first_of (codes "keep") rows) ⊎ IsSome (first_of (codes "record") rows)
 
--- that what the parser found is fit: the numbers are in their ranges, at most `most_sessions` scripts are named, and no
--- two options are used that exclude each other
+-- that what the parser found is fit: the numbers are in their ranges, at most `most_sessions` scripts are named, no two
+-- options are used that exclude each other, and `--unsynced` is used only with `--keep`
 pub record IsFit (rows : List Row) : Type 0 where
   pub workers : IsCountIfSaid most_workers (first_of (codes "workers") rows)
   pub calls : IsCountIfSaid most_calls (first_of (codes "calls") rows)

@@ -1,5 +1,5 @@
--- The text of a tape.
--- A first line with the version and the number of calls, then a line for each call of the journal. Keys stand in byte order, and each line ends with LF.
+-- The text of a tape: a first line with the version and the number of calls, then a line for each call of the journal.
+-- Keys stand in byte order, and each line ends with LF.
 use Rattle.std.specs.Prelude.{ℕ, List, [], ◌∷◌, ◌++◌, length, codes}
 use Rattle.serde_json.specs.Data.{Data, number, unsigned, string, object, no_members, member}
 use Rattle.street_base.specs.declared.reply.Outcome.{Outcome}

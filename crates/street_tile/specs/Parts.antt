@@ -1,5 +1,6 @@
--- The phases of a step and its parts, as workers make them, by their numbers: 0 lane changes, 1 motion, 2 releases, 3 entries and
--- departures, any other detectors; but as a part 5 is lane changes and motion, 6 entries, departures and detectors. Shown are the mouths, by which releases go.
+-- The phases of a step and its parts, as workers make them, by their numbers. Phases: 0 lane changes, 1 motion, 2
+-- releases, 3 entries and departures, any other detectors. As a part 5 is lane changes and motion, 6 entries,
+-- departures and detectors. Shown are the mouths, by which releases go.
 use Rattle.std.specs.Prelude.{ℕ, ◌≡◌, ◌*◌, ◌<◌, ◌≤◌, List, Bool, [], length, All}
 use Rattle.std.specs.Fn.{Shared}
 use denote.Ref.{Bor, MutBor}
