@@ -45,8 +45,7 @@ pub record Looks (v : SeatView) (n : ℕ) (w : SeatView) : Type 0 where
   pub even : n % 2 ≡ 0 → 2 * length w.seen ≡ n
   pub limit : v.live ≡ true → n ≤ 2 * v.calls + 1
 
--- what a load of the table's word does to the seat that makes it: its slots stay, and its view goes by the word n that
--- is found (`Looks`)
+-- that a seat's load found the table's word to be n: its slots stay as they are, and its view goes by n (`Looks`)
 abbrev pub look : Step (Option Recorded) → Sat → ℕ → Sat → Type 0
 look st m n m' = (m'.1 ≡ m.1) × Looks m.0 n m'.0
 
@@ -59,13 +58,13 @@ pub record Grabs (v : SeatView) (n : ℕ) (w : SeatView) (slots : List (ℕ × O
   pub word : 2 * length w.seen ≡ n
   pub taken : slots ≡ (0, Some (recorded w.seen v.calls)) ∷ []
 
--- what a compare-exchange does to the seat that makes it: with the word n that it expects it wins the turn (`Grabs`);
--- with any other nothing is changed
+-- that a seat's compare-exchange found the table's word to be n: where the seat expected n it has won the turn
+-- (`Grabs`), else nothing has changed for it
 abbrev pub grab : Step (Option Recorded) → Sat → ℕ → Sat → Type 0
 grab st m n m' = (n ≡ st.first → Grabs m.0 n m'.0 m'.1) × (n ≢ st.first → m' ≡ m)
 
--- what the store that ends a turn does to a seat with the engine in hand: the seat gives it back, has no turn, and has
--- seen the engine's journal
+-- that the store which ends a turn has taken the engine from the seat's hand: the seat has no turn, and has seen the
+-- engine's journal
 abbrev pub release : Step (Option Recorded) → Sat → ℕ → Sat → Type 0
 release st m n m' = (r : Recorded) → m.1 ≡ (0, Some r) ∷ [] → m' ≡ (with_turn m.0 r.history false, [])
 

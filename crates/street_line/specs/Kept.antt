@@ -99,8 +99,9 @@ module _ {S : Type 0} (serves : S → Command → Served → S → Type 0) where
     pub holds : Appends log held kept
     pub stays : synced ≡ held
 
-  -- what a fault left of these lines: where the log failed, no reply and the first bytes of what it keeps; where the
-  -- writer failed, all that the log keeps and the first bytes of the output; else log and writer as they were
+  -- that a fault, as these lines were served, left: where the log failed, no reply and the first bytes of what it
+  -- keeps; where the writer failed, all that the log keeps and the first bytes of the output; else log and writer as
+  -- they were
   abbrev pub PassStops : S → Option (List ℕ) → Option (List ℕ) → Option (List ℕ) → List (List ℕ) → KeptFault → Option (List ℕ) → Option (List ℕ) → Option (List ℕ) → Type 0
   PassStops old log stayed before ls Log held synced after =
       (out : List ℕ) × (kept : List ℕ) × (new : S) × GoesKept old ls out kept new × (after ≡ before)
@@ -136,8 +137,8 @@ module _ {S : Type 0} (serves : S → Command → Served → S → Type 0) where
     pub passed : Passed start log before (cut seen).0 mid owed owed told
     pub stops : PassStops mid owed owed told last fault held synced after
 
-  -- what every fault leaves: the first lines of the text were served, the first bytes of their output are written, and
-  -- all that the log keeps of these lines is in the log and synced, perhaps with more behind it
+  -- that, after whatever fault, the first lines of the text were served, the first bytes of their output are written,
+  -- and all that the log keeps of these lines is in the log and synced, perhaps with more behind it
   pub record KeptFirst (start : S) (unread log before : Option (List ℕ)) (left held synced after : Option (List ℕ)) : Type 0 where
     pub text : List ℕ
     pub done : List (List ℕ)

@@ -68,7 +68,7 @@ module _ {S : Type 0} (serves : S → Command → Served → S → Type 0) where
     pub recovered : Recovered start had mid log redo
     pub whole : KeptWhole serves mid unread log before now left held synced after
 
-  -- what a fault left before a session went on from a file: where a line of it could not be done again, or it has none,
+  -- that a fault, before a session went on from a file, left: where a line could not be done again, or there is none,
   -- the file as it was; where it was to be written anew, at least its ended lines that had been synced
   abbrev pub BeginBreaks : S → Option (List ℕ) → Option (List ℕ) → S → Option (List ℕ) → Option (List ℕ) → BeginFault → Type 0
   BeginBreaks start had stayed now held synced (Recover fault) = ((rest : Option (List ℕ)) × RedoBroke serves start (sound_of had) fault now rest) × (held ≡ had) × (synced ≡ stayed)
@@ -77,8 +77,8 @@ module _ {S : Type 0} (serves : S → Command → Served → S → Type 0) where
       (redo : RedoneLines) × Redone start had now redo × (Keeps had held ⊎ Keeps (first_of redo.bytes had) held) × Extends (first_of redo.bytes stayed) synced
 
   module _ (start : S) (had stayed unread before : Option (List ℕ)) (now : S) (left held synced after : Option (List ℕ)) where
-    -- what a fault of a session that goes on from a file left: before any line was served (`BeginBreaks`, with nothing
-    -- written); or in the session (`KeptUpTo`)
+    -- that a fault of a session that goes on from a file came before any line was served, with nothing written
+    -- (`BeginBreaks`), or in the session (`KeptUpTo`), and left what these say
     abbrev pub ServeBreaks : ServeFault → Type 0
     ServeBreaks (Begin fault) = BeginBreaks start had stayed now held synced fault × (after ≡ before)
     ServeBreaks (Session fault) = (mid : S) × (log : Option (List ℕ)) × (redo : RedoneLines) × Recovered start had mid log redo × KeptUpTo serves mid unread log before fault left held synced after

@@ -25,8 +25,8 @@ module _ {K D V : Type 0} (held synced : K → Option (List ℕ)) (remaining : D
         × KeptWhole MachineRecords (recorded_from mid) (remaining reader.stream) log (outputs writer.stream) new (remaining read.stream) (held kept) (synced kept) (outputs written.stream)
         × (recorder ≡ Some w) × HoldsRecord contents start w new.whole None
 
-  -- what a fault of a kept session with a record left: before any line was served (`BeginBreaks`), where the record
-  -- could not be opened, the file with its own lines alone, or in the session (`KeptUpTo`)
+  -- that a fault ended a kept session with a record: before any line was served (`BeginBreaks`); as the record could
+  -- not be opened, which leaves the file its own lines alone; or in the session (`KeptUpTo`)
   abbrev pub KeepsRecordedFirst : K → Counted D → Counted V → K → Counted D → Counted V → RecordedFault → Type 0
   KeepsRecordedFirst file reader writer kept read written (Begin fault) = (now : State)
       × BeginBreaks MachineServes None (held file) (synced file) now (held kept) (synced kept) fault × (read ≡ reader) × (written ≡ writer)

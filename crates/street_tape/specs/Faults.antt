@@ -73,8 +73,8 @@ pub record Breaks (start : State) (before : Option (List ℕ)) (text : List ℕ)
 
 -- ---- all faults
 
--- what a fault of a replay leaves: nothing where the text is no tape; the calls before the first bad line, with their
--- replies; or what `Breaks` says
+-- that a fault of a replay left: nothing applied or written, where the text is no tape; the calls before the first bad
+-- line applied and replied to, where the tape is bad; else what `Breaks` says
 abbrev pub TapeBreaks : Type 0 → State → Option (List ℕ) → List ℕ → EngineView → Option (List ℕ) → TapeFault → Type 0
 TapeBreaks at_end start before text view after NotTape = IsNoTape at_end text × StandsFor view start × Appends before after []
 TapeBreaks at_end start before text view after (BadEntry line) =

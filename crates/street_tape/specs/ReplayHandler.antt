@@ -54,8 +54,8 @@ abbrev pub AdvanceGoes : EngineView → ℕ → Option ℕ → EngineView → Ty
 AdvanceGoes before steps clock after =
     (m : State) → StandsFor before m → (clock ≡ clock_in (reply_to m (Advance steps) Whole)) × StandsFor after (state_after m (Advance steps) Whole)
 
--- what a call leaves that was not replayed: a bad one, which cannot be replayed, the state m; one for which memory ran
--- out, m or that after the first steps of an advance
+-- that a call was not replayed from state m for this reason: it cannot be, and the engine still stands for m; or memory
+-- ran out, perhaps behind the first steps of an advance
 abbrev pub CallStops : State → Command → Outcome → EngineView → Stop → Type 0
 CallStops m c o view NotTape = ⊥
 CallStops m c o view BadEntry = (IsReplayable m c o → ⊥) × StandsFor view m

@@ -56,7 +56,7 @@ pub record Cuts (at_end : Type 0) (before : Option (List ℕ)) (text : List ℕ)
   pub calls : tally.calls ≡ length entries
   pub replies : tally.replies ≡ 0
 
--- what a fault of an upgrade leaves: nothing written where the text is no tape or a bad one; else what `Cuts` says
+-- that a fault of an upgrade left nothing written where the text is no tape or a bad one, and else what `Cuts` says
 abbrev pub UpgradeBreaks : Type 0 → Option (List ℕ) → List ℕ → Option (List ℕ) → TapeFault → Type 0
 UpgradeBreaks at_end before text after NotTape = IsNoTape at_end text × Appends before after []
 UpgradeBreaks at_end before text after (BadEntry line) = (es : List Entry) × IsBadAt at_end (λ es. ⊤) text es line × Appends before after []
