@@ -37,18 +37,18 @@ pub record IsTrafficOf (x : StreetsView) (m : Traffic) : Type 0 where
 unfoldable pub StreetsStandFor : StreetsView → Traffic → Type 0
 StreetsStandFor x m = IsTrafficOf x m
 
--- that the streets y stand for f of all traffic for which the streets x stood
+-- that, whatever traffic the streets x stood for, the streets y stand for f of it
 abbrev pub StreetsGo : (Traffic → Traffic) → StreetsView → StreetsView → Type 0
 StreetsGo f x y = (m : Traffic) → StreetsStandFor x m → StreetsStandFor y (f m)
 
--- that the streets y stand for all traffic of the streets x with one more vehicle, which waits on this lane of its
--- plan's first link; `plan` is the positions of the links, `ids` their identifiers
+-- that, whatever traffic the streets x stood for, the streets y stand for it with one more vehicle, which waits on this
+-- lane of its plan's first link; `plan` has the links' positions, `ids` their identifiers
 abbrev pub StreetsAdmit : List ℕ → ℕ → ℕ → ℕ → StreetsView → StreetsView → Type 0
 StreetsAdmit plan lane depart size x y = (ids : List ℕ) → plan ≡ plan_links x.tiles.network ids
     → StreetsGo (λ m. entered m ids lane depart size) x y
 
--- that the streets y stand for all traffic of the streets x with this plan, or one that shows the same greens, at the
--- node at a position, in place of the plan that it had
+-- that, whatever traffic the streets x stood for, the streets y stand for it with this signal plan, or one of the same
+-- greens, at the node at a position, in place of the plan that it had
 abbrev pub StreetsSignal : ℕ → SignalPlan → StreetsView → StreetsView → Type 0
 StreetsSignal node plan x y = (id : ℕ) (other : SignalPlan) → node_of x.tiles.network id ≡ Some node → ShowsAs plan other
     → StreetsGo (λ m. signalled m id other) x y

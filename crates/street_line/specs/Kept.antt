@@ -99,9 +99,8 @@ module _ {S : Type 0} (serves : S → Command → Served → S → Type 0) where
     pub holds : Appends log held kept
     pub stays : synced ≡ held
 
-  -- that a fault, as these lines were served, left: where the log failed, no reply and the first bytes of what it
-  -- keeps; where the writer failed, all that the log keeps and the first bytes of the output; else log and writer as
-  -- they were
+  -- that a fault left of these lines: where the log failed, no reply and first bytes of what it keeps; where the writer
+  -- failed, all that the log keeps and first bytes of the output; else both as they were
   abbrev pub PassStops : S → Option (List ℕ) → Option (List ℕ) → Option (List ℕ) → List (List ℕ) → KeptFault → Option (List ℕ) → Option (List ℕ) → Option (List ℕ) → Type 0
   PassStops old log stayed before ls Log held synced after =
       (out : List ℕ) × (kept : List ℕ) × (new : S) × GoesKept old ls out kept new × (after ≡ before)

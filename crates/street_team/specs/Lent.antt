@@ -1,13 +1,13 @@
 -- What is said of items that are lent.
 use Rattle.std.specs.Prelude.{ℕ, ◌≡◌, ◌+◌, ◌<◌, List, Bool, Vec, length, vec_len, slice_index_or}
 
--- that each item of xs may be worked on in this part of a step, while `shown` is shown, as `may` says of part, item
--- number, `shown` and item
+-- that each item of xs may be worked on in this part of a step, with the marks `shown` before all threads, as `may`
+-- asks of part, item number, marks and item
 abbrev pub AllMay : {T : Type 0} → (ℕ → ℕ → List Bool → T → Type 0) → ℕ → List Bool → List T → Type 0
 AllMay {T} may part shown xs = (i : ℕ) (d : T) → i < length xs → may part i shown (slice_index_or xs i d)
 
--- that each item of ys is what this part of a step made of the item of xs at its position, while `shown` was shown, as
--- `does` says; that ys is as long as xs is not said
+-- that each item of ys is what this part of a step made of the item of xs at its position, with the marks `shown`
+-- before all threads, as `does` says; that ys is as long as xs is not said
 abbrev pub EachDoes : {T : Type 0} → (ℕ → ℕ → List Bool → T → T → Type 0) → ℕ → List Bool → List T → List T → Type 0
 EachDoes {T} does part shown xs ys = (i : ℕ) (d : T) → i < length xs → does part i shown (slice_index_or xs i d) (slice_index_or ys i d)
 

@@ -23,8 +23,8 @@ planned node plan m = record m { signals = slice_set m.signals node (Some plan) 
 
 -- ---- a tile before and after
 
--- that tile y stands for f of all traffic for which tile x stood and P held; those on the way, those who arrived and
--- the detectors are as they were
+-- that, whatever traffic tile x stood for, if P held of it, tile y stands for f of it; those on the way, those who
+-- arrived and the detectors are as they were
 pub record DoesIf (net : NetSpec) (P : Traffic → Type 0) (f : Traffic → Traffic) (x y : TileView) : Type 0 where
   pub same : SameTile x y
   pub handed : y.handed ≡ x.handed
@@ -33,8 +33,8 @@ pub record DoesIf (net : NetSpec) (P : Traffic → Type 0) (f : Traffic → Traf
   pub detectors : y.detectors ≡ x.detectors
   pub stands : (m : Traffic) → IsOn net m → P m → StandsFor x m → StandsFor y (f m)
 
--- that tile y stands for f of all traffic for which tile x stood; those on the way, those who arrived and the detectors
--- are as they were
+-- that, whatever traffic tile x stood for, tile y stands for f of it; those on the way, those who arrived and the
+-- detectors are as they were
 abbrev pub Does : NetSpec → (Traffic → Traffic) → TileView → TileView → Type 0
 Does net f x y = DoesIf net (λ m. Unit {0}) f x y
 

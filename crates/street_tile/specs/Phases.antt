@@ -9,8 +9,8 @@ use Rattle.street_record.specs.Rows.{arrival_at}
 use Rattle.street_tile.specs.Tiles.{TileView, StandsFor, SameTile, Shows, ShowsOwn, nobody}
 use Rattle.street_tile.specs.TileDetectors.{KeepMeters, HaveWatched, MetersStand, noted_by}
 
--- that tile y stands for f of all traffic for which tile x stood; those on the way are as they were, and there is no
--- less room
+-- that, whatever traffic tile x stood for, tile y stands for f of it; those on the way are as they were, and there is
+-- no less room
 pub record GoesBy (net : NetSpec) (f : Traffic → Traffic) (x y : TileView) : Type 0 where
   pub same : SameTile x y
   pub handed : y.handed ≡ x.handed
@@ -18,8 +18,8 @@ pub record GoesBy (net : NetSpec) (f : Traffic → Traffic) (x y : TileView) : T
   pub room : x.own.room ≤ y.own.room
   pub stands : (m : Traffic) → IsOn net m → StandsFor x m → StandsFor y (f m)
 
--- that the lanes `new` stand for all traffic of the network at this clock, once its lane changes are made, for which
--- the lanes `old` stood before them
+-- that, whatever traffic of the network at this clock the lanes `old` stood for, the lanes `new` stand for it after its
+-- lane changes
 abbrev pub ChangeLanes : NetSpec → ℕ → Lanes → Lanes → Type 0
 ChangeLanes net clock old new = (m : Traffic) → IsOn net m → m.clock ≡ clock
     → LanesStand old.places old.lanes m → LanesStand new.places new.lanes (changed m)

@@ -40,15 +40,15 @@ pub record HaveStepped (x : TilesView) (m : Traffic) : Type 0 where
 abbrev pub NobodyArrived : TilesView → Type 0
 NobodyArrived x = All (λ t. t.arrived ≡ []) x.tiles
 
--- that the tiles y stand for f of all traffic for which the tiles x stood and P held; where x held nobody's number as
--- arrived, y holds none either
+-- that, whatever traffic the tiles x stood for, if P held of it, the tiles y stand for f of it; where x held nobody's
+-- number as arrived, y holds none either
 pub record TilesGo (P : Traffic → Type 0) (f : Traffic → Traffic) (x y : TilesView) : Type 0 where
   pub network : y.network ≡ x.network
   pub long : length y.tiles ≡ length x.tiles
   pub nobody : NobodyArrived x → NobodyArrived y
   pub goes : (m : Traffic) → P m → TilesStandFor x m → TilesStandFor y (f m)
 
--- that the tiles y stand for all traffic for which the tiles x stood
+-- that, whatever traffic the tiles x stood for, the tiles y stand for it, too
 abbrev pub TilesKeep : TilesView → TilesView → Type 0
 TilesKeep x y = TilesGo (λ m. Unit {0}) (λ m. m) x y
 
