@@ -65,7 +65,7 @@ abbrev pub IsToldExit : NetSpec → Option SignalPlan → ℕ → Place → ℕ 
 IsToldExit net plan step p buffered car exit = IsFarFrom net p car.cell ⊎ (exit ≡ is_open_to net plan step p buffered (vehicle_of car))
 
 -- that `exit` says whether the exit of the leg's lane is open to the car of key `front`, with as many in the buffer as
--- are on list `buffer`; it need not where that car is too far from the end
+-- are on list `buffer`; where that car is too far from the lane's end it may say either
 abbrev pub TellsExit : Yard → Leg → ℕ → ℕ → Bool → Type 0
 TellsExit y leg buffer front exit =
     (car : Car) → car_of y front ≡ Some car → IsToldExit leg.net.now leg.signal.now leg.clock leg.at (length (list_at y buffer)) car exit
@@ -110,8 +110,8 @@ pub record MovesLane (net : NetSpec) (signal : Option SignalPlan) (step : ℕ) (
   pub arrived : WhereSeen net signal step p (lane_seen old closed (cells_on net p) n) (λ m. told ≡ arrived_car (leaver_of m p))
   pub watched : WhereSeen net signal step p (lane_seen old closed (cells_on net p) n) (λ m. after ≡ map (watched (drive_on m p) (lane_at m p).track) before)
 
--- that motion was made on the lists of a leg's lane (`MovesLane`), by the network, signal plan, clock and closed
--- stretches of the leg
+-- that motion was made on the lists of a leg, a lane of a tile in a step (`MovesLane`), by the leg's network, signal
+-- plan, clock and closed stretches
 abbrev pub MovesLeg : Leg → Yard → Yard → Option ArrivedCar → List Watch → List Watch → Type 0
 MovesLeg leg old new told before after =
     MovesLane leg.net.now leg.signal.now leg.clock leg.at leg.closures.now leg.lane old new told before after
