@@ -19,7 +19,8 @@ use Rattle.street_tape.specs.Entries.{entry_reading, tape_reading}
 
 -- ---- a replay
 
--- the machine's replies to the calls that the text says, each of which can be replayed, and its reply to a count after them
+-- that a replay of this tape was told whole: its calls can be replayed, its replies are the machine's, and `count` is
+-- the machine's reply to a count after them
 pub record IsRetold (text : List ℕ) (told : Retold) : Type 0 where
   pub entries : List Entry
   pub says : tape_reading text ≡ Some entries
@@ -27,7 +28,8 @@ pub record IsRetold (text : List ℕ) (told : Retold) : Type 0 where
   pub output : told.replies.items ≡ output_from None entries
   pub count : told.count ≡ reply_to (state_of entries) Count Whole
 
--- so much of the text was read until this fault
+-- that a replay of this text ended with this fault: what it had read and left unread of the text, and what the fault
+-- left (`TapeBreaks`)
 pub record IsStopped (text : List ℕ) (fault : TapeFault) : Type 0 where
   pub read : List ℕ
   pub left : Option (List ℕ)
@@ -38,31 +40,33 @@ pub record IsStopped (text : List ℕ) (fault : TapeFault) : Type 0 where
 
 -- ---- where lines end
 
--- none of the first n bytes is LF
+-- that none of the first n bytes of the text is LF
 abbrev pub HasNoEnd : List ℕ → ℕ → Type 0
 HasNoEnd text n = AllWithin (λ b. b ≡ 10 → ⊥) text 0 n
 
--- the first LF stands there
+-- that the first LF of the text is byte n
 abbrev pub EndsFirst : List ℕ → ℕ → Type 0
 EndsFirst text n = (n < length text) × HoldsAt (λ b. b ≡ 10) text n × HasNoEnd text n
 
 -- ---- a session's replies
 
--- what a line of a tape says is a call of the session
+-- whether a line of a tape, read so, says a call of this session; false where the line has a fault
 abbrev pub is_of : ℕ → Result Entry LineFault → Bool
 is_of session (Ok e) = e.session == session
 is_of session (Err f) = false
 
--- of the lines of reply to these calls, one to each, those to the calls of a session
+-- of the lines of reply to these lines of calls, one to each and in order, those to the calls of this session, each
+-- with its LF
 abbrev pub own_lines : ℕ → List (List ℕ) → List (List ℕ) → List ℕ
 own_lines session [] replies = []
 own_lines session (c ∷ cs) [] = []
 own_lines session (c ∷ cs) (r ∷ rs) = if is_of session (entry_reading true c) then (r ++ 10 ∷ []) ++ own_lines session cs rs else own_lines session cs rs
 
--- the first line of a tape is no call
+-- of the replies to a tape, those to the calls of this session; the tape's first line says no call and has no reply
 abbrev pub replies_to : ℕ → List ℕ → List ℕ → List ℕ
 replies_to session tape replies = own_lines session (drop 1 (cut tape).0) (cut replies).0
 
--- each of the two callers was given these replies to its own calls of the tape, and nothing else
+-- that the two callers were told just these replies, each those to its own calls of the tape: the first as session 0,
+-- the second as session 1
 abbrev pub Agrees : Told → List ℕ → Type 0
 Agrees told replies = (told.first.items ≡ replies_to 0 told.tape.items replies) × (told.second.items ≡ replies_to 1 told.tape.items replies)

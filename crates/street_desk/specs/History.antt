@@ -6,29 +6,31 @@ use Rattle.street_base.specs.declared.reply.Reply.{Reply}
 use Rattle.street_base.specs.Prelude.{State, Allows, state_after, reply_to}
 use Rattle.street_desk.specs.declared.journal.Entry.{Entry}
 
--- a call of a session
+-- the entry of a history for one call: the number of its session, its command and its outcome
 abbrev pub entry : ℕ → Command → Outcome → Entry
 entry session command outcome = record { session = session; command = command; outcome = outcome }
 
--- the machine's state after these calls
+-- the machine's state after these calls, made one after another from state m
 abbrev pub state_from : State → List Entry → State
 state_from m [] = m
 state_from m (e ∷ es) = state_from (state_after m e.command e.outcome) es
 
--- a history is legal from a state on: each outcome is one that the machine allows at that point
+-- that each call's outcome is one that the machine allows in the state that the calls before it have led to, from state
+-- m on
 abbrev pub IsLegalFrom : State → List Entry → Type 0
 IsLegalFrom m [] = Unit {0}
 IsLegalFrom m (e ∷ es) = Allows m e.command e.outcome × IsLegalFrom (state_after m e.command e.outcome) es
 
--- a history begins with nothing loaded
+-- the machine's state after the calls of a history, which begins with nothing loaded
 abbrev pub state_of : List Entry → State
 state_of history = state_from None history
 
--- a history is legal from nothing loaded on
+-- that a history is legal from nothing loaded on: each call's outcome is one that the machine allows where the call
+-- stands
 abbrev pub IsLegal : List Entry → Type 0
 IsLegal history = IsLegalFrom None history
 
--- the machine's replies to these calls, with their outcomes
+-- the machine's reply to each of these calls from state m on, with the call's outcome
 abbrev pub answers_from : State → List Entry → List (Reply × Outcome)
 answers_from m [] = []
 answers_from m (e ∷ es) = (reply_to m e.command e.outcome, e.outcome) ∷ answers_from (state_after m e.command e.outcome) es
@@ -37,21 +39,22 @@ answers_from m (e ∷ es) = (reply_to m e.command e.outcome, e.outcome) ∷ answ
 abbrev pub answers_of : List Entry → List (Reply × Outcome)
 answers_of history = answers_from None history
 
--- each session is below a number
+-- that the number of each call's session is below n
 abbrev pub AllBelow : ℕ → List Entry → Type 0
 AllBelow n [] = Unit {0}
 AllBelow n (e ∷ es) = (e.session < n) × AllBelow n es
 
--- the calls of one session, in order
+-- the calls of one session, in the order of the history
 abbrev pub calls_of : ℕ → List Entry → List Entry
 calls_of session [] = []
 calls_of session (e ∷ es) = if e.session == session then e ∷ calls_of session es else calls_of session es
 
--- a history begins with another
+-- that `history` begins with all calls of `seen`, in their order
 abbrev pub BeginsWith : List Entry → List Entry → Type 0
 BeginsWith history seen = (rest : List Entry) × (history ≡ seen ++ rest)
 
--- a legal history of a desk with so many sessions
+-- that the history is legal from nothing loaded on, and each of its calls is of one of the desk's sessions, 0 to
+-- `sessions - 1`
 pub record IsHistory (sessions : ℕ) (history : List Entry) : Type 0 where
   pub legal : IsLegal history
   pub below : AllBelow sessions history

@@ -12,13 +12,14 @@ use Rattle.street_desk.specs.History.{entry, state_of, calls_of, BeginsWith, IsH
 
 -- ---- what contracts see
 
--- a desk: which it is, how many calls it takes, and how many sessions it has
+-- what contracts see of a desk: the table that it is, the most calls that its journal takes, and its count of sessions
 pub record DeskView : Type 0 where
   pub table : TableId
   pub calls : ℕ
   pub sessions : ℕ
 
--- a pass: its desk, the history that it has seen, the number of finished calls that it knows, and its sessions, of which it calls as the least
+-- what contracts see of a pass: its desk, the history that it has `seen`, how many finished calls it knows of
+-- (`count`), and its sessions, `least` to `greatest`; its calls bear the number `least`
 pub record PassView : Type 0 where
   pub desk : DeskView
   pub seen : List Entry
@@ -26,25 +27,27 @@ pub record PassView : Type 0 where
   pub least : ℕ
   pub greatest : ℕ
 
--- a note: its desk, and what the pass had seen and known
+-- what contracts see of a note that a pass made: the desk, the history that the pass had seen, and how many finished
+-- calls it knew of
 pub record NoteView : Type 0 where
   pub desk : DeskView
   pub seen : List Entry
   pub count : ℕ
 
--- the desk that a seat at this table is of
+-- the desk, as contracts see it, of a seat of view v at this table
 abbrev pub desk_view : TableId → SeatView → DeskView
 desk_view t v = record { table = t; calls = v.calls; sessions = v.sessions }
 
--- what contracts see of a pass with this seat
+-- a pass, as contracts see it, by the view v of its seat at this table
 abbrev pub pass_view : TableId → SeatView → PassView
 pass_view t v = record { desk = desk_view t v; seen = v.seen; count = v.count; least = v.least; greatest = v.greatest }
 
--- what contracts see of a note with this seat
+-- a note, as contracts see it, by the view v of its seat at this table
 abbrev pub note_view : TableId → SeatView → NoteView
 note_view t v = record { desk = desk_view t v; seen = v.seen; count = v.count }
 
--- a view that a pass rests with between calls
+-- that a seat's view is that of a pass between two calls: no turn, sessions of its own, nothing heard, a legal history
+-- seen, in which no call bears one of its sessions but the least
 pub record Rests (v : SeatView) : Type 0 where
   pub turn : v.turn ≡ false
   pub owns : v.owns ≡ true
@@ -55,12 +58,12 @@ pub record Rests (v : SeatView) : Type 0 where
 
 -- ---- what calls tell
 
--- q is a pass of the same desk as p, with the same sessions
+-- that pass q is at the same desk as pass p, with the same sessions
 abbrev pub Same : PassView → PassView → Type 0
 Same p q = (q.desk ≡ p.desk) × (q.least ≡ p.least) × (q.greatest ≡ p.greatest)
 
--- the command was answered: the history seen then is legal, begins with all that was seen and with as many calls as were known
--- of, and ends with this call, for which the desk had a place; the reply is the machine's there, and this call is one more of its own
+-- that pass p called and got this reply, and is q then: q has seen a legal history that begins with all that p had seen
+-- and ends with this call, for which the desk had room, and the reply is the machine's there
 pub record Answered (p : PassView) (command : Command) (answer : Reply) (q : PassView) : Type 0 where
   pub before : List Entry
   pub outcome : Outcome
@@ -74,7 +77,8 @@ pub record Answered (p : PassView) (command : Command) (answer : Reply) (q : Pas
   pub kept : p.count ≤ q.count
   pub same : Same p q
 
--- pass q has learned from p on: the history that q has seen is legal and begins with what p had seen, has no new call of the pass's own session, and the count that q knows is not lower
+-- that pass q is pass p after a look at the desk: it has seen a legal history that begins with what p had seen, with no
+-- new call of p's own session, and knows of no fewer calls
 pub record Learns (p q : PassView) : Type 0 where
   pub is_history : IsHistory p.desk.sessions q.seen
   pub begins : BeginsWith q.seen p.seen
@@ -82,30 +86,34 @@ pub record Learns (p q : PassView) : Type 0 where
   pub kept : p.count ≤ q.count
   pub same : Same p q
 
--- the journal is full: as many calls are seen as the desk takes
+-- that pass p found the desk's journal full, with as many calls as the desk takes, and is q then, which has seen them
+-- all
 pub record Filled (p q : PassView) : Type 0 where
   pub learns : Learns p q
   pub long : length q.seen ≡ p.desk.calls
   pub count : p.count ≤ length q.seen
 
--- the reply to a command; or the command comes back, with the number of calls that the full journal has
+-- that a call of pass p came back either with its reply (`Answered`), or, as the journal was full, with the command
+-- itself and the journal's count of calls (`Filled`)
 abbrev pub Told : PassView → Command → ℕ → Result Reply Full → PassView → Type 0
 Told p command calls told q =
     MatchResult told (λ r. Answered p command r q) (λ f. (f.command ≡ command) × (f.served ≡ calls) × Filled p q)
 
--- pass p found n calls finished, and is q then
+-- that pass p was told that n calls are finished, and is q then, which has seen no more calls than these
 pub record ServedCount (p : PassView) (n : ℕ) (q : PassView) : Type 0 where
   pub learns : Learns p q
   pub count : q.count ≡ n
   pub long : length q.seen ≤ n
 
--- pass p has heard a note, and is q then: what the note's maker had seen and known is seen and known by q
+-- that pass p heard a note, and is q then: q has seen a history that begins with what the note's maker had seen, and
+-- knows of as many calls as the maker did, at least
 pub record Heard (p : PassView) (note : NoteView) (q : PassView) : Type 0 where
   pub learns : Learns p q
   pub heard : BeginsWith q.seen note.seen
   pub count : note.count ≤ q.count
 
--- the journal at the end, of as many calls as the desk takes at most
+-- that this is the journal of p's desk at its end: a legal history that begins with all that p has seen, of as many
+-- calls as p knows of at least and as the desk takes at most, and with no further call of p's session
 pub record Finished (p : PassView) (journal : List Entry) : Type 0 where
   pub is_history : IsHistory p.desk.sessions journal
   pub room : length journal ≤ p.desk.calls
@@ -115,18 +123,18 @@ pub record Finished (p : PassView) (journal : List Entry) : Type 0 where
 
 -- ---- passes made
 
--- the first pass: it has seen nothing, and owns every session
+-- the first pass of a desk: it has seen nothing, and all sessions are its own
 abbrev pub first_pass : DeskView → PassView
 first_pass d = record { desk = d; seen = []; count = 0; least = 0; greatest = d.sessions - 1 }
 
--- a pass that is split, the part that stays: the pass without its greatest session
+-- what stays of a pass that is split: the pass without its greatest session
 abbrev pub without_last : PassView → PassView
 without_last p = record p { greatest = p.greatest - 1 }
 
--- a pass that is split, the part that is given away: it has seen the same, and owns the greatest session alone
+-- what is given away of a pass that is split: a pass that has seen the same, with the greatest session alone
 abbrev pub of_last : PassView → PassView
 of_last p = record p { least = p.greatest }
 
--- no call that the pass has seen bears the session that the pass calls as
+-- that the session whose number the pass's calls bear has made no call in the history that the pass has seen
 abbrev pub OwnsUnused : PassView → Type 0
 OwnsUnused p = calls_of p.least p.seen ≡ []

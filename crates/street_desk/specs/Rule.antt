@@ -1,5 +1,5 @@
--- The rule of the desk's table, which holds between any two steps.
--- The word is twice the number of finished calls, and one more during a turn. The slot holds the engine with its journal.
+-- The rule of the desk's table, which holds between any two steps of its threads. The table's word is twice the count
+-- of finished calls, and one more during a turn; its slot holds the engine with its journal, or nothing during a turn.
 use Rattle.std.specs.Prelude.{◌≡◌, ◌≢◌, ◌⊎◌, ℕ, ◌+◌, ◌-◌, ◌*◌, ◌<◌, ◌≤◌, List, [], ◌∷◌, length, true, false, Option, Some}
 use mathlib.Core.Option as maybe
 use lib.ListN.{get_elem?}
@@ -8,30 +8,31 @@ use Rattle.street_desk.specs.declared.journal.Entry.{Entry}
 use Rattle.street_desk.specs.declared.view.SeatView.{SeatView}
 use Rattle.street_desk.specs.History.{IsHistory, BeginsWith, calls_of}
 
--- what lies in the slot: an engine with this journal, and room for so many calls
+-- what lies in the table's slot: an engine whose journal is `history`, with room for `calls` calls in all
 pub record Recorded : Type 0 where
   pub history : List Entry
   pub calls : ℕ
 
--- an engine with this journal, and room for so many calls
+-- the content of the slot with this journal and room for so many calls
 abbrev pub recorded : List Entry → ℕ → Recorded
 recorded history calls = record { history = history; calls = calls }
 
--- who has the turn, by the number of the seat
+-- the number of the seat that has the turn; none where nobody has it
 abbrev pub Turn : Type 0
 Turn = maybe.Option ℕ
 
--- one where somebody has the turn
+-- the lowest bit of the table's word: 1 while a seat has the turn, else 0
 abbrev pub turn_bit : Turn → ℕ
 turn_bit maybe.none = 0
 turn_bit (maybe.some seat) = 1
 
--- nobody's turn: the engine is at home
+-- what the table's slot holds: the engine with its journal (r) where nobody has the turn; nothing where a seat has it
 abbrev pub home_of : Turn → Recorded → maybe.Option (Option Recorded)
 home_of maybe.none r = maybe.some (Some r)
 home_of (maybe.some seat) r = maybe.none
 
--- a view knows of the history what is true: it has seen beginnings of it and all calls of the session that it calls as, and no call bears another session that it owns
+-- that what a seat's view v says is true of the history: v has seen a beginning of it, with all calls of v's least
+-- session; no call bears another of v's sessions; and a view that has the turn has seen all of it
 pub record Knows (calls sessions : ℕ) (history : List Entry) (busy : Turn) (seat : ℕ) (v : SeatView) : Type 0 where
   pub seen : BeginsWith history v.seen
   pub also : BeginsWith history v.also
@@ -42,15 +43,16 @@ pub record Knows (calls sessions : ℕ) (history : List Entry) (busy : Turn) (se
   pub unused : v.owns ≡ true → (n : ℕ) → v.least < n → n ≤ v.greatest → calls_of n history ≡ []
   pub limits : v.live ≡ true → (v.calls ≡ calls) × (v.sessions ≡ sessions)
 
--- two views own different sessions
+-- that two views have no session in common, where both own sessions
 abbrev pub Apart : SeatView → SeatView → Type 0
 Apart v w = v.owns ≡ true → w.owns ≡ true → (v.greatest < w.least) ⊎ (w.greatest < v.least)
 
--- any two seats own different sessions
+-- that no two seats have a session in common
 abbrev pub AllApart : List SeatView → Type 0
 AllApart views = (i j : ℕ) (v w : SeatView) → i ≢ j → get_elem? views i ≡ maybe.some v → get_elem? views j ≡ maybe.some w → Apart v w
 
--- there is one legal history; at an even word it is the journal in the slot
+-- that one legal history explains the table: its length and the turn make the word, it is the journal in the slot while
+-- nobody has the turn, it fits, each seat's view knows what is true of it, and no two share a session
 pub record KeepsRule (calls sessions : ℕ) (s : State (Option Recorded) SeatView) : Type 0 where
   pub history : List Entry
   pub turn : Turn
@@ -61,7 +63,7 @@ pub record KeepsRule (calls sessions : ℕ) (s : State (Option Recorded) SeatVie
   pub seats : (j : ℕ) (v : SeatView) → get_elem? s.views j ≡ maybe.some v → Knows calls sessions history turn j v
   pub apart : AllApart s.views
 
--- the first view has seen nothing and owns every session
+-- the view of the first seat, at a desk with room for `calls` calls: it has seen nothing, and all sessions are its own
 abbrev pub first_view : ℕ → ℕ → SeatView
 first_view calls sessions = record {
   seen = [];

@@ -10,21 +10,22 @@ use Rattle.street_desk.specs.declared.view.SeatView.{SeatView}
 use Rattle.street_desk.specs.History.{entry, state_of, IsLegal, AllBelow, BeginsWith, calls_of}
 use Rattle.street_desk.specs.Rule.{Recorded, recorded}
 
--- a seat: its view, and the slots that it holds
+-- a seat as a thread holds it: its view, and the slots of the table that it has in hand
 abbrev pub Sat : Type 0
 Sat = Me (Option Recorded) SeatView
 
 -- ---- a load and a turn
 
--- the view after a load
+-- the view after a load: it has seen this history, knows of so many finished calls, and has nothing heard left
 abbrev pub looked : SeatView → List Entry → ℕ → SeatView
 looked v seen count = record v { seen = seen; also = []; count = count }
 
--- the view as a turn begins or ends
+-- the view as a turn begins or ends: it has seen this history, has the turn or not, and has nothing heard left
 abbrev pub with_turn : SeatView → List Entry → Bool → SeatView
 with_turn v seen turn = record v { seen = seen; also = []; turn = turn }
 
--- the history that a seat sees afterwards is legal, begins with what the seat had seen and heard, and has no new call of the seat's own session
+-- that a seat of view v may now see this history: it is legal, begins with all that v had seen and heard, and has no
+-- call of v's sessions but those of the least one that v had seen
 pub record Sees (v : SeatView) (history : List Entry) : Type 0 where
   pub legal : IsLegal history
   pub below : v.live ≡ true → AllBelow v.sessions history
@@ -34,7 +35,8 @@ pub record Sees (v : SeatView) (history : List Entry) : Type 0 where
   pub own : v.owns ≡ true → calls_of v.least history ≡ calls_of v.least v.seen
   pub unused : v.owns ≡ true → (n : ℕ) → v.least < n → n ≤ v.greatest → calls_of n history ≡ []
 
--- a load found the word n: half of it is the count, and an even word shows the whole history
+-- that a load found the word n, and made view v into w: n / 2 is the count of finished calls, w has seen at most these,
+-- and all of them where n is even, as nobody has the turn then
 pub record Looks (v : SeatView) (n : ℕ) (w : SeatView) : Type 0 where
   pub is : w ≡ looked v w.seen (n / 2)
   pub sees : Sees v w.seen
@@ -43,11 +45,12 @@ pub record Looks (v : SeatView) (n : ℕ) (w : SeatView) : Type 0 where
   pub even : n % 2 ≡ 0 → 2 * length w.seen ≡ n
   pub limit : v.live ≡ true → n ≤ 2 * v.calls + 1
 
--- what a load tells the seat that makes it
+-- that a seat's load found the table's word to be n: its slots stay as they are, and its view goes by n (`Looks`)
 abbrev pub look : Step (Option Recorded) → Sat → ℕ → Sat → Type 0
 look st m n m' = (m'.1 ≡ m.1) × Looks m.0 n m'.0
 
--- a compare-exchange won at the word n: the turn, the whole history, and the engine in hand
+-- that a compare-exchange at the word n gave the seat the turn: its view w has now seen the whole history, of n / 2
+-- calls, and it has the engine in hand
 pub record Grabs (v : SeatView) (n : ℕ) (w : SeatView) (slots : List (ℕ × Option Recorded)) : Type 0 where
   pub is : w ≡ with_turn v w.seen true
   pub sees : Sees v w.seen
@@ -55,15 +58,18 @@ pub record Grabs (v : SeatView) (n : ℕ) (w : SeatView) (slots : List (ℕ × O
   pub word : 2 * length w.seen ≡ n
   pub taken : slots ≡ (0, Some (recorded w.seen v.calls)) ∷ []
 
--- what a compare-exchange tells the seat: one that finds another word than it expects changes nothing
+-- that a seat's compare-exchange found the table's word to be n: where the seat expected n it has won the turn
+-- (`Grabs`), else nothing has changed for it
 abbrev pub grab : Step (Option Recorded) → Sat → ℕ → Sat → Type 0
 grab st m n m' = (n ≡ st.first → Grabs m.0 n m'.0 m'.1) × (n ≢ st.first → m' ≡ m)
 
--- the store that ends a turn: the engine is at home again, and the journal is the history
+-- that the store which ends a turn has taken the engine from the seat's hand: the seat has no turn, and has seen the
+-- engine's journal
 abbrev pub release : Step (Option Recorded) → Sat → ℕ → Sat → Type 0
 release st m n m' = (r : Recorded) → m.1 ≡ (0, Some r) ∷ [] → m' ≡ (with_turn m.0 r.history false, [])
 
--- a turn was used for this call: the history is legal with it, the reply is the machine's there, and the seat rests with it seen
+-- that a seat used its turn for one call: under some outcome the history with the call is legal and the reply is the
+-- machine's there; the seat has then seen this history and has no turn
 abbrev pub Calls : SeatView → ℕ → Command → Reply → Sat → Type 0
 Calls v session command reply after = (o : Outcome)
     × (reply ≡ reply_to (state_of v.seen) command o)
@@ -72,19 +78,20 @@ Calls v session command reply after = (o : Outcome)
 
 -- ---- seats split and joined
 
--- a seat that is split, the half that stays: it owns its session numbers but the greatest. A seat at rest has heard nothing and has no turn
+-- the view that stays of a seat that is split: its sessions but the greatest, with nothing heard and no turn, as a seat
+-- at rest has neither
 abbrev pub kept_half : SeatView → SeatView
 kept_half v = record v { also = []; turn = false; greatest = v.greatest - 1 }
 
--- a seat that is split, the half that is given away: it has seen the same, and owns the greatest session number alone
+-- the view that is given away of a seat that is split: it has seen the same, with the greatest session alone
 abbrev pub given_half : SeatView → SeatView
 given_half v = record v { also = []; turn = false; least = v.greatest }
 
--- the seat of a note: it has seen the same as the pass, and owns no session
+-- the view of a note's seat: it has seen what the pass has, and has no session
 abbrev pub noted : SeatView → SeatView
 noted v = record v { also = []; turn = false; owns = false; least = 0; greatest = 0 }
 
--- the longer of two histories
+-- the longer of two histories; the first where they are of one length
 abbrev pub longer : List Entry → List Entry → List Entry
 longer a b = if leb (length b) (length a) then a else b
 
@@ -92,10 +99,11 @@ longer a b = if leb (length b) (length a) then a else b
 abbrev pub most : ℕ → ℕ → ℕ
 most a b = if leb b a then a else b
 
--- the seat of a pass that has heard a note: it keeps both histories until its next load, and takes the greater count
+-- the view of a pass v that has heard a note of view w: it keeps what w had seen beside its own until its next load,
+-- and the greater of both counts
 abbrev pub heard : SeatView → SeatView → SeatView
 heard v w = record v { also = w.seen; count = most v.count w.count; turn = false }
 
--- the seat of a note that was heard: it has seen nothing, and owns nothing
+-- the view of a note's seat once the note was heard: it has seen nothing, and has no session
 abbrev pub spent_view : SeatView
 spent_view = record { seen = []; also = []; count = 0; turn = false; owns = false; least = 0; greatest = 0; calls = 0; sessions = 0; live = false }

@@ -10,45 +10,50 @@ use Rattle.street_base.specs.declared.net.NetSpec.{NetSpec}
 use Rattle.street_base.specs.Prelude.{first_of, lane_tests, enter_refusal, State, Traffic, Answers, Runs}
 use Rattle.street_engine.specs.Streets.{StreetsView, StreetsStandFor}
 
--- what contracts see of an engine: nothing loaded, or its streets
+-- what contracts see of an engine: its streets; none where no network is loaded
 abbrev pub EngineView : Type 0
 EngineView = Option StreetsView
 
--- an engine stands for a state of the machine: both have nothing loaded, or its streets stand for the traffic
+-- that an engine stands for a state of the machine: neither has a network loaded, or the engine's streets stand for the
+-- state's traffic
 unfoldable pub StandsFor : EngineView → State → Type 0
 StandsFor None None = Unit {0}
 StandsFor None (Some m) = ⊥
 StandsFor (Some x) None = ⊥
 StandsFor (Some x) (Some m) = StreetsStandFor x m
 
--- a command is served: whatever state the engine stood for, it then stands for the machine's state after the command, and the reply is the machine's
+-- that a command was served: for any state for which the engine stood before, the reply and outcome are ones that the
+-- machine allows, and the engine stands for the machine's state after them
 abbrev pub Serves : EngineView → Command → Reply → Outcome → EngineView → Type 0
 Serves before command reply outcome after = (old : State) → StandsFor before old → (new : State) × Answers old command reply outcome new × StandsFor after new
 
--- an engine that refused a command is as it was
+-- that the engine is as it was where the reply is a refusal; nothing is said of any other reply
 abbrev pub KeepsRefused : EngineView → Reply → EngineView → Type 0
 KeepsRefused before reply after = (refusal : Refusal) → reply ≡ Refused refusal → after ≡ before
 
--- the lane of this link is there, so that what is refused is said by the tests behind those of the lane
+-- that link and lane are there in the network, so that the tests of a command which names the lane come to what the
+-- further tests `rest` say
 abbrev pub PassesLane : NetSpec → ℕ → ℕ → Type 0
 PassesLane net link lane = (m : Traffic) (rest : List (Bool × Refusal)) → m.network ≡ net
     → first_of (lane_tests link lane m ++ rest) ≡ first_of rest
 
--- the tests of the lane refuse so
+-- that the tests of link and lane refuse so in this network, whatever further tests `rest` follow
 abbrev pub RefusesLane : NetSpec → ℕ → ℕ → Refusal → Type 0
 RefusesLane net link lane refusal = (m : Traffic) (rest : List (Bool × Refusal)) → m.network ≡ net
     → first_of (lane_tests link lane m ++ rest) ≡ Some refusal
 
--- the refusal of such an entry, or that there is none, is the machine's, whatever traffic has this network and admitted as many
+-- that `refusal` is what the machine refuses an `enter` of this plan, lane, depart and size with, or none where it does
+-- not, in all traffic of the streets' network that has admitted as many vehicles
 abbrev pub TellsEntry : StreetsView → List ℕ → ℕ → ℕ → ℕ → Option Refusal → Type 0
 TellsEntry s plan lane depart size refusal = (m : Traffic) → m.network ≡ s.tiles.network → length m.ends ≡ length s.ends
     → refusal ≡ enter_refusal plan lane depart size m
 
--- the command that closes cells of a lane, or opens them
+-- the command for the cells `first` to `last` of a lane: to close them where the truth value is true, else to open them
 abbrev pub closing : Bool → ℕ → ℕ → ℕ → ℕ → Command
 closing true link lane first last = CloseLane link lane first last
 closing false link lane first last = ReopenLane link lane first last
 
--- as `Serves`, for a list of commands
+-- that a list of commands was served, one after another, with these replies and outcomes (`Serves`): for any state for
+-- which the engine stood, they are a run of the machine
 abbrev pub ServesAll : EngineView → List Command → List (Reply × Outcome) → EngineView → Type 0
 ServesAll before commands replies after = (old : State) → StandsFor before old → (new : State) × Runs old commands replies new × StandsFor after new

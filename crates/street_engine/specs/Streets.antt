@@ -7,22 +7,24 @@ use Rattle.street_tile.specs.Prelude.{TilesView, TilesStandFor, NobodyArrived, n
 use Rattle.street_engine.specs.declared.sites.DetectorSite.{DetectorSite}
 use Rattle.street_engine.specs.Sites.{AreDetectorSites}
 
--- the tiles of the network, where each detector is, the clock, and how each vehicle ended
+-- what contracts see of the traffic on a loaded network: its tiles, the lane and number of each detector (`sites`), the
+-- clock, and how each vehicle ended
 pub record StreetsView : Type 0 where
   pub tiles : TilesView
   pub sites : List DetectorSite
   pub clock : ℕ
   pub ends : List (Option End)
 
--- streets, part by part
+-- the streets that are made of these tiles, detectors' sites, clock and ends
 abbrev pub streets_of : TilesView → List DetectorSite → ℕ → List (Option End) → StreetsView
 streets_of tiles sites clock ends = record { tiles = tiles; sites = sites; clock = clock; ends = ends }
 
--- no street
+-- the streets of no network, for a contract or a default that must have some streets
 abbrev pub no_streets : StreetsView
 no_streets = record { tiles = record { network = no_network; tiles = [] }; sites = []; clock = 0; ends = [] }
 
--- the tiles stand for the traffic; the traffic has each number in one place or ended, a signal plan or none for each node, and the detectors of these sites
+-- that streets x stand for traffic m, which is sound: clock and ends are the same, the tiles and meters stand for lanes
+-- and detectors, each node has an entry for its signal plan, and the sites name the detectors
 pub record IsTrafficOf (x : StreetsView) (m : Traffic) : Type 0 where
   pub clock : x.clock ≡ m.clock
   pub ends : x.ends ≡ m.ends
@@ -31,25 +33,28 @@ pub record IsTrafficOf (x : StreetsView) (m : Traffic) : Type 0 where
   pub signals : length m.signals ≡ length x.tiles.network.nodes
   pub sites : AreDetectorSites x.tiles.network x.sites m.detectors
 
--- the streets stand for this traffic of the machine
+-- that streets x stand for traffic m of the machine (`IsTrafficOf`, which a proof has to unfold)
 unfoldable pub StreetsStandFor : StreetsView → Traffic → Type 0
 StreetsStandFor x m = IsTrafficOf x m
 
--- whatever traffic the streets x stood for, the streets y stand for f of that
+-- that, whatever traffic the streets x stood for, the streets y stand for f of it
 abbrev pub StreetsGo : (Traffic → Traffic) → StreetsView → StreetsView → Type 0
 StreetsGo f x y = (m : Traffic) → StreetsStandFor x m → StreetsStandFor y (f m)
 
--- whatever traffic the streets x stood for, the streets y stand for that with one more vehicle, which waits on this lane of the first link of its plan
+-- that, whatever traffic the streets x stood for, the streets y stand for it with one more vehicle, which waits on this
+-- lane of its plan's first link; `plan` has the links' positions, `ids` their identifiers
 abbrev pub StreetsAdmit : List ℕ → ℕ → ℕ → ℕ → StreetsView → StreetsView → Type 0
 StreetsAdmit plan lane depart size x y = (ids : List ℕ) → plan ≡ plan_links x.tiles.network ids
     → StreetsGo (λ m. entered m ids lane depart size) x y
 
--- the node at a position has this signal plan
+-- that, whatever traffic the streets x stood for, the streets y stand for it with this signal plan, or one of the same
+-- greens, at the node at a position, in place of the plan that it had
 abbrev pub StreetsSignal : ℕ → SignalPlan → StreetsView → StreetsView → Type 0
 StreetsSignal node plan x y = (id : ℕ) (other : SignalPlan) → node_of x.tiles.network id ≡ Some node → ShowsAs plan other
     → StreetsGo (λ m. signalled m id other) x y
 
--- what holds of the streets between commands: each vehicle that arrived is noted, the clock is in its range, and there is traffic for which the streets stand
+-- that streets are as a command leaves them: no arrival is still to be noted, the clock is at most the last, and there
+-- is traffic for which they stand
 pub record IsKept (x : StreetsView) : Type 0 where
   pub nobody : NobodyArrived x.tiles
   pub in_time : x.clock ≤ last_clock

@@ -6,7 +6,8 @@ use Rattle.street_meter.specs.Meter.{Meter, Stands, IsPlacedAs, detector_of, nex
 use Rattle.street_rule.specs.declared.watch.Watch.{Watch}
 use Rattle.street_rule.specs.Prelude.{watched}
 
--- the detectors of a lane: how many cells the lane has, a meter for each detector, and for each meter what it saw of the last motion
+-- what contracts see of a lane's detectors: how many cells the lane has, a meter for each detector, and a watch for
+-- each meter, of what it saw of the last motion
 pub record Detectors : Type 0 where
   pub size : ℕ
   pub meters : List Meter
@@ -14,56 +15,60 @@ pub record Detectors : Type 0 where
 
 -- ---- the step
 
--- a watch of a meter's cell that has seen nothing
+-- the watch for a meter, at the meter's cell, which has seen nothing yet
 abbrev pub cleared : Meter → Watch
 cleared x = record { cell = x.cell; passes = 0; speeds = 0 }
 
--- what the watch of a meter sees of the motion of its lane
+-- what the watch of a meter sees of motion on the lane at place p: how many fronts pass the meter's cell, and their
+-- speeds
 abbrev pub watch_of : Traffic → Place → Meter → Watch
 watch_of m p x = watched (drive_on m p) (lane_at m p).track (cleared x)
 
--- 1 if the cell is covered, else 0
+-- 1 if a vehicle covers the cell, else 0
 abbrev pub occupied_at : Cells → ℕ → ℕ
 occupied_at cells cell = if is_covered cells cell then 1 else 0
 
--- what a detector in this cell notes of a step: what its watch saw of the motion, and 1 if the cell is covered at the step's end, else 0
+-- what a detector in this cell notes of a step: the passes and speeds that its watch w saw, and 1 if the cells at the
+-- step's end have it covered, else 0
 abbrev pub triple_of : Cells → Watch → ℕ → Triple
 triple_of cells w cell = record { passes = w.passes; speeds = w.speeds; occupied = occupied_at cells cell }
 
--- the meter stays where it is, and goes on to the next step
+-- that a meter has the same place, cell, period and start as before, and the next step that it notes is one later
 pub record GoesOn (old new : Meter) : Type 0 where
   pub placed : IsPlacedAs new old
   pub next : next_step new ≡ next_step old + 1
 
--- the meter notes a step: whatever steps it stood for, it then stands for one more, with what its watch saw and whether its cell is covered
+-- that the new meter stands for the old one's steps with one more behind them: what its watch w saw, and whether its
+-- cell is covered
 abbrev pub Notes : Cells → Watch → Meter → Meter → Type 0
 Notes cells w old new = (triples : List Triple) → Stands old triples → Stands new (triples ++ triple_of cells w old.cell ∷ [])
 
--- each of these meters goes on
+-- that there are as many meters as before, and each has gone on to its next step (`GoesOn`)
 pub record AllGoOn (olds news : List Meter) : Type 0 where
   pub even : length news ≡ length olds
   pub each : (k : ℕ) (x : Meter) → k < length olds → GoesOn (slice_index_or olds k x) (slice_index_or news k x)
 
--- each of these meters notes what its watch saw
+-- that each of these meters has noted one more step, by the watch of the same position (`Notes`)
 abbrev pub AllNote : Cells → List Watch → List Meter → List Meter → Type 0
 AllNote cells ws olds news = (k : ℕ) (x : Meter) (w : Watch) → k < length olds
     → Notes cells (slice_index_or ws k w) (slice_index_or olds k x) (slice_index_or news k x)
 
 -- ---- the machine's detectors
 
--- a meter stands for a detector: the meter is where the detector is, and its rows are those of the detector
+-- that a meter stands for a detector of the machine: it is placed alike, and holds the rows of all that the detector
+-- has noted
 pub record MeterStands (x : Meter) (d : Detector) : Type 0 where
   pub placed : d ≡ detector_of x d.triples
   pub stands : Stands x d.triples
 
--- these meters stand for these detectors, one by one
+-- that there are as many meters as detectors, and each meter stands for the detector of the same position
 pub record MetersStandFor (xs : List Meter) (ds : List Detector) : Type 0 where
   pub even : length ds ≡ length xs
   pub each : (k : ℕ) (x : Meter) (d : Detector) → k < length xs → MeterStands (slice_index_or xs k x) (slice_index_or ds k d)
 
 -- ---- a detector more
 
--- a meter that has noted nothing, in a cell of a lane, with its period and its first step
+-- that a meter is at place p in cell `at`, with rows of `steps` steps, has noted nothing, and notes step `first` next
 pub record IsNew (p : Place) (at steps first : ℕ) (x : Meter) : Type 0 where
   pub place : x.place ≡ p
   pub cell : x.cell ≡ at
@@ -72,7 +77,7 @@ pub record IsNew (p : Place) (at steps first : ℕ) (x : Meter) : Type 0 where
   pub next : next_step x ≡ first
   pub stands : Stands x []
 
--- one meter more, which has noted nothing
+-- that the lane has one meter more, the last, which has noted nothing (`IsNew`); of its watches nothing is said
 pub record Placed (p : Place) (at steps first : ℕ) (old new : Detectors) : Type 0 where
   pub meter : Meter
   pub new_one : IsNew p at steps first meter

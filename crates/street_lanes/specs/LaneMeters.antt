@@ -7,7 +7,7 @@ use Rattle.street_lanes.specs.Detectors.{Detectors}
 abbrev pub seen : Inside → Detectors
 seen x = record { size = x.length; meters = x.meters.items; watches = x.watches.items }
 
--- a watch for each meter, each in a cell of the lane
+-- that there is a watch for each meter, and each meter is in a cell that the lane has
 pub record IsSound (x : Inside) : Type 0 where
   pub even : length x.watches.items ≡ length x.meters.items
   pub within : All (λ m. m.cell < x.length) x.meters.items

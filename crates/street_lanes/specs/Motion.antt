@@ -19,11 +19,13 @@ use Rattle.street_lanes.specs.Lists.{cells_list, buffer_list, cars_on, lane_seen
 
 -- ---- the traffic of a step
 
--- a plan shows the same turns green as another, in every step; where there is none all turns are green
+-- that two signal plans show the same turns green in every step; where there is no plan, all turns are green in all
+-- steps
 abbrev pub PlanStands : Option SignalPlan → Option SignalPlan → Type 0
 PlanStands plan other = (place : Place) (next step : ℕ) → is_green plan place next step ≡ is_green other place next step
 
--- traffic of this network at a clock that is not past the last one, with a plan that stands for that of the node to which a lane runs
+-- that the traffic is of this network, at this clock, which is not past the last one, and that `signal` shows the same
+-- greens as the plan of the node to which the lane at p runs
 pub record IsStepOf (net : NetSpec) (signal : Option SignalPlan) (step : ℕ) (p : Place) (m : Traffic) : Type 0 where
   pub network : m.network ≡ net
   pub clock : m.clock ≡ step
@@ -32,50 +34,57 @@ pub record IsStepOf (net : NetSpec) (signal : Option SignalPlan) (step : ℕ) (p
 
 -- ---- the exit
 
--- the buffer of a lane has room: `buffered` vehicles are below its capacity
+-- whether `buffered` vehicles are fewer than the capacity of the node to which the lane's link runs; false where there
+-- is no such node
 abbrev pub has_room : NetSpec → Place → ℕ → Bool
 has_room net place buffered = option_map_or (λ node. nat_lt buffered node.capacity) (end_node net place.link) false
 
--- a lane's exit is open to a vehicle whose next link is `next`, with `buffered` vehicles in the buffer: the vehicle is on its last link; or the lane has
--- a turn to that link, which the signal plan shows green, and the buffer has room
+-- whether the lane's exit is open to a vehicle whose next link is `next`: always where the vehicle has no next link;
+-- else where the lane has a turn to it that is green (as every turn is without a signal plan) and the buffer has room
 abbrev pub opens_to : NetSpec → Option SignalPlan → ℕ → Place → ℕ → Option ℕ → Bool
 opens_to net plan step place buffered next =
     option_map_or (λ next. serves net place next && is_green plan place next step && has_room net place buffered) next true
 
--- a lane's exit is open to this vehicle, with `buffered` vehicles in the buffer (`opens_to` of the vehicle's next link)
+-- whether a lane's exit is open to this vehicle (`opens_to` of the vehicle's next link), with `buffered` vehicles in
+-- the buffer
 abbrev pub is_open_to : NetSpec → Option SignalPlan → ℕ → Place → ℕ → Vehicle → Bool
 is_open_to net plan step place buffered v = opens_to net plan step place buffered (next_link v)
 
--- how many cells a lane of a link has
+-- the count of cells of a lane at a place, which is the length of its link
 abbrev pub cells_on : NetSpec → Place → ℕ
 cells_on net p = (link_at net p.link).length
 
--- a vehicle in this cell cannot come past the lane's end in a step: the lane's end is farther away than the limit, and the limit is at most 16
+-- that a vehicle with its front in this cell cannot pass the lane's end in one step, as `cell + limit` is below the
+-- length; the limit is at most 16
 abbrev pub IsFarFrom : NetSpec → Place → ℕ → Type 0
 IsFarFrom net p cell = ((link_at net p.link).limit ≤ 16) × (cell + (link_at net p.link).limit < cells_on net p)
 
--- the exit is told as it is to the front vehicle, unless that vehicle is too far from the lane's end for the exit to matter
+-- that `exit` says whether the lane's exit is open to the car, or the car is too far from the lane's end for the exit
+-- to matter
 abbrev pub IsToldExit : NetSpec → Option SignalPlan → ℕ → Place → ℕ → Car → Bool → Type 0
 IsToldExit net plan step p buffered car exit = IsFarFrom net p car.cell ⊎ (exit ≡ is_open_to net plan step p buffered (vehicle_of car))
 
--- the exit of a leg's lane is told to the front car, that of this key, as it is, with the buffer as it is
+-- that `exit` says whether the exit of the leg's lane is open to the car of key `front`, with as many in the buffer as
+-- are on list `buffer`; where that car is too far from the lane's end it may say either
 abbrev pub TellsExit : Yard → Leg → ℕ → ℕ → Bool → Type 0
 TellsExit y leg buffer front exit =
     (car : Car) → car_of y front ≡ Some car → IsToldExit leg.net.now leg.signal.now leg.clock leg.at (length (list_at y buffer)) car exit
 
 -- ---- a leaver
 
--- the car of a leaver to the end of a list, with the step from which it may go on, or nowhere where it is on its last link
+-- the one car that a leaver adds to its buffer's list, with `ready` as the step from which it may go on; none where it
+-- is on its last link
 abbrev pub behind_all : ℕ → Car → List Car
 behind_all ready car = if is_on_last (vehicle_of car) then [] else record car { step = ready } ∷ []
 
--- a leaver that is on its last link, by its number and speed; nobody where another left, or none
+-- the number and speed of a leaver that is on its last link, as of a vehicle that arrives; none of any other leaver, or
+-- of nobody
 abbrev pub arrived_car : Option Vehicle → Option ArrivedCar
 arrived_car None = None
 arrived_car (Some v) = if is_on_last v then Some (record { number = v.number; speed = v.speed }) else None
 
--- a car that has left its lane: on its last link it is taken out, and is the vehicle that arrived; on any other link it comes last on a list, the
--- buffer's
+-- that a car which left its lane's cells is where it belongs: taken out and told as arrived where this was its last
+-- link, else the last car of `list`, the buffer's, ready at step `ready`
 pub record Settles (list ready : ℕ) (car : Car) (old new : Yard) (told : Option ArrivedCar) : Type 0 where
   pub arrived : told ≡ arrived_car (Some (vehicle_of car))
   pub touches : Touches (list ∷ []) old new
@@ -84,12 +93,12 @@ pub record Settles (list ready : ℕ) (car : Car) (old new : Yard) (told : Optio
 
 -- ---- the lane
 
--- P holds of whatever traffic of the step these lists stand for the lane at p of
+-- that P holds of all traffic of the step whose lane at p is the one that `lane` shows (`IsLaneOf`)
 abbrev pub WhereSeen : NetSpec → Option SignalPlan → ℕ → Place → LaneView → (Traffic → Type 0) → Type 0
 WhereSeen net signal step p lane P = (m : Traffic) → IsStepOf net signal step p m → IsLaneOf lane (lane_at m p) → P m
 
--- the lists of lane n, which is the lane at p, stand for that lane after motion, whatever lane they stood for; the vehicle that arrives is told, and
--- each watch has noted what its detector notes
+-- that the lists of lane n show its lane after motion, whatever lane at p they showed before; `told` is the vehicle
+-- that arrives, and the watches `before` have become `after` by what their detectors see
 pub record MovesLane (net : NetSpec) (signal : Option SignalPlan) (step : ℕ) (p : Place) (closed : List Stretch) (n : ℕ)
     (old new : Yard) (told : Option ArrivedCar) (before after : List Watch) : Type 0 where
   pub touches : Touches (cells_list n ∷ buffer_list n ∷ []) old new
@@ -101,17 +110,18 @@ pub record MovesLane (net : NetSpec) (signal : Option SignalPlan) (step : ℕ) (
   pub arrived : WhereSeen net signal step p (lane_seen old closed (cells_on net p) n) (λ m. told ≡ arrived_car (leaver_of m p))
   pub watched : WhereSeen net signal step p (lane_seen old closed (cells_on net p) n) (λ m. after ≡ map (watched (drive_on m p) (lane_at m p).track) before)
 
--- what motion does to the lists of a leg's lane
+-- that motion was made on the lists of a leg, a lane of a tile in a step (`MovesLane`), by the leg's network, signal
+-- plan, clock and closed stretches
 abbrev pub MovesLeg : Leg → Yard → Yard → Option ArrivedCar → List Watch → List Watch → Type 0
 MovesLeg leg old new told before after =
     MovesLane leg.net.now leg.signal.now leg.clock leg.at leg.closures.now leg.lane old new told before after
 
--- P holds of whatever traffic of the step lane n stands for its lane of
+-- that P holds of all traffic of the step whose lane, at the place of lane n, is the one that lane n stands for
 abbrev pub WhereStands : NetSpec → Option SignalPlan → ℕ → ℕ → Lanes → (Traffic → Type 0) → Type 0
 WhereStands net signal step n x P = (m : Traffic) → IsStepOf net signal step (place_at x n) m → LaneStands (lane_of x n) (lane_at m (place_at x n)) → P m
 
--- lane n stands for its lane after motion, of whatever traffic it stood for its lane; the vehicle that arrives is told, and each watch has noted what
--- its detector notes; the other lanes are as they were
+-- that lane n stands for its lane after motion, whatever lane it stood for; `told` is the vehicle that arrives, the
+-- watches `before` have become `after`, and all other lanes are as they were
 pub record DrivesAt (net : NetSpec) (signal : Option SignalPlan) (step n : ℕ) (x y : Lanes) (told : Option ArrivedCar) (before after : List Watch) : Type 0 where
   pub same : Same x y
   pub others : Others n x y

@@ -5,23 +5,23 @@ use Rattle.street_yard.specs.declared.names.ListKind.{ListKind}
 use Rattle.street_yard.specs.declared.names.ListKind.TheVariants.{Cells as InCells, Buffer, Waiting}
 use Rattle.street_lanes.specs.Views.{LaneView}
 
--- nobody stands in any of the cells
+-- that no vehicle's front stands in any of the cells
 abbrev pub IsDeserted : Cells → Type 0
 IsDeserted cells = (x : ℕ) → vehicle_at cells x ≡ None
 
--- nobody stands in the lane's cells
+-- that no vehicle stands in the lane's cells
 abbrev pub HasNobodyInCells : LaneView → Type 0
 HasNobodyInCells x = IsDeserted x.track.cells
 
--- nobody is in the lane's buffer
+-- that no vehicle is in the lane's buffer
 abbrev pub HasEmptyBuffer : LaneView → Type 0
 HasEmptyBuffer x = x.queue ≡ []
 
--- nobody waits on the lane
+-- that no vehicle waits on the lane
 abbrev pub HasNobodyWaiting : LaneView → Type 0
 HasNobodyWaiting x = x.waiting ≡ []
 
--- nobody is on the lane's list of this kind: in its cells, in its buffer, or among those who wait
+-- that no vehicle is on the lane's list of this kind: in its cells, in its buffer, or among those who wait
 abbrev pub HasNobody : ListKind → LaneView → Type 0
 HasNobody InCells x = HasNobodyInCells x
 HasNobody Buffer x = HasEmptyBuffer x

@@ -15,16 +15,17 @@ use Rattle.street_line.specs.declared.service.Served.{Served}
 use Rattle.street_line.specs.declared.service.Served.TheVariants.{Unrecorded}
 use Rattle.street_line.specs.Runs.{calls, is_call, has_reply, said, Goes, IsTally}
 
--- a line ends a run only where memory ran out to read it
+-- the kind of the fault for which a run ended: the run's own; where a line ended the run, that memory ran out
 abbrev pub kind_of : StopCause NoMemory → FaultKind
 kind_of (Run kind) = kind
 kind_of (Line stop) = Starved
 
--- the next of these lines calls a command that is served and not answered
+-- that the next of the lines ls calls a command that was served from `old` to `new` and has no answer (`Unrecorded`)
 abbrev pub IsUnanswered : {S : Type 0} → (S → Command → Served → S → Type 0) → S → List (List ℕ) → S → Type 0
 IsUnanswered serves old ls new = (line : List ℕ) × (more : List (List ℕ)) × (c : Command) × (ls ≡ line ∷ more) × (said line ≡ calls c) × serves old c Unrecorded new
 
--- the first lines of the text were served, and of their output the first bytes are written; at a read these are the whole output of the lines read to their end
+-- that a fault ended a run over this text: its first lines were served, from `start` to `now`, and `tally.bytes` bytes
+-- of their output are written; a fault of reading comes behind all ended lines and their whole output
 pub record Breaks {S : Type 0} (serves : S → Command → Served → S → Type 0) (start : S) (before : Option (List ℕ)) (text : List ℕ)
     (now : S) (after : Option (List ℕ)) (kind : FaultKind) (tally : Tally) : Type 0 where
   -- the lines that were served, those that were not, and the output of the first
@@ -45,7 +46,8 @@ pub record Breaks {S : Type 0} (serves : S → Command → Served → S → Type
   pub replies : CountsReplies tally out (count_by (λ l. has_reply (said l)) done)
   pub whole : IsAtRead kind → (done ≡ (cut text).0) × IsTally tally done out
 
--- what a run left that a fault ended: of the text that was read the first lines were served, and of their output the first bytes are written
+-- that a fault ended a run: of the text that it had read the first lines were served, and of their output the first
+-- bytes are written (`Breaks`)
 pub record ServedInPart {S : Type 0} (serves : S → Command → Served → S → Type 0) (start : S) (unread before : Option (List ℕ))
     (now : S) (left after : Option (List ℕ)) (fault : RunFault) : Type 0 where
   pub text : List ℕ

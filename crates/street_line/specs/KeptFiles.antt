@@ -14,11 +14,11 @@ use Rattle.street_line.specs.declared.kept_file.ServeFault.{ServeFault}
 use Rattle.street_line.specs.declared.kept_file.ServeFault.TheVariants.{Begin, Session}
 use Rattle.street_line.specs.declared.service.Served.{Served}
 
--- the bytes from a position on, where the text is known
+-- the bytes of a text from position `at` on; none where the text is not known
 abbrev pub left_from : ℕ → Option (List ℕ) → Option (List ℕ)
 left_from at held = option_map (λ text. drop at text) held
 
--- the first bytes, where the text is known
+-- the first `size` bytes of a text; none where the text is not known
 abbrev pub first_of : ℕ → Option (List ℕ) → Option (List ℕ)
 first_of size held = option_map (λ text. take size text) held
 
@@ -32,17 +32,18 @@ sound_len (suc x ∷ xs) = suc (sound_len xs)
 abbrev pub sound : List ℕ → List ℕ
 sound text = take (sound_len text) text
 
--- the bytes before the first NUL of a text, where the text is known
+-- the bytes of a text before its first NUL; none where the text is not known
 abbrev pub sound_of : Option (List ℕ) → Option (List ℕ)
 sound_of held = option_map sound held
 
--- what was had is this text, where that is known
+-- that what was had is this text; where what was had is not known, nothing is said
 abbrev pub IsText : Option (List ℕ) → List ℕ → Type 0
 IsText None text = ⊤
 IsText (Some xs) text = xs ≡ text
 
 module _ {S : Type 0} (serves : S → Command → Served → S → Type 0) where
-  -- the lines of a file were done again. Behind the lines that have ended the file had what a crash has left: no line that has ended before a NUL
+  -- that all ended lines of a kept file were done again, from `start` to `mid`, and counted in `redo`; behind them, up
+  -- to a first NUL, stands no further ended line, but perhaps the torn end that a crash leaves
   pub record Redone (start : S) (had : Option (List ℕ)) (mid : S) (redo : RedoneLines) : Type 0 where
     pub whole : List ℕ
     pub torn : List ℕ
@@ -53,40 +54,42 @@ module _ {S : Type 0} (serves : S → Command → Served → S → Type 0) where
     pub lines : redo.lines ≡ length (cut whole).0
     pub bytes : redo.bytes ≡ length whole
 
-  -- the lines of a file were done again, and the file was left with these lines alone
+  -- that the ended lines of a kept file were done again (`Redone`), and the file now has just these lines, if its text
+  -- is known
   pub record Recovered (start : S) (had : Option (List ℕ)) (mid : S) (log : Option (List ℕ)) (redo : RedoneLines) : Type 0 where
     pub redone : Redone start had mid redo
     pub cut_off : Keeps (first_of redo.bytes had) log
 
-  -- the lines of a file were done again, and then all lines of the text that was read were served from the state to which those lines led; what is kept of
-  -- the lines that were read is held behind the file's, and stays
+  -- that the lines of a kept file were done again, then all lines of the reader were served from there to `now`, and
+  -- what the log keeps of them is held behind the file's lines and synced
   pub record ServesOn (start : S) (had unread before : Option (List ℕ)) (redo : RedoneLines) (now : S) (left held synced after : Option (List ℕ)) : Type 0 where
     pub mid : S
     pub log : Option (List ℕ)
     pub recovered : Recovered start had mid log redo
     pub whole : KeptWhole serves mid unread log before now left held synced after
 
-  -- a fault came before a session went on from a file: at a line of the file, which is then as it was; because the file has no line; or as the file was
-  -- written anew, when no line of what was synced is lost
+  -- that a fault, before a session went on from a file, left: where a line could not be done again, or there is none,
+  -- the file as it was; where it was to be written anew, at least its ended lines that had been synced
   abbrev pub BeginBreaks : S → Option (List ℕ) → Option (List ℕ) → S → Option (List ℕ) → Option (List ℕ) → BeginFault → Type 0
   BeginBreaks start had stayed now held synced (Recover fault) = ((rest : Option (List ℕ)) × RedoBroke serves start (sound_of had) fault now rest) × (held ≡ had) × (synced ≡ stayed)
   BeginBreaks start had stayed now held synced Foreign = ((redo : RedoneLines) × Redone start had now redo × (redo.bytes ≡ 0)) × (held ≡ had) × (synced ≡ stayed)
   BeginBreaks start had stayed now held synced Settle =
       (redo : RedoneLines) × Redone start had now redo × (Keeps had held ⊎ Keeps (first_of redo.bytes had) held) × Extends (first_of redo.bytes stayed) synced
 
-  -- a fault ended a session that goes on from a file: before any line was served; or in the session, of which no more is out or held than the fault left
   module _ (start : S) (had stayed unread before : Option (List ℕ)) (now : S) (left held synced after : Option (List ℕ)) where
+    -- that a fault of a session that goes on from a file came before any line was served, with nothing written
+    -- (`BeginBreaks`), or in the session (`KeptUpTo`), and left what these say
     abbrev pub ServeBreaks : ServeFault → Type 0
     ServeBreaks (Begin fault) = BeginBreaks start had stayed now held synced fault × (after ≡ before)
     ServeBreaks (Session fault) = (mid : S) × (log : Option (List ℕ)) × (redo : RedoneLines) × Recovered start had mid log redo × KeptUpTo serves mid unread log before fault left held synced after
 
--- a fault of writing the file anew comes only where its cause was counted
+-- that writing the file anew failed only where the file has failed; of a fault at its lines no cause is asked
 abbrev pub IsBeginCaused : {K : Type 0} → (K → Type 0) → BeginFault → K → Type 0
 IsBeginCaused has_failed (Recover fault) file = ⊤
 IsBeginCaused has_failed Foreign file = ⊤
 IsBeginCaused has_failed Settle file = has_failed file
 
--- a fault of a session that goes on from a file comes only where its cause was counted
+-- that a fault of a session that goes on from a file has its cause, counted by reader, file or writer
 abbrev pub IsServeCaused : {K R W : Type 0} → (K → Type 0) → ServeFault → Counted R → K → Counted W → ℕ → Type 0
 IsServeCaused has_failed (Begin fault) reader file writer reads = IsBeginCaused has_failed fault file
 IsServeCaused has_failed (Session fault) reader file writer reads = IsKeptCaused has_failed fault reader file writer reads

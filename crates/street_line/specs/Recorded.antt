@@ -17,13 +17,15 @@ use Rattle.street_line.specs.Streams.{ServesAll, ServesFirst}
 
 -- ---- the machine
 
--- a machine, the record of the commands that were answered, and the blocks of one that was not, since they could not be written whole
+-- a machine with the record of its run: `whole` has the blocks of the commands that were answered, `begun` those of one
+-- that was not, as they could not be written whole
 pub record RecordedMachine : Type 0 where
   pub machine : State
   pub whole : List ℕ
   pub begun : Option (List ℕ)
 
--- a command is done, and its blocks go behind the record. Where they are written whole the command is answered; where they are not it has no answer, and nothing more is done from then on
+-- that a command was done, and its blocks put behind the record: where they were written whole it was answered; else it
+-- has no answer (`Unrecorded`), and from then on nothing is done
 abbrev pub MachineRecords : RecordedMachine → Command → Served → RecordedMachine → Type 0
 MachineRecords old c (Answered reply) new = (old.begun ≡ None) × (new.begun ≡ None) × MachineServes old.machine c (Answered reply) new.machine
     × (new.whole ≡ old.whole ++ recorded_in old.machine c reply)
@@ -34,13 +36,14 @@ MachineRecords old c Unrecorded new = (IsSome old.begun × (new ≡ old))
 
 -- ---- the session
 
--- what contracts see of a recorded session: its engine, and the writer of its record
+-- what contracts see of a recorded session: its engine, and the writer of its record; none where there is no record
 pub record RecordedView (W : Type 0) : Type 0 where
   pub engine : EngineView
   pub writer : Option (WriterView W)
 
 module _ {W : Type 0} (contents : W → Option (List ℕ)) where
-  -- the reply to steps that the writer was told of: it may go out where all that the writer was given is written
+  -- that the reply to a command goes out behind its blocks: it is answered where all that the writer was given is
+  -- written, and not answered (`Unrecorded`) where a write of the record has failed
   abbrev pub IsReplyBehind : WriterView W → Reply → Served → WriterView W → Type 0
   IsReplyBehind old reply (Answered told) new = (told ≡ reply) × IsFresh new
       × ((start : Option (List ℕ)) (given : List ℕ) → IsGiven contents start given old → Appends start (contents new.writer.stream) given)
@@ -48,7 +51,8 @@ module _ {W : Type 0} (contents : W → Option (List ℕ)) where
   IsReplyBehind old reply Unrecorded new = (new.has_failed ≡ true) × HasFailed new.writer
       × ((start : Option (List ℕ)) (given : List ℕ) → IsGiven contents start given old → IsGiven contents start given new)
 
-  -- a command is answered where the blocks of its steps are written; else the record had failed, and nothing is done; or the command is done, and of its blocks the first bytes are written
+  -- that a command was answered and the blocks of its steps are written; or, where it has no answer, the record had
+  -- failed before and nothing was done, or the command was done and of its blocks only first bytes are written
   abbrev pub Records : EngineView → WriterView W → Command → Served → EngineView → WriterView W → Type 0
   Records old w c (Answered reply) new v = (w.has_failed ≡ false) × (v.has_failed ≡ false) × EngineServes old c (Answered reply) new
       × ((m : State) → StandsFor old m → Appends (contents w.writer.stream) (contents v.writer.stream) (recorded_in m c reply))
@@ -57,18 +61,20 @@ module _ {W : Type 0} (contents : W → Option (List ℕ)) where
       ⊎ ((reply : Reply) × (w.has_failed ≡ false) × (v.has_failed ≡ true) × HasFailed v.writer × EngineServes old c (Answered reply) new
       × ((m : State) → StandsFor old m → (n : ℕ) × Appends (contents w.writer.stream) (contents v.writer.stream) (take n (recorded_in m c reply))))
 
-  -- a session serves a command (`Records`), where no byte of the record waited before the command, nor does after it
+  -- that a recorded session served a command (`Records`), with no byte of the record waiting before or after; nothing
+  -- is said where there is no writer or a byte waited before
   abbrev pub RecordServes : RecordedView W → Command → Served → RecordedView W → Type 0
   RecordServes old c served new = (w : WriterView W) → old.writer ≡ Some w → HasNoRest w
       → (v : WriterView W) × (new.writer ≡ Some v) × HasNoRest v × Records old.engine w c served new.engine v
 
-  -- since it held `start`, the file has taken the record of all commands that were answered; where a write of it failed, or took no byte, of the blocks of one that was
-  -- not answered the first bytes, too
+  -- that the record's stream, since it held `start`, has taken the blocks of all answered commands; where a write has
+  -- failed, also the first bytes of the blocks of the command that was not answered
   abbrev pub HoldsRecord : Option (List ℕ) → WriterView W → List ℕ → Option (List ℕ) → Type 0
   HoldsRecord start w whole None = (w.has_failed ≡ false) × Appends start (contents w.writer.stream) whole
   HoldsRecord start w whole (Some begun) = (w.has_failed ≡ true) × HasFailed w.writer × (n : ℕ) × Appends start (contents w.writer.stream) (whole ++ take n begun)
 
-  -- the engine stands for the machine, and the file holds its record
+  -- that the session's engine stands for the machine's state, and its writer's stream holds the machine's record behind
+  -- `start`, with no byte waiting
   pub record StandsRecorded (start : Option (List ℕ)) (view : RecordedView W) (m : RecordedMachine) : Type 0 where
     pub engine : StandsFor view.engine m.machine
     pub writer : WriterView W
@@ -76,29 +82,33 @@ module _ {W : Type 0} (contents : W → Option (List ℕ)) where
     pub rests : HasNoRest writer
     pub holds : HoldsRecord start writer m.whole m.begun
 
--- nothing is loaded, and no step was made
+-- the recorded machine at its beginning: nothing loaded, and an empty record
 abbrev pub no_steps : RecordedMachine
 no_steps = record { machine = None; whole = []; begun = None }
 
 -- ---- lines
 
 module _ {W D V : Type 0} (contents : W → Option (List ℕ)) (remaining : D → Option (List ℕ)) (outputs : V → Option (List ℕ)) where
-  -- whatever machine and record the session stood for, the machine serves so from there on, and the session then stands for what this leads to
+  -- that, for any machine and record for which the session stood, the machine serves all lines of the reader from
+  -- there, and the session stands for what they lead to
   abbrev pub RecordServesAll : RecordedView W → Counted D → Counted V → RecordedView W → Counted D → Counted V → Tally → Type 0
   RecordServesAll before reader writer after read written tally = (start : Option (List ℕ)) (old : RecordedMachine) → StandsRecorded contents start before old
       → (new : RecordedMachine) × StandsRecorded contents start after new × ServesAll MachineRecords remaining outputs old reader writer new read written tally
 
-  -- whatever machine and record the session stood for, the machine serves the first lines from there on, until a fault ends the run, and the session then stands for what these lead to
+  -- that, for any machine and record for which the session stood, the machine serves the first lines of the reader
+  -- until a fault ends the run, and the session stands for what they lead to
   abbrev pub RecordServesFirst : RecordedView W → Counted D → Counted V → RecordedView W → Counted D → Counted V → RunFault → Type 0
   RecordServesFirst before reader writer after read written fault = (start : Option (List ℕ)) (old : RecordedMachine) → StandsRecorded contents start before old
       → (new : RecordedMachine) × StandsRecorded contents start after new × ServesFirst MachineRecords remaining outputs old reader writer new read written fault
 
-  -- the machine, with nothing loaded at first, serves all lines and answers every command, and the file has taken the record since it held `start`
+  -- that the machine, with nothing loaded at first, serves all lines of the reader and answers each command, and the
+  -- record's stream has taken their blocks behind `start`
   abbrev pub MachineRecordsAll : Option (List ℕ) → Counted D → Counted V → Option (WriterView W) → Counted D → Counted V → Tally → Type 0
   MachineRecordsAll start reader writer file read written tally = (new : RecordedMachine) × (w : WriterView W) × (file ≡ Some w) × (new.begun ≡ None)
       × HoldsRecord contents start w new.whole None × ServesAll MachineRecords remaining outputs no_steps reader writer new read written tally
 
-  -- the machine, with nothing loaded at first, serves the first lines until a fault ends the run, and the file has taken their record since it held `start`
+  -- that the machine, with nothing loaded at first, serves the first lines of the reader until a fault ends the run,
+  -- and the record's stream has taken their blocks behind `start`
   abbrev pub MachineRecordsFirst : Option (List ℕ) → Counted D → Counted V → Option (WriterView W) → Counted D → Counted V → RunFault → Type 0
   MachineRecordsFirst start reader writer file read written fault = (new : RecordedMachine) × (w : WriterView W) × (file ≡ Some w)
       × HoldsRecord contents start w new.whole new.begun × ServesFirst MachineRecords remaining outputs no_steps reader writer new read written fault

@@ -21,70 +21,76 @@ use Rattle.street_line.specs.declared.service.Served.{Served}
 use Rattle.street_line.specs.declared.service.Served.TheVariants.{Answered, Full, Unrecorded}
 use Rattle.street_line.specs.Runs.{Said, silent, faulty, calls, said}
 
--- the command was done, whole
+-- whether a reply tells that the command was done whole: it is no refusal, not short and not starved
 abbrev pub is_done : Reply → Bool
 is_done (Refused refusal) = false
 is_done (Short clock short) = false
 is_done Starved = false
 is_done reply = true
 
--- the command was refused, or there was no place for it
+-- whether a command that was served so was refused, or found no place left
 abbrev pub is_refused : Served → Bool
 is_refused Full = true
 is_refused Unrecorded = false
 is_refused (Answered (Refused refusal)) = true
 is_refused (Answered reply) = false
 
--- memory ran out for the command, or for its last steps, or what is to be written of it was not
+-- whether a command that was served so was not done whole for lack of memory, or has no answer, as its record could not
+-- be written
 abbrev pub is_short : Served → Bool
 is_short Unrecorded = true
 is_short (Answered (Short clock short)) = true
 is_short (Answered Starved) = true
 is_short served = false
 
--- why a command that was served so is not done
+-- that `stop` is why a command that was served so is not done again: bad, as it was refused; or starved, as it was cut
+-- short
 abbrev pub IsRedoStop : Served → RedoStop → Type 0
 IsRedoStop served stop.Bad = is_refused served ≡ true
 IsRedoStop served stop.Starved = is_short served ≡ true
 
 module _ {S : Type 0} (serves : S → Command → Served → S → Type 0) where
-  -- a blank line does nothing; a command is done, and no other line is there
+  -- that a line that says this was done again, from `old` to `new`: a blank one does nothing, a command is done whole;
+  -- a faulty line never is
   abbrev pub RedoSaid : S → Said → S → Type 0
   RedoSaid old silent new = new ≡ old
   RedoSaid old (faulty f) new = ⊥
   RedoSaid old (calls c) new = (reply : Reply) × serves old c (Answered reply) new × (is_done reply ≡ true)
 
-  -- a line that cannot be done: it is no command, or its command is refused where it stands
+  -- that a line that says this cannot be done again: it is faulty, or its command is refused where it stands
   abbrev pub BadSaid : S → Said → S → Type 0
   BadSaid old silent new = ⊥
   BadSaid old (faulty f) new = new ≡ old
   BadSaid old (calls c) new = (served : Served) × serves old c served new × (is_refused served ≡ true)
 
-  -- a line that was not done because memory ran out: to read it, or while its command was served
+  -- that a line that says this was not done again as memory ran out: to read it, before its command was served, or
+  -- while it was served
   abbrev pub StarvedSaid : S → Said → S → Type 0
   StarvedSaid old silent new = ⊥
   StarvedSaid old (faulty f) new = new ≡ old
   StarvedSaid old (calls c) new = (new ≡ old) ⊎ ((served : Served) × serves old c served new × (is_short served ≡ true))
 
-  -- a line that was not done, for this reason: it cannot be done, or memory ran out
+  -- that a line that says this was not done again for this reason: it cannot be (`BadSaid`), or memory ran out
+  -- (`StarvedSaid`)
   abbrev pub RedoStopSaid : S → Said → RedoStop → S → Type 0
   RedoStopSaid old what stop.Bad new = BadSaid old what new
   RedoStopSaid old what stop.Starved new = StarvedSaid old what new
 
-  -- a line is done, as a handler of lines sees it: it has no reply
+  -- that a line was done again, from `old` to `new`, with no reply in its effect, as a handler of lines tells it
   abbrev pub RedoLine : S → List ℕ → Effect → S → Type 0
   RedoLine old line effect new = RedoSaid old (said line) new × (effect.reply ≡ None)
 
-  -- a line that was not done, for this reason, as a handler of lines sees it
+  -- that this line was not done again for this reason (`RedoStopSaid` of what it says)
   abbrev pub RedoStopLine : S → List ℕ → RedoStop → S → Type 0
   RedoStopLine old line why new = RedoStopSaid old (said line) why new
 
-  -- the lines, one after another
+  -- that these lines were done again, one after another, from `old` to `new`
   abbrev pub Redoes : S → List (List ℕ) → S → Type 0
   Redoes old [] new = new ≡ old
   Redoes old (l ∷ ls) new = (mid : S) × RedoSaid old (said l) mid × Redoes mid ls new
 
-  -- lines of a text that stand behind so many others were done up to a fault: before a bad line, which has this number; up to where memory ran out; or all that have ended
+  -- that the lines of a text behind `before` other lines were done again up to a fault: the line before the first bad
+  -- one, whose number the fault tells; where memory ran out; or, where reading failed, all ended lines
   abbrev pub RedoHalts : S → ℕ → List ℕ → RedoFault → S → Type 0
   RedoHalts old before text (BadLine number) new = (done : List (List ℕ)) × (bad : List ℕ) × (rest : List (List ℕ)) × (mid : S)
       × ((cut text).0 ≡ done ++ bad ∷ rest) × Redoes old done mid × BadSaid mid (said bad) new × (number ≡ before + length done + 1)
@@ -95,7 +101,8 @@ module _ {S : Type 0} (serves : S → Command → Served → S → Type 0) where
   RedoHalts old before text (Run kind.Endless) new = Redoes old (cut text).0 new
   RedoHalts old before text (Run kind.Write) new = ⊥
 
-  -- a text was read to its end, and those of its lines that have ended were done: `redo.lines` lines of `redo.bytes` bytes. What stands behind the last LF was not looked at
+  -- that a text was read to its end and its ended lines were done again, from `start` to `now`; `redo` counts them and
+  -- their bytes, and what stands behind the last LF is not looked at
   pub record RedoDone (start : S) (unread : Option (List ℕ)) (now : S) (left : Option (List ℕ)) (redo : RedoneLines) : Type 0 where
     pub text : List ℕ
     pub read : Consumes unread left text
@@ -104,23 +111,24 @@ module _ {S : Type 0} (serves : S → Command → Served → S → Type 0) where
     pub lines : redo.lines ≡ length (cut text).0
     pub bytes : redo.bytes + length (cut text).1 ≡ length text
 
-  -- a fault ended the redo of a text: of what was read the lines before the fault were done
+  -- that a fault ended the redo of a text: of what was read the lines before the fault were done again (`RedoHalts`)
   pub record RedoBroke (start : S) (unread : Option (List ℕ)) (fault : RedoFault) (now : S) (left : Option (List ℕ)) : Type 0 where
     pub text : List ℕ
     pub read : Consumes unread left text
     pub halts : RedoHalts start 0 text fault now
 
--- the fault of a redo that one of its lines ended for this reason, behind `before` other lines
+-- that `fault` is what a redo tells where it ended for this cause, behind `before` lines and those of the tally: the
+-- number of the bad line, or that memory ran out
 abbrev pub IsFaultOf : ℕ → StopCause RedoStop → Tally → RedoFault → Type 0
 IsFaultOf before (causes.Line stop.Bad) tally fault = fault ≡ BadLine (min (before + tally.lines) (2 ^ 128 - 1))
 IsFaultOf before (causes.Line stop.Starved) tally fault = fault ≡ Run kind.Starved
 IsFaultOf before (causes.Run why) tally fault = fault ≡ Run kind.Starved
 
--- no reply is to go out
+-- that the handler's answer to a line has no reply to send
 abbrev pub IsSilent : LineAnswer → Type 0
 IsSilent answer = answer.reply ≡ Ok None
 
--- the fault comes while a line is done
+-- that the fault of a redo comes while a line is done: a bad line, or memory that ran out; a fault of reading does not
 abbrev pub IsInLine : RedoFault → Type 0
 IsInLine (Run kind.Read) = ⊥
 IsInLine (Run kind.Endless) = ⊥
@@ -128,7 +136,8 @@ IsInLine (Run kind.Starved) = ⊤
 IsInLine (Run kind.Write) = ⊥
 IsInLine (BadLine line) = ⊤
 
--- a fault of a redo comes only where its cause was counted
+-- that the fault of a redo has its cause in the reader: a read that failed, or as many reads as are allowed; of a bad
+-- line and of memory no cause is asked, and of writing there is no fault
 abbrev pub IsRedoCaused : {R : Type 0} → RedoFault → Counted R → ℕ → Type 0
 IsRedoCaused (Run kind.Read) reader reads = 0 < reader.failures
 IsRedoCaused (Run kind.Endless) reader reads = reader.calls ≡ reads

@@ -13,34 +13,35 @@ use Rattle.street_text.specs.FaultLines.{fault_line}
 
 -- ---- one line
 
--- the line that answers a served command: its reply, or that no place is left; none where the command is not answered
+-- the line of reply to a served command: its reply, or the error that no place is left; none where the command has no
+-- answer
 unfoldable pub served_line : Served → Option (List ℕ)
 served_line (Answered reply) = Some (reply_line reply)
 served_line Full = Some (line_of (error_data 23 (codes "Full")))
 served_line Unrecorded = None
 
--- what a line is to a run: blank, faulty, or the call of a command
+-- what a line is to a run: blank (`silent`), faulty, or the call of a command
 pub data Said : Type 0 where
   silent : Said
   faulty : LineFault → Said
   calls : Command → Said
 
--- what a line that is not blank is, by what was read in it
+-- what a line that is not blank says, by how it was read: a command, or the fault of the line
 abbrev pub said_by : Result Command LineFault → Said
 said_by (Ok c) = calls c
 said_by (Err f) = faulty f
 
--- blank comes before too long
+-- what a line says: nothing where it is blank, whatever its length, else its command or its fault
 unfoldable pub said : List ℕ → Said
 said line = if is_blank line then silent else said_by (reading line)
 
--- the line calls a command
+-- whether a line calls a command; false of a blank line and of a faulty one
 abbrev pub is_call : Said → Bool
 is_call silent = false
 is_call (faulty f) = false
 is_call (calls c) = true
 
--- the line gets a reply: each line but a blank one does
+-- whether a line gets a reply: each does but a blank one
 abbrev pub has_reply : Said → Bool
 has_reply silent = false
 has_reply (faulty f) = true
@@ -49,25 +50,28 @@ has_reply (calls c) = true
 -- ---- runs
 
 module _ {S : Type 0} (serves : S → Command → Served → S → Type 0) where
-  -- a blank line gets nothing, a faulty one is told its fault without a call, and a command is served and answered
+  -- that a line that says this was served, from `old` to `new`, with this output: none for a blank line, its fault for
+  -- a faulty line, with nothing changed, and the reply for a command
   abbrev pub Done : S → Said → List ℕ → S → Type 0
   Done old silent out new = (new ≡ old) × (out ≡ [])
   Done old (faulty f) out new = (new ≡ old) × (fault_line f ≡ Some out)
   Done old (calls c) out new = (r : Served) × serves old c r new × (served_line r ≡ Some out)
 
-  -- the lines, one after another
+  -- that these lines were served one after another, from `old` to `new`, and `out` is their output, each line's behind
+  -- those before
   abbrev pub Goes : S → List (List ℕ) → List ℕ → S → Type 0
   Goes old [] out new = (new ≡ old) × (out ≡ [])
   Goes old (l ∷ ls) out new = (mid : S) × (first : List ℕ) × (rest : List ℕ) × Done old (said l) first mid × Goes mid ls rest new × (out ≡ first ++ rest)
 
--- the tally is that of these lines, and of what was written for them
+-- that the tally counts these lines, the commands and replies among them, and the bytes of their output
 pub record IsTally (tally : Tally) (ls : List (List ℕ)) (out : List ℕ) : Type 0 where
   pub lines : tally.lines ≡ length ls
   pub calls : tally.calls ≡ count_by (λ l. is_call (said l)) ls
   pub replies : tally.replies ≡ count_by (λ l. has_reply (said l)) ls
   pub bytes : tally.bytes ≡ length out
 
--- all lines of a text that was read to its end were served, and all of their output is written
+-- that the reader was read to its end, all lines of its text were served, from `start` to `now`, their whole output is
+-- written, and the tally counts them
 pub record ServedWhole {S : Type 0} (serves : S → Command → Served → S → Type 0) (start : S) (unread before : Option (List ℕ))
     (now : S) (left after : Option (List ℕ)) (tally : Tally) : Type 0 where
   pub text : List ℕ

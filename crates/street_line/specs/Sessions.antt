@@ -9,19 +9,21 @@ use Rattle.street_desk.specs.Passes.{PassView, Answered as IsAnswered, Filled}
 use Rattle.street_line.specs.declared.service.Served.{Served}
 use Rattle.street_line.specs.declared.service.Served.TheVariants.{Answered, Full, Unrecorded}
 
--- an answered command is one more call of the pass; else the journal is full, and nothing was called
+-- that a desk served a command to a pass: an answered command is one more call that the pass has seen, or the journal
+-- was full and nothing was called
 abbrev pub DeskServes : PassView → Command → Served → PassView → Type 0
 DeskServes before command (Answered reply) after = IsAnswered before command reply after
 DeskServes before command Full after = Filled before after
 DeskServes before command Unrecorded after = ⊥
 
--- the pass owns the one session that its desk has
+-- that the pass is at a desk of one session, which is its own, session 0, and has seen a legal history of that session
 pub record IsAlone (p : PassView) : Type 0 where
   pub sessions : p.desk.sessions ≡ 1
   pub least : p.least ≡ 0
   pub history : IsHistory 1 p.seen
 
--- what one session that nobody stands beside is served, as its history grows: the machine's reply at that point, while there are fewer calls than may be; nothing from then on
+-- that a desk's only session was served a command: while its history has fewer than `most` calls, with the machine's
+-- reply at that point and as one call more; from then on it is told that no place is left
 abbrev pub AloneServes : ℕ → List Entry → Command → Served → List Entry → Type 0
 AloneServes most old command (Answered reply) new = (outcome : Outcome)
     × Allows (state_of old) command outcome

@@ -14,24 +14,26 @@ use Rattle.street_runs.specs.declared.fault.ProgramFault.TheVariants.{Write}
 use Rattle.street_runs.specs.Faults.{fault_of_run}
 use Rattle.street_runs.specs.Outputs.{IsBegun}
 
--- the journal of a desk that was ended with this pass: a legal history, which begins with all that the pass had seen, and so with all that it had heard
+-- that a desk was ended with this pass and left this journal: a legal history that begins with all that the pass had
+-- seen, and so with what it had heard of other passes
 pub record IsEnded (pass : PassView) (journal : List Entry) : Type 0 where
   pub finished : Finished pass journal
   pub heard : (seen : List Entry) → BeginsWith pass.seen seen → BeginsWith journal seen
 
--- the fault of a writing under this name, which memory or the writer caused
+-- that the fault is one of writing the file of this name, as memory ran out or the writer failed
 pub record TellsWriting {W : Type 0} (fault : ProgramFault) (name : Bor (List ℕ)) (writer : Counted W) : Type 0 where
   pub kind : FaultKind
   pub is : fault ≡ fault_of_run kind name name
   pub caused : IsCausedByWriting kind writer
 
--- a desk was ended with this pass, and the tape of its journal was written
+-- that a desk was ended with this pass, and the tape of its journal is written whole
 pub record IsTaped (pass : PassView) (before after : Option (List ℕ)) : Type 0 where
   pub journal : List Entry
   pub ended : IsEnded pass journal
   pub written : Appends before after (tape_text journal)
 
--- a desk was ended with this pass, and of the tape of its journal the first bytes were written; memory ran out or the writer has failed
+-- that a desk was ended with this pass, and of the tape of its journal only the first bytes are written, as memory ran
+-- out or the writer failed, which `fault` tells
 pub record IsTapedInPart {W : Type 0} (pass : PassView) (before after : Option (List ℕ)) (writer : Counted W) (name : Bor (List ℕ))
     (fault : ProgramFault) : Type 0 where
   pub journal : List Entry
@@ -39,7 +41,8 @@ pub record IsTapedInPart {W : Type 0} (pass : PassView) (before after : Option (
   pub begun : IsBegun before after (tape_text journal)
   pub told : TellsWriting fault name writer
 
--- the tape of a desk was not written whole: its first bytes were; or the desk was left within a turn, and nothing was
+-- that the tape of a desk is not written whole: only its first bytes are (`IsTapedInPart`); or, as the desk was left
+-- within a turn, nothing is, told as a file that cannot be written
 abbrev pub StopsTape : {W : Type 0} → PassView → Option (List ℕ) → Option (List ℕ) → Counted W → Counted W → Bor (List ℕ) → ProgramFault → Type 0
 StopsTape pass before after old new name fault =
     IsTapedInPart pass before after new name fault ⊎ ((new ≡ old) × (fault ≡ Write name))

@@ -23,12 +23,12 @@ use Rattle.street_runs.specs.declared.kept_records.RecordedFault.{RecordedFault}
 use Rattle.street_runs.specs.declared.kept_records.RecordedFault.TheVariants as recorded
 use Rattle.street_runs.specs.declared.fault.ProgramFault.TheVariants.{BadArguments, BadTape, Endless, InUse, OutOfMemory, Read, Write}
 
--- the status that the program ends with: 2 for the words, 1 for all else
+-- the exit status of the program for a fault: 2 where the words of the command line are bad, else 1
 abbrev pub status_of : ProgramFault → ℕ
 status_of BadArguments = 2
 status_of _ = 1
 
--- what is told of a fault
+-- the text of a fault as the program tells it, with the name of the file or the number of the tape's line
 abbrev pub text_of : ProgramFault → List ℕ
 text_of BadArguments = codes "bad arguments"
 text_of (Read name) = codes "cannot read " ++ name.now
@@ -38,57 +38,63 @@ text_of OutOfMemory = codes "out of memory"
 text_of Endless = codes "endless input"
 text_of (BadTape line) = codes "bad tape at line " ++ decimal line
 
--- a run reads one thing and writes another
+-- the program's fault for a run that read what is named `from` and wrote what is named `to`
 abbrev pub fault_of_run : FaultKind → Bor (List ℕ) → Bor (List ℕ) → ProgramFault
 fault_of_run kind.Read from to = Read from
 fault_of_run kind.Write from to = Write to
 fault_of_run kind.Starved from to = OutOfMemory
 fault_of_run kind.Endless from to = Endless
 
--- a replay or an upgrade reads a tape; what is no tape at all is wrong at its first line
+-- the program's fault for a replay or an upgrade of the tape named `from`, written to `to`; a text that is no tape is
+-- told as bad at line 1
 abbrev pub fault_of_tape : TapeFault → Bor (List ℕ) → Bor (List ℕ) → ProgramFault
 fault_of_tape tape.NotTape from to = BadTape 1
 fault_of_tape (tape.BadEntry line) from to = BadTape line
 fault_of_tape (tape.Run fault) from to = fault_of_run fault.kind from to
 
--- what the program tells where the lines of the file of this name were not done again; a line that is no command, or is refused, is told as a bad line of a tape
+-- the program's fault where the lines of the kept file of this name could not be done again: a line that is no command,
+-- or is refused, is told as a bad line of a tape
 abbrev pub redo_fault : RedoFault → Bor (List ℕ) → ProgramFault
 redo_fault (redo.Run kind) name = fault_of_run kind name name
 redo_fault (redo.BadLine line) name = BadTape line
 
--- how a fault is told of a session that is kept in the file of this name, reads standard input and writes standard output
+-- that `fault` is what the program tells of a session kept in the file of this name, between standard input and
+-- standard output: a failed log is told as this file that cannot be written
 abbrev pub IsKeptFault : KeptFault → Bor (List ℕ) → ProgramFault → Type 0
 IsKeptFault (kept.Run kind) name fault = (input : Bor (List ℕ)) × (output : Bor (List ℕ)) × (fault ≡ fault_of_run kind input output)
     × (input.now ≡ codes "standard input") × (output.now ≡ codes "standard output")
 IsKeptFault kept.Log name fault = fault ≡ Write name
 
--- what the program tells where a session does not go on from the file of this name: why its lines were not done again; a file that has no kept line, as
--- a bad tape at line 1; a file that was not written anew, as not written
+-- the program's fault where a session did not go on from the kept file of this name: why its lines were not done again;
+-- no kept line in it, as a bad tape at line 1; or that it could not be written anew
 abbrev pub begin_fault : BeginFault → Bor (List ℕ) → ProgramFault
 begin_fault (begin.Recover fault) name = redo_fault fault name
 begin_fault begin.Foreign name = BadTape 1
 begin_fault begin.Settle name = Write name
 
--- how a fault is told of a session that goes on from the file of this name
+-- that the program tells this of a session that goes on from the file of this name: a fault before its first line
+-- (`begin_fault`) or in it (`IsKeptFault`)
 abbrev pub IsServeFault : ServeFault → Bor (List ℕ) → ProgramFault → Type 0
 IsServeFault (serve.Begin fault) name told = told ≡ begin_fault fault name
 IsServeFault (serve.Session fault) name told = IsKeptFault fault name told
 
--- how a fault is told of a session that goes on from the file of this name, with the record of its steps in a second file
+-- that the program tells this of a session that goes on from file `name` with a record in file `second`: as
+-- `IsServeFault`, and for a record that was not opened that `second` cannot be written, or memory
 abbrev pub IsRecordedFault : RecordedFault → Bor (List ℕ) → Bor (List ℕ) → ProgramFault → Type 0
 IsRecordedFault (recorded.Begin fault) name second told = told ≡ begin_fault fault name
 IsRecordedFault (recorded.Open opens.Output) name second told = told ≡ Write second
 IsRecordedFault (recorded.Open opens.Starved) name second told = told ≡ OutOfMemory
 IsRecordedFault (recorded.Session fault) name second told = IsKeptFault fault name told
 
--- the system had no memory for a file
+-- that the system's error is lack of memory
 abbrev pub LacksMemory : Error → Type 0
 LacksMemory error = error_kind error ≡ io.OutOfMemory
 
--- a file that could not be opened, or written, is told so, or memory ran out
+-- that the fault of a file is the one that is given for it, or lack of memory
 abbrev pub IsFileFault : ProgramFault → ProgramFault → Type 0
 IsFileFault otherwise fault = (fault ≡ OutOfMemory) ⊎ (fault ≡ otherwise)
 
--- the fault of a tape is told by its name; where none is asked for there is none
+-- that the fault is of writing the tape that was asked for by this name, or of memory; where no tape was asked for
+-- there is no such fault
 abbrev pub IsTapeFault : Option (Bor (List ℕ)) → ProgramFault → Type 0
 IsTapeFault asked fault = (name : Bor (List ℕ)) × (asked ≡ Some name) × IsFileFault (Write name) fault

@@ -11,21 +11,22 @@ use Rattle.street_stream.specs.declared.counted.Counted.{Counted}
 use Rattle.street_runs.specs.declared.kept_records.RecordedFault.{RecordedFault}
 use Rattle.street_runs.specs.declared.kept_records.RecordedFault.TheVariants.{Begin, Open, Session}
 
--- of the steps from here on nothing is recorded yet
+-- the recorded machine in state m with an empty record, as a session that goes on from a file begins
 abbrev pub recorded_from : State → RecordedMachine
 recorded_from m = record { machine = m; whole = []; begun = None }
 
 module _ {K D V : Type 0} (held synced : K → Option (List ℕ)) (remaining : D → Option (List ℕ)) (outputs : V → Option (List ℕ)) where
   module _ {W : Type 0} (contents : W → Option (List ℕ)) where
-    -- the machine did the lines of the file, and then served those of the reader: the file keeps them, their output is in the writer, and since it held `start` the
-    -- stream of the record has taken the blocks of their steps, and of no others
+    -- that the machine did the lines of the kept file again, then served all lines of the reader: the file keeps them,
+    -- their output is written, and the record has, behind `start`, the blocks of their steps alone
     abbrev pub KeepsRecorded : Option (List ℕ) → K → Counted D → Counted V → K → Option (WriterView W) → Counted D → Counted V → RedoneLines → Type 0
     KeepsRecorded start file reader writer kept recorder read written redo = (mid : State) × (log : Option (List ℕ)) × (new : RecordedMachine) × (w : WriterView W)
         × Recovered MachineServes None (held file) mid log redo
         × KeptWhole MachineRecords (recorded_from mid) (remaining reader.stream) log (outputs writer.stream) new (remaining read.stream) (held kept) (synced kept) (outputs written.stream)
         × (recorder ≡ Some w) × HoldsRecord contents start w new.whole None
 
-  -- a fault ended a kept session with a record: before any line was served; because the stream of the record could not be opened, when the file has its lines alone; or in the session
+  -- that a fault ended a kept session with a record: before any line was served (`BeginBreaks`); as the record could
+  -- not be opened, which leaves the file its own lines alone; or in the session (`KeptUpTo`)
   abbrev pub KeepsRecordedFirst : K → Counted D → Counted V → K → Counted D → Counted V → RecordedFault → Type 0
   KeepsRecordedFirst file reader writer kept read written (Begin fault) = (now : State)
       × BeginBreaks MachineServes None (held file) (synced file) now (held kept) (synced kept) fault × (read ≡ reader) × (written ≡ writer)
@@ -35,7 +36,8 @@ module _ {K D V : Type 0} (held synced : K → Option (List ℕ)) (remaining : D
       × Recovered MachineServes None (held file) mid log redo
       × KeptUpTo MachineRecords (recorded_from mid) (remaining reader.stream) log (outputs writer.stream) fault (remaining read.stream) (held kept) (synced kept) (outputs written.stream)
 
--- each fault comes only where its cause was counted, but that the record's stream could not be opened
+-- that the fault of a kept session with a record has its cause, counted by reader, file or writer; of a record that
+-- could not be opened no cause is asked
 abbrev pub IsRecordedCaused : {R K W : Type 0} → (K → Type 0) → RecordedFault → Counted R → K → Counted W → ℕ → Type 0
 IsRecordedCaused has_failed (Begin fault) reader file writer reads = IsBeginCaused has_failed fault file
 IsRecordedCaused has_failed (Open fault) reader file writer reads = ⊤

@@ -8,21 +8,21 @@ use Rattle.street_stream.specs.Streams.{HasFailed, IsFlushed}
 use Rattle.street_runs.specs.declared.fault.ProgramFault.{ProgramFault}
 use Rattle.street_runs.specs.declared.fault.ProgramFault.TheVariants.{Write}
 
--- the replies of these scripts, in their order
+-- the replies of these scripts, one script's behind the other's
 abbrev pub replies_of : {R : Type 0} → List (Script R) → List ℕ
 replies_of scripts = flat_map (λ s. s.replies.items) scripts
 
--- of a text the first bytes were written
+-- that the first bytes of the text were written, perhaps all or none
 pub record IsBegun (before after : Option (List ℕ)) (text : List ℕ) : Type 0 where
   pub sent : ℕ
   pub within : sent ≤ length text
   pub written : Appends before after (take sent text)
 
--- a text was written and passed on; or its first bytes were written, and the writer has failed
+-- that the text was written and flushed; or only its first bytes were written, and the writer has failed
 abbrev pub IsPrinted : {W : Type 0} → Option (List ℕ) → Option (List ℕ) → List ℕ → Counted W → Type 0
 IsPrinted before after text writer = (Appends before after text × IsFlushed writer) ⊎ (IsBegun before after text × HasFailed writer)
 
--- what is told where standard output fails
+-- that the fault tells that standard output cannot be written
 pub record TellsOutput (fault : ProgramFault) : Type 0 where
   pub name : Bor (List ℕ)
   pub is : fault ≡ Write name

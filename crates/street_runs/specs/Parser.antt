@@ -12,15 +12,15 @@ use Rattle.street_runs.specs.declared.words.WordsFault.TheVariants.{Bad, Help, S
 
 -- ---- the command
 
--- a word with no value
+-- the parser's rule for an option with no value, `--name`
 abbrev pub flag_rule : Text → Rule
 flag_rule name = record (new_rule name) { long = Some name; action = Some SetTrue }
 
--- an option with one value
+-- the parser's rule for an option with one value, `--name VALUE`
 abbrev pub option_rule : Text → Rule
 option_rule name = record (new_rule name) { long = Some name; action = Some Set; value_names = 1 }
 
--- the scripts, of which there may be any number
+-- the parser's rule for the names of scripts, any number of words behind the options
 abbrev pub script_rule : Rule
 script_rule = record (new_rule (codes "script")) {
   action = Some Append;
@@ -28,58 +28,59 @@ script_rule = record (new_rule (codes "script")) {
   value_names = 1;
 }
 
--- the options, and then the scripts
+-- the parser's rules for all words that the program may have: its options, then the scripts
 abbrev pub streetsim_rules : List Rule
 streetsim_rules = option_rule (codes "workers") ∷ option_rule (codes "calls") ∷ option_rule (codes "tape") ∷ option_rule (codes "replay")
     ∷ option_rule (codes "upgrade") ∷ flag_rule (codes "endless")
     ∷ option_rule (codes "keep") ∷ flag_rule (codes "unsynced") ∷ option_rule (codes "record") ∷ script_rule ∷ []
 
--- a command that has more arguments
+-- the command with these rules behind those that it has
 abbrev pub with_rules : App → List Rule → App
 with_rules app rules = record app { top = record app.top { rules = app.top.rules ++ rules } }
 
--- a command that tells its version
+-- the command as one that tells its version
 abbrev pub with_version : App → App
 with_version app = record app { top = record app.top { has_version = true } }
 
--- all that a parse reads of the command `streetsim`
+-- the command `streetsim`: all that the parser goes by, name, version and rules
 abbrev pub streetsim_app : App
 streetsim_app = with_rules (with_version (new_app (codes "streetsim"))) streetsim_rules
 
 -- ---- what it finds
 
--- what the parser finds in these words, the first of which is the program's name
+-- the rows of options and scripts that the parser finds in these words, of which the first is the program's name
 abbrev pub found_in : List Text → List Row
 found_in = matches_of streetsim_app
 
--- the kinds of fault for which the parser refuses the words: none where it takes them
+-- the kinds of error for which the parser refuses the words; none where it takes them
 abbrev pub refusals_of : List Text → Kinds
 refusals_of = fault_of streetsim_app
 
--- the scripts that the parser found, in their order
+-- the names of the scripts that the parser found, in their order; none where it found none
 abbrev pub scripts_in : List Row → List Text
 scripts_in rows = unwrap_or (all_of (codes "script") rows) []
 
--- a number that may have a plus before it, from 1 to `most`
+-- that the word is a decimal number from 1 to `most`, perhaps with a plus before it
 abbrev pub IsCount : ℕ → Text → Type 0
 IsCount most word = IsNumeral 10 (without_leading_plus word) × (1 ≤ digits_value 10 (without_leading_plus word))
     × (digits_value 10 (without_leading_plus word) ≤ most)
 
--- where the option is used its word is such a number
+-- that the word of an option is such a number (`IsCount`); where the option is not used, nothing is asked
 abbrev pub IsCountIfSaid : ℕ → Option Text → Type 0
 IsCountIfSaid most None = ⊤
 IsCountIfSaid most (Some word) = IsCount most word
 
--- a word with no value is said
+-- whether an option with no value was used
 abbrev pub is_said : Option Text → Bool
 is_said None = false
 is_said (Some word) = bytes_eq word (codes "true")
 
--- no end of calls is asked for, or a file in which the session is kept, or one for the record of its steps
+-- that the words ask for a run without a desk: with `--endless`, `--keep` or `--record`
 abbrev pub SaysDeskless : List Row → Type 0
 SaysDeskless rows = (is_said (first_of (codes "endless") rows) ≡ true) ⊎ IsSome (first_of (codes "keep") rows) ⊎ IsSome (first_of (codes "record") rows)
 
--- what was found is fit: the numbers are in their ranges, and the options stand together
+-- that what the parser found is fit: the numbers are in their ranges, at most `most_sessions` scripts are named, no two
+-- options are used that exclude each other, and `--unsynced` is used only with `--keep`
 pub record IsFit (rows : List Row) : Type 0 where
   pub workers : IsCountIfSaid most_workers (first_of (codes "workers") rows)
   pub calls : IsCountIfSaid most_calls (first_of (codes "calls") rows)
@@ -92,12 +93,12 @@ pub record IsFit (rows : List Row) : Type 0 where
       × (first_of (codes "upgrade") rows ≡ None) × (scripts_in rows ≡ [])
   pub unsynced : is_said (first_of (codes "unsynced") rows) ≡ true → IsSome (first_of (codes "keep") rows)
 
--- the number of an option: what its word says in decimal digits, or the default where the option is not used
+-- that n is the number of an option: what its word says in decimal digits, or the default where the option is not used
 abbrev pub IsNumberOf : Option Text → ℕ → ℕ → Type 0
 IsNumberOf None default n = n ≡ default
 IsNumberOf (Some word) default n = n ≡ digits_value 10 (without_leading_plus word)
 
--- the options are those that were found
+-- that the options are just those that the parser found, with 1 worker and 65536 calls where none are named
 pub record IsFound (rows : List Row) (found : ProgramOptions) : Type 0 where
   pub workers : IsNumberOf (first_of (codes "workers") rows) 1 found.workers
   pub calls : IsNumberOf (first_of (codes "calls") rows) 65536 found.calls
@@ -110,19 +111,20 @@ pub record IsFound (rows : List Row) (found : ProgramOptions) : Type 0 where
   pub record_file : option_map (λ s. s.now) found.record_file ≡ first_of (codes "record") rows
   pub scripts : map (λ s. s.now) found.scripts.items ≡ scripts_in rows
 
--- the words ask for these options: the parser takes the words, and what it finds is fit
+-- that the words ask for these options: the parser takes the words, and what it finds is fit and is these options
 pub record IsAsked (words : List Text) (found : ProgramOptions) : Type 0 where
   pub taken : refusals_of words ≡ []
   pub fit : IsFit (found_in words)
   pub is : IsFound (found_in words) found
 
--- what was found is not fit, or memory ran out
+-- that the fault tells of words which are not fit, or of memory that ran out; it never tells a help text
 abbrev pub IsUnfit : Type 0 → WordsFault → Type 0
 IsUnfit fit (Bad error) = fit → ⊥
 IsUnfit fit (Help error) = ⊥
 IsUnfit fit Starved = ⊤
 
--- the words ask for no options: the parser refuses them, as it does where they ask for help or the version; or finds what is not fit; or memory ran out
+-- that the words ask for no options, and the fault tells why: the parser refuses them, also for help or the version;
+-- they are not fit; or memory ran out
 abbrev pub IsRefused : List Text → WordsFault → Type 0
 IsRefused words (Bad error) = IsAmong (kind_of error) (refusals_of words) ⊎ ((refusals_of words ≡ []) × (IsFit (found_in words) → ⊥))
 IsRefused words (Help error) = IsAmong DisplayHelp (refusals_of words) ⊎ IsAmong DisplayVersion (refusals_of words)

@@ -19,7 +19,8 @@ use Rattle.street_runs.specs.Outputs.{IsBegun}
 abbrev pub count_line : List Entry → List ℕ
 count_line entries = reply_line (reply_to (state_of entries) Count Whole)
 
--- `unread` was read to its end, which left `left`, and is the tape of these calls, each of which can be replayed
+-- that `unread` was read to its end, which left `left`, as the tape of these calls, which can be replayed from nothing
+-- loaded
 pub record ReadsTape (unread left : Option (List ℕ)) (entries : List Entry) : Type 0 where
   pub text : List ℕ
   pub read : Consumes unread left text
@@ -27,30 +28,32 @@ pub record ReadsTape (unread left : Option (List ℕ)) (entries : List Entry) : 
   pub says : tape_reading text ≡ Some entries
   pub good : AreReplayable None entries
 
--- the whole tape was read, and the output grew by the replies to its calls and then the reply to a count
+-- that a whole tape was read, and the replies to its calls and then the reply to a count were written
 abbrev pub ReplaysCounted : Option (List ℕ) → Option (List ℕ) → Option (List ℕ) → Option (List ℕ) → Type 0
 ReplaysCounted unread before left after =
     (entries : List Entry) × ReadsTape unread left entries × Appends before after (output_from None entries ++ count_line entries)
 
--- all replies are written, and of the count's line perhaps the first bytes
+-- that a whole tape was read and the replies to its calls are written, but of the line of the count only the first
+-- bytes, perhaps all or none, for a fault of the run
 abbrev pub CountStops : Option (List ℕ) → Option (List ℕ) → Option (List ℕ) → Option (List ℕ) → TapeFault → Type 0
 CountStops unread before left after fault =
     (entries : List Entry) × ReadsTape unread left entries × IsOfRun fault
     × (mid : Option (List ℕ)) × Appends before mid (output_from None entries) × IsBegun mid after (count_line entries)
 
--- the replay stopped, or the line of the count was not written whole
+-- that a fault ended a replay with its count: in the replay (`ReplayStops`), or while the count's line was written
+-- (`CountStops`)
 abbrev pub CountedStops : Option (List ℕ) → Option (List ℕ) → Option (List ℕ) → Option (List ℕ) → TapeFault → Type 0
 CountedStops unread before left after fault =
     ((view : EngineView) × ReplayStops unread before view left after fault) ⊎ CountStops unread before left after fault
 
 -- a replay and its count, from one counted stream to another
 module _ {D W : Type 0} (remaining : D → Option (List ℕ)) (contents : W → Option (List ℕ)) where
-  -- the tape was replayed, and the count answered
+  -- that the tape in the reader was replayed and counted, and the replies and the count's line are in the writer
   abbrev pub ReplaysAndCounts : Counted D → Counted W → Counted D → Counted W → Type 0
   ReplaysAndCounts reader writer read written =
       ReplaysCounted (remaining reader.stream) (contents writer.stream) (remaining read.stream) (contents written.stream)
 
-  -- a fault ended the replay or the count
+  -- that a fault ended the replay of the tape in the reader, or the count behind it
   abbrev pub ReplayOrCountStops : Counted D → Counted W → Counted D → Counted W → TapeFault → Type 0
   ReplayOrCountStops reader writer read written fault =
       CountedStops (remaining reader.stream) (contents writer.stream) (remaining read.stream) (contents written.stream) fault

@@ -13,31 +13,33 @@ use Rattle.street_runs.specs.declared.fault.ProgramFault.{ProgramFault}
 use Rattle.street_runs.specs.Faults.{fault_of_run}
 use Rattle.street_runs.specs.Outputs.{IsPrinted, TellsOutput, replies_of}
 
--- the pass of a session that nothing was called with yet
+-- the pass of a session of this desk that has called nothing and seen nothing
 abbrev pub new_pass : DeskView → ℕ → PassView
 new_pass desk session = record { desk = desk; seen = []; count = 0; least = session; greatest = session }
 
--- a pass for each session but these last, the last session's first
+-- that pass k of these, counted from 0, is the new pass of session `sessions - 1 - k`: the passes begin with the
+-- greatest session and go down
 abbrev pub ArePassesFrom : DeskView → ℕ → List PassView → Type 0
 ArePassesFrom desk sessions passes =
     (k session : ℕ) (d : PassView) → k < length passes → session + k + 1 ≡ sessions → slice_index_or passes k d ≡ new_pass desk session
 
--- the script of this place is the session of that number, and was not served yet; its file was opened, or it has a fault
+-- that the script at this place has the new pass of the session of the same number and no replies, and has an open file
+-- just where it has no fault
 pub record IsOpened {R : Type 0} (desk : DeskView) (place : ℕ) (script : Script R) : Type 0 where
   pub session : script.session ≡ new_pass desk place
   pub replies : script.replies.items ≡ []
   pub fault : IsNone script.fault ↔ IsSome script.file
 
--- each script is the session of its place, and was not served yet
+-- that each script has the new pass of the session of its place and was not served yet (`IsOpened`)
 abbrev pub AreOpened : {R : Type 0} → DeskView → List (Script R) → Type 0
 AreOpened {R} desk scripts = (k : ℕ) (d : Script R) → k < length scripts → IsOpened desk k (slice_index_or scripts k d)
 
--- each was served
+-- that each of these scripts was served the lines of its file (`IsRun`)
 pub record AreRun {R : Type 0} (old new : List (Script R)) : Type 0 where
   pub same : length new ≡ length old
   pub each : (k : ℕ) (d : Script R) → k < length old → IsRun (slice_index_or old k d) (slice_index_or new k d)
 
--- the fault of the first script that has one, in the order of the names, told by its name
+-- that the fault is that of the first script which has one, in the order of the names, told by the script's name
 pub record IsFirstFault {R : Type 0} (scripts : List (Script R)) (names : List (Bor (List ℕ))) (fault : ProgramFault) : Type 0 where
   pub place : ℕ
   pub kind : FaultKind
@@ -46,14 +48,15 @@ pub record IsFirstFault {R : Type 0} (scripts : List (Script R)) (names : List (
   pub before : (k : ℕ) (d : Script R) → k < place → IsNone (slice_index_or scripts k d).fault
   pub told : (n : Bor (List ℕ)) → fault ≡ fault_of_run kind (slice_index_or names place n) (slice_index_or names place n)
 
--- no fault is told only where no script has one, and all replies are written and passed on; else the first script's fault, and where none has one, that of standard output
+-- that the result is right: no fault only where no script has one and all replies are written and flushed; else the
+-- fault of the first script that has one; where none has, that of standard output
 abbrev pub Tells : {R W : Type 0} → List (Script R) → List (Bor (List ℕ)) → Option (List ℕ) → Option (List ℕ) → Counted W → Result (Unit {0}) ProgramFault → Type 0
 Tells scripts names before after writer (Ok u) = All (λ s. IsNone s.fault) scripts × Appends before after (replies_of scripts) × IsFlushed writer
 Tells scripts names before after writer (Err fault) =
     IsFirstFault scripts names fault ⊎ (All (λ s. IsNone s.fault) scripts × HasFailed writer × TellsOutput fault)
 
--- what became of scripts at a desk: each was opened as the session of its place and served, all replies are written in their order, what is told is the first
--- fault, and the pass is that of the first script's session, and has seen what each script had seen
+-- that scripts were played at a desk: each was opened as the session of its place and served, the replies are printed
+-- in order, the result tells of them, and `pass`, session 0's, has seen what each script had seen
 pub record ArePlayed {W : Type 0} (R : Type 0) (desk : DeskView) (names : List (Bor (List ℕ))) (before after : Option (List ℕ)) (writer : Counted W)
     (result : Result (Unit {0}) ProgramFault) (pass : PassView) : Type 0 where
   pub opened : List (Script R)

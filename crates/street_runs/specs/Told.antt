@@ -14,7 +14,8 @@ use Rattle.street_runs.specs.Ends.{IsEnded}
 use Rattle.street_runs.specs.Outputs.{IsPrinted, replies_of}
 use Rattle.street_runs.specs.Scripts.{ArePlayed}
 
--- the replies are the whole output of the lines of a text, from the session's first call on; each is the machine's at the place of its call in the journal
+-- that these replies are the whole output of the lines of some text, served by the desk to a session from its first
+-- call on; each reply is the machine's where the call stands in the journal
 pub record IsTold (session : ℕ) (replies : List ℕ) (journal : List Entry) : Type 0 where
   pub before : PassView
   pub after : PassView
@@ -24,7 +25,8 @@ pub record IsTold (session : ℕ) (replies : List ℕ) (journal : List Entry) : 
   pub served : Goes DeskServes before (lines_of text) replies after
   pub begins : BeginsWith journal after.seen
 
--- the replies of each script that has no fault are those of one history, and all these replies are printed
+-- that the replies of each script without a fault are the machine's in one history, the journal, whose order all calls
+-- have, and all scripts' replies are printed, in part where the writer has failed
 pub record AreTold {W : Type 0} (R : Type 0) (desk : DeskView) (names : List (Bor (List ℕ))) (before after : Option (List ℕ)) (writer : Counted W)
     (journal : List Entry) : Type 0 where
   pub scripts : List (Script R)
@@ -34,7 +36,8 @@ pub record AreTold {W : Type 0} (R : Type 0) (desk : DeskView) (names : List (Bo
   pub each : (k : ℕ) (d : Script R) → k < length scripts → IsNone (slice_index_or scripts k d).fault
       → IsTold k (slice_index_or scripts k d).replies.items journal
 
--- scripts that were played at a desk have replies of one history (`AreTold`), where the desk is ended with the pass that comes back from them
+-- that, for scripts of any desk, once played (`ArePlayed`) and the desk ended with the pass that comes back, each one
+-- without a fault has the machine's replies where its calls stand in the desk's journal (`AreTold`)
 abbrev pub PlayedAreTold : Type 0 → Type 0 → Type 0
 PlayedAreTold R W = (desk : DeskView) (names : List (Bor (List ℕ))) (before after : Option (List ℕ)) (writer : Counted W)
     (told : Result (Unit {0}) ProgramFault) (pass : PassView) (journal : List Entry)

@@ -9,7 +9,8 @@ use Rattle.street_runs.specs.declared.words.ProgramOptions.{ProgramOptions}
 use Rattle.street_runs.specs.declared.words.WordsFault.{WordsFault}
 use Rattle.street_runs.specs.declared.words.WordsFault.TheVariants.{Bad, Help, Starved}
 
--- each number of the options is in its range
+-- that the options' numbers are in their ranges: 1 to `most_workers` workers, 1 to `most_calls` calls, and at most
+-- `most_sessions` scripts
 pub record IsInRange (found : ProgramOptions) : Type 0 where
   pub some_workers : 1 ≤ found.workers
   pub few_workers : found.workers ≤ most_workers
@@ -17,31 +18,33 @@ pub record IsInRange (found : ProgramOptions) : Type 0 where
   pub few_calls : found.calls ≤ most_calls
   pub few_scripts : vec_len found.scripts ≤ most_sessions
 
--- a replay is asked for with neither scripts nor a tape to write, and so is an upgrade; a replay and an upgrade are not asked for together
+-- that no options are asked for that exclude each other: a replay goes with neither scripts nor a tape, nor does an
+-- upgrade, and not the one with the other
 pub record StandsTogether (found : ProgramOptions) : Type 0 where
   pub replay : IsSome found.replay → (found.tape ≡ None) × (vec_len found.scripts ≡ 0)
   pub upgrade : IsSome found.upgrade → (found.tape ≡ None) × (found.replay ≡ None) × (vec_len found.scripts ≡ 0)
 
--- the run has no desk: no end of calls is asked for, or the session is kept, or its steps are recorded
+-- that a run without a desk is asked for: with no end of calls, kept in a file, or with a record of its steps
 abbrev pub IsDeskless : ProgramOptions → Type 0
 IsDeskless found = (found.endless ≡ true) ⊎ IsSome found.keep ⊎ IsSome found.record_file
 
--- neither scripts nor tapes are there
+-- that neither scripts are asked for, nor a tape to be written, replayed or upgraded
 abbrev pub HasNoScriptsOrTapes : ProgramOptions → Type 0
 HasNoScriptsOrTapes found = (found.tape ≡ None) × (found.replay ≡ None) × (found.upgrade ≡ None) × (vec_len found.scripts ≡ 0)
 
--- a run without a desk is asked for with neither scripts nor tapes; `unsynced` is asked for only together with `keep`
+-- that a run without a desk is asked for with neither scripts nor tapes, and `unsynced` only together with `keep`
 pub record StandsAlone (found : ProgramOptions) : Type 0 where
   pub alone : IsDeskless found → HasNoScriptsOrTapes found
   pub unsynced : found.unsynced ≡ true → IsSome found.keep
 
--- the fault that tells of the parser's error
+-- that the fault tells of the parser's error: its text as a help or version text where that was asked for, lack of
+-- memory as such, and any other as bad words
 abbrev pub ToldOf : Error → WordsFault → Type 0
 ToldOf error (Bad text) = (text ≡ error) × (kind_of error ≢ DisplayHelp) × (kind_of error ≢ DisplayVersion) × (kind_of error ≢ OutOfMemory)
 ToldOf error (Help text) = (text ≡ error) × ((kind_of error ≡ DisplayHelp) ⊎ (kind_of error ≡ DisplayVersion))
 ToldOf error Starved = kind_of error ≡ OutOfMemory
 
--- the words are told bad, for a reason of this kind, or memory ran out
+-- that the fault tells of bad words, with an error of this kind, or of memory that ran out; it never tells a help text
 abbrev pub TellsBad : ErrorKind → WordsFault → Type 0
 TellsBad kind (Bad text) = kind_of text ≡ kind
 TellsBad kind (Help text) = ⊥

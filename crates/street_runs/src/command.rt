@@ -1,5 +1,5 @@
-//! The words that the program's command line may have, as clap knows them: flags, options with a value, scripts. `command_line.rt`
-//! has the words parsed by it.
+//! The command `streetsim` as clap knows it: which options, values and scripts the words of the command line may have,
+//! and their help texts. `command_line.rt` alone calls `streetsim`, to have the words parsed by this command.
 ghost use Rattle.std.specs.Prelude.{◌≡◌, All, IfOk, false, map};
 ghost use Rattle.clap.specs.Words.{app_of, rule_of};
 ghost use Rattle.street_runs.specs.Parser.{flag_rule, option_rule, script_rule, streetsim_app, streetsim_rules};

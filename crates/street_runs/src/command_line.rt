@@ -1,4 +1,6 @@
-//! From the words of the command line to options. `main` calls it first.
+//! From the words of the command line to options: [`options`] has clap parse the words by `command.rt`, tests numbers
+//! and which options exclude each other, and fills the types of `words.rt`. `main` of `street_sim` calls [`options`]
+//! first.
 ghost use Rattle.std.specs.Prelude.{◌≤◌, ◌<◌, ◌≡◌, [], false, true, IfErr, IfOk, IsNone, IsSome, SomeIff, codes, length, map, option_map, string_bytes, unwrap_or, vec_len};
 ghost use Rattle.std.specs.Str.Parse.{digits_value, without_leading_plus};
 ghost use Rattle.street_base.specs.Prelude.{most_sessions};

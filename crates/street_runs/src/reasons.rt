@@ -1,4 +1,5 @@
-//! What is told of wrong words: one line of the parser's text. `main` calls it where words are wrong.
+//! [`reason`]: of clap's text on wrong words of the command line, the one line that the program tells. `main` of
+//! `street_sim` calls [`reason`] with the text of a `WordsFault::Bad`; `command_line.rt` does not know it.
 ghost use Rattle.std.specs.List.{before_first};
 ghost use Rattle.std.specs.Prelude.{◌++◌, ◌≡◌, ◌≢◌, List, codes, eqb, ℕ};
 

@@ -1,5 +1,5 @@
-//! `ProgramOptions` and `WordsFault`: what the words of the command line ask for, or why they ask for nothing. `command_line.rt`
-//! makes them, and `main` goes by them.
+//! The two results of reading the command line: `ProgramOptions`, what the words ask for, or `WordsFault`, why they ask
+//! for nothing. `command_line.rt` makes them; `main` of `street_sim` runs by the options, or tells the fault.
 ghost use Rattle.std.specs.Prelude.{◌≡◌};
 ghost use Rattle.street_runs.specs.Words.{ToldOf};
 ghost use Rattle.street_runs.specs.declared.words.WordsFault.TheVariants.{Starved};

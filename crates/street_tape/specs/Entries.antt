@@ -28,87 +28,91 @@ longest_tape_line = 2097152
 
 -- ---- one line
 
--- the value, or the fault that there is none
+-- the value that was read; the fault `NotJson` where there is none
 abbrev pub value_or_fault : Option Data → Result Data LineFault
 value_or_fault None = Err NotJson
 value_or_fault (Some d) = Ok d
 
--- the value of a line, or its first fault
+-- the JSON value of a line of a tape; the fault `LineTooLong` or `NotJson` where it has none
 unfoldable pub tape_value : List ℕ → Result Data LineFault
 tape_value line = if nat_lt longest_tape_line (length line) then Err LineTooLong else value_or_fault (value_of line)
 
--- what follows from what was found, or the fault that was found
+-- what f makes of the value; where a fault was found instead, that fault
 abbrev pub and_then : {A B : Type 0} → (A → Result B LineFault) → Result A LineFault → Result B LineFault
 and_then f (Ok x) = f x
 and_then f (Err e) = Err e
 
--- what a fault that was answered tells of the value that was wanted: lack of memory tells nothing
+-- that a fault which was answered in place of a value is the fault `wanted`; where memory ran out, nothing is said of
+-- it
 abbrev pub FailsData : LineFault → Result Data LineFault → Type 0
 FailsData NoMemory wanted = ⊤
 FailsData LineTooLong wanted = wanted ≡ Err LineTooLong
 FailsData NotJson wanted = wanted ≡ Err NotJson
 FailsData BadCommand wanted = ⊥
 
--- what was answered is the value that was wanted, or memory ran out
+-- that the answer is the value or fault that was wanted, or tells that memory ran out
 abbrev pub GivesTapeValue : Result Value LineFault → Result Data LineFault → Type 0
 GivesTapeValue (Ok v) wanted = wanted ≡ Ok (view v)
 GivesTapeValue (Err e) wanted = FailsData e wanted
 
 -- ---- the first line
 
--- version 2 also tells how many calls follow; no other version is known
+-- the head of a tape of this version: none but 1 and 2 is known, and 2 also has the count of calls that follow
 abbrev pub head_of : ℕ → Data → Option TapeHead
 head_of version d = if version == 1 then Some Version1 else (if version == 2 then option_map Version2 (number_field (codes "calls") d) else None)
 
--- what a value tells as the first line of a tape
+-- the head of a tape that a JSON value tells; none where it has no version, or one that is not known
 unfoldable pub head_in : Data → Option TapeHead
 head_in d = option_and_then (λ version. head_of version d) (number_field (codes "tape") d)
 
--- what the first line of a tape tells, or its first fault
+-- the head of a tape that its first line tells, or the first fault of that line
 unfoldable pub head_reading : List ℕ → Result TapeHead LineFault
 head_reading line = and_then (λ d. or_fault BadCommand (head_in d)) (tape_value line)
 
--- sizes are read from version 2 on: in version 1 each vehicle that enters has size 1
+-- whether the calls of a tape with this head tell the sizes of vehicles: in version 1 they do not, and each vehicle has
+-- size 1
 abbrev pub is_sized : TapeHead → Bool
 is_sized Version1 = false
 is_sized (Version2 calls) = true
 
--- what the first line of a tape tells of the lines behind a call, if a call may follow
+-- the head as it counts the calls that are still to follow, after one call more; none where no further call may follow
 abbrev pub after_call : TapeHead → Option TapeHead
 after_call Version1 = Some Version1
 after_call (Version2 calls) = if calls == 0 then None else Some (Version2 (calls - 1))
 
--- a tape with this first line may have n calls: they are not too many
+-- whether a tape with this head may have n calls: in version 1 any count, in version 2 at most its own
 abbrev pub may_have : TapeHead → ℕ → Bool
 may_have Version1 n = true
 may_have (Version2 calls) n = nat_le n calls
 
--- a tape with this first line is whole after n calls: they are not too few
+-- whether a tape with this head is whole with n calls: in version 1 always, in version 2 with just its own count
 abbrev pub is_whole : TapeHead → ℕ → Bool
 is_whole Version1 n = true
 is_whole (Version2 calls) n = n == calls
 
 -- ---- a further line
 
--- the outcome of a word
+-- the outcome that a word names, `whole` or `starved`; none of any other word
 abbrev pub named_outcome : List ℕ → Option Outcome
 named_outcome name = if bytes_eq name (codes "whole") then Some Whole else (if bytes_eq name (codes "starved") then Some Starved else None)
 
--- a word, or a number
+-- the outcome that a JSON value tells: a word names it, a number k means that an advance stopped short after k steps;
+-- else none
 unfoldable pub outcome_in : Data → Option Outcome
 outcome_in d = option_map_or named_outcome (as_str d) (option_map Short (number_in d))
 
--- a number of steps is that of a part of an advance
+-- whether a command can have this outcome: only an advance can be short, after at least one step and before its last
 abbrev pub is_part : Command → Outcome → Bool
 is_part (Advance steps) (Short k) = nat_lt 0 k && nat_lt k steps
 is_part c (Short k) = false
 is_part c o = true
 
--- a call, where it can have its outcome
+-- the call itself, where its command can have its outcome; else none
 abbrev pub if_part : Entry → Option Entry
 if_part e = if is_part e.command e.outcome then Some e else None
 
--- sizes are read or not
+-- the call that a JSON value tells, with command, outcome and session; none where one of them is missing or bad.
+-- `sized` says whether an `enter` tells a size
 unfoldable pub call_in : Bool → Data → Option Entry
 call_in sized d =
     Some (λ command outcome session. entry session command outcome)
@@ -116,59 +120,63 @@ call_in sized d =
     with field outcome_in (codes "outcome") d
     with number_field (codes "session") d
 
--- the call that a value says, where it can have its outcome
+-- the call that a JSON value tells; none where it tells none, or one whose command cannot have its outcome
 unfoldable pub entry_in : Bool → Data → Option Entry
 entry_in sized d = option_and_then if_part (call_in sized d)
 
--- what a further line says: a call, or its first fault
+-- the call that a further line of a tape says, or the first fault of that line
 unfoldable pub entry_reading : Bool → List ℕ → Result Entry LineFault
 entry_reading sized line = and_then (λ d. or_fault BadCommand (entry_in sized d)) (tape_value line)
 
 -- ---- all lines
 
--- a call before others, where all were read
+-- the call of a line before the calls of the lines behind it; none where the line has a fault, or a line behind it has
 abbrev pub onto : Result Entry LineFault → Option (List Entry) → Option (List Entry)
 onto (Ok e) es = option_map (λ rest. e ∷ rest) es
 onto (Err f) es = None
 
--- the calls that these lines say, where each says one
+-- the calls that these lines say, one to a line; none where a line has a fault
 abbrev pub entries_of : Bool → List (List ℕ) → Option (List Entry)
 entries_of sized [] = Some []
 entries_of sized (l ∷ ls) = onto (entry_reading sized l) (entries_of sized ls)
 
--- the calls of the lines that follow a first line, of which there may be so many
+-- the calls of the lines ls behind a first line that was read so; none where it has a fault, a line has one, or there
+-- are more lines than the head allows
 abbrev pub calls_after : Result TapeHead LineFault → List (List ℕ) → Option (List Entry)
 calls_after (Ok head) ls = if may_have head (length ls) then entries_of (is_sized head) ls else None
 calls_after (Err f) ls = None
 
--- the calls of the first lines of a tape: of no line none, and then those of the lines that follow the first
+-- the calls that the first lines of a tape say, so far as they go; none where a line has a fault or is one too many
 abbrev pub calls_in : List (List ℕ) → Option (List Entry)
 calls_in [] = Some []
 calls_in (l ∷ ls) = calls_after (head_reading l) ls
 
--- the calls of these lines, where they are as many as the first line says
+-- the calls of the lines ls behind a first line that was read so; none where it has a fault, a line has one, or the
+-- count of lines is not the head's
 abbrev pub all_after : Result TapeHead LineFault → List (List ℕ) → Option (List Entry)
 all_after (Ok head) ls = if is_whole head (length ls) then entries_of (is_sized head) ls else None
 all_after (Err f) ls = None
 
--- the calls of the lines of a tape, which has a first line
+-- the calls that all lines of a tape say; none where the tape has no line, a line has a fault, or the count of calls is
+-- not that of its head
 abbrev pub tape_in : List (List ℕ) → Option (List Entry)
 tape_in [] = None
 tape_in (l ∷ ls) = all_after (head_reading l) ls
 
--- the calls of a tape
+-- the calls of a tape by its text; none where the text is no good tape
 abbrev pub tape_reading : List ℕ → Option (List Entry)
 tape_reading text = tape_in (lines_of text)
 
 -- ---- calls that a tape can hold
 
--- a number of steps is one of 64 bits
+-- that the outcome fits a tape: the count of steps of a short one is a number of 64 bits
 abbrev pub OutcomeFits : Outcome → Type 0
 OutcomeFits Whole = ⊤
 OutcomeFits Starved = ⊤
 OutcomeFits (Short k) = IsWord k
 
--- a call fits a tape: each of its numbers is one of 64 bits, it can have its outcome, and its line is no longer than a line of a tape may be
+-- that a call fits a tape: its numbers have 64 bits, its command can have its outcome, and its line is no longer than a
+-- line of a tape may be
 pub record EntryFits (e : Entry) : Type 0 where
   pub session : IsWord e.session
   pub command : Fits e.command
@@ -176,17 +184,17 @@ pub record EntryFits (e : Entry) : Type 0 where
   pub part : is_part e.command e.outcome ≡ true
   pub line : length (compact_text (entry_data e)) ≤ longest_tape_line
 
--- each number of the call is one of 64 bits
+-- that each number of the call has 64 bits
 pub record IsOfWords (e : Entry) : Type 0 where
   pub session : IsWord e.session
   pub command : Fits e.command
   pub outcome : OutcomeFits e.outcome
 
--- the line of a call is no longer than a line of a tape may be
+-- that the line of a call, without its LF, is no longer than a line of a tape may be
 abbrev pub HasTapeLine : Entry → Type 0
 HasTapeLine e = length (compact_text (entry_data e)) ≤ longest_tape_line
 
--- each call fits a tape (`EntryFits`), and the number of the calls is one of 64 bits
+-- that these calls fit a tape: each does (`EntryFits`), and their count is a number of 64 bits
 pub record TapeFits (es : List Entry) : Type 0 where
   pub few : IsWord (length es)
   pub each : All EntryFits es

@@ -19,7 +19,8 @@ use Rattle.street_tape.specs.Entries.{calls_in, tape_reading}
 
 -- ---- whole replays
 
--- the tape was read to its end, its calls are applied, and their replies written
+-- that the tape was read to its end, all of its calls can be replayed from nothing loaded and are applied to the
+-- engine, their replies are written, and the tally counts them
 pub record ReplaysWhole (unread before : Option (List ℕ)) (view : EngineView) (left after : Option (List ℕ)) (tally : Tally) : Type 0 where
   pub text : List ℕ
   pub entries : List Entry
@@ -33,18 +34,21 @@ pub record ReplaysWhole (unread before : Option (List ℕ)) (view : EngineView) 
 
 -- ---- faults of a run
 
--- of an advance perhaps the first steps were made
+-- that the engine stands for state m, or, where c is an advance that may stop short, for the state after its first k
+-- steps
 abbrev pub HasBegun : State → Command → EngineView → Type 0
 HasBegun m c view = StandsFor view m ⊎ ((k : ℕ) × MayBeShort m c k × StandsFor view (short_state m k))
 
--- the engine stands for the state after these calls; or the line that follows is an advance, of which perhaps the first steps were made
+-- that the engine stands for the state after the calls es; or, where the next of the lines says an advance, for the
+-- state after the first steps of that
 abbrev pub HasBegunNext : State → List (List ℕ) → List Entry → List (List ℕ) → EngineView → Type 0
 HasBegunNext start done es [] view = StandsFor view (state_from start es)
 HasBegunNext start done es (l ∷ ls) view =
     StandsFor view (state_from start es)
     ⊎ ((e : Entry) × (calls_in (done ++ l ∷ []) ≡ Some (es ++ e ∷ [])) × HasBegun (state_from start es) e.command view)
 
--- the calls of the first lines are applied, and the first bytes of their replies are written
+-- that a fault left a replay behind the lines `done`: their calls are applied, perhaps with the first steps of a next
+-- advance, and the first bytes of their replies are written and counted
 pub record BreaksAfter (start : State) (before : Option (List ℕ)) (done rest : List (List ℕ)) (view : EngineView)
     (after : Option (List ℕ)) (tally : Tally) : Type 0 where
   pub entries : List Entry
@@ -55,8 +59,8 @@ pub record BreaksAfter (start : State) (before : Option (List ℕ)) (done rest :
   pub calls : tally.calls ≡ length entries
   pub replies : CountsReplies tally (output_from start entries) (length entries)
 
--- what a fault of a run leaves of a text: the calls of its first lines are applied, and the first bytes of their replies written. Where a read failed
--- the replies are whole, and are those of all lines that were read to their end
+-- that a fault of reading, writing or memory ended a replay: the calls of the text's first lines are applied, and the
+-- first bytes of their replies written; where a read failed, these are all ended lines and whole replies
 pub record Breaks (start : State) (before : Option (List ℕ)) (text : List ℕ) (view : EngineView)
     (after : Option (List ℕ)) (kind : FaultKind) (tally : Tally) : Type 0 where
   pub done : List (List ℕ)
@@ -69,26 +73,28 @@ pub record Breaks (start : State) (before : Option (List ℕ)) (text : List ℕ)
 
 -- ---- all faults
 
--- what each fault of a replay leaves: nothing of what is no tape; of a bad tape the calls before its first bad line, with their replies
+-- that a fault of a replay left: nothing applied or written, where the text is no tape; the calls before the first bad
+-- line applied and replied to, where the tape is bad; else what `Breaks` says
 abbrev pub TapeBreaks : Type 0 → State → Option (List ℕ) → List ℕ → EngineView → Option (List ℕ) → TapeFault → Type 0
 TapeBreaks at_end start before text view after NotTape = IsNoTape at_end text × StandsFor view start × Appends before after []
 TapeBreaks at_end start before text view after (BadEntry line) =
     (es : List Entry) × IsBadAt at_end (AreReplayable start) text es line × StandsFor view (state_from start es) × Appends before after (output_from start es)
 TapeBreaks at_end start before text view after (Run fault) = Breaks start before text view after fault.kind fault.tally
 
--- what a replay left that a fault ended, of the text that was read
+-- that a fault ended a replay, and left of the text that was read what `TapeBreaks` says
 pub record ReplayStops (unread before : Option (List ℕ)) (view : EngineView) (left after : Option (List ℕ)) (fault : TapeFault) : Type 0 where
   pub text : List ℕ
   pub read : Consumes unread left text
   pub breaks : TapeBreaks (IsAtEnd left) None before text view after fault
 
--- a fault of a replay or an upgrade comes only where its cause was counted; a bad tape has no other cause
+-- that a fault of a replay or an upgrade has its cause counted in reader or writer; of a text that is no tape, or a bad
+-- one, no cause is asked
 abbrev pub IsTapeCaused : {R W : Type 0} → TapeFault → Counted R → Counted W → ℕ → Type 0
 IsTapeCaused NotTape reader writer reads = ⊤
 IsTapeCaused (BadEntry line) reader writer reads = ⊤
 IsTapeCaused (Run fault) reader writer reads = IsCaused fault.kind reader writer reads
 
--- the run failed; the tape was not bad
+-- that the fault is one of the run, of reading, writing or memory, and not one of the tape
 abbrev pub IsOfRun : TapeFault → Type 0
 IsOfRun NotTape = ⊥
 IsOfRun (BadEntry line) = ⊥

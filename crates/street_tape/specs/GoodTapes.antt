@@ -9,27 +9,30 @@ use Rattle.street_tape.specs.Tapes.{tape_text}
 use Rattle.street_tape.specs.Upgrades.{UpgradeBreaks}
 use Rattle.street_text.specs.CommandTexts.{tells_size}
 
--- each vehicle that enters has size 1, so that a tape of version 1 can say these calls
+-- that no call enters a vehicle of another size than 1, so that a tape of version 1 can say these calls
 abbrev pub HaveSizeOne : List Entry → Type 0
 HaveSizeOne history = All (λ e. tells_size e.command ≡ false) history
 
--- where the tape reads as a list of calls, it is this one
+-- that the tape, where it can be read at all, has the calls of this history
 abbrev pub SaysOnly : List ℕ → List Entry → Type 0
 SaysOnly tape history = (es : List Entry) → tape_reading tape ≡ Some es → es ≡ history
 
--- however much of the tape was read, a replay that ends with a fault is not told a bad tape: a read or a write failed, or memory ran out
+-- that a replay of any beginning of this tape which ends with a fault does so for reading, writing or memory: it never
+-- tells that the tape is bad
 abbrev pub IsNeverBad : List ℕ → Type 0
 IsNeverBad tape = (text more : List ℕ) → text ++ more ≡ tape
     → (before : Option (List ℕ)) (view : EngineView) (after : Option (List ℕ)) (fault : TapeFault)
     → TapeBreaks (more ≡ []) None before text view after fault → IsOfRun fault
 
--- no beginning of this tape makes an upgrade refuse it
+-- that an upgrade of any beginning of this tape which ends with a fault does so for reading, writing or memory: it
+-- never tells that the tape is bad
 abbrev pub IsNeverRefused : List ℕ → Type 0
 IsNeverRefused tape = (text more : List ℕ) → text ++ more ≡ tape
     → (before after : Option (List ℕ)) (fault : TapeFault)
     → UpgradeBreaks (more ≡ []) before text after fault → IsOfRun fault
 
--- the upgrade of this tape is the tape of that history, and reads as it
+-- that the upgrade of this tape, where it can be read at all, is the text of that history's tape, and can be read as
+-- that history
 abbrev pub UpgradesTo : List ℕ → List Entry → Type 0
 UpgradesTo tape history = (es : List Entry) → tape_reading tape ≡ Some es
     → (tape_text es ≡ tape_text history) × (tape_reading (tape_text es) ≡ Some history)

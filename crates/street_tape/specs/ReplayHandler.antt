@@ -25,51 +25,59 @@ use Rattle.street_tape.specs.declared.head.TapeHead.{TapeHead}
 use Rattle.street_tape.specs.declared.tape.Stop.{Stop}
 use Rattle.street_tape.specs.declared.tape.Stop.TheVariants.{NotTape, BadEntry, Starved}
 
--- a line that says no call
+-- the effect of a line of a tape that says no call: it is no call and has no reply
 abbrev pub silent : Effect
 silent = record { is_call = false; reply = None }
 
--- the call, if there is one, was applied, and its reply is the machine's
+-- that the call, if there is one, was applied to the engine, from `old` to `new`, and the line's effect is the
+-- machine's reply; with no call nothing has changed
 abbrev pub Applies : EngineView → Option Entry → Effect → EngineView → Type 0
 Applies old None effect new = (new ≡ old) × (effect ≡ silent)
 Applies old (Some e) effect new =
     (effect.is_call ≡ true) × ((m : State) → StandsFor old m → IsReplayable m e.command e.outcome
     × (effect.reply ≡ Some (reply_line (reply_to m e.command e.outcome))) × StandsFor new (state_after m e.command e.outcome))
 
--- the next line was taken, and its call, if it says one, was applied
+-- that the next line of a tape was replayed: the first line tells the head, with no reply; a further line says a call,
+-- which was applied to the engine and replied to as the machine does
 abbrev pub ReplaysLine : Option TapeHead × EngineView → List ℕ → Effect → Option TapeHead × EngineView → Type 0
 ReplaysLine old line effect new = (call : Option Entry) × Takes old.0 line call new.0 × Applies old.1 call effect new.1
 
--- whatever state the engine stood for, the call can be replayed there, the reply is the machine's, and the engine stands for the state after the call
+-- that, for any state for which the engine stood, this call can be replayed there, the reply is the machine's, and the
+-- engine stands for the state after it
 abbrev pub CallReplays : EngineView → Command → Outcome → Reply → EngineView → Type 0
 CallReplays before c o reply after =
     (m : State) → StandsFor before m → IsReplayable m c o × (reply ≡ reply_to m c o) × StandsFor after (state_after m c o)
 
--- an advance is applied, of which the clock alone is asked; one that is done whole can always be replayed
+-- that, for any state for which the engine stood, it stands for the state after a whole advance of so many steps, and
+-- `clock` is the clock of the machine's reply, or none where that has none
 abbrev pub AdvanceGoes : EngineView → ℕ → Option ℕ → EngineView → Type 0
 AdvanceGoes before steps clock after =
     (m : State) → StandsFor before m → (clock ≡ clock_in (reply_to m (Advance steps) Whole)) × StandsFor after (state_after m (Advance steps) Whole)
 
--- what a call that was not replayed leaves
+-- that a call was not replayed from state m for this reason: it cannot be, and the engine still stands for m; or memory
+-- ran out, perhaps behind the first steps of an advance
 abbrev pub CallStops : State → Command → Outcome → EngineView → Stop → Type 0
 CallStops m c o view NotTape = ⊥
 CallStops m c o view BadEntry = (IsReplayable m c o → ⊥) × StandsFor view m
 CallStops m c o view Starved = HasBegun m c view
 
--- the line was not taken, or its call was not replayed
+-- that a replay stopped at this line: the line was not taken, and the engine is as it was; or its call was not
+-- replayed, and the engine is as `CallStops` says
 abbrev pub StopsLine : Option TapeHead × EngineView → List ℕ → Stop → Option TapeHead × EngineView → Type 0
 StopsLine old line stop new =
     (Refuses old.0 line stop × (new.1 ≡ old.1))
     ⊎ ((e : Entry) × (rest : Option TapeHead) × Takes old.0 line (Some e) rest × ((m : State) → StandsFor old.1 m → CallStops m e.command e.outcome new.1 stop))
 
--- the fault that is told
+-- the fault of a replay that ended for this cause, with the tally so far: of the run, that the text is no tape, or the
+-- number of the bad line
 abbrev pub fault_of : StopCause Stop → Tally → TapeFault
 fault_of (cause.Run kind) tally = fault.Run (record { kind = kind; tally = tally })
 fault_of (cause.Line NotTape) tally = fault.NotTape
 fault_of (cause.Line BadEntry) tally = fault.BadEntry tally.lines
 fault_of (cause.Line Starved) tally = fault.Run (record { kind = kind.Starved; tally = tally })
 
--- the fault of a tape that ended too early
+-- that this is the fault of a tape that ended too early: with no line at all, no tape; with fewer calls than its head
+-- tells, the line behind the last as a bad one
 abbrev pub Misses : Option TapeHead → Tally → TapeFault → Type 0
 Misses None tally fault.NotTape = ⊤
 Misses (Some rest) tally (fault.BadEntry line) = (is_whole rest 0 ≡ false) × (line ≡ tally.lines + 1)

@@ -12,13 +12,14 @@ use Rattle.street_desk.specs.History.{answers_from}
 use Rattle.street_stream.specs.declared.tally.Tally.{Tally}
 use Rattle.street_text.specs.ReplyLines.{reply_line}
 
--- a call can be replayed at this state: any that is whole or starved; a short one where the machine may stop after so many steps
+-- that a call with this outcome can be replayed from state m: whole or starved always, short only where the machine
+-- allows an advance to stop after k steps
 abbrev pub IsReplayable : State → Command → Outcome → Type 0
 IsReplayable m c Whole = ⊤
 IsReplayable m c Starved = ⊤
 IsReplayable m c (Short k) = MayBeShort m c k
 
--- each of these calls can be replayed, one after another
+-- that each of these calls can be replayed, one after another, from state m on
 abbrev pub AreReplayable : State → List Entry → Type 0
 AreReplayable m [] = ⊤
 AreReplayable m (e ∷ es) = IsReplayable m e.command e.outcome × AreReplayable (state_after m e.command e.outcome) es
@@ -28,16 +29,17 @@ abbrev pub reply_lines : List (Reply × Outcome) → List ℕ
 reply_lines [] = []
 reply_lines (a ∷ more) = reply_line a.0 ++ reply_lines more
 
--- the machine's replies to these calls, with their outcomes
+-- the bytes of the machine's replies to these calls, from state m on, a line for each
 abbrev pub output_from : State → List Entry → List ℕ
 output_from m es = reply_lines (answers_from m es)
 
--- the clock that a reply to an advance tells
+-- the clock that the reply to an advance done whole tells; none of any other reply
 abbrev pub clock_in : Reply → Option ℕ
 clock_in (Clock clock) = Some clock
 clock_in reply = None
 
--- the tally of a whole tape of these calls: the first line, and a line, a call and a reply for each of them
+-- that the tally is that of a whole tape's replay: its lines, a call and a reply for each of its calls, and the bytes
+-- of the replies
 pub record IsTapeTally (tally : Tally) (ls : List (List ℕ)) (es : List Entry) (out : List ℕ) : Type 0 where
   pub lines : tally.lines ≡ length ls
   pub calls : tally.calls ≡ length es

@@ -8,22 +8,25 @@ use Rattle.street_tape.specs.Faults.{ReplaysWhole, ReplayStops}
 use Rattle.street_tape.specs.Upgrades.{UpgradesWhole, UpgradeStops}
 
 module _ {D W : Type 0} (remaining : D → Option (List ℕ)) (contents : W → Option (List ℕ)) where
-  -- the reader was read to its end, the calls of its tape are applied, and their replies are in the writer
+  -- that the reader was read to its end, the calls of its tape are applied to the engine, and their replies are in the
+  -- writer (`ReplaysWhole`)
   abbrev pub ReplaysAll : Counted D → Counted W → EngineView → Counted D → Counted W → Tally → Type 0
   ReplaysAll reader writer view read written tally =
       ReplaysWhole (remaining reader.stream) (contents writer.stream) view (remaining read.stream) (contents written.stream) tally
 
-  -- of what was read the first calls are applied, and of their replies the first bytes are in the writer
+  -- that a fault ended a replay: of what was read of the reader the first calls are applied to the engine, and of their
+  -- replies the first bytes are in the writer
   abbrev pub ReplaysFirst : Counted D → Counted W → EngineView → Counted D → Counted W → TapeFault → Type 0
   ReplaysFirst reader writer view read written fault =
       ReplayStops (remaining reader.stream) (contents writer.stream) view (remaining read.stream) (contents written.stream) fault
 
-  -- the reader was read to its end, and the tape of version 2 of its calls is in the writer
+  -- that the reader was read to its end, and the tape of version 2 with the calls of its tape is in the writer
   abbrev pub UpgradesAll : Counted D → Counted W → Counted D → Counted W → Tally → Type 0
   UpgradesAll reader writer read written tally =
       UpgradesWhole (remaining reader.stream) (contents writer.stream) (remaining read.stream) (contents written.stream) tally
 
-  -- of the tape of version 2 the first bytes are in the writer, and none before the other was read to its end
+  -- that a fault ended an upgrade: the first bytes of the tape of version 2 are in the writer, and none unless the
+  -- reader had been read to its end
   abbrev pub UpgradesFirst : Counted D → Counted W → Counted D → Counted W → TapeFault → Type 0
   UpgradesFirst reader writer read written fault =
       UpgradeStops (remaining reader.stream) (contents writer.stream) (remaining read.stream) (contents written.stream) fault

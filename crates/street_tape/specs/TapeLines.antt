@@ -7,36 +7,39 @@ use Rattle.street_tape.specs.declared.head.TapeHead.{TapeHead}
 use Rattle.street_tape.specs.declared.tape.Stop.{Stop}
 use Rattle.street_tape.specs.declared.tape.Stop.TheVariants.{NotTape, BadEntry, Starved}
 
--- the next line: the first says no call, and each further one says one that may follow
+-- that a tape's next line was taken, from `old` to `new`, each none or the head with the calls still to follow: the
+-- first line gives the head and says no call, each further one says a call that may follow
 abbrev pub Takes : Option TapeHead → List ℕ → Option Entry → Option TapeHead → Type 0
 Takes None line None (Some new) = head_reading line ≡ Ok new
 Takes (Some old) line (Some e) (Some new) = (after_call old ≡ Some new) × (entry_reading (is_sized old) line ≡ Ok e)
 Takes old line call new = ⊥
 
--- the line says no call
+-- that this is why a further line says no call: it is no call that can be read, or memory ran out
 abbrev pub IsNoCall : Bool → List ℕ → Stop → Type 0
 IsNoCall sized line NotTape = ⊥
 IsNoCall sized line BadEntry = (e : Entry) → entry_reading sized line ≡ Ok e → ⊥
 IsNoCall sized line Starved = ⊤
 
--- why the next line is not taken
+-- that this is why the next line is not taken: the first is not that of a tape, a further one says no call or is one
+-- too many, or memory ran out
 abbrev pub Refuses : Option TapeHead → List ℕ → Stop → Type 0
 Refuses old line Starved = ⊤
 Refuses None line NotTape = (head : TapeHead) → head_reading line ≡ Ok head → ⊥
 Refuses (Some old) line BadEntry = (new : TapeHead) (e : Entry) → after_call old ≡ Some new → entry_reading (is_sized old) line ≡ Ok e → ⊥
 Refuses old line stop = ⊥
 
--- the tape may end here
+-- whether a tape may end here: after its first line, with no call that its head still counts
 abbrev pub may_end : Option TapeHead → Bool
 may_end None = false
 may_end (Some head) = is_whole head 0
 
--- the call of a line, as a list; none where the line says no call
+-- the call of a line as a list of one; an empty list where the line says no call
 abbrev pub calls_of : Option Entry → List Entry
 calls_of None = []
 calls_of (Some e) = e ∷ []
 
--- the lines, one after another, and the calls that they say
+-- that these lines of a tape were taken one after another, from `old` to `new` (`Takes`), and es are the calls that
+-- they say
 abbrev pub TakesAll : Option TapeHead → List (List ℕ) → List Entry → Option TapeHead → Type 0
 TakesAll old [] es new = (new ≡ old) × (es ≡ [])
 TakesAll old (l ∷ ls) es new =

@@ -19,18 +19,19 @@ use Rattle.street_tape.specs.Tapes.{entry_line, tape_text}
 use Rattle.street_tape.specs.Written.{IsPrefix}
 use Rattle.street_tape.specs.declared.tape.Stop.{Stop}
 
--- the tally of a whole upgrade: no reply is written, but the tape of the calls
+-- that the tally is that of a whole upgrade: the lines and calls of the old tape, no reply, and the bytes of the new
+-- tape
 pub record IsUpgradeTally (tally : Tally) (ls : List (List ℕ)) (es : List Entry) : Type 0 where
   pub lines : tally.lines ≡ length ls
   pub calls : tally.calls ≡ length es
   pub replies : tally.replies ≡ 0
   pub bytes : tally.bytes ≡ length (tape_text es)
 
--- the tally with another number of bytes
+-- the tally with this count of bytes in place of its own
 abbrev pub with_bytes : Tally → ℕ → Tally
 with_bytes tally bytes = record { lines = tally.lines; calls = tally.calls; replies = tally.replies; bytes = bytes }
 
--- the tape was read to its end, and the tape of version 2 of its calls is written
+-- that the tape was read to its end, the tape of version 2 of its calls is written, and the tally counts them
 pub record UpgradesWhole (unread before left after : Option (List ℕ)) (tally : Tally) : Type 0 where
   pub text : List ℕ
   pub entries : List Entry
@@ -40,7 +41,8 @@ pub record UpgradesWhole (unread before left after : Option (List ℕ)) (tally :
   pub written : Appends before after (tape_text entries)
   pub counted : IsUpgradeTally tally (lines_of text) entries
 
--- the first bytes of the tape are written, and none before the other was read to its end
+-- that a fault of reading, writing or memory ended an upgrade: the first bytes of the new tape are written, and none
+-- unless the old one had been read to its end
 pub record Cuts (at_end : Type 0) (before : Option (List ℕ)) (text : List ℕ) (after : Option (List ℕ)) (kind : FaultKind) (tally : Tally) : Type 0 where
   pub done : List (List ℕ)
   pub rest : List (List ℕ)
@@ -54,13 +56,13 @@ pub record Cuts (at_end : Type 0) (before : Option (List ℕ)) (text : List ℕ)
   pub calls : tally.calls ≡ length entries
   pub replies : tally.replies ≡ 0
 
--- what each fault leaves: nothing where the tape is bad
+-- that a fault of an upgrade left nothing written where the text is no tape or a bad one, and else what `Cuts` says
 abbrev pub UpgradeBreaks : Type 0 → Option (List ℕ) → List ℕ → Option (List ℕ) → TapeFault → Type 0
 UpgradeBreaks at_end before text after NotTape = IsNoTape at_end text × Appends before after []
 UpgradeBreaks at_end before text after (BadEntry line) = (es : List Entry) × IsBadAt at_end (λ es. ⊤) text es line × Appends before after []
 UpgradeBreaks at_end before text after (Run fault) = Cuts at_end before text after fault.kind fault.tally
 
--- what an upgrade left that a fault ended, of the text that was read
+-- that a fault ended an upgrade, and left of the text that was read what `UpgradeBreaks` says
 pub record UpgradeStops (unread before left after : Option (List ℕ)) (fault : TapeFault) : Type 0 where
   pub text : List ℕ
   pub read : Consumes unread left text
@@ -68,32 +70,33 @@ pub record UpgradeStops (unread before left after : Option (List ℕ)) (fault : 
 
 -- ---- the end of an upgrade
 
--- the text was written, and its bytes counted
+-- that the whole text was written, and `all` is the tally with its count of bytes
 abbrev pub IsKept : Tally → Option (List ℕ) → List ℕ → Option (List ℕ) → Tally → Type 0
 IsKept tally before text after all = (all ≡ with_bytes tally (length text)) × Appends before after text
 
--- of the text only the first bytes were written, and counted
+-- that only the first bytes of the text were written, and the fault's tally counts them
 abbrev pub CutShort : Tally → Option (List ℕ) → List ℕ → Option (List ℕ) → RunFault → Type 0
 CutShort tally before text after fault = (fault.tally ≡ with_bytes tally fault.tally.bytes) × IsPrefix before 0 text after fault.tally.bytes
 
 -- ---- an upgrade as a handler of lines
 
--- the line of a call, if there is one
+-- the line of a call on a tape; nothing where there is no call
 abbrev pub line_of_call : Option Entry → List ℕ
 line_of_call None = []
 line_of_call (Some e) = entry_line e
 
--- there is a call
+-- whether there is a call
 abbrev pub is_call : Option Entry → Bool
 is_call None = false
 is_call (Some e) = true
 
--- the line of its call, if it says one, was kept
+-- that the next line of the old tape was taken, and the new line of its call, if it says one, put behind those kept so
+-- far; it has no reply
 abbrev pub UpgradesLine : Upgrader → List ℕ → Effect → Upgrader → Type 0
 UpgradesLine old line effect new =
     (call : Option Entry) × Takes old.tape.rest line call new.tape.rest × (new.lines.items ≡ old.lines.items ++ line_of_call call)
     × (effect ≡ record { is_call = is_call call; reply = None })
 
--- the line was not taken
+-- that the upgrade stopped at this line for this reason: the line is not one that the tape may have there (`Refuses`)
 abbrev pub RefusesLine : Upgrader → List ℕ → Stop → Upgrader → Type 0
 RefusesLine old line stop new = Refuses old.tape.rest line stop

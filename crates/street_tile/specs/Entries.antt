@@ -5,17 +5,19 @@ use Rattle.street_base.specs.Prelude.{Vehicle, is_free, Traffic, LaneState, with
 use Rattle.street_lanes.specs.Prelude.{LaneStands, Lanes, lane_of, LanesStand, LanesGo, AllFree}
 use Rattle.street_tile.specs.Halves.{Transfer, vehicle_in, placed_lane}
 
--- lane n stands for the lane that it stood for with the vehicle that comes in cell 0, where cell 0 was free if one comes
+-- that lane n stands for its lane with the vehicle that comes, if one does, put with its front in cell 0, provided that
+-- this cell was free
 abbrev pub PlacesAt : ℕ → Option Transfer → Lanes → Lanes → Type 0
 PlacesAt n coming old new = (s : LaneState) → LaneStands (lane_of old n) s → (IsSome coming → is_free s.track 0 ≡ true)
     → LaneStands (lane_of new n) (record s { track = with_entry (vehicle_in coming) s.track })
 
--- each lane stands for the lane that it stood for with the vehicle that comes to it in cell 0, where cell 0 was free if one comes
+-- that each lane stands for its lane with the vehicle that `coming` has for it, if it has one, put with its front in
+-- cell 0, provided that this cell was free
 abbrev pub PlaceAll : List (Option Transfer) → Lanes → Lanes → Type 0
 PlaceAll coming old new =
     (m : Traffic) (entry : Place → Option Vehicle) → LanesStand old.places old.lanes m → map vehicle_in coming ≡ map entry old.places
     → AllFree old.places m entry → LanesGo (placed_lane entry) m new.places new.lanes
 
--- each lane stands for the lane that it stood for after departures
+-- that each lane stands for its lane after the phase of departures at this clock, whatever lane it stood for
 abbrev pub DepartAll : ℕ → Lanes → Lanes → Type 0
 DepartAll clock old new = (n : ℕ) (s : LaneState) → n < length old.places → LaneStands (lane_of old n) s → LaneStands (lane_of new n) (departed_lane clock s)

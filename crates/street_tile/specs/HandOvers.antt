@@ -9,28 +9,33 @@ abbrev pub all_handed : List TileView → List Transfer
 all_handed [] = []
 all_handed (x ∷ xs) = all_handed xs ++ x.handed
 
--- the lanes of all tiles, those of the last tile first
+-- the own lanes of all tiles, those of the last tile first
 abbrev pub all_places : List TileView → List Place
 all_places [] = []
 all_places (x ∷ xs) = all_places xs ++ x.own.places
 
--- a tile to which hand-overs were moved: the vehicle that comes to each of its lanes is the entry of that lane among all of them
+-- a tile after all hand-overs of `entries` were moved: it has none left, and for each own lane the vehicle that comes
+-- to it is the first of `entries` into that lane
 abbrev pub received : List Transfer → TileView → TileView
 received entries x = record x { handed = []; coming = map (entry_in entries) x.own.places }
 
--- the vehicles that come to a tile are those of these entries that enter its lanes
+-- that the vehicles that come to a tile's lanes are just those of `entries`: for each own lane the first that enters
+-- it, or none
 abbrev pub Awaits : List Transfer → TileView → Type 0
 Awaits entries x = x.coming ≡ map (entry_in entries) x.own.places
 
--- the tile at j while hand-overs of the tile at i are moved: those that are left, and those that were moved
+-- the tile at j while the hand-overs of tile i are moved: tile i still has those in `left`, and to each own lane, of
+-- any tile, comes the first of `moved` into that lane
 abbrev pub moved_at : ℕ → List Transfer → List Transfer → ℕ → TileView → TileView
 moved_at i left moved j x = record x { handed = if j == i then left else x.handed; coming = map (entry_in moved) x.own.places }
 
--- each tile is as it was but for the hand-overs of tile i, of which those in `left` are still there and those in `moved` came to the tiles of their lanes
+-- that the tiles ys are the tiles xs while tile i's hand-overs are moved: `left` are still there, and those in `moved`
+-- came to the tiles that own their lanes
 abbrev pub IsMoved : ℕ → List Transfer → List Transfer → List TileView → List TileView → Type 0
 IsMoved i left moved xs ys = (j : ℕ) (d : TileView) → j < length xs → slice_index_or ys j d ≡ moved_at i left moved j (slice_index_or xs j d)
 
--- the last hand-over of tile i is moved to the tile of its lane, and those before it are left
+-- that the last hand-over e of tile i is moved to the tile that owns its lane: those before it, `left`, stay, and those
+-- moved so far, `es`, become `e ∷ es`
 abbrev pub MovesLast : ℕ → List TileView → List TileView → Type 0
 MovesLast i xs ys = (left : List Transfer) (e : Transfer) (es : List Transfer) (d : TileView)
     → (slice_index_or xs i d).handed ≡ left ++ e ∷ [] → All (Awaits es) xs → IsMoved i left (e ∷ es) xs ys

@@ -1,12 +1,13 @@
 -- What contracts see of hints.
 use Rattle.std.specs.Prelude.{◌≡◌, ℕ, List, length}
 
--- for each number given so far the link on which its vehicle was last put, and for how many more there is room
+-- what contracts see of hints: for each vehicle number given so far the link on which it was last put, and for how many
+-- more numbers there is room
 pub record Hinted : Type 0 where
   pub links : List ℕ
   pub room : ℕ
 
--- the hints have as many numbers as before, and as much room
+-- that the hints y are for as many numbers as the hints x, with as much room; the links may be others
 pub record KeepsHints (x y : Hinted) : Type 0 where
   pub given : length y.links ≡ length x.links
   pub room : y.room ≡ x.room

@@ -21,8 +21,8 @@ seen t = record {
   detectors = t.detectors.items;
 }
 
--- a tile is wide enough: it has an entry for the signal plan of each of its nodes; a mouth and a number for each of two lanes a link; an entry for who
--- comes to each own lane; and memory for a hand-over, an arrival and a row of each own lane
+-- that the arrays of a tile have their lengths: a signal plan for each of its nodes, a mouth and a number for two lanes
+-- of each link, one who comes for each own lane; and memory for a hand-over, an arrival and a row of each own lane
 pub record IsWideEnough (t : Inside) : Type 0 where
   pub nodes : t.low + length t.signals.items ≡ t.high
   pub numbered : AreNumbers t.links t.own.places t.numbers.items
@@ -32,12 +32,13 @@ pub record IsWideEnough (t : Inside) : Type 0 where
   pub arrived : length t.own.places ≤ vec_capacity t.arrived
   pub left : length t.own.places ≤ vec_capacity t.left
 
--- the detectors of a tile have noted all steps so far; a tile that says that no detector was ever placed has none
+-- that the next step that each detector notes is that of the tile's clock; and that there is no detector where
+-- `has_meters` is false
 pub record HasNotedAll (t : Inside) : Type 0 where
   pub bare : t.has_meters ≡ false → AreBare t.detectors.items
   pub due : AreDue t.clock t.detectors.items
 
--- what is true of every tile
+-- that the tile's arrays have their lengths (`IsWideEnough`), and its detectors have noted all steps (`HasNotedAll`)
 pub record IsSound (t : Inside) : Type 0 where
   pub wide : IsWideEnough t
   pub noted : HasNotedAll t

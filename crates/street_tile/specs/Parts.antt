@@ -1,5 +1,6 @@
--- The phases of a step and its parts, as workers make them, by their numbers: 0 lane changes, 1 motion, 2 releases, 3 entries and
--- departures, any other detectors; but as a part 5 is lane changes and motion, 6 entries, departures and detectors. Shown are the mouths, by which releases go.
+-- The phases of a step and its parts, as workers make them, by their numbers. Phases: 0 lane changes, 1 motion, 2
+-- releases, 3 entries and departures, any other detectors. As a part 5 is lane changes and motion, 6 entries,
+-- departures and detectors. Shown are the mouths, by which releases go.
 use Rattle.std.specs.Prelude.{ℕ, ◌≡◌, ◌*◌, ◌<◌, ◌≤◌, List, Bool, [], length, All}
 use Rattle.std.specs.Fn.{Shared}
 use denote.Ref.{Bor, MutBor}
@@ -9,7 +10,8 @@ use Rattle.street_base.specs.Prelude.{last_clock, most_workers}
 use Rattle.street_tile.specs.Tiles.{TileView, IsTileOf, IsPrepared, Each}
 use Rattle.street_tile.specs.Phases.{LanePhase, MotionPhase, ReleasePhase, EnterPhase, MeterPhase, Then}
 
--- what a phase asks of a tile, and of what is shown
+-- that a tile of the network may run this phase: for motion (1) no arrivals left and a clock before the last, for
+-- releases (2) no hand-overs left and two mouths a link, for entries (3) room in the arena, for detectors that clock
 abbrev pub MayRun : NetSpec → ℕ → List Bool → TileView → Type 0
 MayRun net zero shown x = IsTileOf net x
 MayRun net (suc zero) shown x = IsTileOf net x × (x.arrived ≡ []) × (x.clock < last_clock)
@@ -17,7 +19,8 @@ MayRun net (suc (suc zero)) shown x = IsTileOf net x × (x.handed ≡ []) × (le
 MayRun net (suc (suc (suc zero))) shown x = IsTileOf net x × IsPrepared x
 MayRun net phase shown x = IsTileOf net x × (x.clock < last_clock)
 
--- what a phase does
+-- that the phase of this number was run on tile x and made y: 0 lane changes, 1 motion, 2 releases by the mouths shown,
+-- 3 entries and departures, any other detectors
 abbrev pub Runs : NetSpec → ℕ → List Bool → TileView → TileView → Type 0
 Runs net zero shown x y = LanePhase net x y
 Runs net (suc zero) shown x y = MotionPhase net x y
@@ -25,19 +28,22 @@ Runs net (suc (suc zero)) shown x y = ReleasePhase net shown x y
 Runs net (suc (suc (suc zero))) shown x y = EnterPhase net x y
 Runs net phase shown x y = MeterPhase net x y
 
--- what a worker's part of a step asks of a tile and of the mouths shown: part 5 is lane changes and motion, part 6 entries, departures and detectors, any other the phase of that number
+-- that a tile may be given this part of a step: part 5 is lane changes with motion, part 6 entries and departures with
+-- detectors, any other the phase of that number; `shown` are the mouths of all lanes
 abbrev pub MayWork : NetSpec → ℕ → List Bool → TileView → Type 0
 MayWork net (suc (suc (suc (suc (suc zero))))) shown x = IsTileOf net x × (x.arrived ≡ []) × (x.clock < last_clock)
 MayWork net (suc (suc (suc (suc (suc (suc zero)))))) shown x = IsTileOf net x × IsPrepared x × (x.clock < last_clock)
 MayWork net phase shown x = MayRun net phase shown x
 
--- what a worker's part of a step makes of a tile: part 5 is lane changes and motion, part 6 entries, departures and detectors, any other the phase of that number
+-- that this part of a step was made on tile x and left y: part 5 is lane changes with motion, part 6 entries and
+-- departures with detectors, any other the phase of that number
 abbrev pub DoesWork : NetSpec → ℕ → List Bool → TileView → TileView → Type 0
 DoesWork net (suc (suc (suc (suc (suc zero))))) shown x y = Then (LanePhase net) (MotionPhase net) x y
 DoesWork net (suc (suc (suc (suc (suc (suc zero)))))) shown x y = Then (EnterPhase net) (MeterPhase net) x y
 DoesWork net phase shown x y = Runs net phase shown x y
 
--- the closure may be called on few enough tiles, and makes a part of a step of each of these
+-- that the closure g may be called on at most `most_workers` tiles, each of which may be given the part, and then makes
+-- that part of a step of each
 pub record MakesParts {F : Type 0}
     (g : Shared F (Bor NetSpec × (ℕ × (Bor (List Bool) × (MutBor (List TileView) × Unit {0})))) (Unit {0} × (MutBor (List TileView) × Unit {0})))
     (f : F) : Type 0 where

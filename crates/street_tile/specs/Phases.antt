@@ -9,7 +9,8 @@ use Rattle.street_record.specs.Rows.{arrival_at}
 use Rattle.street_tile.specs.Tiles.{TileView, StandsFor, SameTile, Shows, ShowsOwn, nobody}
 use Rattle.street_tile.specs.TileDetectors.{KeepMeters, HaveWatched, MetersStand, noted_by}
 
--- whatever traffic the tile x stood for, the tile y stands for f of that
+-- that, whatever traffic tile x stood for, tile y stands for f of it; those on the way are as they were, and there is
+-- no less room
 pub record GoesBy (net : NetSpec) (f : Traffic → Traffic) (x y : TileView) : Type 0 where
   pub same : SameTile x y
   pub handed : y.handed ≡ x.handed
@@ -17,19 +18,21 @@ pub record GoesBy (net : NetSpec) (f : Traffic → Traffic) (x y : TileView) : T
   pub room : x.own.room ≤ y.own.room
   pub stands : (m : Traffic) → IsOn net m → StandsFor x m → StandsFor y (f m)
 
--- whatever traffic of the network at this clock the lanes stood for, they then stand for that traffic after lane changes
+-- that, whatever traffic of the network at this clock the lanes `old` stood for, the lanes `new` stand for it after its
+-- lane changes
 abbrev pub ChangeLanes : NetSpec → ℕ → Lanes → Lanes → Type 0
 ChangeLanes net clock old new = (m : Traffic) → IsOn net m → m.clock ≡ clock
     → LanesStand old.places old.lanes m → LanesStand new.places new.lanes (changed m)
 
--- lane changes
+-- that tile y is tile x after the phase of lane changes; its clock, arrivals and detectors are as they were
 pub record LanePhase (net : NetSpec) (x y : TileView) : Type 0 where
   pub goes : GoesBy net changed x y
   pub clock : y.clock ≡ x.clock
   pub arrived : y.arrived ≡ x.arrived
   pub detectors : y.detectors ≡ x.detectors
 
--- motion on a tile. The tile also holds the numbers and the rows of those who arrived, lane by lane, and its mouths after motion; and the watches have seen the motion
+-- that tile y is tile x after motion: it also holds the numbers and rows of those who arrived, lane by lane, its mouths
+-- say whether the cells 0 of its lanes are free, and its watches have seen the motion
 pub record MotionPhase (net : NetSpec) (x y : TileView) : Type 0 where
   pub goes : GoesBy net driven x y
   pub arrived : (m : Traffic) → IsOn net m → StandsFor x m → y.arrived ≡ filter_map (λ p. arrival (leaver_of m p)) x.own.places
@@ -38,7 +41,8 @@ pub record MotionPhase (net : NetSpec) (x y : TileView) : Type 0 where
   pub watched : (m : Traffic) → IsOn net m → StandsFor x m → HaveWatched m x.own.places y.detectors
   pub shown : ShowsOwn y
 
--- releases, by the view: the fronts that go are out of the buffers and handed over, buffer by buffer
+-- that tile y is tile x after it let go, by the mouths of `view`, the fronts of buffers that go: these are handed over,
+-- buffer by buffer
 pub record ReleasePhase (net : NetSpec) (view : List Bool) (x y : TileView) : Type 0 where
   pub same : SameTile x y
   pub arrived : y.arrived ≡ x.arrived
@@ -49,7 +53,8 @@ pub record ReleasePhase (net : NetSpec) (view : List Bool) (x y : TileView) : Ty
   pub stands : (m : Traffic) → IsOn net m → Shows net view m → StandsFor x m → StandsFor y (let_go m)
   pub handed : (m : Traffic) → IsOn net m → Shows net view m → StandsFor x m → y.handed ≡ filter_map (crossing m) x.own.places
 
--- entries and departures
+-- that tile y is tile x after those who come were put in cell 0 of their lanes, which were free, and then departures
+-- were made; then nobody comes to it
 pub record EnterPhase (net : NetSpec) (x y : TileView) : Type 0 where
   pub same : SameTile x y
   pub clock : y.clock ≡ x.clock
@@ -61,11 +66,12 @@ pub record EnterPhase (net : NetSpec) (x y : TileView) : Type 0 where
   pub stands : (m : Traffic) (entry : Place → Option Vehicle) → IsOn net m → StandsFor x m → x.coming ≡ map entry x.own.places
       → AllFree x.own.places m entry → StandsFor y (departed (placed entry m))
 
--- the clock goes on
+-- the traffic with its clock one later, and all else as it was
 unfoldable pub ticked : Traffic → Traffic
 ticked m = record m { clock = m.clock + 1 }
 
--- the detectors note the step, of whose motion their watches have seen what it was from the traffic `before`, and the clock goes on
+-- that tile y is tile x with its clock one later and the step noted by its detectors, if their watches had seen the
+-- step's motion from the traffic `before`
 pub record MeterPhase (net : NetSpec) (x y : TileView) : Type 0 where
   pub goes : GoesBy net ticked x y
   pub arrived : y.arrived ≡ x.arrived
@@ -73,7 +79,7 @@ pub record MeterPhase (net : NetSpec) (x y : TileView) : Type 0 where
   pub noted : (before m : Traffic) → IsOn net m → StandsFor x m → HaveWatched before x.own.places x.detectors
       → MetersStand x m → MetersStand y (noted_by before m)
 
--- one phase, and then another
+-- that P leads from x to some tile, and Q from that tile to z
 pub record Then (P Q : TileView → TileView → Type 0) (x z : TileView) : Type 0 where
   pub between : TileView
   pub first : P x between

@@ -8,18 +8,18 @@ use Rattle.street_base.specs.Prelude.{Traffic, changed, step, leaver_of, link_at
 use Rattle.street_record.specs.Rows.{as_written, rows_at}
 use Rattle.street_lanes.specs.declared.motion.ArrivedCar.{ArrivedCar}
 
--- the row of a vehicle that arrived from the lane of a slot
+-- the row of a vehicle that arrived from the lane of this slot, at the spot that stands for arrival
 abbrev pub arrived_from : ℕ → ArrivedCar → RecordRow
 arrived_from slot car = record { car = car.number; slot = slot; spot = arrived_spot; speed = car.speed }
 
--- the rows of a lane in the step from this state, as they are written
+-- the rows of lane p in the step that is made from this traffic, each with the 32 bits of its spot that are written
 abbrev pub step_rows : Traffic → Place → List RecordRow
 step_rows m p = map as_written (rows_at (changed m) (step m) p)
 
--- the rows of the lanes of a link in the step from this state, as they are written
+-- the rows of all lanes of a link in the step that is made from this traffic, lane by lane, as they are written
 abbrev pub link_rows : NetSpec → Traffic → ℕ → List RecordRow
 link_rows net m link = flat_map (λ k. step_rows m (record { link = link; lane = k })) (range_with_len 0 (link_at net link).lanes)
 
--- how many vehicles arrive from a lane in the step from this state: one or none
+-- the count of vehicles that arrive from lane p in the step that is made from this traffic: 1 or 0
 abbrev pub arrived_at : Traffic → Place → ℕ
 arrived_at m p = length (arrival_rows (slot_of p) (leaver_of (changed m) p))

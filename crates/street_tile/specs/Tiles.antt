@@ -17,7 +17,8 @@ use Rattle.street_tile.specs.Halves.{Transfer}
 
 -- ---- the network
 
--- what a network without a fault gives a tile: a turn leads to a lane that is there, of a link that begins where the first ends
+-- that a network is one that tiles can have: nodes and links within their limits, at most two lanes a link, each link
+-- running to a node, and each turn leading to a lane of a link that begins where the first ends
 pub record IsRoads (net : NetSpec) : Type 0 where
   pub nodes : (0 < length net.nodes) × (length net.nodes ≤ most_nodes)
   pub few : length net.links ≤ most_links
@@ -26,27 +27,28 @@ pub record IsRoads (net : NetSpec) : Type 0 where
   pub ends : (link : ℕ) → link < length net.links → IsSome (node_of net (link_at net link).to)
   pub joined : (from : Place) (next : ℕ) (t : TurnSpec) → turn net from next ≡ Some t → (link_at net from.link).to ≡ (link_at net next).from
 
--- no network, where a contract needs one that nobody has
+-- a network of nothing, for a contract or a default that must have some network
 abbrev pub no_network : NetSpec
 no_network = record { nodes = []; links = []; turns = []; zone = 0; change = 0; dawdle = 0; seed = 0; start = 0 }
 
 -- ---- the view
 
--- the view shows of each lane whether its cell 0 is free
+-- that the mouths say of each lane of the network whether its cell 0 is free in this traffic
 abbrev pub Shows : NetSpec → List Bool → Traffic → Type 0
 Shows net mouths m = (p : Place) → p.link < length net.links → p.lane < (link_at net p.link).lanes → mouth mouths p ≡ is_free (lane_at m p).track 0
 
 -- ---- signals
 
--- these are the signal plans of the nodes from `low` on and below `high`: each shows what the machine's shows
+-- that `signals`, for the nodes from `low` up to, but not including, `high`, have in each step the same greens as the
+-- traffic's plans
 abbrev pub ShowSignals : ℕ → ℕ → List (Option SignalPlan) → Traffic → Type 0
 ShowSignals low high signals m = (node : ℕ) → low ≤ node → node < high
     → PlanStands (slice_index_or signals (node - low) None) (slice_index_or m.signals node None)
 
 -- ---- a tile
 
--- what contracts see of a tile: its nodes from low up to high, how many links the network has, its own lanes, the clock and the signal plans of its nodes; what it holds of mouths, as a view has
--- them; who was let go and not yet moved, who comes to each of its lanes, and who arrived; the rows of those who arrived in the last step; and the detectors of each own lane
+-- what contracts see of a tile: nodes from `low` to below `high`, own lanes and what it keeps; `mouths` are free cells
+-- 0, `handed` those let go, `coming` those to enter, `arrived` and `left` the numbers and rows of who arrived
 pub record TileView : Type 0 where
   pub low : ℕ
   pub high : ℕ
@@ -61,19 +63,20 @@ pub record TileView : Type 0 where
   pub left : List RecordRow
   pub detectors : List Detectors
 
--- the link of this lane runs to a node from low up to high
+-- whether the lane's link runs to a node from `low` up to, but not including, `high`; false where it runs to no node
 abbrev pub is_own : NetSpec → ℕ → ℕ → Place → Bool
 is_own net low high p = option_map_or (λ node. nat_le low node && nat_lt node high) (node_of net (link_at net p.link).to) false
 
--- the lanes of the links that run to nodes from low up to high, in the order of the network
+-- the lanes whose links run to a node from `low` up to, but not including, `high`, in the order of the network
 abbrev pub own_places : NetSpec → ℕ → ℕ → List Place
 own_places net low high = filter (is_own net low high) (places net)
 
--- how many cells each lane has, as the record of its detectors says
+-- for each lane the count of cells that its detectors' record has
 abbrev pub sizes_of : List Detectors → List ℕ
 sizes_of detectors = map (λ g. g.size) detectors
 
--- a tile of this network
+-- that x is a tile of this network (`IsRoads`): it has just the lanes of the links that run to its nodes, in order,
+-- each as long as its link
 pub record IsTileOf (net : NetSpec) (x : TileView) : Type 0 where
   pub roads : IsRoads net
   pub links : x.links ≡ length net.links
@@ -82,75 +85,77 @@ pub record IsTileOf (net : NetSpec) (x : TileView) : Type 0 where
   pub own : IsOf net x.own
   pub sized : sizes_of x.detectors ≡ map (cells_on net) x.own.places
 
--- the lane at a position of these
+-- the place at position n of a list; link 0 and lane 0 past its end
 abbrev pub nth : List Place → ℕ → Place
 nth ps n = slice_index_or ps n no_place
 
--- the lane with this number of the same link
+-- the lane with number `lane` of the same link as p, whether it is there or not
 abbrev pub beside : Place → ℕ → Place
 beside p lane = record { link = p.link; lane = lane }
 
--- how many lanes the link of this lane has
+-- the count of lanes of the link that this lane is of
 abbrev pub lanes_beside : NetSpec → Place → ℕ
 lanes_beside net p = (link_at net p.link).lanes
 
--- among these lanes lane 1 of a link comes right behind lane 0 of that link
+-- that in this list of lanes lane 1 of a link stands right behind lane 0 of the same link, and never alone
 pub record ArePairs (net : NetSpec) (ps : List Place) : Type 0 where
   pub first : 0 < length ps → (nth ps 0).lane ≡ 0
   pub next : (n : ℕ) → n < length ps → (nth ps n).lane ≡ 0 → lanes_beside net (nth ps n) ≡ 2 → (suc n < length ps) × (nth ps (suc n) ≡ beside (nth ps n) 1)
   pub before : (n : ℕ) → suc n < length ps → ((nth ps (suc n)).lane ≡ 0 → ⊥) → nth ps n ≡ beside (nth ps (suc n)) 0
 
--- at this number, below the count of lanes, the first lane of a link stands
+-- that own lane n is the first lane of its link, lane 0; nothing is said where there is no own lane n
 abbrev pub BeginsLink : Lanes → ℕ → Type 0
 BeginsLink own n = n < length own.places → (place_at own n).lane ≡ 0
 
--- a tile stands for the machine at its own lanes and nodes, and each vehicle in its arena is on one of its lanes
+-- that the tile shows the traffic as far as it is the tile's: the same clock, its own lanes and the greens at its own
+-- nodes, and no vehicle in the arena that is on no lane
 pub record StandsFor (x : TileView) (m : Traffic) : Type 0 where
   pub clock : x.clock ≡ m.clock
   pub lanes : LanesStand x.own.places x.own.lanes m
   pub none_loose : x.own.loose ≡ []
   pub signals : ShowSignals x.low x.high x.signals m
 
--- whatever the tile stands for, it holds of each own lane whether its cell 0 is free
+-- that the tile's mouths say of each own lane whether its cell 0 is free, in all traffic for which the tile stands
 abbrev pub ShowsOwn : TileView → Type 0
 ShowsOwn x = (m : Traffic) → StandsFor x m → (j : ℕ) (p : Place) → slice_get x.own.places j ≡ Some p → mouth x.mouths p ≡ is_free (lane_at m p).track 0
 
--- for each own lane its number among them, by the lane's slot
+-- that `numbers`, two entries for each link of the network, has at the slot of each lane of ps its position in ps
 pub record AreNumbers (links : ℕ) (ps : List Place) (numbers : List ℕ) : Type 0 where
   pub wide : length numbers ≡ 2 * links
   pub at : (k : ℕ) (p : Place) → slice_get ps k ≡ Some p → slice_index_or numbers (slot_of p) 0 ≡ k
 
--- the next step that each of these detectors notes is this one
+-- that the next step that each of these lanes' detectors notes is that of this clock
 abbrev pub AreDue : ℕ → List Detectors → Type 0
 AreDue clock detectors = All (λ g. All (λ x. next_step x ≡ clock) g.meters) detectors
 
--- a lane has no detector
+-- that a lane has no detector: neither a meter nor a watch
 abbrev pub IsBare : Detectors → Type 0
 IsBare g = (g.meters ≡ []) × (g.watches ≡ [])
 
--- none of these lanes has a detector
+-- that none of these lanes has a detector
 abbrev pub AreBare : List Detectors → Type 0
 AreBare detectors = All IsBare detectors
 
--- for each own lane of a tile, that no vehicle comes to it
+-- for each own lane of a tile none, as nobody comes to it
 abbrev pub nobody : TileView → List (Option Vehicle)
 nobody x = map (λ p. None) x.own.places
 
--- no vehicle is on the way from the tile or to it
+-- that nobody is on the way: the tile has no hand-over, and no vehicle comes to its lanes
 abbrev pub IsStill : TileView → Type 0
 IsStill x = (x.handed ≡ []) × (x.coming ≡ nobody x)
 
--- between steps nobody is on the way, and who arrived was taken note of
+-- that the tile is between two steps: nobody is on the way, and no number of one who arrived is left in it
 pub record IsIdle (x : TileView) : Type 0 where
   pub handed : x.handed ≡ []
   pub coming : x.coming ≡ nobody x
   pub arrived : x.arrived ≡ []
 
--- for a step, each own lane has room for one more vehicle
+-- that the tile's arena has room for one more vehicle on each own lane, as many as can come in one step
 abbrev pub IsPrepared : TileView → Type 0
 IsPrepared x = length x.own.places ≤ x.own.room
 
--- y is the same tile as x: it has the same nodes, lanes and detectors, which no phase changes
+-- that y is the same tile as x, with the same nodes, and lanes and detectors of the same sizes; who is on them may
+-- differ
 pub record SameTile (x y : TileView) : Type 0 where
   pub low : y.low ≡ x.low
   pub high : y.high ≡ x.high
@@ -160,23 +165,23 @@ pub record SameTile (x y : TileView) : Type 0 where
 
 -- ---- all tiles
 
--- R holds of the old and the new tile at each position of the two lists
+-- that R holds of the tile of xs and the tile of ys at each position of xs; that ys is as long as xs is not said
 abbrev pub Each : (TileView → TileView → Type 0) → List TileView → List TileView → Type 0
 Each R xs ys = (i : ℕ) (d : TileView) → i < length xs → R (slice_index_or xs i d) (slice_index_or ys i d)
 
--- tile i of k has its share of the nodes
+-- that x is tile i of k of the network: it has the nodes from i/k of their count to (i + 1)/k of it, rounded down
 pub record IsShare (net : NetSpec) (k i : ℕ) (x : TileView) : Type 0 where
   pub tile : IsTileOf net x
   pub low : x.low ≡ i * length net.nodes / k
   pub high : x.high ≡ (i + 1) * length net.nodes / k
 
--- the tiles of a network, at most one a node
+-- that xs are all tiles of the network: at least one, at most as many as nodes, and each with its share of the nodes
 pub record AreTiles (net : NetSpec) (xs : List TileView) : Type 0 where
   pub some : 0 < length xs
   pub few : length xs ≤ length net.nodes
   pub shares : (i : ℕ) (d : TileView) → i < length xs → IsShare net (length xs) i (slice_index_or xs i d)
 
--- all tiles stand for the machine, each at its own lanes and nodes
+-- that the traffic is on the network and formed (`IsOn`), and each tile stands for it at its own lanes and nodes
 pub record AllStand (net : NetSpec) (xs : List TileView) (m : Traffic) : Type 0 where
   pub on : IsOn net m
   pub each : All (λ x. StandsFor x m) xs

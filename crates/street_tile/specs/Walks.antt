@@ -9,7 +9,8 @@ use Rattle.street_lanes.specs.Prelude.{LaneStands, without_front, Lanes, GoesAt,
 use Rattle.street_tile.specs.Halves.{Transfer, crossing, entry_on}
 use Rattle.street_tile.specs.Tiles.{Shows}
 
--- what a tile's lanes and the view show as the releases begin
+-- that a tile's releases may begin from this traffic: it is at this clock, own lanes and mouths stand for it, and a
+-- walk over the own buffers releases as the machine does (`IsWalk`)
 pub record IsReleasing (net : NetSpec) (clock : ℕ) (own : Lanes) (mouths : List Bool) (m : Traffic) : Type 0 where
   pub on : IsOn net m
   pub in_time : m.clock ≡ clock
@@ -17,24 +18,26 @@ pub record IsReleasing (net : NetSpec) (clock : ℕ) (own : Lanes) (mouths : Lis
   pub stand : LanesStand own.places own.lanes m
   pub shows : Shows net mouths m
 
--- in whatever traffic shows this, the fronts that go stand behind those handed over before, buffer by buffer
+-- that `after` is the hand-overs `before` with the fronts that go behind them, buffer by buffer, in all traffic for
+-- which releases may begin
 abbrev pub HandsOver : NetSpec → ℕ → Lanes → List Bool → List Transfer → List Transfer → Type 0
 HandsOver net clock own mouths before after = (m : Traffic) → IsReleasing net clock own mouths m
     → after ≡ before ++ filter_map (crossing m) own.places
 
--- in traffic of the network at this clock the front of buffer n may go there
+-- that `to` is the lane that the front of lane n's buffer may enter, or none, in all traffic of the network at this
+-- clock for which lane n stands
 abbrev pub Targets : NetSpec → ℕ → Lanes → ℕ → Option Place → Type 0
 Targets net clock own n to =
     (m : Traffic) → m.network ≡ net → m.clock ≡ clock → LaneStands (lane_of own n) (lane_at m (place_at own n)) → to ≡ target m (place_at own n)
 
--- buffer n stands for a queue with this front
+-- that there is a lane of the machine, for which lane n stands, whose buffer has q as its front
 pub record HasFront (own : Lanes) (n : ℕ) (q : Queued) : Type 0 where
   pub lane : LaneState
   pub stands : LaneStands (lane_of own n) lane
   pub first : slice_get lane.queue 0 ≡ Some q
 
--- the front of buffer n stays where it finds the mouth of its next lane shut, and nothing is changed. Else the buffer loses the front, which is handed
--- over as it enters that lane, and the mouth closes behind it
+-- that, where the mouth of lane `to` is shut, nothing has changed; where it is open, buffer n has lost its front, which
+-- is handed over as it enters `to`, and the mouth of `to` is shut behind it
 pub record ReleasesFront (net : NetSpec) (n : ℕ) (to : Place) (old new : Lanes) (open_old open_new : List Bool) (before after : List Transfer) : Type 0 where
   pub shut : mouth open_old to ≡ false → (new ≡ old) × (open_new ≡ open_old) × (after ≡ before)
   pub goes : mouth open_old to ≡ true → GoesAt n without_front old new

@@ -1,5 +1,6 @@
-//! Who makes the parts of a step of all tiles: threads that are started for each part, or a team of workers that stay, to which
-//! the tiles are lent by value. Between two parts the caller has all tiles, and alone shows mouths and moves hand-overs.
+//! Who makes the parts of a step of all tiles: threads that are started for each part, to which [`share`] shares out
+//! the tiles, or a team of workers that stay, to which the tiles are lent by value. Between two parts the caller has
+//! all tiles, and alone shows mouths and moves hand-overs.
 //! [`Lender::lend`] names no handle. Who may wait says so in the bounds of its `impl` block, so a step by any other lender is
 //! proved to return. `step.rt` has a step made by one; `street_engine` chooses it.
 ghost use Rattle.std.specs.Prelude.{◌≡◌, ℕ, ◌*◌, ◌<◌, ◌≤◌, length, All};
@@ -72,7 +73,9 @@ impl<F: Fn(&Network, u32, &[bool], &mut [Tile])> Lender for ClosureLender<F> {
     }
 }
 
-/// A part of a step of each tile, by so many threads at most: with one the caller makes it alone, one tile after another.
+/// Shares the tiles out to at most `threads` threads, which are started for this call: each tile goes to one of them,
+/// which makes the part of the step of that tile. With one thread the caller makes the part of all tiles alone, one
+/// after another.
 pub fn share<R: Threads + Sync, G: Gate + Sync>(
     rt: &R,
     net: &Network,
