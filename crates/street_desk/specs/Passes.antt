@@ -128,7 +128,7 @@ pub record Finished (p : PassView) (journal : List Entry) : Type 0 where
 
 -- ---- passes made
 
--- the first pass of a desk: it has seen nothing, and all sessions are its own
+-- the first pass of a desk: it has seen nothing, knows of no call, and all sessions are its own, 0 to `sessions - 1`
 abbrev pub first_pass : DeskView → PassView
 first_pass d = record { desk = d; seen = []; count = 0; least = 0; greatest = d.sessions - 1 }
 

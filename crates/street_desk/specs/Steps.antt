@@ -81,12 +81,13 @@ Calls v session command reply after = (o : Outcome)
 
 -- ---- seats split and joined
 
--- the view that stays of a seat that is split: its sessions but the greatest, with nothing heard and no turn, as a seat
--- at rest has neither
+-- the view that stays of a seat that is split: its sessions but the greatest, with nothing heard and no turn; all else
+-- of it is as it was
 abbrev pub kept_half : SeatView → SeatView
 kept_half v = record v { also = []; turn = false; greatest = v.greatest - 1 }
 
--- the view that is given away of a seat that is split: it has seen the same, with the greatest session alone
+-- the view that is given away of a seat that is split: it has seen the same and knows the same count, with the greatest
+-- session alone, nothing heard and no turn
 abbrev pub given_half : SeatView → SeatView
 given_half v = record v { also = []; turn = false; least = v.greatest }
 

@@ -29,12 +29,14 @@ advanced n (Clock clock) = n
 advanced n (ShortReply clock made) = made
 advanced n reply = 0
 
--- the count of steps that a command made, by its reply; 0 of any command but an advance
+-- the count of steps that a command made, by its reply: for an advance all where that is a clock, fewer where it tells
+-- of a stop short, else 0; 0 for any other command
 abbrev pub steps_made : Command → Reply → ℕ
 steps_made (Advance n) reply = advanced n reply
 steps_made command reply = 0
 
--- the traffic before each step that a command made from this state, by its reply; none where nothing is loaded
+-- the traffic before each step that a command made from this state, by its reply, in order; none where nothing is
+-- loaded or no step was made
 abbrev pub befores_in : State → Command → Reply → List Traffic
 befores_in None command reply = []
 befores_in (Some m) command reply = befores (steps_made command reply) m

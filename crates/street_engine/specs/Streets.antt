@@ -19,7 +19,8 @@ pub record StreetsView : Type 0 where
 abbrev pub streets_of : TilesView → List DetectorSite → ℕ → List (Option End) → StreetsView
 streets_of tiles sites clock ends = record { tiles = tiles; sites = sites; clock = clock; ends = ends }
 
--- the streets of no network, for a contract or a default that must have some streets
+-- the streets of no network, with no tiles, sites or ends and clock 0, for a contract or a default that must have some
+-- streets
 abbrev pub no_streets : StreetsView
 no_streets = record { tiles = record { network = no_network; tiles = [] }; sites = []; clock = 0; ends = [] }
 

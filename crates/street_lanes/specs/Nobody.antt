@@ -13,11 +13,11 @@ IsDeserted cells = (x : ℕ) → vehicle_at cells x ≡ None
 abbrev pub HasNobodyInCells : LaneView → Type 0
 HasNobodyInCells x = IsDeserted x.track.cells
 
--- that no vehicle is in the lane's buffer
+-- that no vehicle is in the lane's buffer; of its cells and who waits nothing is said
 abbrev pub HasEmptyBuffer : LaneView → Type 0
 HasEmptyBuffer x = x.queue ≡ []
 
--- that no vehicle waits on the lane
+-- that no vehicle waits on the lane; of its cells and buffer nothing is said
 abbrev pub HasNobodyWaiting : LaneView → Type 0
 HasNobodyWaiting x = x.waiting ≡ []
 

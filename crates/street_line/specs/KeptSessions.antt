@@ -15,7 +15,8 @@ use Rattle.street_line.specs.declared.redo.RedoneLines.{RedoneLines}
 use Rattle.street_line.specs.declared.service.Served.{Served}
 use Rattle.street_line.specs.declared.service.Served.TheVariants.{Answered, Full, Unrecorded}
 
--- that the machine did a command whole, as it does where memory is there, and answered it; it is never full
+-- that the machine did a command whole, as it does where memory is there, from state `old` to `new`, and answered it;
+-- it is never full, and leaves no command unanswered
 abbrev pub WholeServes : State → Command → Served → State → Type 0
 WholeServes old command (Answered reply) new = Answers old command reply Whole new
 WholeServes old command Full new = ⊥

@@ -76,8 +76,8 @@ module _ {W : Type 0} (contents : W → Option (List ℕ)) where
   HoldsRecord start w whole None = (w.has_failed ≡ false) × Appends start (contents w.writer.stream) whole
   HoldsRecord start w whole (Some begun) = (w.has_failed ≡ true) × HasFailed w.writer × (n : ℕ) × Appends start (contents w.writer.stream) (whole ++ take n begun)
 
-  -- that the session's engine stands for the machine's state, and its writer's stream holds the machine's record behind
-  -- `start`, with no byte waiting
+  -- that the session's engine stands for the machine's state, and its writer's stream holds, behind `start`, the blocks
+  -- of all answered commands, and first bytes of those begun (`HoldsRecord`), with no byte waiting
   pub record StandsRecorded (start : Option (List ℕ)) (view : RecordedView W) (m : RecordedMachine) : Type 0 where
     pub engine : StandsFor view.engine m.machine
     pub writer : WriterView W

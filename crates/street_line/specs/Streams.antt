@@ -37,8 +37,8 @@ module _ {S D W : Type 0} (serves : S → Command → Served → S → Type 0) (
     pub bounded : read.calls ≤ reads
 
 module _ {D W : Type 0} (remaining : D → Option (List ℕ)) (contents : W → Option (List ℕ)) where
-  -- that a pass which has the desk alone made a run of at most `reads` reads: all lines served and a tally, or the
-  -- first and a fault (`ServesLines`), by calls that the history which it has seen has more, while the desk has room
+  -- that a pass which has the desk alone made a run of at most `reads` reads, each command one call more in its history
+  -- while the desk has room: all lines served and a tally, or the first and a fault (`ServesLines`)
   abbrev pub AloneServesLines : ℕ → PassView → Counted D → Counted W → Result Tally RunFault → PassView → Counted D → Counted W → Type 0
   AloneServesLines reads old reader writer run new read written =
       ServesLines (AloneServes old.desk.calls) remaining contents reads old.seen reader writer run new.seen read written

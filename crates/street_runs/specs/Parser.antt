@@ -28,7 +28,8 @@ script_rule = record (new_rule (codes "script")) {
   value_names = 1;
 }
 
--- the parser's rules for all words that the program may have: its options, then the scripts
+-- the parser's rules for all words that the program may have: workers, calls, tape, replay, upgrade, keep and record
+-- with one value, endless and unsynced with none, then the scripts
 abbrev pub streetsim_rules : List Rule
 streetsim_rules = option_rule (codes "workers") ∷ option_rule (codes "calls") ∷ option_rule (codes "tape") ∷ option_rule (codes "replay")
     ∷ option_rule (codes "upgrade") ∷ flag_rule (codes "endless")
@@ -65,7 +66,8 @@ abbrev pub IsCount : ℕ → Text → Type 0
 IsCount most word = IsNumeral 10 (without_leading_plus word) × (1 ≤ digits_value 10 (without_leading_plus word))
     × (digits_value 10 (without_leading_plus word) ≤ most)
 
--- that the word of an option is such a number (`IsCount`); where the option is not used, nothing is asked
+-- that the word of an option is a decimal number from 1 to `most` (`IsCount`); where the option is not used, nothing is
+-- asked
 abbrev pub IsCountIfSaid : ℕ → Option Text → Type 0
 IsCountIfSaid most None = ⊤
 IsCountIfSaid most (Some word) = IsCount most word
@@ -93,7 +95,8 @@ pub record IsFit (rows : List Row) : Type 0 where
       × (first_of (codes "upgrade") rows ≡ None) × (scripts_in rows ≡ [])
   pub unsynced : is_said (first_of (codes "unsynced") rows) ≡ true → IsSome (first_of (codes "keep") rows)
 
--- that n is the number of an option: what its word says in decimal digits, or the default where the option is not used
+-- that n is the number of an option: what its word says in decimal digits, without a plus before them, or the default
+-- where the option is not used
 abbrev pub IsNumberOf : Option Text → ℕ → ℕ → Type 0
 IsNumberOf None default n = n ≡ default
 IsNumberOf (Some word) default n = n ≡ digits_value 10 (without_leading_plus word)
@@ -112,7 +115,8 @@ pub record IsFound (rows : List Row) (found : ProgramOptions) : Type 0 where
   pub record_file : option_map (λ s. s.now) found.record_file ≡ first_of (codes "record") rows
   pub scripts : map (λ s. s.now) found.scripts.items ≡ scripts_in rows
 
--- that the words ask for these options: the parser takes the words, and what it finds is fit and is these options
+-- that the words ask for these options: the parser takes the words, and what it finds is fit, with numbers in their
+-- ranges and nothing that excludes each other, and is these options
 pub record IsAsked (words : List Text) (found : ProgramOptions) : Type 0 where
   pub taken : refusals_of words ≡ []
   pub fit : IsFit (found_in words)

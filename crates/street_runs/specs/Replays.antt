@@ -49,7 +49,8 @@ CountedStops unread before left after fault =
 
 -- a replay and its count, from one counted stream to another
 module _ {D W : Type 0} (remaining : D → Option (List ℕ)) (contents : W → Option (List ℕ)) where
-  -- that the tape in the reader was replayed and counted, and the replies and the count's line are in the writer
+  -- that the tape in the reader was read whole and replayed, and the replies and then the count's line are in the
+  -- writer
   abbrev pub ReplaysAndCounts : Counted D → Counted W → Counted D → Counted W → Type 0
   ReplaysAndCounts reader writer read written =
       ReplaysCounted (remaining reader.stream) (contents writer.stream) (remaining read.stream) (contents written.stream)

@@ -19,8 +19,9 @@ pub record SaysCalls (Good : List Entry → Type 0) (ls : List (List ℕ)) (es :
   pub says : calls_in ls ≡ Some es
   pub good : Good es
 
--- that the line after the lines `done`, read to its end, makes with them no calls that `Good` holds of; or that the
--- text has ended, as `at_end` says, behind `done` with fewer calls than its first line tells
+-- that the line after the lines `done`, read to its end, makes with them no calls of which `Good` holds; or that the
+-- text has ended, as `at_end` says, behind `done`, which is no whole tape, as with fewer calls than its first line
+-- tells
 abbrev pub IsBadAfter : Type 0 → (List Entry → Type 0) → List ℕ → List (List ℕ) → Type 0
 IsBadAfter at_end Good text done =
     ((line : List ℕ) × IsNext at_end text done line × ((es : List Entry) → SaysCalls Good (done ++ line ∷ []) es → ⊥))

@@ -9,11 +9,13 @@ use Rattle.street_tile.specs.Tiles.{TileView, StandsFor, SameTile}
 
 -- ---- what is done
 
--- the traffic with the lane at place p changed by a rule, and all else as it was
+-- the traffic with the lane at place p changed by a rule, and all else as it was; all as it was where there is no such
+-- lane
 unfoldable pub at_place : Place → (LaneState → LaneState) → Traffic → Traffic
 at_place p rule m = record m { lanes = each_lane (λ q lane. if is_place q p then rule lane else lane) m.lanes }
 
--- the traffic with no vehicle of this number on any lane; its end, if it has one, stays
+-- the traffic with no vehicle of this number on any lane, in cells, buffer or among those who wait; its end, if it has
+-- one, stays
 unfoldable pub without : ℕ → Traffic → Traffic
 without number m = record m { lanes = each_lane (λ place. lane_without number) m.lanes }
 

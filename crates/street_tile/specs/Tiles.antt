@@ -49,8 +49,8 @@ ShowSignals low high signals m = (node : ℕ) → low ≤ node → node < high
 -- ---- a tile
 
 -- what contracts see of a tile: nodes from `low` to below `high`, the network's count of links, own lanes, clock, a
--- signal plan or none a node; `mouths`, two a link: is cell 0 free; who is handed over, `coming` (one an own lane),
--- `arrived` (numbers), `left` (rows); and detectors
+-- plan or none a node; at 2 * link + lane in `mouths`: is cell 0 free; transfers `handed` over, who is `coming` (one an
+-- own lane), numbers `arrived` and rows `left`; detectors
 pub record TileView : Type 0 where
   pub low : ℕ
   pub high : ℕ
