@@ -110,8 +110,8 @@ pub record ServedCount (p : PassView) (n : ℕ) (q : PassView) : Type 0 where
   pub count : q.count ≡ n
   pub long : length q.seen ≤ n
 
--- that pass p heard a note, and is q then: q has learned from it (`Learns`), has seen all that the note's maker had
--- seen, as the beginning of its history, and knows of at least as many calls as the maker did
+-- that pass p heard a note, and is q then, after a look (`Learns`): q's history begins with all that p had seen and
+-- with all that the note's maker had seen, and q knows of at least as many calls as either
 pub record Heard (p : PassView) (note : NoteView) (q : PassView) : Type 0 where
   pub learns : Learns p q
   pub heard : BeginsWith q.seen note.seen

@@ -33,9 +33,9 @@ abbrev pub home_of : Turn → Recorded → maybe.Option (Option Recorded)
 home_of maybe.none r = maybe.some (Some r)
 home_of (maybe.some seat) r = maybe.none
 
--- that what seat `seat`'s view v says is true: what it has seen and heard begins the history, of `count` calls or more;
--- sessions and limits are the desk's; it knows all calls of its least session, none bears its others; with the turn, it
--- has seen all
+-- that what seat `seat`'s view v says is true: the history, of `count` calls or more, begins with what it has seen, and
+-- with what it heard; sessions and limits are the desk's; no call bears its sessions but seen ones of the least; with
+-- the turn, it has seen all
 pub record Knows (calls sessions : ℕ) (history : List Entry) (busy : Turn) (seat : ℕ) (v : SeatView) : Type 0 where
   pub seen : BeginsWith history v.seen
   pub also : BeginsWith history v.also

@@ -84,7 +84,7 @@ arrived_car None = None
 arrived_car (Some v) = if is_on_last v then Some (record { number = v.number; speed = v.speed }) else None
 
 -- that a car which left its lane's cells is where it belongs: on its last link it is taken out and `told` as arrived;
--- else `told` is none, and it is the last of `list`, the buffer's, ready at step `ready`
+-- else `told` is none, and it is the last of `list`, the buffer's, ready at step `ready`; other lists are as they were
 pub record Settles (list ready : ℕ) (car : Car) (old new : Yard) (told : Option ArrivedCar) : Type 0 where
   pub arrived : told ≡ arrived_car (Some (vehicle_of car))
   pub touches : Touches (list ∷ []) old new

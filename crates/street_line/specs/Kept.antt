@@ -86,7 +86,7 @@ module _ {S : Type 0} (serves : S → Command → Served → S → Type 0) where
   -- ---- lines
 
   -- that the lines were served one after another, from `old` to `new`: `out` is their output and `kept` what the log
-  -- keeps of them, each line's behind those before; no line changes nothing
+  -- keeps of them, each line's behind those before; where there are no lines, nothing changes
   abbrev pub GoesKept : S → List (List ℕ) → List ℕ → List ℕ → S → Type 0
   GoesKept old [] out kept new = (new ≡ old) × (out ≡ []) × (kept ≡ [])
   GoesKept old (l ∷ ls) out kept new =

@@ -88,14 +88,14 @@ module _ {S : Type 0} (serves : S → Command → Served → S → Type 0) where
   RedoStopLine old line why new = RedoStopSaid old (said line) why new
 
   -- that these lines were done again, one after another, from `old` to `new`: commands whole, blank lines with nothing
-  -- changed, none faulty; no line changes nothing
+  -- changed, none faulty; where there are no lines, nothing changes
   abbrev pub Redoes : S → List (List ℕ) → S → Type 0
   Redoes old [] new = new ≡ old
   Redoes old (l ∷ ls) new = (mid : S) × RedoSaid old (said l) mid × Redoes mid ls new
 
   -- that the lines of a text behind `before` other lines were done again up to a fault: those before the first bad one,
-  -- whose number from 1 the fault tells; first ones where memory ran out; all ended lines where reading ended; never
-  -- for writing
+  -- whose number, from 1, the fault tells; first ones where memory ran out; all ended ones where it came at a read; it
+  -- is never of writing
   abbrev pub RedoHalts : S → ℕ → List ℕ → RedoFault → S → Type 0
   RedoHalts old before text (BadLine number) new = (done : List (List ℕ)) × (bad : List ℕ) × (rest : List (List ℕ)) × (mid : S)
       × ((cut text).0 ≡ done ++ bad ∷ rest) × Redoes old done mid × BadSaid mid (said bad) new × (number ≡ before + length done + 1)

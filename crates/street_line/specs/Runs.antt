@@ -59,7 +59,7 @@ module _ {S : Type 0} (serves : S → Command → Served → S → Type 0) where
   Done old (calls c) out new = (r : Served) × serves old c r new × (served_line r ≡ Some out)
 
   -- that these lines were served one after another, from `old` to `new`, and `out` is their output, each line's behind
-  -- those before; no line changes nothing
+  -- those before; where there are no lines, nothing changes
   abbrev pub Goes : S → List (List ℕ) → List ℕ → S → Type 0
   Goes old [] out new = (new ≡ old) × (out ≡ [])
   Goes old (l ∷ ls) out new = (mid : S) × (first : List ℕ) × (rest : List ℕ) × Done old (said l) first mid × Goes mid ls rest new × (out ≡ first ++ rest)

@@ -13,8 +13,8 @@ IsNoTape at_end text =
     ((line : List ℕ) × IsNext at_end text [] line × ((head : TapeHead) → head_reading line ≡ Ok head → ⊥))
     ⊎ (at_end × (lines_of text ≡ []))
 
--- that these first lines of a tape say the calls es, as many as its first line allows at most, and the calls are good,
--- as `Good` asks of them
+-- that these first lines of a tape say the calls es, no more than its first line allows, and that `Good` holds of these
+-- calls
 pub record SaysCalls (Good : List Entry → Type 0) (ls : List (List ℕ)) (es : List Entry) : Type 0 where
   pub says : calls_in ls ≡ Some es
   pub good : Good es

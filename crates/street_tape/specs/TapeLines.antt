@@ -40,7 +40,7 @@ calls_of None = []
 calls_of (Some e) = e ∷ []
 
 -- that these lines of a tape were taken one after another, from `old` to `new`, the heads with the calls still to
--- follow (`Takes`), and es are the calls that they say; no line changes nothing
+-- follow (`Takes`), and es are the calls that they say; where there are no lines, nothing changes
 abbrev pub TakesAll : Option TapeHead → List (List ℕ) → List Entry → Option TapeHead → Type 0
 TakesAll old [] es new = (new ≡ old) × (es ≡ [])
 TakesAll old (l ∷ ls) es new =

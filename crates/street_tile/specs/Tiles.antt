@@ -77,8 +77,8 @@ own_places net low high = filter (is_own net low high) (places net)
 abbrev pub sizes_of : List Detectors → List ℕ
 sizes_of detectors = map (λ g. g.size) detectors
 
--- that x is a tile of this network (`IsRoads`), with its count of links and nodes of its own; own lanes are just those
--- whose links run to its nodes, in order, each, and each record of detectors, as long as its link
+-- that x is a tile of this network (`IsRoads`): it has the count of links, nodes of the network, and as own lanes just
+-- those whose links run to these nodes, in order; each, and its record of detectors, is as long as its link
 pub record IsTileOf (net : NetSpec) (x : TileView) : Type 0 where
   pub roads : IsRoads net
   pub links : x.links ≡ length net.links
