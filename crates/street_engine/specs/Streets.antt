@@ -50,8 +50,9 @@ abbrev pub StreetsAdmit : List ℕ → ℕ → ℕ → ℕ → StreetsView → S
 StreetsAdmit plan lane depart size x y = (ids : List ℕ) → plan ≡ plan_links x.tiles.network ids
     → StreetsGo (λ m. entered m ids lane depart size) x y
 
--- that, whatever traffic the streets x stood for, the streets y stand for it with any signal plan of the same greens as
--- `plan` at the node at position `node`, in place of its plan; nothing is said where no identifier names the node
+-- that, whatever traffic the streets x stood for, the streets y stand for it with any signal plan of the same greens
+-- and cycle as `plan` at the node at position `node`, in place of its plan; nothing is said where no identifier names
+-- the node
 abbrev pub StreetsSignal : ℕ → SignalPlan → StreetsView → StreetsView → Type 0
 StreetsSignal node plan x y = (id : ℕ) (other : SignalPlan) → node_of x.tiles.network id ≡ Some node → ShowsAs plan other
     → StreetsGo (λ m. signalled m id other) x y

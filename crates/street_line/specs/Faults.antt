@@ -26,8 +26,8 @@ abbrev pub IsUnanswered : {S : Type 0} → (S → Command → Served → S → T
 IsUnanswered serves old ls new = (line : List ℕ) × (more : List (List ℕ)) × (c : Command) × (ls ≡ line ∷ more) × (said line ≡ calls c) × serves old c Unrecorded new
 
 -- that a fault ended a run: of the text's lines `done` were served, `start` to `now` (or one more with no answer), and
--- the first `tally.bytes` bytes of their output put behind `before`; `tally` counts them; at a read, `done` is all
--- ended lines, all written
+-- of their output `tally.bytes` bytes put behind `before` (none: unknown); `tally` counts; at a read, all ended lines
+-- were done and written
 pub record Breaks {S : Type 0} (serves : S → Command → Served → S → Type 0) (start : S) (before : Option (List ℕ)) (text : List ℕ)
     (now : S) (after : Option (List ℕ)) (kind : FaultKind) (tally : Tally) : Type 0 where
   -- the lines that were served, those that were not, and the output of the first
@@ -49,7 +49,8 @@ pub record Breaks {S : Type 0} (serves : S → Command → Served → S → Type
   pub whole : IsAtRead kind → (done ≡ (cut text).0) × IsTally tally done out
 
 -- that a fault ended a run: of the text that it had read, `unread` to `left`, the first lines were served, `start` to
--- `now`, and first bytes of their output written, `before` to `after`, as the fault's kind and tally say (`Breaks`)
+-- `now`, and first bytes of their output written, `before` to `after` (none where unknown), as the fault's kind and
+-- tally say (`Breaks`)
 pub record ServedInPart {S : Type 0} (serves : S → Command → Served → S → Type 0) (start : S) (unread before : Option (List ℕ))
     (now : S) (left after : Option (List ℕ)) (fault : RunFault) : Type 0 where
   pub text : List ℕ

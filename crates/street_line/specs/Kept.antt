@@ -93,8 +93,9 @@ module _ {S : Type 0} (serves : S → Command → Served → S → Type 0) where
       (mid : S) × (first : List ℕ) × (entry : List ℕ) × (rest : List ℕ) × (more : List ℕ) × KeepsSaid old (said l) l first entry mid
       × GoesKept mid ls rest more new × (out ≡ first ++ rest) × (kept ≡ entry ++ more)
 
-  -- that these lines were served, `old` to `new`, their whole output is written, `before` to `after`, and all that the
-  -- log keeps of them is in the log, `log` to `held`, and synced, as `synced` is then all of `held`
+  -- that these lines were served, `old` to `new`, their whole output is written, `before` to `after` (none where
+  -- unknown), and all that the log keeps of them is in the log, `log` to `held`, and synced, as `synced` is then all of
+  -- `held`
   pub record Passed (old : S) (log before : Option (List ℕ)) (ls : List (List ℕ)) (new : S) (held synced after : Option (List ℕ)) : Type 0 where
     pub out : List ℕ
     pub kept : List ℕ
@@ -119,7 +120,8 @@ module _ {S : Type 0} (serves : S → Command → Served → S → Type 0) where
   -- ---- whole runs
 
   -- that the reader was read to its end, `unread` to `left`, all lines of its text were served, `start` to `now`, their
-  -- output is written, `before` to `after`, and what the log keeps of them is held and synced (`Passed`)
+  -- output is written, `before` to `after` (none where unknown), and what the log keeps of them is held and synced
+  -- (`Passed`)
   pub record KeptWhole (start : S) (unread log before : Option (List ℕ)) (now : S) (left held synced after : Option (List ℕ)) : Type 0 where
     pub text : List ℕ
     pub read : Consumes unread left text

@@ -106,8 +106,8 @@ module _ {S : Type 0} (serves : S → Command → Served → S → Type 0) where
   RedoHalts old before text (Run kind.Endless) new = Redoes old (cut text).0 new
   RedoHalts old before text (Run kind.Write) new = ⊥
 
-  -- that a text was read to its end, `unread` to `left`, and its ended lines were done again, from `start` to `now`;
-  -- `redo` counts these lines and their bytes, and what stands behind the last LF is not looked at
+  -- that a text was read to its end, `unread` to `left` (none where unknown), and its ended lines were done again, from
+  -- `start` to `now`; `redo` counts these lines and their bytes, and what stands behind the last LF is not looked at
   pub record RedoDone (start : S) (unread : Option (List ℕ)) (now : S) (left : Option (List ℕ)) (redo : RedoneLines) : Type 0 where
     pub text : List ℕ
     pub read : Consumes unread left text
@@ -116,8 +116,8 @@ module _ {S : Type 0} (serves : S → Command → Served → S → Type 0) where
     pub lines : redo.lines ≡ length (cut text).0
     pub bytes : redo.bytes + length (cut text).1 ≡ length text
 
-  -- that a fault ended the redo of a text, read from `unread` to `left`: of what was read, lines before the fault were
-  -- done again, from `start` to `now`, as the fault's kind asks (`RedoHalts`)
+  -- that a fault ended the redo of a text, read from `unread` to `left` (none where unknown): of what was read, lines
+  -- before the fault were done again, from `start` to `now`, as the fault's kind asks (`RedoHalts`)
   pub record RedoBroke (start : S) (unread : Option (List ℕ)) (fault : RedoFault) (now : S) (left : Option (List ℕ)) : Type 0 where
     pub text : List ℕ
     pub read : Consumes unread left text

@@ -8,7 +8,8 @@ use Rattle.street_line.specs.Engines.{MachineServes}
 use Rattle.street_line.specs.Kept.{GoesKept}
 
 -- that the file begins with lines that, done again from `start`, lead to the state `now` after some lines (`done`),
--- served from some state (`mid`), and all that went out, `before` to `after`, is the first part of these lines' output
+-- served from some state (`mid`), and all that went out, `before` to `after` (none where unknown), is the first part of
+-- these lines' output
 pub record KeepsAnswered (start : State) (file : List ℕ) (before after : Option (List ℕ)) : Type 0 where
   pub first : List ℕ
   pub more : List ℕ

@@ -28,14 +28,15 @@ pub record TellsWriting {W : Type 0} (fault : ProgramFault) (name : Bor (List �
   pub caused : IsCausedByWriting kind writer
 
 -- that a desk was ended with this pass (`IsEnded`), and the tape of its journal is written whole, from contents
--- `before` to `after`
+-- `before` to `after` (none where unknown)
 pub record IsTaped (pass : PassView) (before after : Option (List ℕ)) : Type 0 where
   pub journal : List Entry
   pub ended : IsEnded pass journal
   pub written : Appends before after (tape_text journal)
 
 -- that a desk was ended with this pass, and of the tape of its journal only first bytes are written, `before` to
--- `after`, perhaps all or none, as memory ran out or the writer failed, which `fault` tells with the file's name
+-- `after` (none where unknown), perhaps all or none, as memory ran out or the writer failed, which `fault` tells with
+-- the file's name
 pub record IsTapedInPart {W : Type 0} (pass : PassView) (before after : Option (List ℕ)) (writer : Counted W) (name : Bor (List ℕ))
     (fault : ProgramFault) : Type 0 where
   pub journal : List Entry

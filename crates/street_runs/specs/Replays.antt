@@ -29,13 +29,13 @@ pub record ReadsTape (unread left : Option (List ℕ)) (entries : List Entry) : 
   pub good : AreReplayable None entries
 
 -- that a whole tape, whose calls can be replayed, was read, `unread` to `left`, and the replies to its calls and then
--- the reply to a count behind them were written, `before` to `after`
+-- the reply to a count behind them were written, `before` to `after` (none where unknown)
 abbrev pub ReplaysCounted : Option (List ℕ) → Option (List ℕ) → Option (List ℕ) → Option (List ℕ) → Type 0
 ReplaysCounted unread before left after =
     (entries : List Entry) × ReadsTape unread left entries × Appends before after (output_from None entries ++ count_line entries)
 
 -- that a whole tape was read and the replies to its calls are written, but of the line of the count only first bytes,
--- perhaps all or none, `before` to `after`, for a fault of the run (`IsOfRun`)
+-- perhaps all or none, `before` to `after` (none where unknown), for a fault of the run (`IsOfRun`)
 abbrev pub CountStops : Option (List ℕ) → Option (List ℕ) → Option (List ℕ) → Option (List ℕ) → TapeFault → Type 0
 CountStops unread before left after fault =
     (entries : List Entry) × ReadsTape unread left entries × IsOfRun fault

@@ -20,7 +20,8 @@ use Rattle.street_tape.specs.Entries.{calls_in, tape_reading}
 -- ---- whole replays
 
 -- that the tape was read to its end, `unread` to `left`, all its calls can be replayed from nothing loaded, the engine,
--- `view`, stands for the state after them, their replies are written, `before` to `after`, and the tally counts all
+-- `view`, stands for the state after them, their replies are written, `before` to `after` (none where unknown), and the
+-- tally counts all
 pub record ReplaysWhole (unread before : Option (List ℕ)) (view : EngineView) (left after : Option (List ℕ)) (tally : Tally) : Type 0 where
   pub text : List ℕ
   pub entries : List Entry
@@ -85,7 +86,7 @@ TapeBreaks at_end start before text view after (BadEntry line) =
 TapeBreaks at_end start before text view after (Run fault) = Breaks start before text view after fault.kind fault.tally
 
 -- that a fault ended a replay from nothing loaded: `text` was read of `unread`, with `left` left, and the engine `view`
--- and the output, from `before` to `after`, are what `TapeBreaks` says of that text and fault
+-- and the output, from `before` to `after` (none where unknown), are what `TapeBreaks` says of that text and fault
 pub record ReplayStops (unread before : Option (List ℕ)) (view : EngineView) (left after : Option (List ℕ)) (fault : TapeFault) : Type 0 where
   pub text : List ℕ
   pub read : Consumes unread left text

@@ -32,7 +32,8 @@ abbrev pub with_bytes : Tally → ℕ → Tally
 with_bytes tally bytes = record { lines = tally.lines; calls = tally.calls; replies = tally.replies; bytes = bytes }
 
 -- that the tape was read to its end, `unread` to `left`, and can be read, the tape of version 2 of its calls is
--- written, `before` to `after`, and the tally counts its lines and calls, no reply, and the new bytes
+-- written, `before` to `after` (none where unknown), and the tally counts its lines and calls, no reply, and the new
+-- bytes
 pub record UpgradesWhole (unread before left after : Option (List ℕ)) (tally : Tally) : Type 0 where
   pub text : List ℕ
   pub entries : List Entry
@@ -66,7 +67,8 @@ UpgradeBreaks at_end before text after (BadEntry line) = (es : List Entry) × Is
 UpgradeBreaks at_end before text after (Run fault) = Cuts at_end before text after fault.kind fault.tally
 
 -- that a fault ended an upgrade: `text` was read of `unread`, with `left` left, and the output, from `before` to
--- `after`, is what `UpgradeBreaks` says of that text and fault: nothing, or first bytes of the new tape
+-- `after` (none where unknown), is what `UpgradeBreaks` says of that text and fault: nothing, or first bytes of the new
+-- tape
 pub record UpgradeStops (unread before left after : Option (List ℕ)) (fault : TapeFault) : Type 0 where
   pub text : List ℕ
   pub read : Consumes unread left text
@@ -74,13 +76,13 @@ pub record UpgradeStops (unread before left after : Option (List ℕ)) (fault : 
 
 -- ---- the end of an upgrade
 
--- that the whole text was written, `before` to `after`, and `all` is the tally with the text's count of bytes in place
--- of its own
+-- that the whole text was written, `before` to `after` (none where unknown), and `all` is the tally with the text's
+-- count of bytes in place of its own
 abbrev pub IsKept : Tally → Option (List ℕ) → List ℕ → Option (List ℕ) → Tally → Type 0
 IsKept tally before text after all = (all ≡ with_bytes tally (length text)) × Appends before after text
 
--- that only the first bytes of the text were written, perhaps all or none, `before` to `after`, and the fault's tally
--- is `tally` with their count
+-- that only the first bytes of the text were written, perhaps all or none, `before` to `after` (none where unknown),
+-- and the fault's tally is `tally` with their count
 abbrev pub CutShort : Tally → Option (List ℕ) → List ℕ → Option (List ℕ) → RunFault → Type 0
 CutShort tally before text after fault = (fault.tally ≡ with_bytes tally fault.tally.bytes) × IsPrefix before 0 text after fault.tally.bytes
 

@@ -5,8 +5,8 @@ use Rattle.street_stream.specs.declared.counted.Counted.{Counted}
 use Rattle.street_stream.specs.declared.tally.FaultKind.{FaultKind}
 use Rattle.street_stream.specs.Faults.{IsCausedByWriting}
 
--- that the first bytes of the text were written, perhaps all or none, from contents `before` to `after`, and the count
--- went from `old` to `new` by their number
+-- that the first bytes of the text were written, perhaps all or none, from contents `before` to `after` (none where
+-- unknown), and the count went from `old` to `new` by their number
 pub record IsPrefix (before : Option (List ℕ)) (old : ℕ) (text : List ℕ) (after : Option (List ℕ)) (new : ℕ) : Type 0 where
   pub sent : ℕ
   pub within : sent ≤ length text
