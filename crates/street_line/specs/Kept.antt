@@ -63,8 +63,8 @@ abbrev pub IsLast : Option (List ℕ) → List ℕ → List ℕ → List (List �
 IsLast left seen got ls = (ls ≡ (cut ((cut seen).1 ++ got)).0) ⊎ ((got ≡ []) × IsAtEnd left × (ls ≡ if_any (cut seen).1))
 
 module _ {S : Type 0} (serves : S → Command → Served → S → Type 0) where
-  -- that a line that says this was served, from `old` to `new`, with output `out`, and the log keeps `entry` of it
-  -- (`IsEntry`); of a blank or faulty line nothing is kept and nothing changes, and a faulty one has its fault as
+  -- that a line that says this was served, a command as `serves` says, with output `out`, and the log keeps `entry` of
+  -- it (`IsEntry`); of a blank or faulty line nothing is kept and nothing changes, and a faulty one has its fault as
   -- output
   abbrev pub KeepsSaid : S → Said → List ℕ → List ℕ → List ℕ → S → Type 0
   KeepsSaid old silent line out entry new = (new ≡ old) × (out ≡ []) × (entry ≡ [])

@@ -51,8 +51,8 @@ IsRedoStop served stop.Bad = is_refused served ≡ true
 IsRedoStop served stop.Starved = is_short served ≡ true
 
 module _ {S : Type 0} (serves : S → Command → Served → S → Type 0) where
-  -- that a line that says this was done again, from `old` to `new`: a blank one changes nothing, a command is done
-  -- whole (`is_done`); a faulty line never is done again
+  -- that a line that says this was done again, from `old` to `new`: a blank one changes nothing, a command is served,
+  -- as `serves` says, and done whole (`is_done`); a faulty line never is done again
   abbrev pub RedoSaid : S → Said → S → Type 0
   RedoSaid old silent new = new ≡ old
   RedoSaid old (faulty f) new = ⊥

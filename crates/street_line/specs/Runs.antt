@@ -50,16 +50,16 @@ has_reply (calls c) = true
 -- ---- runs
 
 module _ {S : Type 0} (serves : S → Command → Served → S → Type 0) where
-  -- that a line that says this was served, from `old` to `new`, with this output: none for a blank line and its fault
-  -- for a faulty line, with nothing changed, and for a command its line of reply; a command with no answer is not
-  -- served so
+  -- that a line that says this was served, from `old` to `new`, with this output: none for a blank line, its fault for
+  -- a faulty line, with nothing changed, and for a command, served as `serves` says, its line of reply, which it must
+  -- have
   abbrev pub Done : S → Said → List ℕ → S → Type 0
   Done old silent out new = (new ≡ old) × (out ≡ [])
   Done old (faulty f) out new = (new ≡ old) × (fault_line f ≡ Some out)
   Done old (calls c) out new = (r : Served) × serves old c r new × (served_line r ≡ Some out)
 
-  -- that these lines were served one after another, from `old` to `new`, and `out` is their output, each line's behind
-  -- those before; where there are no lines, nothing changes
+  -- that these lines were served one after another, from `old` to `new`, commands as `serves` says, and `out` is their
+  -- output, each line's behind those before; where there are no lines, nothing changes
   abbrev pub Goes : S → List (List ℕ) → List ℕ → S → Type 0
   Goes old [] out new = (new ≡ old) × (out ≡ [])
   Goes old (l ∷ ls) out new = (mid : S) × (first : List ℕ) × (rest : List ℕ) × Done old (said l) first mid × Goes mid ls rest new × (out ≡ first ++ rest)

@@ -27,8 +27,8 @@ IsAnswerTo served answer = (out : List ℕ) × (served_line served ≡ Some out)
 abbrev pub IsAnswered : {S : Type 0} → (S → Command → Served → S → Type 0) → S → Said → Effect → S → Type 0
 IsAnswered serves old what effect new = (out : List ℕ) × Done serves old what out new × (effect ≡ effect_of what out)
 
--- that a line that says `what` was served, from `old` to `new`, and the handler's `answer` tells its effect: whether it
--- called a command, and its reply, or that memory ran out for the reply
+-- that a line that says `what` was served, from `old` to `new`, a command as `serves` says, and the handler's `answer`
+-- tells its effect: whether it called a command, and its reply, or that memory ran out for the reply
 abbrev pub IsAnsweredBy : {S : Type 0} → (S → Command → Served → S → Type 0) → S → Said → LineAnswer → S → Type 0
 IsAnsweredBy serves old what answer new = (effect : Effect) × IsAnswered serves old what effect new × Gives answer effect
 
