@@ -104,7 +104,7 @@ module _ {S : Type 0} (serves : S → Command → Served → S → Type 0) where
     pub holds : Appends log held kept
     pub stays : synced ≡ held
 
-  -- that a fault left of these lines: where the log failed, no reply, first bytes of what it keeps, and no more of
+  -- that a fault left this of these lines: where the log failed, no reply, first bytes of what it keeps, and no more of
   -- these synced; where the writer failed, all kept and synced, and first bytes of the output; else all as it was
   abbrev pub PassStops : S → Option (List ℕ) → Option (List ℕ) → Option (List ℕ) → List (List ℕ) → KeptFault → Option (List ℕ) → Option (List ℕ) → Option (List ℕ) → Type 0
   PassStops old log stayed before ls Log held synced after =

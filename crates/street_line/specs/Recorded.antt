@@ -64,8 +64,8 @@ module _ {W : Type 0} (contents : W → Option (List ℕ)) where
       ⊎ ((reply : Reply) × (w.has_failed ≡ false) × (v.has_failed ≡ true) × HasFailed v.writer × EngineServes old c (Answered reply) new
       × ((m : State) → StandsFor old m → (n : ℕ) × Appends (contents w.writer.stream) (contents v.writer.stream) (take n (recorded_in m c reply))))
 
-  -- that a recorded session served a command, as engine and record say (`Records`), with no byte of the record waiting
-  -- before or after; nothing is said where there is no writer or a byte waited before
+  -- that a recorded session served a command, with its blocks written, or only first bytes and no answer (`Records`),
+  -- and no byte of the record waiting before or after; nothing is said where there is no writer or a byte waited before
   abbrev pub RecordServes : RecordedView W → Command → Served → RecordedView W → Type 0
   RecordServes old c served new = (w : WriterView W) → old.writer ≡ Some w → HasNoRest w
       → (v : WriterView W) × (new.writer ≡ Some v) × HasNoRest v × Records old.engine w c served new.engine v

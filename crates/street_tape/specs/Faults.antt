@@ -76,9 +76,9 @@ pub record Breaks (start : State) (before : Option (List ℕ)) (text : List ℕ)
 
 -- ---- all faults
 
--- that a fault of a replay left: nothing applied or written, where the text is no tape; the calls before the first bad
--- line, numbered from 1, applied and replied to, where the tape is bad; else what `Breaks` says: first calls and first
--- bytes
+-- that a fault of a replay left this: nothing applied or written, where the text is no tape; the calls before the first
+-- bad line, numbered from 1, applied and replied to, where the tape is bad; else what `Breaks` says: first calls and
+-- first bytes
 abbrev pub TapeBreaks : Type 0 → State → Option (List ℕ) → List ℕ → EngineView → Option (List ℕ) → TapeFault → Type 0
 TapeBreaks at_end start before text view after NotTape = IsNoTape at_end text × StandsFor view start × Appends before after []
 TapeBreaks at_end start before text view after (BadEntry line) =

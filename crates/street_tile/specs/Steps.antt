@@ -16,7 +16,8 @@ pub record MayStep (net : NetSpec) (xs : List TileView) : Type 0 where
   pub stand : (m : Traffic) × AllStand net xs m × (m.clock < last_clock)
 
 -- that the tiles ys are the tiles xs after one step, whatever traffic these stood for: they stand for the next state,
--- meters too if they did, and hold numbers and rows of who arrived; they are all tiles, and nobody is on the way
+-- meters too if they did, and hold numbers and rows of who arrived; they are all tiles of the network, and nobody is on
+-- the way
 pub record Steps (net : NetSpec) (xs ys : List TileView) : Type 0 where
   pub machine : (m : Traffic) → AllStand net xs m → AllStand net ys (step m)
   pub arrived : (m : Traffic) → AllStand net xs m → Each (λ x y. y.arrived ≡ filter_map (λ p. arrival (leaver_of (changed m) p)) x.own.places) xs ys
