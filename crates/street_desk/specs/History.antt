@@ -6,11 +6,12 @@ use Rattle.street_base.specs.declared.reply.Reply.{Reply}
 use Rattle.street_base.specs.Prelude.{State, Allows, state_after, reply_to}
 use Rattle.street_desk.specs.declared.journal.Entry.{Entry}
 
--- the entry of a history for one call: the number of its session, its command and its outcome
+-- the entry of a history for one call: the number of its session, its command, and its outcome, how far it was done
 abbrev pub entry : ℕ → Command → Outcome → Entry
 entry session command outcome = record { session = session; command = command; outcome = outcome }
 
--- the machine's state after these calls, made one after another from state m
+-- the machine's state after these calls, made one after another from state m, each with its own outcome; m where there
+-- is none
 abbrev pub state_from : State → List Entry → State
 state_from m [] = m
 state_from m (e ∷ es) = state_from (state_after m e.command e.outcome) es
@@ -21,12 +22,12 @@ abbrev pub IsLegalFrom : State → List Entry → Type 0
 IsLegalFrom m [] = Unit {0}
 IsLegalFrom m (e ∷ es) = Allows m e.command e.outcome × IsLegalFrom (state_after m e.command e.outcome) es
 
--- the machine's state after the calls of a history, which begins with nothing loaded
+-- the machine's state after the calls of a history, which begins with nothing loaded; nothing loaded where it is empty
 abbrev pub state_of : List Entry → State
 state_of history = state_from None history
 
--- that a history is legal from nothing loaded on: each call's outcome is one that the machine allows where the call
--- stands
+-- that a history is legal from nothing loaded on: each call's outcome is one that the machine allows in the state that
+-- the calls before it led to
 abbrev pub IsLegal : List Entry → Type 0
 IsLegal history = IsLegalFrom None history
 
@@ -53,8 +54,8 @@ calls_of session (e ∷ es) = if e.session == session then e ∷ calls_of sessio
 abbrev pub BeginsWith : List Entry → List Entry → Type 0
 BeginsWith history seen = (rest : List Entry) × (history ≡ seen ++ rest)
 
--- that the history is legal from nothing loaded on, and each of its calls is of one of the desk's sessions, 0 to
--- `sessions - 1`
+-- that the history is legal from nothing loaded on, each outcome one that the machine allows where its call stands, and
+-- each of its calls is of one of the desk's sessions, 0 to `sessions - 1`
 pub record IsHistory (sessions : ℕ) (history : List Entry) : Type 0 where
   pub legal : IsLegal history
   pub below : AllBelow sessions history

@@ -12,14 +12,15 @@ use Rattle.street_desk.specs.History.{entry, state_of, calls_of, BeginsWith, IsH
 
 -- ---- what contracts see
 
--- what contracts see of a desk: the table that it is, the most calls that its journal takes, and its count of sessions
+-- what contracts see of a desk: the table that it is, `calls`, the most calls that its journal takes, and its count of
+-- sessions
 pub record DeskView : Type 0 where
   pub table : TableId
   pub calls : ℕ
   pub sessions : ℕ
 
--- what contracts see of a pass: its desk, the history that it has `seen`, how many finished calls it knows of
--- (`count`), and its sessions, `least` to `greatest`; its calls bear the number `least`
+-- what contracts see of a pass: its desk, the history that it has `seen`, `count`, how many finished calls it knows of,
+-- and its sessions, `least` to `greatest`, both with them; its calls bear the number `least`
 pub record PassView : Type 0 where
   pub desk : DeskView
   pub seen : List Entry
@@ -27,27 +28,30 @@ pub record PassView : Type 0 where
   pub least : ℕ
   pub greatest : ℕ
 
--- what contracts see of a note that a pass made: the desk, the history that the pass had seen, and how many finished
--- calls it knew of
+-- what contracts see of a note that a pass made: the desk, the history that the pass had `seen`, and `count`, how many
+-- finished calls it knew of
 pub record NoteView : Type 0 where
   pub desk : DeskView
   pub seen : List Entry
   pub count : ℕ
 
--- the desk, as contracts see it, of a seat of view v at this table
+-- the desk, as contracts see it, of a seat of view v at this table: the table, and the most calls and the count of
+-- sessions that v has
 abbrev pub desk_view : TableId → SeatView → DeskView
 desk_view t v = record { table = t; calls = v.calls; sessions = v.sessions }
 
--- a pass, as contracts see it, by the view v of its seat at this table
+-- a pass, as contracts see it, by the view v of its seat at this table: the desk, what it has seen, its count of
+-- finished calls, and its least and greatest session
 abbrev pub pass_view : TableId → SeatView → PassView
 pass_view t v = record { desk = desk_view t v; seen = v.seen; count = v.count; least = v.least; greatest = v.greatest }
 
--- a note, as contracts see it, by the view v of its seat at this table
+-- a note, as contracts see it, by the view v of its seat at this table: the desk, what it has seen, and its count of
+-- finished calls
 abbrev pub note_view : TableId → SeatView → NoteView
 note_view t v = record { desk = desk_view t v; seen = v.seen; count = v.count }
 
--- that a seat's view is that of a pass between two calls: no turn, sessions of its own, nothing heard, a legal history
--- seen, in which no call bears one of its sessions but the least
+-- that a seat's view is that of a pass between two calls: no turn, sessions of its own, live (no spent note's), nothing
+-- heard, a legal history seen, in which no call bears one of its sessions but the least
 pub record Rests (v : SeatView) : Type 0 where
   pub turn : v.turn ≡ false
   pub owns : v.owns ≡ true
@@ -62,8 +66,8 @@ pub record Rests (v : SeatView) : Type 0 where
 abbrev pub Same : PassView → PassView → Type 0
 Same p q = (q.desk ≡ p.desk) × (q.least ≡ p.least) × (q.greatest ≡ p.greatest)
 
--- that pass p called and got this reply, and is q then: q has seen a legal history that begins with all that p had seen
--- and ends with this call, for which the desk had room, and the reply is the machine's there
+-- that pass p called and is q then: q has seen a legal history that begins with all that p had seen and ends with this
+-- call, the one new call of p's session; the desk had room, and the reply is the machine's there
 pub record Answered (p : PassView) (command : Command) (answer : Reply) (q : PassView) : Type 0 where
   pub before : List Entry
   pub outcome : Outcome
@@ -78,7 +82,7 @@ pub record Answered (p : PassView) (command : Command) (answer : Reply) (q : Pas
   pub same : Same p q
 
 -- that pass q is pass p after a look at the desk: it has seen a legal history that begins with what p had seen, with no
--- new call of p's own session, and knows of no fewer calls
+-- new call of p's least session, knows of no fewer calls, and has the same desk and sessions
 pub record Learns (p q : PassView) : Type 0 where
   pub is_history : IsHistory p.desk.sessions q.seen
   pub begins : BeginsWith q.seen p.seen
@@ -86,34 +90,35 @@ pub record Learns (p q : PassView) : Type 0 where
   pub kept : p.count ≤ q.count
   pub same : Same p q
 
--- that pass p found the desk's journal full, with as many calls as the desk takes, and is q then, which has seen them
--- all
+-- that pass p found the desk's journal full, and is q then, after a look (`Learns`): q has seen as many calls as the
+-- desk takes, and p knew of no more than these
 pub record Filled (p q : PassView) : Type 0 where
   pub learns : Learns p q
   pub long : length q.seen ≡ p.desk.calls
   pub count : p.count ≤ length q.seen
 
 -- that a call of pass p came back either with its reply (`Answered`), or, as the journal was full, with the command
--- itself and the journal's count of calls (`Filled`)
+-- itself and `calls`, the journal's count of calls; q is the pass then
 abbrev pub Told : PassView → Command → ℕ → Result Reply Full → PassView → Type 0
 Told p command calls told q =
     MatchResult told (λ r. Answered p command r q) (λ f. (f.command ≡ command) × (f.served ≡ calls) × Filled p q)
 
--- that pass p was told that n calls are finished, and is q then, which has seen no more calls than these
+-- that pass p was told that n calls are finished, and is q then, after a look (`Learns`): it knows of n finished calls,
+-- and has seen no more than n
 pub record ServedCount (p : PassView) (n : ℕ) (q : PassView) : Type 0 where
   pub learns : Learns p q
   pub count : q.count ≡ n
   pub long : length q.seen ≤ n
 
--- that pass p heard a note, and is q then: q has seen a history that begins with what the note's maker had seen, and
--- knows of as many calls as the maker did, at least
+-- that pass p heard a note, and is q then, after a look (`Learns`): q's history begins with all that p had seen and
+-- with all that the note's maker had seen, and q knows of at least as many calls as either
 pub record Heard (p : PassView) (note : NoteView) (q : PassView) : Type 0 where
   pub learns : Learns p q
   pub heard : BeginsWith q.seen note.seen
   pub count : note.count ≤ q.count
 
 -- that this is the journal of p's desk at its end: a legal history that begins with all that p has seen, of as many
--- calls as p knows of at least and as the desk takes at most, and with no further call of p's session
+-- calls as p knows of at least and as the desk takes at most, and with no further call of p's least session
 pub record Finished (p : PassView) (journal : List Entry) : Type 0 where
   pub is_history : IsHistory p.desk.sessions journal
   pub room : length journal ≤ p.desk.calls
@@ -123,18 +128,20 @@ pub record Finished (p : PassView) (journal : List Entry) : Type 0 where
 
 -- ---- passes made
 
--- the first pass of a desk: it has seen nothing, and all sessions are its own
+-- the first pass of a desk: it has seen nothing, knows of no call, and all sessions are its own, 0 to `sessions - 1`
 abbrev pub first_pass : DeskView → PassView
 first_pass d = record { desk = d; seen = []; count = 0; least = 0; greatest = d.sessions - 1 }
 
--- what stays of a pass that is split: the pass without its greatest session
+-- what stays of a pass that is split: the pass without its greatest session, and else as it was
 abbrev pub without_last : PassView → PassView
 without_last p = record p { greatest = p.greatest - 1 }
 
--- what is given away of a pass that is split: a pass that has seen the same, with the greatest session alone
+-- what is given away of a pass that is split: a pass of the same desk that has seen the same and knows the same count,
+-- with the greatest session alone
 abbrev pub of_last : PassView → PassView
 of_last p = record p { least = p.greatest }
 
--- that the session whose number the pass's calls bear has made no call in the history that the pass has seen
+-- that the least session of the pass, whose number its calls bear, has made no call in the history that the pass has
+-- seen
 abbrev pub OwnsUnused : PassView → Type 0
 OwnsUnused p = calls_of p.least p.seen ≡ []

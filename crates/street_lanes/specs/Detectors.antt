@@ -6,8 +6,8 @@ use Rattle.street_meter.specs.Meter.{Meter, Stands, IsPlacedAs, detector_of, nex
 use Rattle.street_rule.specs.declared.watch.Watch.{Watch}
 use Rattle.street_rule.specs.Prelude.{watched}
 
--- what contracts see of a lane's detectors: how many cells the lane has, a meter for each detector, and a watch for
--- each meter, of what it saw of the last motion
+-- what contracts see of a lane's detectors: `size`, how many cells the lane has, a meter for each detector, in the
+-- order of placing, and by the same positions a watch of each, with what it saw of the last motion
 pub record Detectors : Type 0 where
   pub size : ℕ
   pub meters : List Meter
@@ -15,21 +15,21 @@ pub record Detectors : Type 0 where
 
 -- ---- the step
 
--- the watch for a meter, at the meter's cell, which has seen nothing yet
+-- the watch for a meter, at the meter's cell, which has seen nothing yet: no passes, and a sum of speeds of 0
 abbrev pub cleared : Meter → Watch
 cleared x = record { cell = x.cell; passes = 0; speeds = 0 }
 
--- what the watch of a meter sees of motion on the lane at place p: how many fronts pass the meter's cell, and their
--- speeds
+-- what the watch of a meter sees of this traffic's next motion on the lane at place p: the meter's cell, how many
+-- fronts pass that cell, and the sum of their speeds
 abbrev pub watch_of : Traffic → Place → Meter → Watch
 watch_of m p x = watched (drive_on m p) (lane_at m p).track (cleared x)
 
--- 1 if a vehicle covers the cell, else 0
+-- 1 if a vehicle covers the cell with its front or its body, else 0
 abbrev pub occupied_at : Cells → ℕ → ℕ
 occupied_at cells cell = if is_covered cells cell then 1 else 0
 
--- what a detector in this cell notes of a step: the passes and speeds that its watch w saw, and 1 if the cells at the
--- step's end have it covered, else 0
+-- what a detector in this cell notes of a step: the passes and the sum of speeds that its watch w saw, and `occupied`,
+-- 1 if a vehicle covers the cell in `cells`, those of the step's end, else 0
 abbrev pub triple_of : Cells → Watch → ℕ → Triple
 triple_of cells w cell = record { passes = w.passes; speeds = w.speeds; occupied = occupied_at cells cell }
 
@@ -38,37 +38,41 @@ pub record GoesOn (old new : Meter) : Type 0 where
   pub placed : IsPlacedAs new old
   pub next : next_step new ≡ next_step old + 1
 
--- that the new meter stands for the old one's steps with one more behind them: what its watch w saw, and whether its
--- cell is covered
+-- that, whatever triples the old meter's rows summed, the new one's sum these and one more behind them: what watch w
+-- saw, and whether the old meter's cell is covered in `cells`
 abbrev pub Notes : Cells → Watch → Meter → Meter → Type 0
 Notes cells w old new = (triples : List Triple) → Stands old triples → Stands new (triples ++ triple_of cells w old.cell ∷ [])
 
--- that there are as many meters as before, and each has gone on to its next step (`GoesOn`)
+-- that there are as many meters as before, and each, by its position, has kept place, cell, period and start, and notes
+-- next the step one later (`GoesOn`)
 pub record AllGoOn (olds news : List Meter) : Type 0 where
   pub even : length news ≡ length olds
   pub each : (k : ℕ) (x : Meter) → k < length olds → GoesOn (slice_index_or olds k x) (slice_index_or news k x)
 
--- that each of these meters has noted one more step, by the watch of the same position (`Notes`)
+-- that each of these meters has noted one more step (`Notes`), with the watch of the same position and the cells at the
+-- step's end; that there are as many as before is not said
 abbrev pub AllNote : Cells → List Watch → List Meter → List Meter → Type 0
 AllNote cells ws olds news = (k : ℕ) (x : Meter) (w : Watch) → k < length olds
     → Notes cells (slice_index_or ws k w) (slice_index_or olds k x) (slice_index_or news k x)
 
 -- ---- the machine's detectors
 
--- that a meter stands for a detector of the machine: it is placed alike, and holds the rows of all that the detector
--- has noted
+-- that a meter stands for a detector of the machine: it has the detector's place, cell, period and start, and its rows
+-- are those of all triples that the detector has noted
 pub record MeterStands (x : Meter) (d : Detector) : Type 0 where
   pub placed : d ≡ detector_of x d.triples
   pub stands : Stands x d.triples
 
--- that there are as many meters as detectors, and each meter stands for the detector of the same position
+-- that there are as many meters as detectors, and each meter has the place, cell, period, start and rows of the
+-- detector of the same position (`MeterStands`)
 pub record MetersStandFor (xs : List Meter) (ds : List Detector) : Type 0 where
   pub even : length ds ≡ length xs
   pub each : (k : ℕ) (x : Meter) (d : Detector) → k < length xs → MeterStands (slice_index_or xs k x) (slice_index_or ds k d)
 
 -- ---- a detector more
 
--- that a meter is at place p in cell `at`, with rows of `steps` steps, has noted nothing, and notes step `first` next
+-- that a meter is at place p in cell `at`, with rows of `steps` steps, has noted nothing, and both starts with step
+-- `first` and notes that step next
 pub record IsNew (p : Place) (at steps first : ℕ) (x : Meter) : Type 0 where
   pub place : x.place ≡ p
   pub cell : x.cell ≡ at
@@ -77,7 +81,8 @@ pub record IsNew (p : Place) (at steps first : ℕ) (x : Meter) : Type 0 where
   pub next : next_step x ≡ first
   pub stands : Stands x []
 
--- that the lane has one meter more, the last, which has noted nothing (`IsNew`); of its watches nothing is said
+-- that the lane has one meter more, the last, new at place p in cell `at`, with rows of `steps` steps from step `first`
+-- on (`IsNew`), and as many cells as before; of its watches nothing is said
 pub record Placed (p : Place) (at steps first : ℕ) (old new : Detectors) : Type 0 where
   pub meter : Meter
   pub new_one : IsNew p at steps first meter

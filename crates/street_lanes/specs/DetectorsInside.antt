@@ -5,12 +5,12 @@ use Rattle.street_lanes.specs.declared.detectors.Kind.{Kind}
 use Rattle.street_lanes.specs.declared.detectors.Kind.TheVariants.{Bare, Watched}
 use Rattle.street_lanes.specs.Detectors.{Detectors}
 
--- what contracts see of a lane's detectors: none on a bare lane, of which the length alone is kept; else those of its
--- meters
+-- what contracts see of a lane's detectors: no meters and no watches on a bare lane, of which only its count of cells
+-- is kept; else those of its meters
 abbrev pub detectors_of : Kind → Detectors
 detectors_of (Bare length) = record { size = length; meters = []; watches = [] }
 detectors_of (Watched meters) = meters.value
 
--- what contracts see of the detectors of a lane (`detectors_of` of what it keeps)
+-- what contracts see of the detectors of a lane, which keeps either its length alone or its meters (`detectors_of`)
 abbrev pub seen : Inside → Detectors
 seen x = detectors_of x.kind

@@ -3,7 +3,7 @@ use Rattle.std.specs.Prelude.{◌≡◌, ◌<◌, length, All}
 use Rattle.street_lanes.specs.declared.lane_meters.LaneMeters.TheInside.{Inside}
 use Rattle.street_lanes.specs.Detectors.{Detectors}
 
--- what contracts see of the meters of a lane
+-- what contracts see of the meters of a lane: its length in cells, its meters and their watches
 abbrev pub seen : Inside → Detectors
 seen x = record { size = x.length; meters = x.meters.items; watches = x.watches.items }
 

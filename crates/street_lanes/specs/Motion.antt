@@ -19,8 +19,8 @@ use Rattle.street_lanes.specs.Lists.{cells_list, buffer_list, cars_on, lane_seen
 
 -- ---- the traffic of a step
 
--- that two signal plans show the same turns green in every step; where there is no plan, all turns are green in all
--- steps
+-- that two signal plans show the same turns green in every step, for each place and next link; where there is no plan,
+-- all turns are green in all steps
 abbrev pub PlanStands : Option SignalPlan → Option SignalPlan → Type 0
 PlanStands plan other = (place : Place) (next step : ℕ) → is_green plan place next step ≡ is_green other place next step
 
@@ -34,19 +34,19 @@ pub record IsStepOf (net : NetSpec) (signal : Option SignalPlan) (step : ℕ) (p
 
 -- ---- the exit
 
--- whether `buffered` vehicles are fewer than the capacity of the node to which the lane's link runs; false where there
--- is no such node
+-- whether so many `buffered` vehicles are fewer than the capacity of the node to which the lane's link runs; false
+-- where there is no such node
 abbrev pub has_room : NetSpec → Place → ℕ → Bool
 has_room net place buffered = option_map_or (λ node. nat_lt buffered node.capacity) (end_node net place.link) false
 
--- whether the lane's exit is open to a vehicle whose next link is `next`: always where the vehicle has no next link;
--- else where the lane has a turn to it that is green (as every turn is without a signal plan) and the buffer has room
+-- whether the lane's exit is open to a vehicle whose next link is `next`: always where `next` is none; else where the
+-- lane has a turn to it that is green (as all are without a plan), and `buffered` is below the node's capacity
 abbrev pub opens_to : NetSpec → Option SignalPlan → ℕ → Place → ℕ → Option ℕ → Bool
 opens_to net plan step place buffered next =
     option_map_or (λ next. serves net place next && is_green plan place next step && has_room net place buffered) next true
 
--- whether a lane's exit is open to this vehicle (`opens_to` of the vehicle's next link), with `buffered` vehicles in
--- the buffer
+-- whether a lane's exit is open to this vehicle, with so many `buffered`: on its last link always, else where its turn
+-- is there and green and the buffer has room (`opens_to`)
 abbrev pub is_open_to : NetSpec → Option SignalPlan → ℕ → Place → ℕ → Vehicle → Bool
 is_open_to net plan step place buffered v = opens_to net plan step place buffered (next_link v)
 
@@ -54,25 +54,25 @@ is_open_to net plan step place buffered v = opens_to net plan step place buffere
 abbrev pub cells_on : NetSpec → Place → ℕ
 cells_on net p = (link_at net p.link).length
 
--- that a vehicle with its front in this cell cannot pass the lane's end in one step, as `cell + limit` is below the
--- length; the limit is at most 16
+-- that a vehicle with its front in this cell cannot pass the lane's end in one step, as `cell` and the link's limit add
+-- up to less than its length; and that the limit is at most 16
 abbrev pub IsFarFrom : NetSpec → Place → ℕ → Type 0
 IsFarFrom net p cell = ((link_at net p.link).limit ≤ 16) × (cell + (link_at net p.link).limit < cells_on net p)
 
--- that `exit` says whether the lane's exit is open to the car, or the car is too far from the lane's end for the exit
--- to matter
+-- that `exit` says whether the lane's exit is open to the car (`is_open_to`), with so many `buffered`; or that the car
+-- is too far from the lane's end for the exit to matter, and `exit` may say either
 abbrev pub IsToldExit : NetSpec → Option SignalPlan → ℕ → Place → ℕ → Car → Bool → Type 0
 IsToldExit net plan step p buffered car exit = IsFarFrom net p car.cell ⊎ (exit ≡ is_open_to net plan step p buffered (vehicle_of car))
 
--- that `exit` says whether the exit of the leg's lane is open to the car of key `front`, with as many in the buffer as
--- are on list `buffer`; where that car is too far from the lane's end it may say either
+-- that `exit` says whether the leg's lane lets out the car of key `front` (`is_open_to`), with as many in the buffer as
+-- on list `buffer`; it may say either where that car is far from the end, or the key has no car
 abbrev pub TellsExit : Yard → Leg → ℕ → ℕ → Bool → Type 0
 TellsExit y leg buffer front exit =
     (car : Car) → car_of y front ≡ Some car → IsToldExit leg.net.now leg.signal.now leg.clock leg.at (length (list_at y buffer)) car exit
 
 -- ---- a leaver
 
--- the one car that a leaver adds to its buffer's list, with `ready` as the step from which it may go on; none where it
+-- what a leaver adds to its buffer's list: the car with `ready` as the step from which it may go on; nothing where it
 -- is on its last link
 abbrev pub behind_all : ℕ → Car → List Car
 behind_all ready car = if is_on_last (vehicle_of car) then [] else record car { step = ready } ∷ []
@@ -83,8 +83,8 @@ abbrev pub arrived_car : Option Vehicle → Option ArrivedCar
 arrived_car None = None
 arrived_car (Some v) = if is_on_last v then Some (record { number = v.number; speed = v.speed }) else None
 
--- that a car which left its lane's cells is where it belongs: taken out and told as arrived where this was its last
--- link, else the last car of `list`, the buffer's, ready at step `ready`
+-- that a car which left its lane's cells is where it belongs: on its last link it is taken out and `told` as arrived;
+-- else `told` is none, and it is the last of `list`, the buffer's, ready at step `ready`; other lists are as they were
 pub record Settles (list ready : ℕ) (car : Car) (old new : Yard) (told : Option ArrivedCar) : Type 0 where
   pub arrived : told ≡ arrived_car (Some (vehicle_of car))
   pub touches : Touches (list ∷ []) old new
@@ -93,12 +93,13 @@ pub record Settles (list ready : ℕ) (car : Car) (old new : Yard) (told : Optio
 
 -- ---- the lane
 
--- that P holds of all traffic of the step whose lane at p is the one that `lane` shows (`IsLaneOf`)
+-- that P holds of all traffic of this network, clock and signal plan whose lane at p is one that `lane` shows
+-- (`IsLaneOf`); nothing is claimed of other traffic
 abbrev pub WhereSeen : NetSpec → Option SignalPlan → ℕ → Place → LaneView → (Traffic → Type 0) → Type 0
 WhereSeen net signal step p lane P = (m : Traffic) → IsStepOf net signal step p m → IsLaneOf lane (lane_at m p) → P m
 
--- that the lists of lane n show its lane after motion, whatever lane at p they showed before; `told` is the vehicle
--- that arrives, and the watches `before` have become `after` by what their detectors see
+-- that the lists of lane n show its lane after motion, whatever lane at p they showed before; `told` is who arrives,
+-- taken out of the yard; the watches `before` became `after`; lists but cells and buffer are as they were
 pub record MovesLane (net : NetSpec) (signal : Option SignalPlan) (step : ℕ) (p : Place) (closed : List Stretch) (n : ℕ)
     (old new : Yard) (told : Option ArrivedCar) (before after : List Watch) : Type 0 where
   pub touches : Touches (cells_list n ∷ buffer_list n ∷ []) old new
@@ -110,18 +111,19 @@ pub record MovesLane (net : NetSpec) (signal : Option SignalPlan) (step : ℕ) (
   pub arrived : WhereSeen net signal step p (lane_seen old closed (cells_on net p) n) (λ m. told ≡ arrived_car (leaver_of m p))
   pub watched : WhereSeen net signal step p (lane_seen old closed (cells_on net p) n) (λ m. after ≡ map (watched (drive_on m p) (lane_at m p).track) before)
 
--- that motion was made on the lists of a leg, a lane of a tile in a step (`MovesLane`), by the leg's network, signal
--- plan, clock and closed stretches
+-- that motion was made on the lists of the leg's lane, by its network, signal plan, clock, place and closed stretches
+-- (`MovesLane`): `told` is who arrives, and the watches `before` became `after`
 abbrev pub MovesLeg : Leg → Yard → Yard → Option ArrivedCar → List Watch → List Watch → Type 0
 MovesLeg leg old new told before after =
     MovesLane leg.net.now leg.signal.now leg.clock leg.at leg.closures.now leg.lane old new told before after
 
--- that P holds of all traffic of the step whose lane, at the place of lane n, is the one that lane n stands for
+-- that P holds of all traffic of this network, clock and signal plan whose lane, at the place of lane n, is one that
+-- lane n stands for; nothing is claimed of other traffic
 abbrev pub WhereStands : NetSpec → Option SignalPlan → ℕ → ℕ → Lanes → (Traffic → Type 0) → Type 0
 WhereStands net signal step n x P = (m : Traffic) → IsStepOf net signal step (place_at x n) m → LaneStands (lane_of x n) (lane_at m (place_at x n)) → P m
 
--- that lane n stands for its lane after motion, whatever lane it stood for; `told` is the vehicle that arrives, the
--- watches `before` have become `after`, and all other lanes are as they were
+-- that lane n stands for its lane after motion, whatever lane it stood for; `told` is who arrives, which leaves room
+-- for one more; the watches `before` became `after`; other lanes are as they were
 pub record DrivesAt (net : NetSpec) (signal : Option SignalPlan) (step n : ℕ) (x y : Lanes) (told : Option ArrivedCar) (before after : List Watch) : Type 0 where
   pub same : Same x y
   pub others : Others n x y

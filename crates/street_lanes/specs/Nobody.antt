@@ -5,19 +5,19 @@ use Rattle.street_yard.specs.declared.names.ListKind.{ListKind}
 use Rattle.street_yard.specs.declared.names.ListKind.TheVariants.{Cells as InCells, Buffer, Waiting}
 use Rattle.street_lanes.specs.Views.{LaneView}
 
--- that no vehicle's front stands in any of the cells
+-- that no vehicle's front stands in any cell, and so no vehicle in any of them
 abbrev pub IsDeserted : Cells → Type 0
 IsDeserted cells = (x : ℕ) → vehicle_at cells x ≡ None
 
--- that no vehicle stands in the lane's cells
+-- that no vehicle has its front in the lane's cells; of buffer and who waits nothing is said
 abbrev pub HasNobodyInCells : LaneView → Type 0
 HasNobodyInCells x = IsDeserted x.track.cells
 
--- that no vehicle is in the lane's buffer
+-- that no vehicle is in the lane's buffer; of its cells and who waits nothing is said
 abbrev pub HasEmptyBuffer : LaneView → Type 0
 HasEmptyBuffer x = x.queue ≡ []
 
--- that no vehicle waits on the lane
+-- that no vehicle waits on the lane; of its cells and buffer nothing is said
 abbrev pub HasNobodyWaiting : LaneView → Type 0
 HasNobodyWaiting x = x.waiting ≡ []
 

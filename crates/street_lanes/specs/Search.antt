@@ -4,8 +4,7 @@ use Rattle.street_base.specs.declared.car.Car.{Car}
 use Rattle.street_yard.specs.Prelude.{Yard, list_at, car_of, list_on, without, Has}
 use Rattle.street_lanes.specs.Lists.{cells_list, buffer_list, waiting_list, NoneLoose, Touches}
 
--- that the key found is of the car on `list` that has this number; where none is found, no car on the list has the
--- number
+-- that key `Some k` is on `list`, with a car of this number; where none is found, no car on the list has the number
 abbrev pub IsSought : Yard → ℕ → ℕ → Option ℕ → Type 0
 IsSought y list number None = (k : ℕ) (c : Car) → Has (list_at y list) k → car_of y k ≡ Some c → c.number ≢ number
 IsSought y list number (Some k) = Has (list_at y list) k × IsSomeAnd (car_of y k) (λ c. c.number ≡ number)
@@ -14,14 +13,14 @@ IsSought y list number (Some k) = Has (list_at y list) k × IsSomeAnd (car_of y 
 abbrev pub IsListOfLane : ℕ → ℕ → Type 0
 IsListOfLane n list = (list ≡ cells_list n) ⊎ ((list ≡ buffer_list n) ⊎ (list ≡ waiting_list n))
 
--- that the key found is of the car on a list of lane n that has this number; where none is found, no car on the lane
--- has the number
+-- that the key found is on one of the three lists of lane n (cells, buffer, who waits), with a car of this number;
+-- where none is found, no car on the three lists has the number
 abbrev pub IsFound : Yard → ℕ → ℕ → Option ℕ → Type 0
 IsFound y n number None = IsSought y (cells_list n) number None × IsSought y (buffer_list n) number None × IsSought y (waiting_list n) number None
 IsFound y n number (Some k) = (list : ℕ) × IsListOfLane n list × IsSought y list number (Some k)
 
 -- that the car `gone` of this key, which was on a list, is out of the yard: its list lacks the key, there is room for
--- one car more, and every other car is as it was
+-- one car more, and every other car is as it was, as are the other lists
 pub record TakesOut (old new : Yard) (key : ℕ) (gone : Car) : Type 0 where
   pub list : ℕ
   pub on : list_on old key ≡ Some list

@@ -9,8 +9,8 @@ use Rattle.street_line.specs.declared.service.Served.{Served}
 use Rattle.street_line.specs.declared.service.Served.TheVariants.{Answered, Full, Unrecorded}
 use Rattle.street_line.specs.Runs.{Said, silent, faulty, calls, said}
 
--- that an engine answered a command as the machine does under some outcome; it is never full, and leaves no command
--- unanswered
+-- that an engine answered a command as the machine does under some outcome, from any state for which it stood
+-- (`Serves`); it is never full, and leaves no command unanswered
 abbrev pub EngineServes : EngineView → Command → Served → EngineView → Type 0
 EngineServes before command (Answered reply) after = (outcome : Outcome) × Serves before command reply outcome after
 EngineServes before command Full after = ⊥
@@ -34,6 +34,7 @@ abbrev pub commands_of : List (List ℕ) → List Command
 commands_of [] = []
 commands_of (l ∷ ls) = called (said l) ++ commands_of ls
 
--- that the commands of these lines, with some replies and outcomes, are a run of the machine from state `old` to `new`
+-- that the commands that these lines call, blank and faulty lines left out, are with some replies and outcomes a run of
+-- the machine from state `old` to `new`
 abbrev pub AreRunOf : State → List (List ℕ) → State → Type 0
 AreRunOf old ls new = (answers : List (Reply × Outcome)) × Runs old (commands_of ls) answers new

@@ -16,6 +16,7 @@ use Rattle.street_line.specs.declared.service.Served.TheVariants.{Unrecorded}
 use Rattle.street_line.specs.Runs.{calls, is_call, has_reply, said, Goes, IsTally}
 
 -- the kind of the fault for which a run ended: the run's own; where a line ended the run, that memory ran out
+-- (`Starved`)
 abbrev pub kind_of : StopCause NoMemory → FaultKind
 kind_of (Run kind) = kind
 kind_of (Line stop) = Starved
@@ -24,8 +25,9 @@ kind_of (Line stop) = Starved
 abbrev pub IsUnanswered : {S : Type 0} → (S → Command → Served → S → Type 0) → S → List (List ℕ) → S → Type 0
 IsUnanswered serves old ls new = (line : List ℕ) × (more : List (List ℕ)) × (c : Command) × (ls ≡ line ∷ more) × (said line ≡ calls c) × serves old c Unrecorded new
 
--- that a fault ended a run over this text: its first lines were served, from `start` to `now`, and `tally.bytes` bytes
--- of their output are written; a fault of reading comes behind all ended lines and their whole output
+-- that a fault ended a run: of the text's lines `done` were served, `start` to `now` (or one more with no answer), and
+-- of their output `tally.bytes` bytes put behind `before` (none: unknown); `tally` counts; at a read, all ended lines
+-- were done and written
 pub record Breaks {S : Type 0} (serves : S → Command → Served → S → Type 0) (start : S) (before : Option (List ℕ)) (text : List ℕ)
     (now : S) (after : Option (List ℕ)) (kind : FaultKind) (tally : Tally) : Type 0 where
   -- the lines that were served, those that were not, and the output of the first
@@ -46,8 +48,9 @@ pub record Breaks {S : Type 0} (serves : S → Command → Served → S → Type
   pub replies : CountsReplies tally out (count_by (λ l. has_reply (said l)) done)
   pub whole : IsAtRead kind → (done ≡ (cut text).0) × IsTally tally done out
 
--- that a fault ended a run: of the text that it had read the first lines were served, and of their output the first
--- bytes are written (`Breaks`)
+-- that a fault ended a run: of the text that it had read, `unread` to `left`, the first lines were served, `start` to
+-- `now`, and first bytes of their output written, `before` to `after` (none where unknown), as the fault's kind and
+-- tally say (`Breaks`)
 pub record ServedInPart {S : Type 0} (serves : S → Command → Served → S → Type 0) (start : S) (unread before : Option (List ℕ))
     (now : S) (left after : Option (List ℕ)) (fault : RunFault) : Type 0 where
   pub text : List ℕ

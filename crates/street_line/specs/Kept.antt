@@ -22,7 +22,8 @@ use Rattle.street_text.specs.FaultLines.{fault_line}
 
 -- ---- one line
 
--- whether a reply tells that the command was done and changed something; false of a short advance
+-- whether a reply tells that a command that may change the state was done whole, even if it changed nothing (an advance
+-- of no steps); false of a refusal, of what is only read, and of a short advance
 abbrev pub is_change : Reply → Bool
 is_change (Loaded links nodes turns) = true
 is_change (Signalled cycle) = true
@@ -33,48 +34,51 @@ is_change (Taken taken) = true
 is_change (Placed meter) = true
 is_change reply = false
 
--- whether a reply tells that an advance stopped before its last step
+-- whether a reply tells that an advance stopped before its last step; false of any other reply
 abbrev pub is_short : Reply → Bool
 is_short (Short clock short) = true
 is_short reply = false
 
--- the bytes that the log keeps of a line: the line as it came, with LF, where its command changed something; else none
+-- the bytes that the log keeps of a line: where the truth value is true, as its command was done (`is_change`), the
+-- line as it came, with LF; else none
 abbrev pub entry_of : Bool → List ℕ → List ℕ
 entry_of true line = line ++ 10 ∷ []
 entry_of false line = []
 
--- that `entry` is what the log keeps of a line whose command was served so: the line where its command changed
--- something, else nothing; it is never so of an advance that stopped short, or of a command that has no answer
+-- that `entry` is what the log keeps of a line whose command was served so: the line with LF where it was done
+-- (`is_change`), else nothing; never so of a short advance or a command with no answer
 abbrev pub IsEntry : List ℕ → Served → List ℕ → Type 0
 IsEntry line (Answered reply) entry = (is_short reply ≡ false) × (entry ≡ entry_of (is_change reply) line)
 IsEntry line Full entry = entry ≡ []
 IsEntry line Unrecorded entry = ⊥
 
--- that what the log keeps of the line (`IsEntry`) was put behind what had been noted before
+-- that what the log keeps of the line, with LF where its command was done, else nothing (`IsEntry`), was put behind
+-- what had been noted before
 abbrev pub IsNoted : List ℕ → Served → List ℕ → List ℕ → Type 0
 IsNoted line served old new = (entry : List ℕ) × IsEntry line served entry × (new ≡ old ++ entry)
 
--- that ls are the lines that end in the bytes `got` of the last read, behind the text `seen`; or, at the text's end,
--- the one line without LF that is left, if there is one
+-- that ls are the lines that end in the bytes `got` of the last read, behind the text `seen`; or, where `got` is empty
+-- at the text's end, the one line without LF that is left of `seen`, if there is one
 abbrev pub IsLast : Option (List ℕ) → List ℕ → List ℕ → List (List ℕ) → Type 0
 IsLast left seen got ls = (ls ≡ (cut ((cut seen).1 ++ got)).0) ⊎ ((got ≡ []) × IsAtEnd left × (ls ≡ if_any (cut seen).1))
 
 module _ {S : Type 0} (serves : S → Command → Served → S → Type 0) where
-  -- that a line that says this was served with output `out`, and the log keeps `entry` of it: nothing of a blank or
-  -- faulty line
+  -- that a line that says this was served, a command as `serves` says, with output `out`, and the log keeps `entry` of
+  -- it (`IsEntry`); of a blank or faulty line nothing is kept and nothing changes, and a faulty one has its fault as
+  -- output
   abbrev pub KeepsSaid : S → Said → List ℕ → List ℕ → List ℕ → S → Type 0
   KeepsSaid old silent line out entry new = (new ≡ old) × (out ≡ []) × (entry ≡ [])
   KeepsSaid old (faulty f) line out entry new = (new ≡ old) × (fault_line f ≡ Some out) × (entry ≡ [])
   KeepsSaid old (calls c) line out entry new = (r : Served) × serves old c r new × (served_line r ≡ Some out) × IsEntry line r entry
 
-  -- that the line was served with this effect, as a handler of lines tells it, and what the log keeps of it is put
-  -- behind what is kept so far
+  -- that the line was served with this effect, whether it calls a command and its reply, as a handler of lines tells
+  -- it, and what the log keeps of it is put behind what is kept so far; `old` and `new` hold state and kept text
   abbrev pub KeepsLine : S × List ℕ → List ℕ → Effect → S × List ℕ → Type 0
   KeepsLine old line effect new = (out : List ℕ) × (entry : List ℕ) × KeepsSaid old.0 (said line) line out entry new.0
       × (effect ≡ effect_of (said line) out) × (new.1 ≡ old.1 ++ entry)
 
   -- that a line that says `what` was served, the handler's `answer` tells its effect, or that memory ran out for its
-  -- reply, and what the log keeps of the line is put behind what is kept so far
+  -- reply, and what the log keeps of it is put behind what is kept so far; `old` and `new` hold state and kept text
   abbrev pub AnswersKept : S × List ℕ → Said → List ℕ → LineAnswer → S × List ℕ → Type 0
   AnswersKept old what line answer new = (out : List ℕ) × (entry : List ℕ) × KeepsSaid old.0 what line out entry new.0
       × Gives answer (effect_of what out) × (new.1 ≡ old.1 ++ entry)
@@ -82,15 +86,16 @@ module _ {S : Type 0} (serves : S → Command → Served → S → Type 0) where
   -- ---- lines
 
   -- that the lines were served one after another, from `old` to `new`: `out` is their output and `kept` what the log
-  -- keeps of them, each line's behind those before
+  -- keeps of them, each line's behind those before; where there are no lines, nothing changes
   abbrev pub GoesKept : S → List (List ℕ) → List ℕ → List ℕ → S → Type 0
   GoesKept old [] out kept new = (new ≡ old) × (out ≡ []) × (kept ≡ [])
   GoesKept old (l ∷ ls) out kept new =
       (mid : S) × (first : List ℕ) × (entry : List ℕ) × (rest : List ℕ) × (more : List ℕ) × KeepsSaid old (said l) l first entry mid
       × GoesKept mid ls rest more new × (out ≡ first ++ rest) × (kept ≡ entry ++ more)
 
-  -- that these lines were served, their whole output is written, and all that the log keeps of them is in the log
-  -- (`held`) and synced (`synced`)
+  -- that these lines were served, `old` to `new`, their whole output is written, `before` to `after` (none where
+  -- unknown), and all that the log keeps of them is in the log, `log` to `held`, and synced, as `synced` is then all of
+  -- `held`
   pub record Passed (old : S) (log before : Option (List ℕ)) (ls : List (List ℕ)) (new : S) (held synced after : Option (List ℕ)) : Type 0 where
     pub out : List ℕ
     pub kept : List ℕ
@@ -99,8 +104,8 @@ module _ {S : Type 0} (serves : S → Command → Served → S → Type 0) where
     pub holds : Appends log held kept
     pub stays : synced ≡ held
 
-  -- that a fault left of these lines: where the log failed, no reply and first bytes of what it keeps; where the writer
-  -- failed, all that the log keeps and first bytes of the output; else both as they were
+  -- that a fault left this of these lines: where the log failed, no reply, first bytes of what it keeps, and no more of
+  -- these synced; where the writer failed, all kept and synced, and first bytes of the output; else all as it was
   abbrev pub PassStops : S → Option (List ℕ) → Option (List ℕ) → Option (List ℕ) → List (List ℕ) → KeptFault → Option (List ℕ) → Option (List ℕ) → Option (List ℕ) → Type 0
   PassStops old log stayed before ls Log held synced after =
       (out : List ℕ) × (kept : List ℕ) × (new : S) × GoesKept old ls out kept new × (after ≡ before)
@@ -114,8 +119,9 @@ module _ {S : Type 0} (serves : S → Command → Served → S → Type 0) where
 
   -- ---- whole runs
 
-  -- that the reader was read to its end, all lines of its text were served, their output is written, and what the log
-  -- keeps of them is synced (`Passed`)
+  -- that the reader was read to its end, `unread` to `left`, all lines of its text were served, `start` to `now`, their
+  -- output is written, `before` to `after` (none where unknown), and what the log keeps of them is held and synced
+  -- (`Passed`)
   pub record KeptWhole (start : S) (unread log before : Option (List ℕ)) (now : S) (left held synced after : Option (List ℕ)) : Type 0 where
     pub text : List ℕ
     pub read : Consumes unread left text
@@ -123,7 +129,8 @@ module _ {S : Type 0} (serves : S → Command → Served → S → Type 0) where
     pub passed : Passed start log before (lines_of text) now held synced after
 
   -- that a fault ended the run: all lines that ended before the last read were served, their output is written and
-  -- their log synced (`Passed`); what is left of the lines of the last read, `PassStops` says
+  -- their log synced (`Passed`); what is left of the lines of the last read, or of the last line without LF,
+  -- `PassStops` says
   pub record KeptUpTo (start : S) (unread log before : Option (List ℕ)) (fault : KeptFault) (left held synced after : Option (List ℕ)) : Type 0 where
     pub seen : List ℕ
     pub got : List ℕ
@@ -136,8 +143,8 @@ module _ {S : Type 0} (serves : S → Command → Served → S → Type 0) where
     pub passed : Passed start log before (cut seen).0 mid owed owed told
     pub stops : PassStops mid owed owed told last fault held synced after
 
-  -- that, after whatever fault, the first lines of the text were served, the first bytes of their output are written,
-  -- and all that the log keeps of these lines is in the log and synced, perhaps with more behind it
+  -- that, after whatever fault, the first lines of the text that was read were served, the first bytes of their output
+  -- are written, and all that the log keeps of these lines is in the log and synced, perhaps with more behind it
   pub record KeptFirst (start : S) (unread log before : Option (List ℕ)) (left held synced after : Option (List ℕ)) : Type 0 where
     pub text : List ℕ
     pub done : List (List ℕ)
@@ -161,12 +168,14 @@ abbrev pub fault_of : KeepFault → KeptFault
 fault_of keep.Log = Log
 fault_of keep.Output = Run Write
 
--- that a fault which came while nothing was read has its cause: the log has failed, or the cause of writing was counted
+-- that a fault which came while nothing was read has its cause: the log has failed, or a call of the writer failed or
+-- took no byte; of lack of memory no cause is asked, and a fault of reading never comes
 abbrev pub IsPassCaused : {L W : Type 0} → (L → Type 0) → KeptFault → L → Counted W → Type 0
 IsPassCaused has_failed (Run kind) log writer = IsCausedByWriting kind writer
 IsPassCaused has_failed Log log writer = has_failed log
 
--- that the fault of a kept session has its cause: the log has failed, or the cause in reader or writer was counted
+-- that the fault of a kept session has its cause: the log has failed; or reader or writer counted a failed read,
+-- `reads` reads, or a failed write (`IsCaused`); of lack of memory no cause is asked
 abbrev pub IsKeptCaused : {R L W : Type 0} → (L → Type 0) → KeptFault → Counted R → L → Counted W → ℕ → Type 0
 IsKeptCaused has_failed (Run kind) reader log writer reads = IsCaused kind reader writer reads
 IsKeptCaused has_failed Log reader log writer reads = has_failed log

@@ -28,7 +28,7 @@ sound_len [] = 0
 sound_len (zero ∷ xs) = 0
 sound_len (suc x ∷ xs) = suc (sound_len xs)
 
--- the bytes before the first NUL of a text, as no line that is kept has a NUL
+-- the bytes before the first NUL of a text, all where there is none, as no line that is kept has a NUL
 abbrev pub sound : List ℕ → List ℕ
 sound text = take (sound_len text) text
 
@@ -42,8 +42,9 @@ IsText None text = ⊤
 IsText (Some xs) text = xs ≡ text
 
 module _ {S : Type 0} (serves : S → Command → Served → S → Type 0) where
-  -- that all ended lines of a kept file were done again, from `start` to `mid`, and counted in `redo`; behind them, up
-  -- to a first NUL, stands no further ended line, but perhaps the torn end that a crash leaves
+  -- that all ended lines of a kept file, `whole`, were done again, from `start` to `mid`, and `redo` counts lines and
+  -- bytes; behind them, up to a first NUL, stands no further LF, but perhaps a torn end; of a file not known no text is
+  -- asked
   pub record Redone (start : S) (had : Option (List ℕ)) (mid : S) (redo : RedoneLines) : Type 0 where
     pub whole : List ℕ
     pub torn : List ℕ
@@ -54,22 +55,22 @@ module _ {S : Type 0} (serves : S → Command → Served → S → Type 0) where
     pub lines : redo.lines ≡ length (cut whole).0
     pub bytes : redo.bytes ≡ length whole
 
-  -- that the ended lines of a kept file were done again (`Redone`), and the file now has just these lines, if its text
-  -- is known
+  -- that the ended lines of a kept file were done again from `start` to `mid`, and counted (`Redone`), and `log`, what
+  -- the file has now, is just these lines; of a file whose text, `had`, was not known (none) nothing is said
   pub record Recovered (start : S) (had : Option (List ℕ)) (mid : S) (log : Option (List ℕ)) (redo : RedoneLines) : Type 0 where
     pub redone : Redone start had mid redo
     pub cut_off : Keeps (first_of redo.bytes had) log
 
-  -- that the lines of a kept file were done again, then all lines of the reader were served from there to `now`, and
-  -- what the log keeps of them is held behind the file's lines and synced
+  -- that the lines of a kept file were done again from `start`, then all lines of the reader served from there to
+  -- `now`, their output written, and what the log keeps of them held behind the file's lines and synced
   pub record ServesOn (start : S) (had unread before : Option (List ℕ)) (redo : RedoneLines) (now : S) (left held synced after : Option (List ℕ)) : Type 0 where
     pub mid : S
     pub log : Option (List ℕ)
     pub recovered : Recovered start had mid log redo
     pub whole : KeptWhole serves mid unread log before now left held synced after
 
-  -- that a fault, before a session went on from a file, left: where a line could not be done again, or there is none,
-  -- the file as it was; where it was to be written anew, at least its ended lines that had been synced
+  -- that a fault before a session went on left the file as it was where a line could not be done again, or none stands
+  -- there; where it was to be written anew, its text or its ended lines, with those of them synced that had been
   abbrev pub BeginBreaks : S → Option (List ℕ) → Option (List ℕ) → S → Option (List ℕ) → Option (List ℕ) → BeginFault → Type 0
   BeginBreaks start had stayed now held synced (Recover fault) = ((rest : Option (List ℕ)) × RedoBroke serves start (sound_of had) fault now rest) × (held ≡ had) × (synced ≡ stayed)
   BeginBreaks start had stayed now held synced Foreign = ((redo : RedoneLines) × Redone start had now redo × (redo.bytes ≡ 0)) × (held ≡ had) × (synced ≡ stayed)
@@ -78,18 +79,21 @@ module _ {S : Type 0} (serves : S → Command → Served → S → Type 0) where
 
   module _ (start : S) (had stayed unread before : Option (List ℕ)) (now : S) (left held synced after : Option (List ℕ)) where
     -- that a fault of a session that goes on from a file came before any line was served, with nothing written
-    -- (`BeginBreaks`), or in the session (`KeptUpTo`), and left what these say
+    -- (`BeginBreaks`), or behind the file's lines done again (`Recovered`), in the session (`KeptUpTo`), and left what
+    -- these say
     abbrev pub ServeBreaks : ServeFault → Type 0
     ServeBreaks (Begin fault) = BeginBreaks start had stayed now held synced fault × (after ≡ before)
     ServeBreaks (Session fault) = (mid : S) × (log : Option (List ℕ)) × (redo : RedoneLines) × Recovered start had mid log redo × KeptUpTo serves mid unread log before fault left held synced after
 
--- that writing the file anew failed only where the file has failed; of a fault at its lines no cause is asked
+-- that a fault before a session went on has its cause: where the file was to be written anew, the file has failed; of a
+-- fault at its lines, or of a file with none, no cause is asked
 abbrev pub IsBeginCaused : {K : Type 0} → (K → Type 0) → BeginFault → K → Type 0
 IsBeginCaused has_failed (Recover fault) file = ⊤
 IsBeginCaused has_failed Foreign file = ⊤
 IsBeginCaused has_failed Settle file = has_failed file
 
--- that a fault of a session that goes on from a file has its cause, counted by reader, file or writer
+-- that a fault of a session that goes on from a file has its cause: the file has failed, or reader or writer counted it
+-- (`IsKeptCaused`); of a fault at the file's lines, or of memory, no cause is asked
 abbrev pub IsServeCaused : {K R W : Type 0} → (K → Type 0) → ServeFault → Counted R → K → Counted W → ℕ → Type 0
 IsServeCaused has_failed (Begin fault) reader file writer reads = IsBeginCaused has_failed fault file
 IsServeCaused has_failed (Session fault) reader file writer reads = IsKeptCaused has_failed fault reader file writer reads

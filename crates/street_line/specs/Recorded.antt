@@ -17,15 +17,16 @@ use Rattle.street_line.specs.Streams.{ServesAll, ServesFirst}
 
 -- ---- the machine
 
--- a machine with the record of its run: `whole` has the blocks of the commands that were answered, `begun` those of one
--- that was not, as they could not be written whole
+-- a machine with the record of its run: `whole` has the blocks of all answered commands; `begun` those of one that has
+-- no answer, as they could not be written whole, or none where there is no such command
 pub record RecordedMachine : Type 0 where
   pub machine : State
   pub whole : List ℕ
   pub begun : Option (List ℕ)
 
--- that a command was done, and its blocks put behind the record: where they were written whole it was answered; else it
--- has no answer (`Unrecorded`), and from then on nothing is done
+-- that a command was answered, and the blocks of its steps put behind `whole`; or that it has no answer: it was done
+-- but its blocks are `begun`, as they could not be written whole, or nothing was done, as blocks were begun before; it
+-- is never full
 abbrev pub MachineRecords : RecordedMachine → Command → Served → RecordedMachine → Type 0
 MachineRecords old c (Answered reply) new = (old.begun ≡ None) × (new.begun ≡ None) × MachineServes old.machine c (Answered reply) new.machine
     × (new.whole ≡ old.whole ++ recorded_in old.machine c reply)
@@ -42,8 +43,9 @@ pub record RecordedView (W : Type 0) : Type 0 where
   pub writer : Option (WriterView W)
 
 module _ {W : Type 0} (contents : W → Option (List ℕ)) where
-  -- that the reply to a command goes out behind its blocks: it is answered where all that the writer was given is
-  -- written, and not answered (`Unrecorded`) where a write of the record has failed
+  -- that the reply goes out behind its blocks: it is answered where all that the writer was given is written and
+  -- nothing waits; where a write has failed, there is no answer, and the writer was given what it was given before; it
+  -- is never full
   abbrev pub IsReplyBehind : WriterView W → Reply → Served → WriterView W → Type 0
   IsReplyBehind old reply (Answered told) new = (told ≡ reply) × IsFresh new
       × ((start : Option (List ℕ)) (given : List ℕ) → IsGiven contents start given old → Appends start (contents new.writer.stream) given)
@@ -52,7 +54,8 @@ module _ {W : Type 0} (contents : W → Option (List ℕ)) where
       × ((start : Option (List ℕ)) (given : List ℕ) → IsGiven contents start given old → IsGiven contents start given new)
 
   -- that a command was answered and the blocks of its steps are written; or, where it has no answer, the record had
-  -- failed before and nothing was done, or the command was done and of its blocks only first bytes are written
+  -- failed before and nothing was done, or the command was done and of its blocks only first bytes are written; it is
+  -- never full
   abbrev pub Records : EngineView → WriterView W → Command → Served → EngineView → WriterView W → Type 0
   Records old w c (Answered reply) new v = (w.has_failed ≡ false) × (v.has_failed ≡ false) × EngineServes old c (Answered reply) new
       × ((m : State) → StandsFor old m → Appends (contents w.writer.stream) (contents v.writer.stream) (recorded_in m c reply))
@@ -61,20 +64,20 @@ module _ {W : Type 0} (contents : W → Option (List ℕ)) where
       ⊎ ((reply : Reply) × (w.has_failed ≡ false) × (v.has_failed ≡ true) × HasFailed v.writer × EngineServes old c (Answered reply) new
       × ((m : State) → StandsFor old m → (n : ℕ) × Appends (contents w.writer.stream) (contents v.writer.stream) (take n (recorded_in m c reply))))
 
-  -- that a recorded session served a command (`Records`), with no byte of the record waiting before or after; nothing
-  -- is said where there is no writer or a byte waited before
+  -- that a recorded session served a command, with its blocks written, or only first bytes and no answer (`Records`),
+  -- and no byte of the record waiting before or after; nothing is said where there is no writer or a byte waited before
   abbrev pub RecordServes : RecordedView W → Command → Served → RecordedView W → Type 0
   RecordServes old c served new = (w : WriterView W) → old.writer ≡ Some w → HasNoRest w
       → (v : WriterView W) × (new.writer ≡ Some v) × HasNoRest v × Records old.engine w c served new.engine v
 
-  -- that the record's stream, since it held `start`, has taken the blocks of all answered commands; where a write has
-  -- failed, also the first bytes of the blocks of the command that was not answered
+  -- that the record's stream, since it held `start`, has taken `whole`, the blocks of all answered commands, and no
+  -- write failed; or, where blocks were `begun`, a write has failed and first bytes of these are behind `whole`
   abbrev pub HoldsRecord : Option (List ℕ) → WriterView W → List ℕ → Option (List ℕ) → Type 0
   HoldsRecord start w whole None = (w.has_failed ≡ false) × Appends start (contents w.writer.stream) whole
   HoldsRecord start w whole (Some begun) = (w.has_failed ≡ true) × HasFailed w.writer × (n : ℕ) × Appends start (contents w.writer.stream) (whole ++ take n begun)
 
-  -- that the session's engine stands for the machine's state, and its writer's stream holds the machine's record behind
-  -- `start`, with no byte waiting
+  -- that the session's engine stands for the machine's state, and its writer's stream holds, behind `start`, the blocks
+  -- of all answered commands, and first bytes of those begun (`HoldsRecord`), with no byte waiting
   pub record StandsRecorded (start : Option (List ℕ)) (view : RecordedView W) (m : RecordedMachine) : Type 0 where
     pub engine : StandsFor view.engine m.machine
     pub writer : WriterView W
@@ -89,26 +92,27 @@ no_steps = record { machine = None; whole = []; begun = None }
 -- ---- lines
 
 module _ {W D V : Type 0} (contents : W → Option (List ℕ)) (remaining : D → Option (List ℕ)) (outputs : V → Option (List ℕ)) where
-  -- that, for any machine and record for which the session stood, the machine serves all lines of the reader from
-  -- there, and the session stands for what they lead to
+  -- that, for any machine and record for which the session stood (`StandsRecorded`), the machine serves all lines of
+  -- the reader from there, their output is written, and the session stands for what they lead to
   abbrev pub RecordServesAll : RecordedView W → Counted D → Counted V → RecordedView W → Counted D → Counted V → Tally → Type 0
   RecordServesAll before reader writer after read written tally = (start : Option (List ℕ)) (old : RecordedMachine) → StandsRecorded contents start before old
       → (new : RecordedMachine) × StandsRecorded contents start after new × ServesAll MachineRecords remaining outputs old reader writer new read written tally
 
   -- that, for any machine and record for which the session stood, the machine serves the first lines of the reader
-  -- until a fault ends the run, and the session stands for what they lead to
+  -- until a fault ends the run, first bytes of their output are written, and the session stands for what they lead to
   abbrev pub RecordServesFirst : RecordedView W → Counted D → Counted V → RecordedView W → Counted D → Counted V → RunFault → Type 0
   RecordServesFirst before reader writer after read written fault = (start : Option (List ℕ)) (old : RecordedMachine) → StandsRecorded contents start before old
       → (new : RecordedMachine) × StandsRecorded contents start after new × ServesFirst MachineRecords remaining outputs old reader writer new read written fault
 
-  -- that the machine, with nothing loaded at first, serves all lines of the reader and answers each command, and the
-  -- record's stream has taken their blocks behind `start`
+  -- that the machine, with nothing loaded at first, serves all lines of the reader and answers each command, their
+  -- output is written, and the record's stream, of the writer in `file`, has taken their blocks behind `start`
   abbrev pub MachineRecordsAll : Option (List ℕ) → Counted D → Counted V → Option (WriterView W) → Counted D → Counted V → Tally → Type 0
   MachineRecordsAll start reader writer file read written tally = (new : RecordedMachine) × (w : WriterView W) × (file ≡ Some w) × (new.begun ≡ None)
       × HoldsRecord contents start w new.whole None × ServesAll MachineRecords remaining outputs no_steps reader writer new read written tally
 
   -- that the machine, with nothing loaded at first, serves the first lines of the reader until a fault ends the run,
-  -- and the record's stream has taken their blocks behind `start`
+  -- and the record's stream has taken the blocks of those answered behind `start`, and first bytes of one without
+  -- answer
   abbrev pub MachineRecordsFirst : Option (List ℕ) → Counted D → Counted V → Option (WriterView W) → Counted D → Counted V → RunFault → Type 0
   MachineRecordsFirst start reader writer file read written fault = (new : RecordedMachine) × (w : WriterView W) × (file ≡ Some w)
       × HoldsRecord contents start w new.whole new.begun × ServesFirst MachineRecords remaining outputs no_steps reader writer new read written fault

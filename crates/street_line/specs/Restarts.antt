@@ -7,8 +7,9 @@ use Rattle.street_line.specs.Redo.{Redoes}
 use Rattle.street_line.specs.Engines.{MachineServes}
 use Rattle.street_line.specs.Kept.{GoesKept}
 
--- that the file begins with lines that, done again from `start`, lead to the state after some lines (`done`), served
--- from some state (`mid`), and all that went out is the first part of these lines' output
+-- that the file begins with lines that, done again from `start`, lead to the state `now` after some lines (`done`),
+-- served from some state (`mid`), and all that went out, `before` to `after` (none where unknown), is the first part of
+-- these lines' output
 pub record KeepsAnswered (start : State) (file : List ℕ) (before after : Option (List ℕ)) : Type 0 where
   pub first : List ℕ
   pub more : List ℕ
@@ -23,8 +24,8 @@ pub record KeepsAnswered (start : State) (file : List ℕ) (before after : Optio
   pub written : Appends before after (take sent out)
   pub redo : Redoes MachineServes start (lines_of first) now
 
--- that of the lines ls the first were served, and the lines `redo`, done again from the same state, lead to the same
--- state as these
+-- that of the lines ls the first, perhaps all or none, were served from state `old`, and the lines `redo`, done again
+-- from the same state, lead to the same state as these
 pub record PartDone (old : State) (ls redo : List (List ℕ)) : Type 0 where
   pub first : List (List ℕ)
   pub rest : List (List ℕ)

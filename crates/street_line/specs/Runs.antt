@@ -13,14 +13,14 @@ use Rattle.street_text.specs.FaultLines.{fault_line}
 
 -- ---- one line
 
--- the line of reply to a served command: its reply, or the error that no place is left; none where the command has no
--- answer
+-- the line of reply to a served command, with LF: its reply, or the error that no place is left (`Full`); none where
+-- the command has no answer
 unfoldable pub served_line : Served → Option (List ℕ)
 served_line (Answered reply) = Some (reply_line reply)
 served_line Full = Some (line_of (error_data 23 (codes "Full")))
 served_line Unrecorded = None
 
--- what a line is to a run: blank (`silent`), faulty, or the call of a command
+-- what a line is to a run: blank (`silent`), faulty, with its fault, or the call of a command
 pub data Said : Type 0 where
   silent : Said
   faulty : LineFault → Said
@@ -51,27 +51,29 @@ has_reply (calls c) = true
 
 module _ {S : Type 0} (serves : S → Command → Served → S → Type 0) where
   -- that a line that says this was served, from `old` to `new`, with this output: none for a blank line, its fault for
-  -- a faulty line, with nothing changed, and the reply for a command
+  -- a faulty line, with nothing changed, and for a command, served as `serves` says, its line of reply, which it must
+  -- have
   abbrev pub Done : S → Said → List ℕ → S → Type 0
   Done old silent out new = (new ≡ old) × (out ≡ [])
   Done old (faulty f) out new = (new ≡ old) × (fault_line f ≡ Some out)
   Done old (calls c) out new = (r : Served) × serves old c r new × (served_line r ≡ Some out)
 
-  -- that these lines were served one after another, from `old` to `new`, and `out` is their output, each line's behind
-  -- those before
+  -- that these lines were served one after another, from `old` to `new`, commands as `serves` says, and `out` is their
+  -- output, each line's behind those before; where there are no lines, nothing changes
   abbrev pub Goes : S → List (List ℕ) → List ℕ → S → Type 0
   Goes old [] out new = (new ≡ old) × (out ≡ [])
   Goes old (l ∷ ls) out new = (mid : S) × (first : List ℕ) × (rest : List ℕ) × Done old (said l) first mid × Goes mid ls rest new × (out ≡ first ++ rest)
 
--- that the tally counts these lines, the commands and replies among them, and the bytes of their output
+-- that the tally counts these lines, the commands among them (`calls`), the replies, one for each line but blank ones,
+-- and the bytes of their output
 pub record IsTally (tally : Tally) (ls : List (List ℕ)) (out : List ℕ) : Type 0 where
   pub lines : tally.lines ≡ length ls
   pub calls : tally.calls ≡ count_by (λ l. is_call (said l)) ls
   pub replies : tally.replies ≡ count_by (λ l. has_reply (said l)) ls
   pub bytes : tally.bytes ≡ length out
 
--- that the reader was read to its end, all lines of its text were served, from `start` to `now`, their whole output is
--- written, and the tally counts them
+-- that the reader was read to its end, `unread` to `left`, all lines of its text were served, from `start` to `now`,
+-- their whole output is written, `before` to `after` (none where unknown), and the tally counts them
 pub record ServedWhole {S : Type 0} (serves : S → Command → Served → S → Type 0) (start : S) (unread before : Option (List ℕ))
     (now : S) (left after : Option (List ℕ)) (tally : Tally) : Type 0 where
   pub text : List ℕ

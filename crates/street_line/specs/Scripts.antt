@@ -12,42 +12,44 @@ use Rattle.street_line.specs.Runs.{Goes}
 use Rattle.street_line.specs.Sessions.{DeskServes}
 use Rattle.street_line.specs.declared.script.Script.{Script}
 
--- the kind of a fault where the replies are written to memory: a write that failed is then lack of memory
+-- the kind of a fault where the replies are written to memory: a write that failed is then lack of memory; other kinds
+-- stay
 abbrev pub in_memory : FaultKind → FaultKind
 in_memory Read = Read
 in_memory Write = Starved
 in_memory Starved = Starved
 in_memory Endless = Endless
 
--- that the fault of a script has its cause: a read that failed, or as many reads as are allowed; for lack of memory
--- none is asked, and a fault of writing never comes
+-- that the fault of a script has its cause: a read that failed, or just `reads` reads made, as many as are allowed; for
+-- lack of memory none is asked, and a fault of writing never comes
 abbrev pub IsCausedInMemory : {R : Type 0} → FaultKind → Counted R → ℕ → Type 0
 IsCausedInMemory Read reader reads = 0 < reader.failures
 IsCausedInMemory Endless reader reads = reader.calls ≡ reads
 IsCausedInMemory Starved reader reads = ⊤
 IsCausedInMemory Write reader reads = ⊥
 
--- that the replies of a script are the output of all lines of this text, served by the desk to its pass; or, with a
--- fault, the first bytes of the output of its first lines (`Breaks`)
+-- that the replies of a script are the output of all lines of this text, served by the desk to its pass, from `old` to
+-- `new`; or, with a fault, the first bytes of the output of its first lines (`Breaks`)
 abbrev pub ScriptServed : PassView → List ℕ → List ℕ → Option FaultKind → PassView → Type 0
 ScriptServed old text replies None new = Goes DeskServes old (lines_of text) replies new
 ScriptServed old text replies (Some fault) new = (kind : FaultKind) × (tally : Tally)
     × (fault ≡ in_memory kind) × Breaks DeskServes old (Some []) text new (Some replies) kind tally
 
--- that the replies of a script are the output of the lines that were read of its text: of all lines, where no fault
--- ended the script, else of the first
+-- that the replies of a script are the output of the lines read of its text, served to its pass, `old` to `new`: of all
+-- lines to the text's end, where no fault ended the script, else first bytes of that of the first (`ScriptServed`)
 pub record ReaderServed (old : PassView) (unread left : Option (List ℕ)) (replies : List ℕ) (fault : Option FaultKind) (new : PassView) : Type 0 where
   pub text : List ℕ
   pub read : Consumes unread left text
   pub at_end : fault ≡ None → IsAtEnd left
   pub served : ScriptServed old text replies fault new
 
--- that a script was served the lines of its file, whatever text the file gave, if it has one; with no file, its pass,
--- replies and fault are as they were
+-- that a script was served the lines of its file, whatever text the file gave, all or, with a fault, the first
+-- (`ScriptServed`); with no file, its pass, replies and fault are as they were
 abbrev pub IsRunFrom : {F R : Type 0} → Option F → Script R → Script R → Type 0
 IsRunFrom None old new = (new.session ≡ old.session) × (new.replies ≡ old.replies) × (new.fault ≡ old.fault)
 IsRunFrom (Some file) old new = (text : List ℕ) × ScriptServed old.session text new.replies.items new.fault new.session
 
--- that a script was served the lines of the file that was opened for it; without such a file nothing has changed
+-- that a script was served the lines of the file that was opened for it, all or, with a fault, the first; without such
+-- a file its pass, replies and fault are as they were
 abbrev pub IsRun : {R : Type 0} → Script R → Script R → Type 0
 IsRun old new = IsRunFrom old.file old new

@@ -17,23 +17,23 @@ reply_of true out = Some out
 abbrev pub effect_of : Said → List ℕ → Effect
 effect_of what out = record { is_call = is_call what; reply = reply_of (has_reply what) out }
 
--- that `answer` is a handler's answer to a command that was served so: a call, with its line of reply or word that
--- memory ran out for it; there is none for a command that has no reply line (`Unrecorded`)
+-- that `answer` is a handler's answer to a command that was served so: a call, with its line of reply, or word that
+-- memory ran out for it; so never of a command that has no reply line (`Unrecorded`)
 abbrev pub IsAnswerTo : Served → LineAnswer → Type 0
 IsAnswerTo served answer = (out : List ℕ) × (served_line served ≡ Some out) × Gives answer (record { is_call = true; reply = Some out })
 
 -- that a line that says `what` was served, from `old` to `new`, and `effect` is what it gave: whether it called a
--- command, and its reply, none where the line is blank
+-- command, and its reply: a command's or the line's fault, none where the line is blank
 abbrev pub IsAnswered : {S : Type 0} → (S → Command → Served → S → Type 0) → S → Said → Effect → S → Type 0
 IsAnswered serves old what effect new = (out : List ℕ) × Done serves old what out new × (effect ≡ effect_of what out)
 
--- that a line that says `what` was served, from `old` to `new`, and the handler's `answer` tells its effect: whether it
--- called a command, and its reply, or that memory ran out for the reply
+-- that a line that says `what` was served, from `old` to `new`, a command as `serves` says, and the handler's `answer`
+-- tells its effect: whether it called a command, and its reply, or that memory ran out for the reply
 abbrev pub IsAnsweredBy : {S : Type 0} → (S → Command → Served → S → Type 0) → S → Said → LineAnswer → S → Type 0
 IsAnsweredBy serves old what answer new = (effect : Effect) × IsAnswered serves old what effect new × Gives answer effect
 
 -- that this line, blank, faulty or a command's, was served, from `old` to `new`, and `effect` is what it gave: whether
--- it called a command, and its reply
+-- it called a command, and its reply, none where it is blank
 abbrev pub IsServed : {S : Type 0} → (S → Command → Served → S → Type 0) → S → List ℕ → Effect → S → Type 0
 IsServed serves old line effect new = IsAnswered serves old (said line) effect new
 

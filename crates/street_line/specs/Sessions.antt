@@ -9,8 +9,9 @@ use Rattle.street_desk.specs.Passes.{PassView, Answered as IsAnswered, Filled}
 use Rattle.street_line.specs.declared.service.Served.{Served}
 use Rattle.street_line.specs.declared.service.Served.TheVariants.{Answered, Full, Unrecorded}
 
--- that a desk served a command to a pass: an answered command is one more call that the pass has seen, or the journal
--- was full and nothing was called
+-- that a desk served a command to a pass: an answered command is one more call that the pass has seen, with the
+-- machine's reply; or the journal was full, which the pass has seen, and nothing was called; a command is never without
+-- answer
 abbrev pub DeskServes : PassView → Command → Served → PassView → Type 0
 DeskServes before command (Answered reply) after = IsAnswered before command reply after
 DeskServes before command Full after = Filled before after
@@ -23,7 +24,7 @@ pub record IsAlone (p : PassView) : Type 0 where
   pub history : IsHistory 1 p.seen
 
 -- that a desk's only session was served a command: while its history has fewer than `most` calls, with the machine's
--- reply at that point and as one call more; from then on it is told that no place is left
+-- reply there under an outcome that it allows, as one call more; at `most` it is told that no place is left
 abbrev pub AloneServes : ℕ → List Entry → Command → Served → List Entry → Type 0
 AloneServes most old command (Answered reply) new = (outcome : Outcome)
     × Allows (state_of old) command outcome

@@ -15,20 +15,20 @@ use Rattle.street_line.specs.Runs.{ServedWhole}
 use Rattle.street_line.specs.Sessions.{AloneServes}
 
 module _ {S D W : Type 0} (serves : S → Command → Served → S → Type 0) (remaining : D → Option (List ℕ)) (contents : W → Option (List ℕ)) where
-  -- that the reader was read to its end, all of its lines were served, from `old` to `new`, and their output is in the
-  -- writer
+  -- that the reader was read to its end, all of its lines were served, from `old` to `new`, their whole output is in
+  -- the writer, and `tally` counts lines, calls, replies and bytes
   abbrev pub ServesAll : S → Counted D → Counted W → S → Counted D → Counted W → Tally → Type 0
   ServesAll old reader writer new read written tally =
       ServedWhole serves old (remaining reader.stream) (contents writer.stream) new (remaining read.stream) (contents written.stream) tally
 
-  -- that a fault ended the run: of what was read of the reader the first lines were served, and of their output the
-  -- first bytes are in the writer
+  -- that a fault ended the run: of what was read of the reader the first lines were served, from `old` to `new`, and of
+  -- their output the first bytes are in the writer; `fault` tells the kind and counts them
   abbrev pub ServesFirst : S → Counted D → Counted W → S → Counted D → Counted W → RunFault → Type 0
   ServesFirst old reader writer new read written fault =
       ServedInPart serves old (remaining reader.stream) (contents writer.stream) new (remaining read.stream) (contents written.stream) fault
 
   -- that a run of at most `reads` reads served all lines and answered its tally; or it served the first lines and
-  -- answered a fault, whose cause was counted
+  -- answered a fault, whose cause, but for lack of memory, reader or writer counted
   pub record ServesLines (reads : ℕ) (old : S) (reader : Counted D) (writer : Counted W) (run : Result Tally RunFault)
       (new : S) (read : Counted D) (written : Counted W) : Type 0 where
     pub served : IfOk run (ServesAll old reader writer new read written)
@@ -37,30 +37,32 @@ module _ {S D W : Type 0} (serves : S → Command → Served → S → Type 0) (
     pub bounded : read.calls ≤ reads
 
 module _ {D W : Type 0} (remaining : D → Option (List ℕ)) (contents : W → Option (List ℕ)) where
-  -- that a pass which has the desk alone made a run of at most `reads` reads (`ServesLines`), by which the history that
-  -- it has seen grew
+  -- that a pass which has the desk alone made a run of at most `reads` reads, each command one call more in its history
+  -- while the desk has room: all lines served and a tally, or the first and a fault (`ServesLines`)
   abbrev pub AloneServesLines : ℕ → PassView → Counted D → Counted W → Result Tally RunFault → PassView → Counted D → Counted W → Type 0
   AloneServesLines reads old reader writer run new read written =
       ServesLines (AloneServes old.desk.calls) remaining contents reads old.seen reader writer run new.seen read written
 
-  -- that the machine serves all lines of the reader from state `old`, whatever state these lead to
+  -- that the machine serves all lines of the reader from state `old`, whatever state these lead to, their output is in
+  -- the writer, and `tally` counts them
   abbrev pub MachineServesAll : State → Counted D → Counted W → Counted D → Counted W → Tally → Type 0
   MachineServesAll old reader writer read written tally = (new : State) × ServesAll MachineServes remaining contents old reader writer new read written tally
 
   -- that the machine serves the first lines of the reader from state `old` until a fault ends the run, whatever state
-  -- these lead to
+  -- these lead to, and first bytes of their output are in the writer
   abbrev pub MachineServesFirst : State → Counted D → Counted W → Counted D → Counted W → RunFault → Type 0
   MachineServesFirst old reader writer read written fault =
       (new : State) × ServesFirst MachineServes remaining contents old reader writer new read written fault
 
-  -- that, for any state for which the engine stood, the machine serves all lines of the reader from it, and the engine
-  -- stands for the state that they lead to
+  -- that, for any state for which the engine stood, the machine serves all lines of the reader from it, their output is
+  -- in the writer, and the engine stands for the state that they lead to
   abbrev pub EngineServesAll : EngineView → Counted D → Counted W → EngineView → Counted D → Counted W → Tally → Type 0
   EngineServesAll before reader writer after read written tally = (old : State) → StandsFor before old
       → (new : State) × StandsFor after new × ServesAll MachineServes remaining contents old reader writer new read written tally
 
   -- that, for any state for which the engine stood, the machine serves the first lines of the reader from it until a
-  -- fault ends the run, and the engine stands for the state that they lead to
+  -- fault ends the run, first bytes of their output are in the writer, and the engine stands for the state that they
+  -- lead to
   abbrev pub EngineServesFirst : EngineView → Counted D → Counted W → EngineView → Counted D → Counted W → RunFault → Type 0
   EngineServesFirst before reader writer after read written fault = (old : State) → StandsFor before old
       → (new : State) × StandsFor after new × ServesFirst MachineServes remaining contents old reader writer new read written fault

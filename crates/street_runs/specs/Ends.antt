@@ -15,25 +15,28 @@ use Rattle.street_runs.specs.Faults.{fault_of_run}
 use Rattle.street_runs.specs.Outputs.{IsBegun}
 
 -- that a desk was ended with this pass and left this journal: a legal history that begins with all that the pass had
--- seen, and so with what it had heard of other passes
+-- seen, and so with any beginning of that, with no further call of its least session (`Finished`)
 pub record IsEnded (pass : PassView) (journal : List Entry) : Type 0 where
   pub finished : Finished pass journal
   pub heard : (seen : List Entry) → BeginsWith pass.seen seen → BeginsWith journal seen
 
--- that the fault is one of writing the file of this name, as memory ran out or the writer failed
+-- that the fault is one of writing the file of this name, by its kind: memory ran out, or the writer failed, of which
+-- the writer counted a failed call or one that took no byte
 pub record TellsWriting {W : Type 0} (fault : ProgramFault) (name : Bor (List ℕ)) (writer : Counted W) : Type 0 where
   pub kind : FaultKind
   pub is : fault ≡ fault_of_run kind name name
   pub caused : IsCausedByWriting kind writer
 
--- that a desk was ended with this pass, and the tape of its journal is written whole
+-- that a desk was ended with this pass (`IsEnded`), and the tape of its journal is written whole, from contents
+-- `before` to `after` (none where unknown)
 pub record IsTaped (pass : PassView) (before after : Option (List ℕ)) : Type 0 where
   pub journal : List Entry
   pub ended : IsEnded pass journal
   pub written : Appends before after (tape_text journal)
 
--- that a desk was ended with this pass, and of the tape of its journal only the first bytes are written, as memory ran
--- out or the writer failed, which `fault` tells
+-- that a desk was ended with this pass, and of the tape of its journal only first bytes are written, `before` to
+-- `after` (none where unknown), perhaps all or none, as memory ran out or the writer failed, which `fault` tells with
+-- the file's name
 pub record IsTapedInPart {W : Type 0} (pass : PassView) (before after : Option (List ℕ)) (writer : Counted W) (name : Bor (List ℕ))
     (fault : ProgramFault) : Type 0 where
   pub journal : List Entry
@@ -41,8 +44,8 @@ pub record IsTapedInPart {W : Type 0} (pass : PassView) (before after : Option (
   pub begun : IsBegun before after (tape_text journal)
   pub told : TellsWriting fault name writer
 
--- that the tape of a desk is not written whole: only its first bytes are (`IsTapedInPart`); or, as the desk was left
--- within a turn, nothing is, told as a file that cannot be written
+-- that the tape of a desk is not written whole: first bytes are, for memory or the writer (`IsTapedInPart`); or nothing
+-- is done to the writer, told as the file `name` that cannot be written, as when the desk was left within a turn
 abbrev pub StopsTape : {W : Type 0} → PassView → Option (List ℕ) → Option (List ℕ) → Counted W → Counted W → Bor (List ℕ) → ProgramFault → Type 0
 StopsTape pass before after old new name fault =
     IsTapedInPart pass before after new name fault ⊎ ((new ≡ old) × (fault ≡ Write name))

@@ -17,16 +17,18 @@ recorded_from m = record { machine = m; whole = []; begun = None }
 
 module _ {K D V : Type 0} (held synced : K → Option (List ℕ)) (remaining : D → Option (List ℕ)) (outputs : V → Option (List ℕ)) where
   module _ {W : Type 0} (contents : W → Option (List ℕ)) where
-    -- that the machine did the lines of the kept file again, then served all lines of the reader: the file keeps them,
-    -- their output is written, and the record has, behind `start`, the blocks of their steps alone
+    -- that the machine did the lines of the kept file again from nothing loaded, counted in `redo`, then served all
+    -- lines of the reader: the file keeps them, synced, output is written, and the record has, behind `start`, the
+    -- blocks of these steps alone
     abbrev pub KeepsRecorded : Option (List ℕ) → K → Counted D → Counted V → K → Option (WriterView W) → Counted D → Counted V → RedoneLines → Type 0
     KeepsRecorded start file reader writer kept recorder read written redo = (mid : State) × (log : Option (List ℕ)) × (new : RecordedMachine) × (w : WriterView W)
         × Recovered MachineServes None (held file) mid log redo
         × KeptWhole MachineRecords (recorded_from mid) (remaining reader.stream) log (outputs writer.stream) new (remaining read.stream) (held kept) (synced kept) (outputs written.stream)
         × (recorder ≡ Some w) × HoldsRecord contents start w new.whole None
 
-  -- that a fault ended a kept session with a record: before any line was served (`BeginBreaks`); as the record could
-  -- not be opened, which leaves the file its own lines alone; or in the session (`KeptUpTo`)
+  -- that a fault ended a kept session with a record: before any line was read (`BeginBreaks`); as the record could not
+  -- be opened, with the file now just its ended lines, synced; or in the session (`KeptUpTo`); of the record nothing is
+  -- said
   abbrev pub KeepsRecordedFirst : K → Counted D → Counted V → K → Counted D → Counted V → RecordedFault → Type 0
   KeepsRecordedFirst file reader writer kept read written (Begin fault) = (now : State)
       × BeginBreaks MachineServes None (held file) (synced file) now (held kept) (synced kept) fault × (read ≡ reader) × (written ≡ writer)
@@ -36,8 +38,8 @@ module _ {K D V : Type 0} (held synced : K → Option (List ℕ)) (remaining : D
       × Recovered MachineServes None (held file) mid log redo
       × KeptUpTo MachineRecords (recorded_from mid) (remaining reader.stream) log (outputs writer.stream) fault (remaining read.stream) (held kept) (synced kept) (outputs written.stream)
 
--- that the fault of a kept session with a record has its cause, counted by reader, file or writer; of a record that
--- could not be opened no cause is asked
+-- that the fault of a kept session with a record has its cause: the file has failed, or reader or writer counted it; of
+-- a record that could not be opened, bad lines of the file, and memory no cause is asked
 abbrev pub IsRecordedCaused : {R K W : Type 0} → (K → Type 0) → RecordedFault → Counted R → K → Counted W → ℕ → Type 0
 IsRecordedCaused has_failed (Begin fault) reader file writer reads = IsBeginCaused has_failed fault file
 IsRecordedCaused has_failed (Open fault) reader file writer reads = ⊤

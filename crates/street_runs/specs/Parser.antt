@@ -20,7 +20,7 @@ flag_rule name = record (new_rule name) { long = Some name; action = Some SetTru
 abbrev pub option_rule : Text → Rule
 option_rule name = record (new_rule name) { long = Some name; action = Some Set; value_names = 1 }
 
--- the parser's rule for the names of scripts, any number of words behind the options
+-- the parser's rule for the names of scripts, any number of words behind the options, none too
 abbrev pub script_rule : Rule
 script_rule = record (new_rule (codes "script")) {
   action = Some Append;
@@ -28,7 +28,8 @@ script_rule = record (new_rule (codes "script")) {
   value_names = 1;
 }
 
--- the parser's rules for all words that the program may have: its options, then the scripts
+-- the parser's rules for all words that the program may have: workers, calls, tape, replay, upgrade, keep and record
+-- with one value, endless and unsynced with none, then the scripts
 abbrev pub streetsim_rules : List Rule
 streetsim_rules = option_rule (codes "workers") ∷ option_rule (codes "calls") ∷ option_rule (codes "tape") ∷ option_rule (codes "replay")
     ∷ option_rule (codes "upgrade") ∷ flag_rule (codes "endless")
@@ -65,22 +66,23 @@ abbrev pub IsCount : ℕ → Text → Type 0
 IsCount most word = IsNumeral 10 (without_leading_plus word) × (1 ≤ digits_value 10 (without_leading_plus word))
     × (digits_value 10 (without_leading_plus word) ≤ most)
 
--- that the word of an option is such a number (`IsCount`); where the option is not used, nothing is asked
+-- that the word of an option is a decimal number from 1 to `most` (`IsCount`); where the option is not used, nothing is
+-- asked
 abbrev pub IsCountIfSaid : ℕ → Option Text → Type 0
 IsCountIfSaid most None = ⊤
 IsCountIfSaid most (Some word) = IsCount most word
 
--- whether an option with no value was used
+-- whether an option with no value was used: the parser has the word `true` for it
 abbrev pub is_said : Option Text → Bool
 is_said None = false
 is_said (Some word) = bytes_eq word (codes "true")
 
--- that the words ask for a run without a desk: with `--endless`, `--keep` or `--record`
+-- that the words found ask for a run without a desk: with `--endless`, `--keep` or `--record`
 abbrev pub SaysDeskless : List Row → Type 0
 SaysDeskless rows = (is_said (first_of (codes "endless") rows) ≡ true) ⊎ IsSome (first_of (codes "keep") rows) ⊎ IsSome (first_of (codes "record") rows)
 
--- that what the parser found is fit: the numbers are in their ranges, at most `most_sessions` scripts are named, no two
--- options are used that exclude each other, and `--unsynced` is used only with `--keep`
+-- that what the parser found is fit: counts of workers and calls, if said, in their ranges, at most `most_sessions`
+-- scripts, no options or scripts together that exclude each other, and `--unsynced` only with `--keep`
 pub record IsFit (rows : List Row) : Type 0 where
   pub workers : IsCountIfSaid most_workers (first_of (codes "workers") rows)
   pub calls : IsCountIfSaid most_calls (first_of (codes "calls") rows)
@@ -93,12 +95,14 @@ pub record IsFit (rows : List Row) : Type 0 where
       × (first_of (codes "upgrade") rows ≡ None) × (scripts_in rows ≡ [])
   pub unsynced : is_said (first_of (codes "unsynced") rows) ≡ true → IsSome (first_of (codes "keep") rows)
 
--- that n is the number of an option: what its word says in decimal digits, or the default where the option is not used
+-- that n is the number of an option: what its word says in decimal digits, without a plus before them, or the default
+-- where the option is not used
 abbrev pub IsNumberOf : Option Text → ℕ → ℕ → Type 0
 IsNumberOf None default n = n ≡ default
 IsNumberOf (Some word) default n = n ≡ digits_value 10 (without_leading_plus word)
 
--- that the options are just those that the parser found, with 1 worker and 65536 calls where none are named
+-- that the options are just those that the parser found, with 1 worker and 65536 calls where none are named: tape,
+-- replay, upgrade, keep and record with their words, endless and unsynced if said, and the scripts
 pub record IsFound (rows : List Row) (found : ProgramOptions) : Type 0 where
   pub workers : IsNumberOf (first_of (codes "workers") rows) 1 found.workers
   pub calls : IsNumberOf (first_of (codes "calls") rows) 65536 found.calls
@@ -111,20 +115,22 @@ pub record IsFound (rows : List Row) (found : ProgramOptions) : Type 0 where
   pub record_file : option_map (λ s. s.now) found.record_file ≡ first_of (codes "record") rows
   pub scripts : map (λ s. s.now) found.scripts.items ≡ scripts_in rows
 
--- that the words ask for these options: the parser takes the words, and what it finds is fit and is these options
+-- that the words ask for these options: the parser takes the words, and what it finds is fit, with numbers in their
+-- ranges and nothing that excludes each other, and is these options
 pub record IsAsked (words : List Text) (found : ProgramOptions) : Type 0 where
   pub taken : refusals_of words ≡ []
   pub fit : IsFit (found_in words)
   pub is : IsFound (found_in words) found
 
--- that the fault tells of words which are not fit, or of memory that ran out; it never tells a help text
+-- that the fault tells of words that are bad, and then `fit` does not hold; or of memory that ran out, of which nothing
+-- is asked; it never tells a help text
 abbrev pub IsUnfit : Type 0 → WordsFault → Type 0
 IsUnfit fit (Bad error) = fit → ⊥
 IsUnfit fit (Help error) = ⊥
 IsUnfit fit Starved = ⊤
 
--- that the words ask for no options, and the fault tells why: the parser refuses them, also for help or the version;
--- they are not fit; or memory ran out
+-- that `fault` tells why the words ask for no options: bad, as the parser refuses them with that kind or takes them and
+-- they are not fit; help, where they ask for help or the version; or memory, of which nothing is asked
 abbrev pub IsRefused : List Text → WordsFault → Type 0
 IsRefused words (Bad error) = IsAmong (kind_of error) (refusals_of words) ⊎ ((refusals_of words ≡ []) × (IsFit (found_in words) → ⊥))
 IsRefused words (Help error) = IsAmong DisplayHelp (refusals_of words) ⊎ IsAmong DisplayVersion (refusals_of words)

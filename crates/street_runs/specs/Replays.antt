@@ -15,7 +15,7 @@ use Rattle.street_tape.specs.Replies.{AreReplayable, output_from}
 use Rattle.street_text.specs.ReplyLines.{reply_line}
 use Rattle.street_runs.specs.Outputs.{IsBegun}
 
--- the line that answers a count after these calls
+-- the line, with LF, that answers a count after these calls, from nothing loaded on
 abbrev pub count_line : List Entry → List ℕ
 count_line entries = reply_line (reply_to (state_of entries) Count Whole)
 
@@ -28,32 +28,35 @@ pub record ReadsTape (unread left : Option (List ℕ)) (entries : List Entry) : 
   pub says : tape_reading text ≡ Some entries
   pub good : AreReplayable None entries
 
--- that a whole tape was read, and the replies to its calls and then the reply to a count were written
+-- that a whole tape, whose calls can be replayed, was read, `unread` to `left`, and the replies to its calls and then
+-- the reply to a count behind them were written, `before` to `after` (none where unknown)
 abbrev pub ReplaysCounted : Option (List ℕ) → Option (List ℕ) → Option (List ℕ) → Option (List ℕ) → Type 0
 ReplaysCounted unread before left after =
     (entries : List Entry) × ReadsTape unread left entries × Appends before after (output_from None entries ++ count_line entries)
 
--- that a whole tape was read and the replies to its calls are written, but of the line of the count only the first
--- bytes, perhaps all or none, for a fault of the run
+-- that a whole tape was read and the replies to its calls are written, but of the line of the count only first bytes,
+-- perhaps all or none, `before` to `after` (none where unknown), for a fault of the run (`IsOfRun`)
 abbrev pub CountStops : Option (List ℕ) → Option (List ℕ) → Option (List ℕ) → Option (List ℕ) → TapeFault → Type 0
 CountStops unread before left after fault =
     (entries : List Entry) × ReadsTape unread left entries × IsOfRun fault
     × (mid : Option (List ℕ)) × Appends before mid (output_from None entries) × IsBegun mid after (count_line entries)
 
--- that a fault ended a replay with its count: in the replay (`ReplayStops`), or while the count's line was written
--- (`CountStops`)
+-- that a fault ended a replay with its count: in the replay, with first calls applied to some engine and first bytes of
+-- replies (`ReplayStops`), or behind all replies, while the count's line was written (`CountStops`)
 abbrev pub CountedStops : Option (List ℕ) → Option (List ℕ) → Option (List ℕ) → Option (List ℕ) → TapeFault → Type 0
 CountedStops unread before left after fault =
     ((view : EngineView) × ReplayStops unread before view left after fault) ⊎ CountStops unread before left after fault
 
 -- a replay and its count, from one counted stream to another
 module _ {D W : Type 0} (remaining : D → Option (List ℕ)) (contents : W → Option (List ℕ)) where
-  -- that the tape in the reader was replayed and counted, and the replies and the count's line are in the writer
+  -- that the tape in the reader was read whole and replayed, and the replies and then the count's line are in the
+  -- writer
   abbrev pub ReplaysAndCounts : Counted D → Counted W → Counted D → Counted W → Type 0
   ReplaysAndCounts reader writer read written =
       ReplaysCounted (remaining reader.stream) (contents writer.stream) (remaining read.stream) (contents written.stream)
 
-  -- that a fault ended the replay of the tape in the reader, or the count behind it
+  -- that a fault ended the replay of the tape in the reader, with first bytes of its replies in the writer, or the
+  -- writing of the count's line behind all of them (`CountedStops`)
   abbrev pub ReplayOrCountStops : Counted D → Counted W → Counted D → Counted W → TapeFault → Type 0
   ReplayOrCountStops reader writer read written fault =
       CountedStops (remaining reader.stream) (contents writer.stream) (remaining read.stream) (contents written.stream) fault

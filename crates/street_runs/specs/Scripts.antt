@@ -13,7 +13,8 @@ use Rattle.street_runs.specs.declared.fault.ProgramFault.{ProgramFault}
 use Rattle.street_runs.specs.Faults.{fault_of_run}
 use Rattle.street_runs.specs.Outputs.{IsPrinted, TellsOutput, replies_of}
 
--- the pass of a session of this desk that has called nothing and seen nothing
+-- the pass of a session of this desk, its least and greatest, that has called nothing, seen nothing and knows of no
+-- call
 abbrev pub new_pass : DeskView → ℕ → PassView
 new_pass desk session = record { desk = desk; seen = []; count = 0; least = session; greatest = session }
 
@@ -23,18 +24,20 @@ abbrev pub ArePassesFrom : DeskView → ℕ → List PassView → Type 0
 ArePassesFrom desk sessions passes =
     (k session : ℕ) (d : PassView) → k < length passes → session + k + 1 ≡ sessions → slice_index_or passes k d ≡ new_pass desk session
 
--- that the script at this place has the new pass of the session of the same number and no replies, and has an open file
+-- that the script at this place has the new pass of the session of that number and no replies, and has an open file
 -- just where it has no fault
 pub record IsOpened {R : Type 0} (desk : DeskView) (place : ℕ) (script : Script R) : Type 0 where
   pub session : script.session ≡ new_pass desk place
   pub replies : script.replies.items ≡ []
   pub fault : IsNone script.fault ↔ IsSome script.file
 
--- that each script has the new pass of the session of its place and was not served yet (`IsOpened`)
+-- that each script has the new pass of the session of its place, from 0, no replies, and an open file just where it has
+-- no fault (`IsOpened`)
 abbrev pub AreOpened : {R : Type 0} → DeskView → List (Script R) → Type 0
 AreOpened {R} desk scripts = (k : ℕ) (d : Script R) → k < length scripts → IsOpened desk k (slice_index_or scripts k d)
 
--- that each of these scripts was served the lines of its file (`IsRun`)
+-- that there are as many scripts as before, and each, by its place, was served the lines of its file, all or, with a
+-- fault, the first (`IsRun`); one without a file is as it was
 pub record AreRun {R : Type 0} (old new : List (Script R)) : Type 0 where
   pub same : length new ≡ length old
   pub each : (k : ℕ) (d : Script R) → k < length old → IsRun (slice_index_or old k d) (slice_index_or new k d)
@@ -48,15 +51,15 @@ pub record IsFirstFault {R : Type 0} (scripts : List (Script R)) (names : List (
   pub before : (k : ℕ) (d : Script R) → k < place → IsNone (slice_index_or scripts k d).fault
   pub told : (n : Bor (List ℕ)) → fault ≡ fault_of_run kind (slice_index_or names place n) (slice_index_or names place n)
 
--- that the result is right: no fault only where no script has one and all replies are written and flushed; else the
--- fault of the first script that has one; where none has, that of standard output
+-- that the result is right: it is Ok only where no script has a fault and all replies are written and flushed; an error
+-- is that of the first script with a fault, or, where none has one, of standard output, whose writer failed
 abbrev pub Tells : {R W : Type 0} → List (Script R) → List (Bor (List ℕ)) → Option (List ℕ) → Option (List ℕ) → Counted W → Result (Unit {0}) ProgramFault → Type 0
 Tells scripts names before after writer (Ok u) = All (λ s. IsNone s.fault) scripts × Appends before after (replies_of scripts) × IsFlushed writer
 Tells scripts names before after writer (Err fault) =
     IsFirstFault scripts names fault ⊎ (All (λ s. IsNone s.fault) scripts × HasFailed writer × TellsOutput fault)
 
--- that scripts were played at a desk: each was opened as the session of its place and served, the replies are printed
--- in order, the result tells of them, and `pass`, session 0's, has seen what each script had seen
+-- that scripts were played at a desk: as many as names, each opened as the session of its place and served; the replies
+-- are printed in order, the result tells of them, and `pass`, of least session 0, has seen what each script had seen
 pub record ArePlayed {W : Type 0} (R : Type 0) (desk : DeskView) (names : List (Bor (List ℕ))) (before after : Option (List ℕ)) (writer : Counted W)
     (result : Result (Unit {0}) ProgramFault) (pass : PassView) : Type 0 where
   pub opened : List (Script R)

@@ -14,8 +14,8 @@ use Rattle.street_runs.specs.Ends.{IsEnded}
 use Rattle.street_runs.specs.Outputs.{IsPrinted, replies_of}
 use Rattle.street_runs.specs.Scripts.{ArePlayed}
 
--- that these replies are the whole output of the lines of some text, served by the desk to a session from its first
--- call on; each reply is the machine's where the call stands in the journal
+-- that these replies are the whole output of the lines of some text, served by the desk to this session from when it
+-- had seen nothing; all that it has seen then is a beginning of the journal
 pub record IsTold (session : ℕ) (replies : List ℕ) (journal : List Entry) : Type 0 where
   pub before : PassView
   pub after : PassView
@@ -25,8 +25,8 @@ pub record IsTold (session : ℕ) (replies : List ℕ) (journal : List Entry) : 
   pub served : Goes DeskServes before (lines_of text) replies after
   pub begins : BeginsWith journal after.seen
 
--- that the replies of each script without a fault are the machine's in one history, the journal, whose order all calls
--- have, and all scripts' replies are printed, in part where the writer has failed
+-- that there are as many scripts as names, their replies are printed in order, in part where the writer has failed, and
+-- those of each script without a fault are the machine's in one legal history, the journal, at session k of script k
 pub record AreTold {W : Type 0} (R : Type 0) (desk : DeskView) (names : List (Bor (List ℕ))) (before after : Option (List ℕ)) (writer : Counted W)
     (journal : List Entry) : Type 0 where
   pub scripts : List (Script R)
@@ -36,8 +36,8 @@ pub record AreTold {W : Type 0} (R : Type 0) (desk : DeskView) (names : List (Bo
   pub each : (k : ℕ) (d : Script R) → k < length scripts → IsNone (slice_index_or scripts k d).fault
       → IsTold k (slice_index_or scripts k d).replies.items journal
 
--- that, for scripts of any desk, once played (`ArePlayed`) and the desk ended with the pass that comes back, each one
--- without a fault has the machine's replies where its calls stand in the desk's journal (`AreTold`)
+-- that, for scripts of any desk, once played (`ArePlayed`) and the desk ended with the pass that comes back, each
+-- script without a fault has the machine's replies where its calls stand in the desk's journal (`AreTold`)
 abbrev pub PlayedAreTold : Type 0 → Type 0 → Type 0
 PlayedAreTold R W = (desk : DeskView) (names : List (Bor (List ℕ))) (before after : Option (List ℕ)) (writer : Counted W)
     (told : Result (Unit {0}) ProgramFault) (pass : PassView) (journal : List Entry)

@@ -18,8 +18,8 @@ pub record IsInRange (found : ProgramOptions) : Type 0 where
   pub few_calls : found.calls ≤ most_calls
   pub few_scripts : vec_len found.scripts ≤ most_sessions
 
--- that no options are asked for that exclude each other: a replay goes with neither scripts nor a tape, nor does an
--- upgrade, and not the one with the other
+-- that no options are asked for that exclude each other: a replay goes with neither scripts nor a tape to be written,
+-- nor does an upgrade, nor does an upgrade go with a replay
 pub record StandsTogether (found : ProgramOptions) : Type 0 where
   pub replay : IsSome found.replay → (found.tape ≡ None) × (vec_len found.scripts ≡ 0)
   pub upgrade : IsSome found.upgrade → (found.tape ≡ None) × (found.replay ≡ None) × (vec_len found.scripts ≡ 0)
@@ -32,19 +32,21 @@ IsDeskless found = (found.endless ≡ true) ⊎ IsSome found.keep ⊎ IsSome fou
 abbrev pub HasNoScriptsOrTapes : ProgramOptions → Type 0
 HasNoScriptsOrTapes found = (found.tape ≡ None) × (found.replay ≡ None) × (found.upgrade ≡ None) × (vec_len found.scripts ≡ 0)
 
--- that a run without a desk is asked for with neither scripts nor tapes, and `unsynced` only together with `keep`
+-- that a run without a desk (endless, kept or with a record), if asked for, has neither scripts nor tapes beside it,
+-- and `unsynced` comes only together with `keep`
 pub record StandsAlone (found : ProgramOptions) : Type 0 where
   pub alone : IsDeskless found → HasNoScriptsOrTapes found
   pub unsynced : found.unsynced ≡ true → IsSome found.keep
 
--- that the fault tells of the parser's error: its text as a help or version text where that was asked for, lack of
--- memory as such, and any other as bad words
+-- that the fault tells of the parser's error: with its text as help where help or the version was asked for, as lack of
+-- memory where it is that, and with its text as bad words for any other error
 abbrev pub ToldOf : Error → WordsFault → Type 0
 ToldOf error (Bad text) = (text ≡ error) × (kind_of error ≢ DisplayHelp) × (kind_of error ≢ DisplayVersion) × (kind_of error ≢ OutOfMemory)
 ToldOf error (Help text) = (text ≡ error) × ((kind_of error ≡ DisplayHelp) ⊎ (kind_of error ≡ DisplayVersion))
 ToldOf error Starved = kind_of error ≡ OutOfMemory
 
--- that the fault tells of bad words, with an error of this kind, or of memory that ran out; it never tells a help text
+-- that the fault tells of bad words, with an error of this kind, or of memory that ran out, of which nothing is asked;
+-- it never tells a help text
 abbrev pub TellsBad : ErrorKind → WordsFault → Type 0
 TellsBad kind (Bad text) = kind_of text ≡ kind
 TellsBad kind (Help text) = ⊥

@@ -13,26 +13,26 @@ use Rattle.street_text.specs.CommandTexts.{tells_size}
 abbrev pub HaveSizeOne : List Entry → Type 0
 HaveSizeOne history = All (λ e. tells_size e.command ≡ false) history
 
--- that the tape, where it can be read at all, has the calls of this history
+-- that the tape, where it can be read at all, has the calls of this history; where it cannot, nothing is said
 abbrev pub SaysOnly : List ℕ → List Entry → Type 0
 SaysOnly tape history = (es : List Entry) → tape_reading tape ≡ Some es → es ≡ history
 
--- that a replay of any beginning of this tape which ends with a fault does so for reading, writing or memory: it never
--- tells that the tape is bad
+-- that a replay of any beginning of this tape, or all of it, from nothing loaded, which ends with a fault does so for
+-- reading, writing or memory (`IsOfRun`): it never tells that the tape is bad or none
 abbrev pub IsNeverBad : List ℕ → Type 0
 IsNeverBad tape = (text more : List ℕ) → text ++ more ≡ tape
     → (before : Option (List ℕ)) (view : EngineView) (after : Option (List ℕ)) (fault : TapeFault)
     → TapeBreaks (more ≡ []) None before text view after fault → IsOfRun fault
 
--- that an upgrade of any beginning of this tape which ends with a fault does so for reading, writing or memory: it
--- never tells that the tape is bad
+-- that an upgrade of any beginning of this tape, or all of it, which ends with a fault does so for reading, writing or
+-- memory (`IsOfRun`): it never tells that the tape is bad or none
 abbrev pub IsNeverRefused : List ℕ → Type 0
 IsNeverRefused tape = (text more : List ℕ) → text ++ more ≡ tape
     → (before after : Option (List ℕ)) (fault : TapeFault)
     → UpgradeBreaks (more ≡ []) before text after fault → IsOfRun fault
 
--- that the upgrade of this tape, where it can be read at all, is the text of that history's tape, and can be read as
--- that history
+-- that the upgrade of this tape is the text of that history's tape, and can be read as that history; nothing is said
+-- where the tape cannot be read
 abbrev pub UpgradesTo : List ℕ → List Entry → Type 0
 UpgradesTo tape history = (es : List Entry) → tape_reading tape ≡ Some es
     → (tape_text es ≡ tape_text history) × (tape_reading (tape_text es) ≡ Some history)

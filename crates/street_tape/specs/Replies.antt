@@ -13,13 +13,14 @@ use Rattle.street_stream.specs.declared.tally.Tally.{Tally}
 use Rattle.street_text.specs.ReplyLines.{reply_line}
 
 -- that a call with this outcome can be replayed from state m: whole or starved always, short only where the machine
--- allows an advance to stop after k steps
+-- allows the command, an advance, to stop after k steps there
 abbrev pub IsReplayable : State → Command → Outcome → Type 0
 IsReplayable m c Whole = ⊤
 IsReplayable m c Starved = ⊤
 IsReplayable m c (Short k) = MayBeShort m c k
 
--- that each of these calls can be replayed, one after another, from state m on
+-- that each of these calls can be replayed, one after another, from state m on: a short one only where the machine may
+-- stop that advance there (`IsReplayable`)
 abbrev pub AreReplayable : State → List Entry → Type 0
 AreReplayable m [] = ⊤
 AreReplayable m (e ∷ es) = IsReplayable m e.command e.outcome × AreReplayable (state_after m e.command e.outcome) es
@@ -29,7 +30,8 @@ abbrev pub reply_lines : List (Reply × Outcome) → List ℕ
 reply_lines [] = []
 reply_lines (a ∷ more) = reply_line a.0 ++ reply_lines more
 
--- the bytes of the machine's replies to these calls, from state m on, a line for each
+-- the bytes of the machine's replies to these calls with their outcomes, from state m on, a line with LF for each, in
+-- order
 abbrev pub output_from : State → List Entry → List ℕ
 output_from m es = reply_lines (answers_from m es)
 

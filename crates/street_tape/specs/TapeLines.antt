@@ -14,21 +14,22 @@ Takes None line None (Some new) = head_reading line ≡ Ok new
 Takes (Some old) line (Some e) (Some new) = (after_call old ≡ Some new) × (entry_reading (is_sized old) line ≡ Ok e)
 Takes old line call new = ⊥
 
--- that this is why a further line says no call: it is no call that can be read, or memory ran out
+-- that this is why a further line says no call: it is no call that can be read (`BadEntry`), or memory ran out, of
+-- which nothing is asked; never that there is no tape
 abbrev pub IsNoCall : Bool → List ℕ → Stop → Type 0
 IsNoCall sized line NotTape = ⊥
 IsNoCall sized line BadEntry = (e : Entry) → entry_reading sized line ≡ Ok e → ⊥
 IsNoCall sized line Starved = ⊤
 
 -- that this is why the next line is not taken: the first is not that of a tape, a further one says no call or is one
--- too many, or memory ran out
+-- too many, or memory ran out, of which nothing is asked; `old` is none before the first line
 abbrev pub Refuses : Option TapeHead → List ℕ → Stop → Type 0
 Refuses old line Starved = ⊤
 Refuses None line NotTape = (head : TapeHead) → head_reading line ≡ Ok head → ⊥
 Refuses (Some old) line BadEntry = (new : TapeHead) (e : Entry) → after_call old ≡ Some new → entry_reading (is_sized old) line ≡ Ok e → ⊥
 Refuses old line stop = ⊥
 
--- whether a tape may end here: after its first line, with no call that its head still counts
+-- whether a tape may end here: after its first line, where its head counts no further call (in version 1 always)
 abbrev pub may_end : Option TapeHead → Bool
 may_end None = false
 may_end (Some head) = is_whole head 0
@@ -38,8 +39,8 @@ abbrev pub calls_of : Option Entry → List Entry
 calls_of None = []
 calls_of (Some e) = e ∷ []
 
--- that these lines of a tape were taken one after another, from `old` to `new` (`Takes`), and es are the calls that
--- they say
+-- that these lines of a tape were taken one after another, from `old` to `new`, the heads with the calls still to
+-- follow (`Takes`), and es are the calls that they say; where there are no lines, nothing changes
 abbrev pub TakesAll : Option TapeHead → List (List ℕ) → List Entry → Option TapeHead → Type 0
 TakesAll old [] es new = (new ≡ old) × (es ≡ [])
 TakesAll old (l ∷ ls) es new =

@@ -37,7 +37,7 @@ abbrev pub entry_lines : List Entry → List ℕ
 entry_lines [] = []
 entry_lines (e ∷ es) = entry_line e ++ entry_lines es
 
--- the text of the tape of a journal: the first line, then a line for each call
+-- the text of the tape, of version 2, of a journal: the first line, with the count of calls, then a line for each call
 abbrev pub tape_text : List Entry → List ℕ
 tape_text es = head_line (length es) ++ entry_lines es
 

@@ -27,11 +27,13 @@ pub record IsUpgradeTally (tally : Tally) (ls : List (List ℕ)) (es : List Entr
   pub replies : tally.replies ≡ 0
   pub bytes : tally.bytes ≡ length (tape_text es)
 
--- the tally with this count of bytes in place of its own
+-- the tally with this count of bytes in place of its own; lines, calls and replies stay
 abbrev pub with_bytes : Tally → ℕ → Tally
 with_bytes tally bytes = record { lines = tally.lines; calls = tally.calls; replies = tally.replies; bytes = bytes }
 
--- that the tape was read to its end, the tape of version 2 of its calls is written, and the tally counts them
+-- that the tape was read to its end, `unread` to `left`, and can be read, the tape of version 2 of its calls is
+-- written, `before` to `after` (none where unknown), and the tally counts its lines and calls, no reply, and the new
+-- bytes
 pub record UpgradesWhole (unread before left after : Option (List ℕ)) (tally : Tally) : Type 0 where
   pub text : List ℕ
   pub entries : List Entry
@@ -41,8 +43,9 @@ pub record UpgradesWhole (unread before left after : Option (List ℕ)) (tally :
   pub written : Appends before after (tape_text entries)
   pub counted : IsUpgradeTally tally (lines_of text) entries
 
--- that a fault of reading, writing or memory ended an upgrade: the first bytes of the new tape are written, and none
--- unless the old one had been read to its end
+-- that a fault of the run ended an upgrade: `tally` counts the first lines and their calls, no reply, and the first
+-- bytes of the new tape, which are written behind `before`; there are none unless the old one was read to its end and
+-- is good
 pub record Cuts (at_end : Type 0) (before : Option (List ℕ)) (text : List ℕ) (after : Option (List ℕ)) (kind : FaultKind) (tally : Tally) : Type 0 where
   pub done : List (List ℕ)
   pub rest : List (List ℕ)
@@ -56,13 +59,16 @@ pub record Cuts (at_end : Type 0) (before : Option (List ℕ)) (text : List ℕ)
   pub calls : tally.calls ≡ length entries
   pub replies : tally.replies ≡ 0
 
--- that a fault of an upgrade left nothing written where the text is no tape or a bad one, and else what `Cuts` says
+-- that a fault of an upgrade left nothing written where the text is no tape, or a bad one, with the number of its first
+-- bad line; and else, where it is of the run, what `Cuts` says: first bytes of the new tape
 abbrev pub UpgradeBreaks : Type 0 → Option (List ℕ) → List ℕ → Option (List ℕ) → TapeFault → Type 0
 UpgradeBreaks at_end before text after NotTape = IsNoTape at_end text × Appends before after []
 UpgradeBreaks at_end before text after (BadEntry line) = (es : List Entry) × IsBadAt at_end (λ es. ⊤) text es line × Appends before after []
 UpgradeBreaks at_end before text after (Run fault) = Cuts at_end before text after fault.kind fault.tally
 
--- that a fault ended an upgrade, and left of the text that was read what `UpgradeBreaks` says
+-- that a fault ended an upgrade: `text` was read of `unread`, with `left` left, and the output, from `before` to
+-- `after` (none where unknown), is what `UpgradeBreaks` says of that text and fault: nothing, or first bytes of the new
+-- tape
 pub record UpgradeStops (unread before left after : Option (List ℕ)) (fault : TapeFault) : Type 0 where
   pub text : List ℕ
   pub read : Consumes unread left text
@@ -70,33 +76,36 @@ pub record UpgradeStops (unread before left after : Option (List ℕ)) (fault : 
 
 -- ---- the end of an upgrade
 
--- that the whole text was written, and `all` is the tally with its count of bytes
+-- that the whole text was written, `before` to `after` (none where unknown), and `all` is the tally with the text's
+-- count of bytes in place of its own
 abbrev pub IsKept : Tally → Option (List ℕ) → List ℕ → Option (List ℕ) → Tally → Type 0
 IsKept tally before text after all = (all ≡ with_bytes tally (length text)) × Appends before after text
 
--- that only the first bytes of the text were written, and the fault's tally counts them
+-- that only the first bytes of the text were written, perhaps all or none, `before` to `after` (none where unknown),
+-- and the fault's tally is `tally` with their count
 abbrev pub CutShort : Tally → Option (List ℕ) → List ℕ → Option (List ℕ) → RunFault → Type 0
 CutShort tally before text after fault = (fault.tally ≡ with_bytes tally fault.tally.bytes) × IsPrefix before 0 text after fault.tally.bytes
 
 -- ---- an upgrade as a handler of lines
 
--- the line of a call on a tape; nothing where there is no call
+-- the line of a call on a tape, with LF; no bytes where there is no call
 abbrev pub line_of_call : Option Entry → List ℕ
 line_of_call None = []
 line_of_call (Some e) = entry_line e
 
--- whether there is a call
+-- whether there is a call; false where there is none, as on a tape's first line
 abbrev pub is_call : Option Entry → Bool
 is_call None = false
 is_call (Some e) = true
 
--- that the next line of the old tape was taken, and the new line of its call, if it says one, put behind those kept so
--- far; it has no reply
+-- that the next line of the old tape was taken (`Takes`), and the new line of its call, if it says one, put behind
+-- those kept so far; it has no reply, and is a call where it says one
 abbrev pub UpgradesLine : Upgrader → List ℕ → Effect → Upgrader → Type 0
 UpgradesLine old line effect new =
     (call : Option Entry) × Takes old.tape.rest line call new.tape.rest × (new.lines.items ≡ old.lines.items ++ line_of_call call)
     × (effect ≡ record { is_call = is_call call; reply = None })
 
--- that the upgrade stopped at this line for this reason: the line is not one that the tape may have there (`Refuses`)
+-- that the upgrade stopped at this line for this reason: the line is not one that the tape may have there, or memory
+-- ran out (`Refuses`); of the upgrader afterwards, `new`, nothing is said
 abbrev pub RefusesLine : Upgrader → List ℕ → Stop → Upgrader → Type 0
 RefusesLine old line stop new = Refuses old.tape.rest line stop

@@ -4,18 +4,18 @@ use Rattle.street_base.specs.declared.names.Place.{Place}
 use Rattle.street_tile.specs.Halves.{Transfer, entry_in}
 use Rattle.street_tile.specs.Tiles.{TileView}
 
--- the hand-overs of all tiles, those of the last tile first: the opposite of the order in which they are moved
+-- the hand-overs of all tiles: those of the last tile first, each tile's in their own order
 abbrev pub all_handed : List TileView → List Transfer
 all_handed [] = []
 all_handed (x ∷ xs) = all_handed xs ++ x.handed
 
--- the own lanes of all tiles, those of the last tile first
+-- the own lanes of all tiles: those of the last tile first, each tile's in their own order
 abbrev pub all_places : List TileView → List Place
 all_places [] = []
 all_places (x ∷ xs) = all_places xs ++ x.own.places
 
--- a tile after all hand-overs of `entries` were moved: it has none left, and for each own lane the vehicle that comes
--- to it is the first of `entries` into that lane
+-- a tile after all hand-overs of `entries` were moved: it has none left, and for each own lane, by its own number, the
+-- vehicle of the first of `entries` into that lane comes, or none; all else is as it was
 abbrev pub received : List Transfer → TileView → TileView
 received entries x = record x { handed = []; coming = map (entry_in entries) x.own.places }
 
@@ -24,18 +24,18 @@ received entries x = record x { handed = []; coming = map (entry_in entries) x.o
 abbrev pub Awaits : List Transfer → TileView → Type 0
 Awaits entries x = x.coming ≡ map (entry_in entries) x.own.places
 
--- the tile at j while the hand-overs of tile i are moved: tile i still has those in `left`, and to each own lane, of
--- any tile, comes the first of `moved` into that lane
+-- the tile x at j while the hand-overs of tile i are moved: tile i still has those in `left`, other tiles theirs, and
+-- to each own lane comes the vehicle of the first of `moved` into it, or none
 abbrev pub moved_at : ℕ → List Transfer → List Transfer → ℕ → TileView → TileView
 moved_at i left moved j x = record x { handed = if j == i then left else x.handed; coming = map (entry_in moved) x.own.places }
 
--- that the tiles ys are the tiles xs while tile i's hand-overs are moved: `left` are still there, and those in `moved`
--- came to the tiles that own their lanes
+-- that the tiles ys are the tiles xs, one by one, while tile i's hand-overs are moved: tile i has `left`, and to each
+-- own lane of any tile comes the first of `moved` into it; that ys is as long as xs is not said
 abbrev pub IsMoved : ℕ → List Transfer → List Transfer → List TileView → List TileView → Type 0
 IsMoved i left moved xs ys = (j : ℕ) (d : TileView) → j < length xs → slice_index_or ys j d ≡ moved_at i left moved j (slice_index_or xs j d)
 
 -- that the last hand-over e of tile i is moved to the tile that owns its lane: those before it, `left`, stay, and those
--- moved so far, `es`, become `e ∷ es`
+-- moved so far, `es`, become `e ∷ es`; claimed where tile i has one and all tiles await `es`
 abbrev pub MovesLast : ℕ → List TileView → List TileView → Type 0
 MovesLast i xs ys = (left : List Transfer) (e : Transfer) (es : List Transfer) (d : TileView)
     → (slice_index_or xs i d).handed ≡ left ++ e ∷ [] → All (Awaits es) xs → IsMoved i left (e ∷ es) xs ys

@@ -4,7 +4,8 @@ use Rattle.street_tile.specs.declared.tile.Tile.TheInside.{Inside}
 use Rattle.street_tile.specs.Halves.{vehicle_in}
 use Rattle.street_tile.specs.Tiles.{TileView, AreNumbers, AreBare, AreDue}
 
--- what contracts see of the fields of a tile
+-- what contracts see of the fields of a tile: all that it keeps, but for its table of own numbers and `has_meters`; of
+-- each transfer that comes only the vehicle
 abbrev pub seen : Inside → TileView
 seen t = record {
   low = t.low;
@@ -21,8 +22,8 @@ seen t = record {
   detectors = t.detectors.items;
 }
 
--- that the arrays of a tile have their lengths: a signal plan for each of its nodes, a mouth and a number for two lanes
--- of each link, one who comes for each own lane; and memory for a hand-over, an arrival and a row of each own lane
+-- that a tile's arrays are wide enough: a signal plan or none for each node, two mouths a link, each own lane's number
+-- at its slot, 2 * link + lane; who comes, and memory for hand-overs, arrivals and rows, one an own lane
 pub record IsWideEnough (t : Inside) : Type 0 where
   pub nodes : t.low + length t.signals.items ≡ t.high
   pub numbered : AreNumbers t.links t.own.places t.numbers.items
@@ -32,13 +33,14 @@ pub record IsWideEnough (t : Inside) : Type 0 where
   pub arrived : length t.own.places ≤ vec_capacity t.arrived
   pub left : length t.own.places ≤ vec_capacity t.left
 
--- that the next step that each detector notes is that of the tile's clock; and that there is no detector where
+-- that the next step that each detector of the tile notes is that of its clock; and that no lane has a detector where
 -- `has_meters` is false
 pub record HasNotedAll (t : Inside) : Type 0 where
   pub bare : t.has_meters ≡ false → AreBare t.detectors.items
   pub due : AreDue t.clock t.detectors.items
 
--- that the tile's arrays have their lengths (`IsWideEnough`), and its detectors have noted all steps (`HasNotedAll`)
+-- that the tile's arrays are wide enough for its nodes, links and own lanes (`IsWideEnough`), and its detectors have
+-- noted all steps before its clock (`HasNotedAll`)
 pub record IsSound (t : Inside) : Type 0 where
   pub wide : IsWideEnough t
   pub noted : HasNotedAll t

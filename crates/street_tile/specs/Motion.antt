@@ -12,21 +12,22 @@ use Rattle.street_record.specs.Rows.{arrival_at}
 use Rattle.street_tile.specs.Tiles.{IsRoads, ShowSignals, AreBare, is_own, sizes_of}
 use Rattle.street_tile.specs.TileDetectors.{KeepMeters, HaveWatched}
 
--- that the traffic is one that `step` may move: of the step's network and formed (lanes, cells and turns as the network
--- has them: `IsOn`), at the step's clock, with the greens that the step's signal plans show
+-- that the traffic is one that `step` may move: of the step's network and formed (`IsOn`), at the step's clock, with
+-- the same greens at the step's nodes as the step's signal plans show
 pub record IsOfStep (step : MotionStep) (m : Traffic) : Type 0 where
   pub on : IsOn step.net.now m
   pub in_time : m.clock ≡ step.clock
   pub signals : ShowSignals step.low (step.low + length step.signals.now) step.signals.now m
 
--- that the lane's link runs to one of the nodes whose signal plans, or none, the step has at hand
+-- that the lane's link runs to one of the step's nodes, from `low` on as many as it has entries of signal plans, plan
+-- or none
 abbrev pub HasPlanFor : MotionStep → Place → Type 0
 HasPlanFor step p = is_own step.net.now step.low (step.low + length step.signals.now) p ≡ true
 
 -- ---- one lane
 
--- that lane n stands for its lane after motion, in all traffic of the step (`IsOfStep`), and `told` is the vehicle that
--- arrives from it; all other lanes are as they were
+-- that lane n stands for its lane after motion, in all traffic of the step (`IsOfStep`), and `told` is the number and
+-- speed of the vehicle that arrives; other lanes are as they were, and there is no less room
 pub record DrivesLane (step : MotionStep) (n : ℕ) (old new : Lanes) (told : Option ArrivedCar) : Type 0 where
   pub same : Same old new
   pub others : Others n old new
@@ -35,8 +36,8 @@ pub record DrivesLane (step : MotionStep) (n : ℕ) (old new : Lanes) (told : Op
       → LaneStands (lane_of new n) (driven_lane m (place_at old n) (lane_at m (place_at old n)))
   pub arrived : (m : Traffic) → IsOfStep step m → LaneStands (lane_of old n) (lane_at m (place_at old n)) → told ≡ arrived_car (leaver_of m (place_at old n))
 
--- that the watches of lane n's detectors now hold what they see of its motion, in all traffic of the step; where
--- `has_meters` is false nothing changes
+-- that the watches of lane n's detectors, one a meter, now hold what they see of its motion, in all traffic of the
+-- step; all else of them is as it was, and where `has_meters` is false the watches are, too
 pub record WatchesLane (step : MotionStep) (n : ℕ) (own : Lanes) (old new : Detectors) : Type 0 where
   pub meters : new ≡ record old { watches = new.watches }
   pub bare : step.has_meters ≡ false → new ≡ old
@@ -45,8 +46,8 @@ pub record WatchesLane (step : MotionStep) (n : ℕ) (own : Lanes) (old new : De
 
 -- ---- all lanes of a tile
 
--- that the lanes may drive: they are lanes of the step's network, the step has the signal plans of the nodes to which
--- their links run, and `detectors` has an entry of the right length for each lane
+-- that the lanes may drive: of the step's network (`IsRoads`), running to nodes of the step's range, the clock not past
+-- the last, an entry of detectors for each, of its length, and all bare where `has_meters` is false
 pub record MayDrive (step : MotionStep) (own : Lanes) (detectors : List Detectors) : Type 0 where
   pub of : IsOf step.net.now own
   pub roads : IsRoads step.net.now
@@ -55,8 +56,8 @@ pub record MayDrive (step : MotionStep) (own : Lanes) (detectors : List Detector
   pub sized : sizes_of detectors ≡ map (cells_on step.net.now) own.places
   pub bare : step.has_meters ≡ false → AreBare detectors
 
--- that all lanes stand for their lanes after motion, in all traffic of the step, and that the numbers and the rows of
--- those who arrive are put, lane by lane, behind the lists before
+-- that all lanes stand for their lanes after motion, in all traffic of the step, that numbers and rows of those who
+-- arrive stand, lane by lane, behind the lists before, and there is no less room; places and sizes stay
 pub record DrivesLanes (step : MotionStep) (old new : Lanes) (before after : List ℕ) (rows_before rows_after : List RecordRow) : Type 0 where
   pub same : Same old new
   pub room : old.room ≤ new.room
@@ -64,14 +65,15 @@ pub record DrivesLanes (step : MotionStep) (old new : Lanes) (before after : Lis
   pub arrived : (m : Traffic) → IsOfStep step m → LanesStand old.places old.lanes m → after ≡ before ++ filter_map (λ p. arrival (leaver_of m p)) old.places
   pub rows : (m : Traffic) → IsOfStep step m → LanesStand old.places old.lanes m → rows_after ≡ rows_before ++ filter_map (arrival_at m) old.places
 
--- that the watches of all lanes' detectors now hold what they see of the lanes' motion, in all traffic of the step;
--- where `has_meters` is false nothing changes
+-- that the watches of all lanes' detectors now hold what they see of the lanes' motion, in all traffic of the step; all
+-- else of them is as it was, and where `has_meters` is false the watches are, too
 pub record WatchLanes (step : MotionStep) (own : Lanes) (old new : List Detectors) : Type 0 where
   pub meters : KeepMeters old new
   pub bare : step.has_meters ≡ false → new ≡ old
   pub watched : (m : Traffic) → IsOfStep step m → LanesStand own.places own.lanes m → HaveWatched m own.places new
 
--- that the mouths of these lanes say whether the cells 0 are free, in all traffic for which the lanes stand
+-- that the mouths at these lanes' slots, 2 * link + lane, say whether their cells 0 are free, in all traffic for which
+-- the lanes stand; of other mouths nothing is said
 abbrev pub ShowLanes : Lanes → List Bool → Type 0
 ShowLanes own mouths =
     (m : Traffic) → LanesStand own.places own.lanes m → (j : ℕ) (p : Place) → slice_get own.places j ≡ Some p → mouth mouths p ≡ is_free (lane_at m p).track 0

@@ -9,8 +9,8 @@ use Rattle.street_record.specs.Rows.{arrival_at}
 use Rattle.street_tile.specs.Tiles.{TileView, StandsFor, SameTile, Shows, ShowsOwn, nobody}
 use Rattle.street_tile.specs.TileDetectors.{KeepMeters, HaveWatched, MetersStand, noted_by}
 
--- that, whatever traffic tile x stood for, tile y stands for f of it; those on the way are as they were, and there is
--- no less room
+-- that, whatever traffic of the network tile x stood for, tile y stands for f of it; nodes, places, sizes, hand-overs
+-- and those who come are as they were, and there is no less room
 pub record GoesBy (net : NetSpec) (f : Traffic → Traffic) (x y : TileView) : Type 0 where
   pub same : SameTile x y
   pub handed : y.handed ≡ x.handed
@@ -24,15 +24,16 @@ abbrev pub ChangeLanes : NetSpec → ℕ → Lanes → Lanes → Type 0
 ChangeLanes net clock old new = (m : Traffic) → IsOn net m → m.clock ≡ clock
     → LanesStand old.places old.lanes m → LanesStand new.places new.lanes (changed m)
 
--- that tile y is tile x after the phase of lane changes; its clock, arrivals and detectors are as they were
+-- that tile y is tile x after lane changes, in all traffic that x stood for; its clock, arrived numbers, detectors and
+-- those on the way are as they were, and it has no less room (of the rows `left` nothing is said)
 pub record LanePhase (net : NetSpec) (x y : TileView) : Type 0 where
   pub goes : GoesBy net changed x y
   pub clock : y.clock ≡ x.clock
   pub arrived : y.arrived ≡ x.arrived
   pub detectors : y.detectors ≡ x.detectors
 
--- that tile y is tile x after motion: it also holds the numbers and rows of those who arrived, lane by lane, its mouths
--- say whether the cells 0 of its lanes are free, and its watches have seen the motion
+-- that tile y is tile x after motion, in all traffic that x stood for; it holds the numbers and rows of who arrived,
+-- lane by lane, its mouths say whether own cells 0 are free, and its watches have seen the motion
 pub record MotionPhase (net : NetSpec) (x y : TileView) : Type 0 where
   pub goes : GoesBy net driven x y
   pub arrived : (m : Traffic) → IsOn net m → StandsFor x m → y.arrived ≡ filter_map (λ p. arrival (leaver_of m p)) x.own.places
@@ -41,8 +42,8 @@ pub record MotionPhase (net : NetSpec) (x y : TileView) : Type 0 where
   pub watched : (m : Traffic) → IsOn net m → StandsFor x m → HaveWatched m x.own.places y.detectors
   pub shown : ShowsOwn y
 
--- that tile y is tile x after it let go, by the mouths of `view`, the fronts of buffers that go: these are handed over,
--- buffer by buffer
+-- that tile y is tile x after it let go the fronts that go, in all traffic that x stood for and the mouths `view` show;
+-- they are handed over, buffer by buffer; who comes, arrived and detectors are as they were
 pub record ReleasePhase (net : NetSpec) (view : List Bool) (x y : TileView) : Type 0 where
   pub same : SameTile x y
   pub arrived : y.arrived ≡ x.arrived
@@ -53,8 +54,8 @@ pub record ReleasePhase (net : NetSpec) (view : List Bool) (x y : TileView) : Ty
   pub stands : (m : Traffic) → IsOn net m → Shows net view m → StandsFor x m → StandsFor y (let_go m)
   pub handed : (m : Traffic) → IsOn net m → Shows net view m → StandsFor x m → y.handed ≡ filter_map (crossing m) x.own.places
 
--- that tile y is tile x after those who come were put in cell 0 of their lanes, which were free, and then departures
--- were made; then nobody comes to it
+-- that tile y is tile x after those who come were put in cells 0, claimed where these were free, and then departures;
+-- nobody comes to it then; clock, hand-overs, arrived and detectors are as they were
 pub record EnterPhase (net : NetSpec) (x y : TileView) : Type 0 where
   pub same : SameTile x y
   pub clock : y.clock ≡ x.clock
@@ -70,8 +71,8 @@ pub record EnterPhase (net : NetSpec) (x y : TileView) : Type 0 where
 unfoldable pub ticked : Traffic → Traffic
 ticked m = record m { clock = m.clock + 1 }
 
--- that tile y is tile x with its clock one later and the step noted by its detectors, if their watches had seen the
--- step's motion from the traffic `before`
+-- that tile y is tile x with its clock one later, arrived and rows as they were, and the step noted by its detectors,
+-- if its watches had seen the step's motion from the traffic `before`
 pub record MeterPhase (net : NetSpec) (x y : TileView) : Type 0 where
   pub goes : GoesBy net ticked x y
   pub arrived : y.arrived ≡ x.arrived
@@ -79,7 +80,7 @@ pub record MeterPhase (net : NetSpec) (x y : TileView) : Type 0 where
   pub noted : (before m : Traffic) → IsOn net m → StandsFor x m → HaveWatched before x.own.places x.detectors
       → MetersStand x m → MetersStand y (noted_by before m)
 
--- that P leads from x to some tile, and Q from that tile to z
+-- that P leads from x to some tile between, and Q from that tile to z
 pub record Then (P Q : TileView → TileView → Type 0) (x z : TileView) : Type 0 where
   pub between : TileView
   pub first : P x between

@@ -8,11 +8,13 @@ use Rattle.street_base.specs.Prelude.{Traffic, changed, step, leaver_of, link_at
 use Rattle.street_record.specs.Rows.{as_written, rows_at}
 use Rattle.street_lanes.specs.declared.motion.ArrivedCar.{ArrivedCar}
 
--- the row of a vehicle that arrived from the lane of this slot, at the spot that stands for arrival
+-- the row of a vehicle that arrived from the lane of this slot: its number, the slot, the spot that stands for arrival,
+-- 2^32 - 1, and its speed
 abbrev pub arrived_from : ℕ → ArrivedCar → RecordRow
 arrived_from slot car = record { car = car.number; slot = slot; spot = arrived_spot; speed = car.speed }
 
--- the rows of lane p in the step that is made from this traffic, each with the 32 bits of its spot that are written
+-- the rows of lane p in the step that is made from this traffic: of who is on it after the step, then of who arrived
+-- from it, each with the lowest 32 bits of its spot, which are written
 abbrev pub step_rows : Traffic → Place → List RecordRow
 step_rows m p = map as_written (rows_at (changed m) (step m) p)
 

@@ -17,8 +17,8 @@ use Rattle.street_tile.specs.Halves.{Transfer}
 
 -- ---- the network
 
--- that a network is one that tiles can have: nodes and links within their limits, at most two lanes a link, each link
--- running to a node, and each turn leading to a lane of a link that begins where the first ends
+-- that tiles can have the network: nodes, at least one, and links within their limits, at most two lanes a link, each
+-- link running to a node, and each turn leading to a lane of a link that begins where the first ends
 pub record IsRoads (net : NetSpec) : Type 0 where
   pub nodes : (0 < length net.nodes) × (length net.nodes ≤ most_nodes)
   pub few : length net.links ≤ most_links
@@ -27,28 +27,30 @@ pub record IsRoads (net : NetSpec) : Type 0 where
   pub ends : (link : ℕ) → link < length net.links → IsSome (node_of net (link_at net link).to)
   pub joined : (from : Place) (next : ℕ) (t : TurnSpec) → turn net from next ≡ Some t → (link_at net from.link).to ≡ (link_at net next).from
 
--- a network of nothing, for a contract or a default that must have some network
+-- a network of nothing, with all numbers 0, for a contract or a default that must have some network
 abbrev pub no_network : NetSpec
 no_network = record { nodes = []; links = []; turns = []; zone = 0; change = 0; dawdle = 0; seed = 0; start = 0 }
 
 -- ---- the view
 
--- that the mouths say of each lane of the network whether its cell 0 is free in this traffic
+-- that the mouths, at each lane's slot, 2 * link + lane, say of each lane of the network whether its cell 0 is free in
+-- this traffic
 abbrev pub Shows : NetSpec → List Bool → Traffic → Type 0
 Shows net mouths m = (p : Place) → p.link < length net.links → p.lane < (link_at net p.link).lanes → mouth mouths p ≡ is_free (lane_at m p).track 0
 
 -- ---- signals
 
--- that `signals`, for the nodes from `low` up to, but not including, `high`, have in each step the same greens as the
--- traffic's plans
+-- that `signals`, whose first entry is of node `low`, has for each node from `low` to below `high` the same greens in
+-- each step as the traffic's plan; no plan shows all turns green
 abbrev pub ShowSignals : ℕ → ℕ → List (Option SignalPlan) → Traffic → Type 0
 ShowSignals low high signals m = (node : ℕ) → low ≤ node → node < high
     → PlanStands (slice_index_or signals (node - low) None) (slice_index_or m.signals node None)
 
 -- ---- a tile
 
--- what contracts see of a tile: nodes from `low` to below `high`, own lanes and what it keeps; `mouths` are free cells
--- 0, `handed` those let go, `coming` those to enter, `arrived` and `left` the numbers and rows of who arrived
+-- what contracts see of a tile: nodes from `low` to below `high`, the network's count of links, own lanes, clock, a
+-- plan or none a node; at 2 * link + lane in `mouths`: is cell 0 free; transfers `handed` over, who is `coming` (one an
+-- own lane), numbers `arrived` and rows `left`; detectors
 pub record TileView : Type 0 where
   pub low : ℕ
   pub high : ℕ
@@ -67,16 +69,16 @@ pub record TileView : Type 0 where
 abbrev pub is_own : NetSpec → ℕ → ℕ → Place → Bool
 is_own net low high p = option_map_or (λ node. nat_le low node && nat_lt node high) (node_of net (link_at net p.link).to) false
 
--- the lanes whose links run to a node from `low` up to, but not including, `high`, in the order of the network
+-- the lanes of the network, in its order, whose links run to a node from `low` up to, but not including, `high`
 abbrev pub own_places : NetSpec → ℕ → ℕ → List Place
 own_places net low high = filter (is_own net low high) (places net)
 
--- for each lane the count of cells that its detectors' record has
+-- for each lane the count of cells, `size`, that its detectors' record has
 abbrev pub sizes_of : List Detectors → List ℕ
 sizes_of detectors = map (λ g. g.size) detectors
 
--- that x is a tile of this network (`IsRoads`): it has just the lanes of the links that run to its nodes, in order,
--- each as long as its link
+-- that x is a tile of this network (`IsRoads`): it has the count of links, nodes of the network, and as own lanes just
+-- those whose links run to these nodes, in order; each, and its record of detectors, is as long as its link
 pub record IsTileOf (net : NetSpec) (x : TileView) : Type 0 where
   pub roads : IsRoads net
   pub links : x.links ≡ length net.links
@@ -97,7 +99,8 @@ beside p lane = record { link = p.link; lane = lane }
 abbrev pub lanes_beside : NetSpec → Place → ℕ
 lanes_beside net p = (link_at net p.link).lanes
 
--- that in this list of lanes lane 1 of a link stands right behind lane 0 of the same link, and never alone
+-- that in this list of lanes lane 1 of a link stands right behind lane 0 of the same link, never alone, and lane 0 of a
+-- link of two lanes right before lane 1; so in an empty list
 pub record ArePairs (net : NetSpec) (ps : List Place) : Type 0 where
   pub first : 0 < length ps → (nth ps 0).lane ≡ 0
   pub next : (n : ℕ) → n < length ps → (nth ps n).lane ≡ 0 → lanes_beside net (nth ps n) ≡ 2 → (suc n < length ps) × (nth ps (suc n) ≡ beside (nth ps n) 1)
@@ -107,24 +110,26 @@ pub record ArePairs (net : NetSpec) (ps : List Place) : Type 0 where
 abbrev pub BeginsLink : Lanes → ℕ → Type 0
 BeginsLink own n = n < length own.places → (place_at own n).lane ≡ 0
 
--- that the tile shows the traffic as far as it is the tile's: the same clock, its own lanes and the greens at its own
--- nodes, and no vehicle in the arena that is on no lane
+-- that the tile shows the traffic as far as it is the tile's: the same clock, its own lanes, the greens at its own
+-- nodes, and no vehicle on no list; of mouths, detectors and those on the way nothing is said
 pub record StandsFor (x : TileView) (m : Traffic) : Type 0 where
   pub clock : x.clock ≡ m.clock
   pub lanes : LanesStand x.own.places x.own.lanes m
   pub none_loose : x.own.loose ≡ []
   pub signals : ShowSignals x.low x.high x.signals m
 
--- that the tile's mouths say of each own lane whether its cell 0 is free, in all traffic for which the tile stands
+-- that the tile's mouths at its own lanes' slots, 2 * link + lane, say whether their cells 0 are free, in all traffic
+-- for which the tile stands
 abbrev pub ShowsOwn : TileView → Type 0
 ShowsOwn x = (m : Traffic) → StandsFor x m → (j : ℕ) (p : Place) → slice_get x.own.places j ≡ Some p → mouth x.mouths p ≡ is_free (lane_at m p).track 0
 
--- that `numbers`, two entries for each link of the network, has at the slot of each lane of ps its position in ps
+-- that `numbers`, two entries for each link, has at the slot of each lane of ps, 2 * link + lane, the lane's position
+-- in ps; of other slots nothing is said
 pub record AreNumbers (links : ℕ) (ps : List Place) (numbers : List ℕ) : Type 0 where
   pub wide : length numbers ≡ 2 * links
   pub at : (k : ℕ) (p : Place) → slice_get ps k ≡ Some p → slice_index_or numbers (slot_of p) 0 ≡ k
 
--- that the next step that each of these lanes' detectors notes is that of this clock
+-- that the next step that each meter of these lanes' detectors notes is that of this clock; so where there is no meter
 abbrev pub AreDue : ℕ → List Detectors → Type 0
 AreDue clock detectors = All (λ g. All (λ x. next_step x ≡ clock) g.meters) detectors
 
@@ -144,7 +149,8 @@ nobody x = map (λ p. None) x.own.places
 abbrev pub IsStill : TileView → Type 0
 IsStill x = (x.handed ≡ []) × (x.coming ≡ nobody x)
 
--- that the tile is between two steps: nobody is on the way, and no number of one who arrived is left in it
+-- that the tile is between two steps: it has no hand-over, no vehicle comes to its lanes, and no number of one who
+-- arrived is left in it
 pub record IsIdle (x : TileView) : Type 0 where
   pub handed : x.handed ≡ []
   pub coming : x.coming ≡ nobody x
@@ -154,8 +160,8 @@ pub record IsIdle (x : TileView) : Type 0 where
 abbrev pub IsPrepared : TileView → Type 0
 IsPrepared x = length x.own.places ≤ x.own.room
 
--- that y is the same tile as x, with the same nodes, and lanes and detectors of the same sizes; who is on them may
--- differ
+-- that y is the same tile as x: the same nodes, count of links, places, loose vehicles and odds, and lanes and
+-- detectors of the same sizes; who is on them may differ
 pub record SameTile (x y : TileView) : Type 0 where
   pub low : y.low ≡ x.low
   pub high : y.high ≡ x.high
@@ -169,19 +175,22 @@ pub record SameTile (x y : TileView) : Type 0 where
 abbrev pub Each : (TileView → TileView → Type 0) → List TileView → List TileView → Type 0
 Each R xs ys = (i : ℕ) (d : TileView) → i < length xs → R (slice_index_or xs i d) (slice_index_or ys i d)
 
--- that x is tile i of k of the network: it has the nodes from i/k of their count to (i + 1)/k of it, rounded down
+-- that x is tile i of k, a tile of the network (`IsTileOf`): it has the nodes from i/k of their count to below (i +
+-- 1)/k of it, both rounded down
 pub record IsShare (net : NetSpec) (k i : ℕ) (x : TileView) : Type 0 where
   pub tile : IsTileOf net x
   pub low : x.low ≡ i * length net.nodes / k
   pub high : x.high ≡ (i + 1) * length net.nodes / k
 
--- that xs are all tiles of the network: at least one, at most as many as nodes, and each with its share of the nodes
+-- that xs are all tiles of the network: at least one, at most as many as nodes, and tile i with its share of the nodes
+-- and their lanes (`IsShare`)
 pub record AreTiles (net : NetSpec) (xs : List TileView) : Type 0 where
   pub some : 0 < length xs
   pub few : length xs ≤ length net.nodes
   pub shares : (i : ℕ) (d : TileView) → i < length xs → IsShare net (length xs) i (slice_index_or xs i d)
 
--- that the traffic is on the network and formed (`IsOn`), and each tile stands for it at its own lanes and nodes
+-- that the traffic is of this network, with lanes and cells as the network has them (`IsOn`), and each tile stands for
+-- it at its own lanes and nodes; that the tiles cover the network is not said
 pub record AllStand (net : NetSpec) (xs : List TileView) (m : Traffic) : Type 0 where
   pub on : IsOn net m
   pub each : All (λ x. StandsFor x m) xs

@@ -9,8 +9,8 @@ use Rattle.street_lanes.specs.Prelude.{LaneStands, without_front, Lanes, GoesAt,
 use Rattle.street_tile.specs.Halves.{Transfer, crossing, entry_on}
 use Rattle.street_tile.specs.Tiles.{Shows}
 
--- that a tile's releases may begin from this traffic: it is at this clock, own lanes and mouths stand for it, and a
--- walk over the own buffers releases as the machine does (`IsWalk`)
+-- that releases may begin from this traffic: it is of the network and formed (`IsOn`), at this clock, own lanes stand
+-- for it, mouths show its cells 0, and a walk over the own buffers finds the machine's givers (`IsWalk`)
 pub record IsReleasing (net : NetSpec) (clock : ℕ) (own : Lanes) (mouths : List Bool) (m : Traffic) : Type 0 where
   pub on : IsOn net m
   pub in_time : m.clock ≡ clock
@@ -18,14 +18,14 @@ pub record IsReleasing (net : NetSpec) (clock : ℕ) (own : Lanes) (mouths : Lis
   pub stand : LanesStand own.places own.lanes m
   pub shows : Shows net mouths m
 
--- that `after` is the hand-overs `before` with the fronts that go behind them, buffer by buffer, in all traffic for
--- which releases may begin
+-- that `after` is the hand-overs `before` with the fronts that go behind them, own buffer by own buffer, in all traffic
+-- from which releases may begin (`IsReleasing`)
 abbrev pub HandsOver : NetSpec → ℕ → Lanes → List Bool → List Transfer → List Transfer → Type 0
 HandsOver net clock own mouths before after = (m : Traffic) → IsReleasing net clock own mouths m
     → after ≡ before ++ filter_map (crossing m) own.places
 
--- that `to` is the lane that the front of lane n's buffer may enter, or none, in all traffic of the network at this
--- clock for which lane n stands
+-- that `to` is the lane that the front of lane n's buffer may enter, or none where there is no front or it is not
+-- ready, in all traffic of the network at this clock for which lane n stands
 abbrev pub Targets : NetSpec → ℕ → Lanes → ℕ → Option Place → Type 0
 Targets net clock own n to =
     (m : Traffic) → m.network ≡ net → m.clock ≡ clock → LaneStands (lane_of own n) (lane_at m (place_at own n)) → to ≡ target m (place_at own n)
@@ -36,8 +36,8 @@ pub record HasFront (own : Lanes) (n : ℕ) (q : Queued) : Type 0 where
   pub stands : LaneStands (lane_of own n) lane
   pub first : slice_get lane.queue 0 ≡ Some q
 
--- that, where the mouth of lane `to` is shut, nothing has changed; where it is open, buffer n has lost its front, which
--- is handed over as it enters `to`, and the mouth of `to` is shut behind it
+-- that, where the mouth of lane `to` is shut, nothing has changed; where it is open, lane n lost its buffer's front,
+-- handed over behind `before` as it enters `to`, and that mouth is shut; there is no less room
 pub record ReleasesFront (net : NetSpec) (n : ℕ) (to : Place) (old new : Lanes) (open_old open_new : List Bool) (before after : List Transfer) : Type 0 where
   pub shut : mouth open_old to ≡ false → (new ≡ old) × (open_new ≡ open_old) × (after ≡ before)
   pub goes : mouth open_old to ≡ true → GoesAt n without_front old new
