@@ -121,7 +121,7 @@ pub record SendsFront (net : NetSpec) (n : ℕ) (front : Released) (old new : Ya
 -- ---- the walk over the first k buffers
 
 -- that each of the released vehicles `more` was sent on (loose, its speed cut to its next link's limit, one further in
--- its plan), and no other key's entry, no list but the buffers ns, nor the room changed
+-- its plan), and that no other key's entry, no list but the buffers ns, nor the room changed
 pub record Sends (net : NetSpec) (ns : List ℕ) (old new : Yard) (more : List Released) : Type 0 where
   pub sent : All (λ r. entry_at new r.key ≡ option_map (sent_on (link_at net r.turn.next).limit) (entry_at old r.key)) more
   pub rest : (key : ℕ) → All (λ r. key ≢ r.key) more → entry_at new key ≡ entry_at old key
