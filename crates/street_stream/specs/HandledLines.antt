@@ -104,8 +104,8 @@ pub record Whole {S : Type 0} (takes : S → List ℕ → Effect → S → Type 
 
 -- ---- broken runs
 
--- that a text ends where a line ends: with LF; or with whatever byte, if no rest follows it and `at_end` says that the
--- end of all was reached
+-- that a text ends where a line ends: with LF; or anywhere, if no rest follows it and `at_end` holds, which says that
+-- the end of all was reached
 abbrev pub EndsLine : List ℕ → List ℕ → Type 0 → Type 0
 EndsLine text rest at_end = ((front : List ℕ) × (text ≡ front ++ 10 ∷ [])) ⊎ ((rest ≡ []) × at_end)
 
