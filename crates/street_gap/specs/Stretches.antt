@@ -5,7 +5,7 @@ use Rattle.street_gap.specs.declared.closures.Closures.TheInside.{Inside}
 use Rattle.street_gap.specs.declared.closures.Stretch.{Stretch}
 use Rattle.street_gap.specs.declared.stretches.Stretches.{Stretches}
 
--- the closed stretches that a lane keeps; none where it keeps no box for them
+-- the closed stretches that a lane keeps; no stretches where it keeps no box for them
 abbrev pub kept_stretches : Option (Box Stretches) → List Stretch
 kept_stretches None = []
 kept_stretches (Some kept) = kept.value

@@ -42,8 +42,8 @@ lane_refusal net plan lane = if nat_le (entry_lanes net plan lane) lane then Som
 abbrev pub plan_refusal : NetSpec → List ℕ → ℕ → Option PlanFault
 plan_refusal net plan lane = option_map_or (λ at. Some (BadPlan at)) (plan_fault net plan) (lane_refusal net plan lane)
 
--- that the refusal told of a plan is the reason why it is refused; or, where there is no reason, that it is lack of
--- memory
+-- that the refusal told of a plan (its bad entry, or no such lane) is the reason why it is refused; or, where there is
+-- no reason, that it is lack of memory
 abbrev pub TellsRefusal : Option PlanFault → PlanFault → Type 0
 TellsRefusal reason StarvedPlan = reason ≡ None
 TellsRefusal reason (BadPlan at) = reason ≡ Some (BadPlan at)

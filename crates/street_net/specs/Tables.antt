@@ -25,7 +25,8 @@ pub record IsBrief (net : NetSpec) (link : ℕ) (brief : Brief) : Type 0 where
   pub same_lanes : brief.lanes ≡ (link_at net link).lanes
   pub same_limit : brief.limit ≡ (link_at net link).limit
 
--- that there is one brief for each link, in the order of the links
+-- that there is one brief for each link, in the order of the links, with its length, lanes, limit and the position of
+-- its end node
 pub record AreBriefs (net : NetSpec) (briefs : List Brief) : Type 0 where
   pub one_each : length briefs ≡ length net.links
   pub told : (link : ℕ) (d : Brief) → link < length net.links → IsBrief net link (slice_index_or briefs link d)

@@ -9,8 +9,8 @@ use Rattle.street_rule.specs.Road.{Road, tracks}
 abbrev pub StandsFor : Yard → Road → List LaneState → Type 0
 StandsFor y road lanes = tracks y road ≡ map (λ lane. lane.track) lanes
 
--- that, for any traffic of this network and clock for whose lanes of the link the road's old lists stood, the new ones
--- stand for these lanes after the step's lane changes; lanes that are not two stay as they are
+-- that, whatever lanes the road's old lists stood for, its new ones stand for these lanes after the lane changes of
+-- this step by the road's network; lanes that are not two stay as they are
 abbrev pub Changes : Yard → Yard → Road → ℕ → Type 0
 Changes old new road step =
     (m : Traffic) (lanes : List LaneState) → m.network ≡ road.network → m.clock ≡ step

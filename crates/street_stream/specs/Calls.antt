@@ -41,7 +41,7 @@ IsCutShort {W} takes passes old new = OnlyWrites takes old new ⊎ ((mid : W) ×
 
 -- ---- the reader
 
--- that the reader got exactly one read, with whatever buffer and result
+-- that the reader got exactly one read, with whatever buffer, whatever it returned
 abbrev pub IsRead : {R : Type 0} → Gives R → R → R → Type 0
 IsRead gives old new = (buffer : List ℕ) × (result : Result ℕ Error) × (filled : List ℕ) × gives old buffer result new filled
 

@@ -27,7 +27,8 @@ IsPrompt reader = 0 < reader.calls → reader.is_prompt ≡ true
 abbrev pub IsFlushed : {T : Type 0} → Counted T → Type 0
 IsFlushed writer = writer.is_flushed ≡ true
 
--- that the writer was not called again after the last read of the reader
+-- that the writer has got no call more than the reader counted of it at its last read: it was not called again after
+-- that read
 abbrev pub IsLastRead : {R W : Type 0} → Counted R → Counted W → Type 0
 IsLastRead reader writer = reader.writer_calls ≡ writer.calls
 

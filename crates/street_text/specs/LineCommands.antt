@@ -24,8 +24,8 @@ use Rattle.street_text.specs.declared.fault.LineFault.TheVariants.{LineTooLong, 
 abbrev pub number_in : Data → Option ℕ
 number_in d = option_and_then as_u64 (as_number d)
 
--- what `entry` reads from each item of a JSON list, in order; none where one of them cannot be read; the empty list of
--- no items
+-- what `entry` reads from each item of a JSON list, in order; none where one of them cannot be read; no items give an
+-- empty list
 abbrev pub entries_of : {T : Type 0} → (Data → Option T) → Items → Option (List T)
 entries_of entry no_items = Some []
 entries_of entry (item d ds) = option_and_then (λ x. option_map (λ xs. x ∷ xs) (entries_of entry ds)) (entry d)
@@ -111,7 +111,8 @@ number_or absent key d = or_if_none absent (get key d)
 -- ---- commands
 
 infixl 60 ◌with◌
--- a command that lacks fields, with the next field filled in; none if the field is missing, or if a field before it was
+-- a command that lacks fields, with the next field filled in; none where that field, or one before it, is missing or
+-- could not be read
 abbrev pub ◌with◌ : {A B : Type 0} → Option (A → B) → Option A → Option B
 None with x = None
 (Some f) with x = option_map f x
@@ -252,8 +253,8 @@ abbrev pub named_in : List (List ℕ × (Data → Option Command)) → List ℕ 
 named_in [] name d = None
 named_in ((key, reads) ∷ rest) name d = if bytes_eq name key then reads d else named_in rest name d
 
--- the command of this name that an object says; none where no command has the name or a field is bad; the size of an
--- `enter` is read only if `sized`
+-- the command of this name that an object says; none where no command has the name, or a field is missing or bad; the
+-- size of an `enter` is read only if `sized`
 unfoldable pub named : Bool → List ℕ → Data → Option Command
 named sized name d = named_in (names sized) name d
 
@@ -277,7 +278,8 @@ or_fault fault None = Err fault
 unfoldable pub value_of : List ℕ → Option Data
 value_of line = if is_utf8 line then read line else None
 
--- the command that a line's JSON value says, or why it says none: there is no value, or it is no command
+-- the command that a line's JSON value says; the fault NotJson where there is no value, BadCommand where it says no
+-- command
 abbrev pub command_or_fault : Option Data → Result Command LineFault
 command_or_fault None = Err NotJson
 command_or_fault (Some d) = or_fault BadCommand (command_in true d)

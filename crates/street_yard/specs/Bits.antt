@@ -4,7 +4,7 @@ use Rattle.std.specs.Int.{bit_at}
 use Rattle.std.specs.List.{range_with_len}
 use Rattle.street_yard.specs.Yard.{IsFirstBut}
 
--- whether the bit of list 3 * lane + kind is set: bit lane % 64 of word 3 * (lane / 64) + kind, for each 64 lanes have
+-- whether the bit of list 3 * lane + kind is set: bit lane % 64 of word 3 * (lane / 64) + kind, as each 64 lanes have
 -- three words, one for each kind of list; no past the last word
 abbrev pub bit_of : List ℕ → ℕ → Bool
 bit_of words list = bit_at (slice_index_or words (3 * (list / 3 / 64) + list % 3) 0) (list / 3 % 64) == 1
