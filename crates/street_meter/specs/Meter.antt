@@ -20,8 +20,8 @@ pub record Meter : Type 0 where
 abbrev pub running_seen : RunningRow → MeterRow × ℕ
 running_seen row = (record { start = row.start; passes = row.passes; speeds = row.speeds; occupied = row.occupied }, row.steps)
 
--- the triple of a step: how many vehicles passed, the sum of their speeds, and 1 if the cell was covered at the step's
--- end, else 0
+-- the triple of a step, of three numbers: how many vehicles passed, the sum of their speeds, and 1 if the cell was
+-- covered at the step's end, else 0
 abbrev pub triple : ℕ → ℕ → ℕ → Triple
 triple passes speeds occupied = record { passes = passes; speeds = speeds; occupied = occupied }
 

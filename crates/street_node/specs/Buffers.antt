@@ -39,7 +39,7 @@ pub record AreListed (y : Yard) (ns : List ℕ) : Type 0 where
 abbrev pub AreIn : Yard → Buffers → Type 0
 AreIn y b = AreListed y b.lists
 
--- that no car of the yard has a plan of more links than the most allowed
+-- that no car of the yard has a plan of more than `most_plan` links
 abbrev pub HaveShortPlans : Yard → Type 0
 HaveShortPlans y = (key : ℕ) (car : Car) → car_of y key ≡ Some car → length car.plan.value ≤ most_plan
 

@@ -48,7 +48,7 @@ green_seen t = record { link = t.link; lane = t.lane; next = t.next }
 abbrev pub phase_seen : ℕ → List GreenTurn → Phase
 phase_seen duration turns = record { duration = duration; greens = map green_seen turns }
 
--- the signal plan of the definitions that an offset and phases stand for
+-- the signal plan of the definitions that an offset and phases stand for: these two put together
 abbrev pub plan_seen : ℕ → List Phase → SignalPlan
 plan_seen offset phases = record { offset = offset; phases = phases }
 

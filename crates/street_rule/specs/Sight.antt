@@ -47,7 +47,7 @@ wishes_with changing lane count gap x speed next =
     else nat_lt gap (speed + 1)
 
 -- whether a vehicle with its front at x and its rear at r fits on the other lane: all cells from r to x are free there,
--- the gap ahead is above speed + 1, the gap behind above 5 (16 each where nobody is in sight)
+-- the gap ahead is above speed + 1, the gap behind above 5 (16 each where nothing is in sight)
 abbrev pub has_room : Track → ℕ → ℕ → ℕ → Bool
 has_room other x r speed = are_free other r x && (nat_lt (speed + 1) (free_ahead other x) && nat_lt 5 (free_behind other r))
 

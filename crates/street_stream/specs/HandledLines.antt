@@ -91,7 +91,8 @@ pub record IsTally (tally : Tally) (ls : List (List ℕ)) (es : List Effect) : T
 -- ---- whole runs
 
 -- that a run read its text, from `unread`, to the end (`left`), handled all lines of it, also a last one without LF,
--- and wrote all their replies behind what the writer held (`before`, `after`), all counted
+-- and wrote all their replies behind what the writer held (`before`, `after`), all counted; of unknown bytes (none)
+-- nothing is said
 pub record Whole {S : Type 0} (takes : S → List ℕ → Effect → S → Type 0) (start : S) (unread before : Option (List ℕ))
     (now : S) (left after : Option (List ℕ)) (tally : Tally) : Type 0 where
   pub text : List ℕ
@@ -147,8 +148,9 @@ pub record Breaks {S Stop : Type 0} (takes : S → List ℕ → Effect → S →
   pub replies : CountsReplies tally (output effects) (replies_in effects)
   pub leaves : Leaves stops at_end text done effects mid now cause tally
 
--- that a run stopped early: of the text that it had read from `unread` (`left` is not read) the first lines were
--- handled, and the first bytes of their replies stand behind what the writer held (`before`, `after`), as `Breaks` says
+-- that a run stopped early: of the text read from `unread` (`left` is not read) the first lines were handled, and the
+-- first bytes of their replies stand behind what the writer held (`before`, `after`), as `Breaks` says; of unknown
+-- bytes (none) nothing is said
 pub record Broke {S Stop : Type 0} (takes : S → List ℕ → Effect → S → Type 0) (stops : S → List ℕ → Stop → S → Type 0)
     (start : S) (unread before : Option (List ℕ)) (now : S) (left after : Option (List ℕ)) (cause : StopCause Stop) (tally : Tally) : Type 0 where
   pub text : List ℕ

@@ -16,7 +16,7 @@ pub record IsOpen (most : ℕ) (text : OpenText) (line : List ℕ) : Type 0 wher
   pub inside : IsInsideLine line
 
 -- that the lines ls were handled one after another, from the old state to the new one, and counted by the tally, and
--- that their replies are in the writer behind what it held
+-- that their replies are in the writer behind what it held (`contents`; none where unknown)
 pub record HandlesTo {S Stop W : Type 0} (meaning : Meaning S Stop) (contents : W → Option (List ℕ)) (old : S) (writer : Counted W) (ls : List (List ℕ))
     (new : S) (written : Counted W) (tally : Tally) : Type 0 where
   pub effects : List Effect

@@ -32,8 +32,8 @@ pub record Counts (old new : Tally) (e : Effect) : Type 0 where
   pub replies : new.replies ≡ old.replies + (if has_reply e then 1 else 0)
   pub bytes : new.bytes ≡ old.bytes + length (text_in e.reply)
 
--- that nothing was written to what the writer held (`before`, `after`), and that the new tally counts one line more but
--- no call, no reply and no bytes: as for a line that ended the run
+-- that nothing was written to what the writer held (`before`, `after`; none where unknown), and that the new tally
+-- counts one line more but no call, no reply and no bytes: as for a line that ended the run
 pub record IsUntouched (before : Option (List ℕ)) (old : Tally) (after : Option (List ℕ)) (new : Tally) : Type 0 where
   pub written : Appends before after []
   pub lines : new.lines ≡ old.lines + 1
@@ -74,7 +74,7 @@ module _ {S : Type 0} (takes : S → List ℕ → Effect → S → Type 0) (long
       → (effect : Effect) × takes old line effect new × Appends before after (text_in effect.reply) × Counts tally counted effect
 
   -- that a run is right so far: of the bytes seen since `start` all ended lines were handled and counted, their replies
-  -- stand behind `before`, and the part keeps the line that has not ended
+  -- stand behind `before` in the writer (`after`), and the part keeps the line that has not ended
   abbrev pub Stands : S → Option (List ℕ) → List ℕ → S → Option (List ℕ) → Progress → Type 0
   Stands start before seen now after progress =
       (effects : List Effect) × Handles takes start (cut seen).0 effects now × Appends before after (output effects)

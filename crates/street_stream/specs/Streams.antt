@@ -32,8 +32,8 @@ IsFlushed writer = writer.is_flushed ≡ true
 abbrev pub IsLastRead : {R W : Type 0} → Counted R → Counted W → Type 0
 IsLastRead reader writer = reader.writer_calls ≡ writer.calls
 
--- that the whole text was written behind what was there (`before`, `after`), and that the tally counts one reply and
--- its bytes more, and no more lines or calls
+-- that the whole text was written behind what was there (`before`, `after`; nothing is said where `before` is none,
+-- unknown), and that the tally counts one reply and its bytes more, and no more lines or calls
 pub record IsWritten (before after : Option (List ℕ)) (text : List ℕ) (old new : Tally) : Type 0 where
   pub written : Appends before after text
   pub lines : new.lines ≡ old.lines
@@ -42,7 +42,8 @@ pub record IsWritten (before after : Option (List ℕ)) (text : List ℕ) (old n
   pub bytes : new.bytes ≡ old.bytes + length text
 
 -- that only the first bytes of the text, perhaps none and not all, were written behind what was there (`before`,
--- `after`), and that the tally counts these bytes more, and no more lines, calls or replies
+-- `after`; nothing is said where `before` is none, unknown), and the tally counts these bytes more, and no more lines,
+-- calls or replies
 pub record IsCut (before after : Option (List ℕ)) (text : List ℕ) (old new : Tally) : Type 0 where
   pub sent : ℕ
   pub less : sent < length text

@@ -30,7 +30,7 @@ abbrev pub items_from : {T : Type 0} → (T → Data) → List T → Items
 items_from one [] = no_items
 items_from one (x ∷ xs) = item (one x) (items_from one xs)
 
--- the JSON value of a number
+-- the JSON value of a number, written with digits alone
 abbrev pub number_data : ℕ → Data
 number_data n = number (unsigned n)
 
