@@ -30,8 +30,7 @@ pub record IsSound (m : Inside) : Type 0 where
   pub occupied : m.running.occupied ≤ m.running.steps * 2 ^ 32
   pub room : m.rows.capacity ≡ 32
 
--- the running row after one step more: its start stays, its steps are one more, and passes, speeds and occupied are
--- added to its sums
+-- the running row after one step more: its start stays, its steps are one more, and these three are added to its sums
 abbrev pub row_with : RunningRow → ℕ → ℕ → ℕ → RunningRow
 row_with row passes speeds occupied = record {
   start = row.start;

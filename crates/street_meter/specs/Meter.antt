@@ -45,8 +45,7 @@ Stands m triples = IsRead m.rows m.running (detector_of m triples)
 abbrev pub next_step : Meter → ℕ
 next_step m = m.running.start + m.running.steps
 
--- that the new meter has the lane, cell, period and first step of the old one; of full rows and running row nothing is
--- said
+-- that the new meter has the lane, cell, period and first step of the old one; of its rows nothing is said
 pub record IsPlacedAs (new old : Meter) : Type 0 where
   pub place : new.place ≡ old.place
   pub cell : new.cell ≡ old.cell

@@ -110,8 +110,7 @@ pub record SendsOn (old new : Yard) (n key limit : ℕ) : Type 0 where
   pub whole : IsWhole new
 
 -- that the front of list n was dealt with: if the mouth of the lane that it would enter is shut, nothing changed; if
--- open, it was sent on, loose, within its next link's limit, and put behind those told before, and that mouth is shut
--- now
+-- open, it was sent on, loose, within its next link's limit, put behind those told before, and that mouth is shut now
 pub record SendsFront (net : NetSpec) (n : ℕ) (front : Released) (old new : Yard) (open_old open_new : List Bool) (before after : List Released) : Type 0 where
   pub shut : mouth open_old (lane_to front) ≡ false → (new ≡ old) × (open_new ≡ open_old) × (after ≡ before)
   pub goes : mouth open_old (lane_to front) ≡ true → SendsOn old new n front.key (link_at net front.turn.next).limit

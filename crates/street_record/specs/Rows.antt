@@ -23,7 +23,7 @@ arrival_at m p = arrival_row p (leaver_of m p)
 abbrev pub rows_at : Traffic → Traffic → Place → List RecordRow
 rows_at before after p = lane_rows (slot_of p) (lane_at after p) ++ arrival_rows (slot_of p) (leaver_of before p)
 
--- that the row found is one of these rows and has this slot, 2 * link + lane; or that none was found and no row has
--- that slot
+-- that the row found is one of these rows and has this slot, 2 * link + lane; or that none was found and none has that
+-- slot
 abbrev pub FindsRow : List RecordRow → ℕ → Option RecordRow → Type 0
 FindsRow rows slot found = MatchOption found ((k : ℕ) (d : RecordRow) → k < length rows → (slice_index_or rows k d).slot ≢ slot) (λ row. Contains rows row × (row.slot ≡ slot))

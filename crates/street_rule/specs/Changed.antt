@@ -27,8 +27,8 @@ pub record IsOn (y : Yard) (lists : List ℕ) (k : ℕ) : Type 0 where
   pub on : list_on y k ≡ Some list
 
 -- that lane changes touched no more than the road's `lists`: all cars, all other lists and all keys not on these are as
--- before; who was on one of these is on one, its mark perhaps another; there are as many lists, as much room, and the
--- yard is whole
+-- before; who was on one of these is on one, its mark perhaps another; as many lists, as much room, and lists and
+-- entries agree
 pub record KeepsRest (old new : Yard) (lists : List ℕ) : Type 0 where
   pub others : (n : ℕ) → Away n lists → list_at new n ≡ list_at old n
   pub cars : (k : ℕ) → car_of new k ≡ car_of old k

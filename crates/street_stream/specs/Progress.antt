@@ -57,9 +57,8 @@ pub record IsHalf {S : Type 0} (takes : S → List ℕ → Effect → S → Type
   pub replies : counted.replies ≡ tally.replies
   pub bytes : counted.bytes ≡ tally.bytes + sent
 
--- that a run stopped at a line: by a fault, not of reading, after it was handled, with only the first bytes of its
--- reply written (`IsHalf`); or because the line itself ended the run, of which nothing is written but one line more is
--- counted
+-- that a run stopped at a line: by a fault, not of reading, after the line was handled, with only the first bytes of
+-- its reply written; or because the line itself ended the run, with nothing written and the line counted
 abbrev pub LineBreaks : {S Stop : Type 0} (takes : S → List ℕ → Effect → S → Type 0) (stops : S → List ℕ → Stop → S → Type 0)
     → S → Option (List ℕ) → Tally → List ℕ → S → Option (List ℕ) → StopCause Stop → Tally → Type 0
 LineBreaks takes stops old before tally line new after (Run kind) counted = (IsAtRead kind → ⊥) × IsHalf takes old before tally line new after counted

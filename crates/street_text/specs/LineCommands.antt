@@ -291,8 +291,7 @@ reading line = if nat_lt longest_line (length line) then Err LineTooLong else co
 
 -- ---- what a function answers that may want memory
 
--- that the fault that was answered is the fault that was wanted; or that it is lack of memory, of which nothing is
--- asked
+-- that the fault that was answered is the fault that was wanted; or that it is lack of memory, whatever was wanted
 abbrev pub Fails : {Y : Type 0} → LineFault → Result Y LineFault → Type 0
 Fails Starved wanted = Unit {0}
 Fails LineTooLong wanted = wanted ≡ Err LineTooLong

@@ -15,8 +15,7 @@ use Rattle.street_text.specs.ReplyLines.{items_from, number_data, numbers, meter
 abbrev pub tokens_of : Data → List Token
 tokens_of d = json_tokens (outline d)
 
--- that exactly these tokens were written behind those written before, and that `before`, what stood before all tokens,
--- is the same
+-- that exactly these tokens were written behind those written before, and that `before` is the same
 abbrev pub Adds : List Token → Written → Written → Type 0
 Adds ts old new = (new.before ≡ old.before) × (new.tokens ≡ old.tokens ++ ts)
 
@@ -41,7 +40,7 @@ abbrev pub is_left_out : Field → Bool
 is_left_out (Optional None) = true
 is_left_out f = false
 
--- the members of an object with these fields, each under its key, in their order, without optional numbers that are
+-- the members of an object with these fields, each under its key, in their order, but no optional numbers that are
 -- missing
 abbrev pub members_of : List (Bor (List ℕ) × Field) → Members
 members_of [] = no_members
