@@ -6,7 +6,8 @@ use Rattle.street_base.specs.declared.reply.RunningRow.{RunningRow}
 use Rattle.street_meter.specs.declared.meter.Meter.TheInside.{Inside}
 use Rattle.street_meter.specs.Meter.{Meter}
 
--- the meter, as contracts see it, that the fields stand for
+-- the meter, as contracts see it, that the fields stand for: lane and cell of its site, and its period, first step,
+-- full rows and running row as they are kept
 abbrev pub shown : Inside → Meter
 shown m = record {
   place = m.site.at;
@@ -17,8 +18,8 @@ shown m = record {
   running = m.running;
 }
 
--- that a meter is as it is between two steps: its running row lacks a step at least, no sum can go past its word, and
--- there is room for 32 full rows
+-- that a meter is as it is between two steps: its period is from 1 to `most_period`, its running row lacks a step at
+-- least and ends by `last_clock`, each sum of that row is at most 2^32 a step, and there is room for 32 full rows
 pub record IsSound (m : Inside) : Type 0 where
   pub some : 1 ≤ m.period
   pub short : m.period ≤ most_period
@@ -29,7 +30,7 @@ pub record IsSound (m : Inside) : Type 0 where
   pub occupied : m.running.occupied ≤ m.running.steps * 2 ^ 32
   pub room : m.rows.capacity ≡ 32
 
--- the running row after one step more, whose passes, speeds and occupied are added to its sums
+-- the running row after one step more: its start stays, its steps are one more, and these three are added to its sums
 abbrev pub row_with : RunningRow → ℕ → ℕ → ℕ → RunningRow
 row_with row passes speeds occupied = record {
   start = row.start;
@@ -39,7 +40,7 @@ row_with row passes speeds occupied = record {
   occupied = row.occupied + occupied;
 }
 
--- the full row that a running row becomes when its period is over
+-- the full row that a running row becomes when its period is over: its start and its sums, without the count of steps
 abbrev pub row_full : RunningRow → MeterRow
 row_full row = record { start = row.start; passes = row.passes; speeds = row.speeds; occupied = row.occupied }
 

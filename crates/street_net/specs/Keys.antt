@@ -12,7 +12,7 @@ ids_of_nodes nodes = map (λ node. node.id) nodes
 abbrev pub ids_of_links : List LinkSpec → List ℕ
 ids_of_links links = map (λ link. link.id) links
 
--- what no two turns of a load may share: link, lane and next link
+-- what no two turns of a load may share: link, lane and next link, with both links named by identifier
 abbrev pub turn_key : TurnSpec → ℕ × ℕ × ℕ
 turn_key t = (t.link, t.lane, t.next)
 

@@ -25,14 +25,15 @@ pub record IsBrief (net : NetSpec) (link : ℕ) (brief : Brief) : Type 0 where
   pub same_lanes : brief.lanes ≡ (link_at net link).lanes
   pub same_limit : brief.limit ≡ (link_at net link).limit
 
--- that there is one brief for each link, in the order of the links
+-- that there is one brief for each link, in the order of the links, with its length, lanes, limit and the position of
+-- its end node
 pub record AreBriefs (net : NetSpec) (briefs : List Brief) : Type 0 where
   pub one_each : length briefs ≡ length net.links
   pub told : (link : ℕ) (d : Brief) → link < length net.links → IsBrief net link (slice_index_or briefs link d)
 
 -- ---- the lanes that run to a node
 
--- whether the link of this lane runs to the node at this position
+-- whether the link of this lane runs to the node at this position; no where it runs to no node of the network
 abbrev pub ends_at : NetSpec → ℕ → Place → Bool
 ends_at net node place = option_map_or (λ end. end == node) (node_of net (link_at net place.link).to) false
 
@@ -40,14 +41,16 @@ ends_at net node place = option_map_or (λ end. end == node) (node_of net (link_
 abbrev pub in_places : NetSpec → ℕ → List Place
 in_places net node = filter (ends_at net node) (places net)
 
--- that there is one list for each node, of the lanes that run to it in the order of release
+-- that there is one list for each node, by the node's position, of the lanes that run to it in the order of release: by
+-- the position of the link, then by the lane
 pub record AreInLanes (net : NetSpec) (listed : List (Vec Place Global)) : Type 0 where
   pub one_each : length listed ≡ length net.nodes
   pub lists : (node : ℕ) (d : Vec Place Global) → node < length net.nodes → (slice_index_or listed node d).items ≡ in_places net node
 
 -- ---- the turns from a lane
 
--- a turn of the load from this lane to this next link, with both links named by position
+-- a turn from this lane to this next link, with both links named by position; of the load's turn t only the next lane
+-- is taken
 abbrev pub turn_by_position : Place → ℕ → TurnSpec → Turn
 turn_by_position place next t = record { link = place.link; lane = place.lane; next = next; next_lane = t.next_lane }
 
@@ -55,7 +58,7 @@ turn_by_position place next t = record { link = place.link; lane = place.lane; n
 abbrev pub seen_turn : NetSpec → TurnSpec → Turn
 seen_turn net t = record { link = unwrap_or (link_of net t.link) 0; lane = t.lane; next = unwrap_or (link_of net t.next) 0; next_lane = t.next_lane }
 
--- whether a turn of the load leaves this lane
+-- whether a turn of the load, whose links are identifiers, leaves this lane, whose link is a position
 abbrev pub is_from : NetSpec → Place → TurnSpec → Bool
 is_from net place t = names_link net t.link place.link && (t.lane == place.lane)
 
@@ -63,7 +66,8 @@ is_from net place t = names_link net t.link place.link && (t.lane == place.lane)
 abbrev pub turns_from : NetSpec → Place → List TurnSpec → List Turn
 turns_from net place turns = map (seen_turn net) (filter (is_from net place) turns)
 
--- that a list has exactly the turns from a lane, in the order of their next links
+-- that a list has exactly the turns of the load that leave this lane, their links named by position, in the order of
+-- their next links
 pub record AreTurnsFrom (net : NetSpec) (place : Place) (turns : List Turn) : Type 0 where
   pub same : IsPermutation (turns_from net place net.turns) turns
   pub rising : IsNonDecreasingBy (λ t. t.next) turns
@@ -72,27 +76,30 @@ pub record AreTurnsFrom (net : NetSpec) (place : Place) (turns : List Turn) : Ty
 abbrev pub list_number : Turn → ℕ
 list_number t = 2 * t.link + t.lane
 
--- the number by which the table of turns is sorted: first by the turn's list, then by its next link
+-- the number by which the table of turns is sorted: first by the turn's list (2 * link + lane), then by its next link,
+-- which has 16 bits
 abbrev pub turn_rank : Turn → ℕ
 turn_rank t = list_number t * 65536 + t.next
 
--- that list number `list` begins at position `start` of the sorted turns: turns of lower lists stand before it, no such
--- turn from there on
+-- that list number `list` begins at position `start` of the sorted turns: turns of lower lists stand before it, turns
+-- of this list or higher ones from there on; `start` is the end where there are none of those
 pub record IsStart (turns : List Turn) (list start : ℕ) : Type 0 where
   pub within : start ≤ length turns
   pub before : (k : ℕ) (d : Turn) → k < start → list_number (slice_index_or turns k d) < list
   pub after : (k : ℕ) (d : Turn) → start ≤ k → k < length turns → list ≤ list_number (slice_index_or turns k d)
 
--- that each entry of `starts` is the position where the list of that number begins
+-- that each entry of `starts` is the position in the sorted turns where the list of that number (2 * link + lane)
+-- begins
 abbrev pub AreStarts : List ℕ → List Turn → Type 0
 AreStarts starts turns = (list d : ℕ) → list < length starts → IsStart turns list (slice_index_or starts list d)
 
--- the turns of list number `list`, cut out of the sorted turns between its start and the start of the next list
+-- the turns of list number `list`, 2 * link + lane of the lane that they leave: the sorted turns from its start to
+-- before the start of the next list; no turn where there is no next start
 abbrev pub list_at : List ℕ → List Turn → ℕ → List Turn
 list_at starts turns list = between (slice_index_or starts list 0) (slice_index_or starts (list + 1) 0) turns
 
--- that the table has all turns of the load, sorted, and the start of each list; one start more says where the last list
--- ends
+-- that the table has all turns of the load, links named by position, sorted by lane and then next link, and for each of
+-- two lanes a link the position where its turns begin; one start more says where the last lane's end
 pub record IsTurnTable (net : NetSpec) (starts : List ℕ) (turns : List Turn) : Type 0 where
   pub same : IsPermutation (map (seen_turn net) net.turns) turns
   pub rising : IsNonDecreasingBy turn_rank turns
@@ -112,15 +119,17 @@ FindsTurn turns next found =
 
 -- ---- next links that are kept
 
--- whether a link is one of the at most four next links kept for a lane; 65535 stands for an empty entry
+-- whether a link, by its position, is one of the at most four next links kept for a lane; 65535 stands for an empty
+-- entry
 abbrev pub has_next : Nexts → ℕ → Bool
 has_next n next = nat_lt next 65535 && (((n.first == next || n.second == next) || n.third == next) || n.fourth == next)
 
--- that a lane serves the link at position `next`, unless `next` is 65535 or more, which names no link
+-- that a lane has a turn to the link at position `next`; nothing is said where `next` is 65535 or more, which names no
+-- link
 abbrev pub IsServedOrNone : NetSpec → Place → ℕ → Type 0
 IsServedOrNone net place next = next < 65535 → serves net place next ≡ true
 
--- that a lane serves every next link that is kept for it
+-- that a lane has a turn to every next link that is kept for it, at most four
 abbrev pub AreServed : NetSpec → Place → Nexts → Type 0
 AreServed net place n = (next : ℕ) → has_next n next ≡ true → serves net place next ≡ true
 
@@ -130,14 +139,16 @@ pub record IsKept (net : NetSpec) (link : ℕ) (pair : Pair) : Type 0 where
   pub zero : AreServed net (record { link = link; lane = 0 }) pair.zero
   pub one : AreServed net (record { link = link; lane = 1 }) pair.one
 
--- that the next links kept for each link are served by its lanes; the list may be shorter than that of links
+-- that the next links kept for each link are served by its lanes, entry by entry; the list may be shorter than that of
+-- links
 abbrev pub AreKept : NetSpec → List Pair → Type 0
 AreKept net pairs = (link : ℕ) (d : Pair) → link < length pairs → IsKept net link (slice_index_or pairs link d)
 
 -- ---- a network
 
--- that a network is ready for steps: its load has no fault, its identifiers are listed in the order of the load, and
--- its tables are right
+-- that a network is ready for steps: its load has no fault, the identifiers of nodes and of links are listed in the
+-- order of the load, and right are the briefs of links, the lanes to each node, the turns of each lane and the next
+-- links kept
 pub record IsChecked (net : NetSpec) (nodes links : List ℕ) (briefs : List Brief) (in_lanes : List (Vec Place Global)) (starts : List ℕ)
     (turns : List Turn) (nexts : List Pair) : Type 0 where
   pub faultless : network_fault net ≡ None

@@ -14,8 +14,8 @@ pub record Buffers : Type 0 where
   pub capacity : ℕ
   pub lists : List ℕ
 
--- the list of the buffer of a node's lane, which is named by its position among the lanes that run to the node; 0 where
--- there is none
+-- the list of the buffer of a node's lane, which is named by its position among the lanes that run to the node, in the
+-- order of release; 0 where there is none
 abbrev pub list_of : Buffers → ℕ → ℕ
 list_of b lane = slice_index_or b.lists lane 0
 
@@ -23,8 +23,8 @@ list_of b lane = slice_index_or b.lists lane 0
 abbrev pub node_at : NetSpec → ℕ → NodeSpec
 node_at net node = slice_index_or net.nodes node (record { id = 0; residence = 0; capacity = 0 })
 
--- that these buffers fit the network: their node is one of its nodes, with its capacity, and each lane that runs to it
--- has one list
+-- that these buffers fit the network: their node is one of its nodes, with its capacity, and there are as many lists as
+-- lanes that run to it
 pub record AreOf (net : NetSpec) (b : Buffers) : Type 0 where
   pub node : b.node < length net.nodes
   pub capacity : b.capacity ≡ (node_at net b.node).capacity
@@ -35,11 +35,11 @@ pub record AreListed (y : Yard) (ns : List ℕ) : Type 0 where
   pub within : All (λ n. n < length y.lists) ns
   pub apart : IsApart ns
 
--- that the buffers of a node are lists of the yard, and no two are the same
+-- that the lists of a node's buffers are lists of the yard, and no two are the same
 abbrev pub AreIn : Yard → Buffers → Type 0
 AreIn y b = AreListed y b.lists
 
--- that no car of the yard has a plan of more links than the most allowed
+-- that no car of the yard has a plan of more than `most_plan` links
 abbrev pub HaveShortPlans : Yard → Type 0
 HaveShortPlans y = (key : ℕ) (car : Car) → car_of y key ≡ Some car → length car.plan.value ≤ most_plan
 
@@ -48,11 +48,13 @@ HaveShortPlans y = (key : ℕ) (car : Car) → car_of y key ≡ Some car → len
 abbrev pub queued_of : Car → Queued
 queued_of car = record { vehicle = vehicle_of car; ready = car.step }
 
--- the buffer of the definitions that list n of the yard stands for, its front first
+-- the buffer that list n of the yard stands for: for each of its keys, the front first, the vehicle and the step from
+-- which it may go on; keys without a car are left out
 abbrev pub queue_of : Yard → ℕ → List Queued
 queue_of y n = filter_map (λ k. option_map queued_of (car_of y k)) (list_at y n)
 
--- the yard after key k was put at the back of list n, a buffer, to go on from the step `ready`
+-- the yard after key k was put at the back of list n, a buffer: the key is noted as on that list, and `ready` is the
+-- step from which its car may go on
 abbrev pub taken_in : Yard → ℕ → ℕ → ℕ → Yard
 taken_in y n k ready = record y {
   lists = slice_set y.lists n (list_at y n ++ k ∷ []);

@@ -17,7 +17,8 @@ use Rattle.street_base.specs.declared.command.PhaseSpec.{PhaseSpec}
 abbrev pub turn_cmp : GreenTurn → GreenTurn → Ordering
 turn_cmp = then_cmp (on (λ t. t.link) nat_cmp) (then_cmp (on (λ t. t.lane) nat_cmp) (on (λ t. t.next) nat_cmp))
 
--- a green turn as one number, which gives the same order as `turn_cmp` where lanes have 8 bits and links 16
+-- a green turn as one number, which gives the same order as `turn_cmp` (link, lane, next link) where lanes have 8 bits
+-- and links 16
 abbrev pub turn_rank : GreenTurn → ℕ
 turn_rank t = t.link * 16777216 + t.lane * 65536 + t.next
 
@@ -29,24 +30,25 @@ IsInOrder turns = IsSortedBy (λ a b. is_lt (turn_cmp a b)) turns
 abbrev pub mark_of : ℕ → ℕ
 mark_of link = link % 64
 
--- that for each of these green turns the bit of its link is set among the marks; other bits may be set too
+-- that for each of these green turns the bit of its link, link % 64, is set among the marks; other bits may be set too
 abbrev pub HasMarks : ℕ → List GreenTurn → Type 0
 HasMarks marks turns = All (λ t. bit_at marks (mark_of t.link) ≡ 1) turns
 
--- that the green turns kept of a phase are in order, and that the bit of each one's link is set among the marks
+-- that the green turns kept of a phase are in the order of link, lane and next link, and that the bit of each one's
+-- link (link % 64) is set among the marks; other bits may be set too
 pub record AreKeptGreens (marks : ℕ) (turns : List GreenTurn) : Type 0 where
   pub ordered : IsInOrder turns
   pub marked : HasMarks marks turns
 
--- the green turn of the definitions that one of the code stands for
+-- the green turn of the definitions that one of the code stands for: the same link, lane and next link
 abbrev pub green_seen : GreenTurn → Green
 green_seen t = record { link = t.link; lane = t.lane; next = t.next }
 
--- the phase of the definitions that a duration and the green turns of the code stand for
+-- the phase of the definitions that a duration and the green turns of the code stand for, turn by turn
 abbrev pub phase_seen : ℕ → List GreenTurn → Phase
 phase_seen duration turns = record { duration = duration; greens = map green_seen turns }
 
--- the signal plan of the definitions that an offset and phases stand for
+-- the signal plan of the definitions that an offset and phases stand for: these two put together
 abbrev pub plan_seen : ℕ → List Phase → SignalPlan
 plan_seen offset phases = record { offset = offset; phases = phases }
 
@@ -60,7 +62,8 @@ pub record IsSamePhase (phase other : Phase) : Type 0 where
   pub duration : phase.duration ≡ other.duration
   pub greens : IsPermutation other.greens phase.greens
 
--- that these phases are, one by one, those of the command, with links named by position and greens in whatever order
+-- that these phases are, one by one, those of the command: each lasts as long and has the same green turns in whatever
+-- order, links named by position in place of identifier; phases behind them, if any, do not matter
 abbrev pub AreSamePhases : NetSpec → List PhaseSpec → List Phase → Type 0
 AreSamePhases net told phases =
     (k : ℕ) (d : Phase) (e : PhaseSpec) → k < length told → IsSamePhase (slice_index_or phases k d) (phase_of_spec net (slice_index_or told k e))
@@ -70,8 +73,8 @@ pub record ShowsAs (plan other : SignalPlan) : Type 0 where
   pub cycle_is : cycle plan ≡ cycle other
   pub green_is : (place : Place) (next step : ℕ) → is_green (Some plan) place next step ≡ is_green (Some other) place next step
 
--- whether the phase at a time from the start of these phases shows a turn from the lane at `place` to `next` green; no
--- past the last phase
+-- whether a turn from the lane at `place` to `next` is green at a time from the start of these phases, by the phase in
+-- whose duration that time falls; no past the last phase
 abbrev pub shown : Place → ℕ → List Phase → ℕ → Bool
 shown place next [] time = false
 shown place next (phase ∷ phases) time = if nat_lt time phase.duration then lists phase place next else shown place next phases (time - phase.duration)
@@ -80,7 +83,8 @@ shown place next (phase ∷ phases) time = if nat_lt time phase.duration then li
 abbrev pub node_id : NetSpec → ℕ → ℕ
 node_id net node = (slice_index_or net.nodes node (record { id = 0; residence = 0; capacity = 0 })).id
 
--- that the fault told of a signal plan is the plan's first; or, where it has none, that it is lack of memory
+-- that the fault told of a signal plan is at the position of its first fault; or that it is lack of memory, which is
+-- told only where the plan has no fault
 abbrev pub TellsSignalFault : Option ℕ → SignalFault → Type 0
 TellsSignalFault first (Bad at) = first ≡ Some at
 TellsSignalFault first Starved = first ≡ None

@@ -5,7 +5,7 @@ use Rattle.street_base.specs.declared.names.Place.{Place}
 use Rattle.street_base.specs.Prelude.{is_place, places, is_free, Traffic, lane_at, one_if, may_give}
 use Rattle.street_net.specs.Prelude.{mouth}
 
--- how often lane q stands in a list of lanes
+-- how often the lane q stands in a list of lanes
 abbrev pub times : Place → List Place → ℕ
 times q ps = sum_by (λ p. one_if (is_place q p)) ps
 
@@ -13,14 +13,14 @@ times q ps = sum_by (λ p. one_if (is_place q p)) ps
 abbrev pub AtMostOnce : List Place → Type 0
 AtMostOnce ps = (q : Place) → times q ps ≤ 1
 
--- that going through these buffers in order finds the same giver for each lane as the rule: none comes twice, and the
--- first that may give to a lane is the network's first
+-- that no lane stands twice in `ps`, and that for each lane `to` to which a front of these buffers may go the first
+-- such buffer of `ps` is also the first of the whole network: going through `ps` in order finds the giver of the rule
 pub record IsWalk (m : Traffic) (ps : List Place) : Type 0 where
   pub once : AtMostOnce ps
   pub firsts : (k : ℕ) (to from : Place) → slice_get ps k ≡ Some from → may_give m to from ≡ true
       → find (may_give m to) ps ≡ find (may_give m to) (places m.network)
 
--- that after the first k buffers of a walk the mouth of each lane `Among` is open exactly if its cell 0 is free and no
--- front of those buffers may go there
+-- that after the first k buffers of `ps` the mouth of each lane of which `Among` holds is open exactly if its cell 0 is
+-- free and no ready front of those k buffers may go there
 abbrev pub AreShut : Traffic → (Place → Type 0) → List Place → ℕ → List Bool → Type 0
 AreShut m Among ps k mouths = (p : Place) → Among p → mouth mouths p ≡ is_free (lane_at m p).track 0 && not (list_any (may_give m p) (take k ps))

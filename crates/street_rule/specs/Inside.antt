@@ -4,7 +4,8 @@ use Rattle.street_base.specs.Prelude.{link_at}
 use Rattle.street_rule.specs.declared.road.Road.TheInside.{Inside}
 use Rattle.street_rule.specs.Road.{Road, lane_seen}
 
--- the road, as contracts see it, that the fields stand for: its network, its link's position, and its one or two lanes
+-- the road, as contracts see it, that the fields stand for: its network, its link's position, and its one or two lanes,
+-- each with its list and closed stretches
 abbrev pub seen : Inside → Road
 seen r = record {
   network = r.network.now;

@@ -12,7 +12,8 @@ pub record RoadLane : Type 0 where
   pub list : ℕ
   pub closed : List Stretch
 
--- a link, by its position in the network, with its lanes as lists of the yard; passes over a link work on it
+-- a link, by its position in the network, with its lanes, lane 0 first, each as a list of the yard with its closed
+-- stretches
 pub record Road : Type 0 where
   pub network : NetSpec
   pub link : ℕ
@@ -38,12 +39,13 @@ length_of road = (link_at road.network road.link).length
 abbrev pub track_of : Yard → ℕ → RoadLane → Track
 track_of y count lane = record { cells = cells_at y lane.list count; closed = closed_marks lane.closed count }
 
--- the cells and closed marks of each lane of a road
+-- the cells and closed marks of each lane of a road, lane 0 first, made of the vehicles on its list and its closed
+-- stretches
 abbrev pub tracks : Yard → Road → List Track
 tracks y road = map (track_of y (length_of road)) road.lanes
 
--- that a lane of a road fits the yard: its list is there and stands for a lane of `count` cells, and its closed
--- stretches lie within these
+-- that a lane of a road fits the yard: its list is one of the yard's and stands for a lane of `count` cells, no two
+-- vehicles in one cell, and its closed stretches lie within these
 pub record IsRoadLane (y : Yard) (count : ℕ) (lane : RoadLane) : Type 0 where
   pub listed : lane.list < length y.lists
   pub stands : IsLane y lane.list count
@@ -53,7 +55,8 @@ pub record IsRoadLane (y : Yard) (count : ℕ) (lane : RoadLane) : Type 0 where
 abbrev pub lists_of : Road → List ℕ
 lists_of road = map (λ lane. lane.list) road.lanes
 
--- that a road fits the yard: each of its lanes does, and no two lanes have one list
+-- that a road fits the yard: each of its lanes has a list of the yard that stands for a lane of the link's length, and
+-- closed stretches within it, and no two lanes have one list
 pub record IsRoad (y : Yard) (road : Road) : Type 0 where
   pub lanes : All (IsRoadLane y (length_of road)) road.lanes
   pub apart : IsApart (lists_of road)

@@ -22,7 +22,7 @@ Passes W = W → Result (Unit {0}) Error → W → Type 0
 
 -- ---- the writer
 
--- that the writer got exactly n writes, whatever each returned, and no other call
+-- that the writer got exactly n writes, of whatever bytes and whatever each returned, and no other call
 abbrev pub AreWrites : {W : Type 0} → Takes W → ℕ → W → W → Type 0
 AreWrites takes zero old new = new ≡ old
 AreWrites {W} takes (suc n) old new = (mid : W) × (bytes : List ℕ) × (result : Result ℕ Error) × AreWrites takes n old mid × takes mid bytes result new
@@ -31,42 +31,43 @@ AreWrites {W} takes (suc n) old new = (mid : W) × (bytes : List ℕ) × (result
 abbrev pub OnlyWrites : {W : Type 0} → Takes W → W → W → Type 0
 OnlyWrites takes old new = (n : ℕ) × AreWrites takes n old new
 
--- that the writer got some writes and then one flush, which did not fail, and no other call
+-- that the writer got some writes, perhaps none, and then one flush, which did not fail, and no other call
 abbrev pub PassesOn : {W : Type 0} → Takes W → Passes W → W → W → Type 0
 PassesOn {W} takes passes old new = (mid : W) × OnlyWrites takes old mid × passes mid (Ok tt) new
 
--- that the writer got some writes, and then at most one flush, which failed, and no other call
+-- that the writer got some writes, perhaps none, and then at most one flush, which failed, and no other call
 abbrev pub IsCutShort : {W : Type 0} → Takes W → Passes W → W → W → Type 0
 IsCutShort {W} takes passes old new = OnlyWrites takes old new ⊎ ((mid : W) × (error : Error) × OnlyWrites takes old mid × passes mid (Err error) new)
 
 -- ---- the reader
 
--- that the reader got exactly one read, with whatever buffer and result
+-- that the reader got exactly one read, with whatever buffer, whatever it returned
 abbrev pub IsRead : {R : Type 0} → Gives R → R → R → Type 0
 IsRead gives old new = (buffer : List ℕ) × (result : Result ℕ Error) × (filled : List ℕ) × gives old buffer result new filled
 
--- that the reader got exactly one read, and that it failed
+-- that the reader got exactly one read, with whatever buffer, and that it failed
 abbrev pub IsReadThatFailed : {R : Type 0} → Gives R → R → R → Type 0
 IsReadThatFailed gives old new = (buffer : List ℕ) × (error : Error) × (filled : List ℕ) × gives old buffer (Err error) new filled
 
 -- ---- both
 
 module _ {R W : Type 0} (gives : Gives R) (takes : Takes W) (passes : Passes W) where
-  -- that reader and writer got exactly n rounds and no other call; a round is one read, then writes, then a flush that
-  -- did not fail
+  -- that reader and writer got exactly n rounds and no other call; a round is one read, whatever it returned, then
+  -- writes, perhaps none, then a flush that did not fail
   abbrev pub AreRounds : ℕ → R → W → R → W → Type 0
   AreRounds zero reader writer read written = (read ≡ reader) × (written ≡ writer)
   AreRounds (suc n) reader writer read written =
       (mid : R) × (between : W) × AreRounds n reader writer mid between × IsRead gives mid read × PassesOn takes passes between written
 
-  -- that reader and writer got n - 1 whole rounds, then one last read as `reads` says and behind it the calls of the
-  -- writer that `writes` says
+  -- that reader and writer got n - 1 whole rounds (a read, writes, a flush that did not fail), then one last read as
+  -- `reads` says and behind it the calls of the writer that `writes` says; n is at least 1
   abbrev pub EndsIn : (R → R → Type 0) → (W → W → Type 0) → ℕ → R → W → R → W → Type 0
   EndsIn reads writes n reader writer read written =
       (rounds : ℕ) × (mid : R) × (between : W) × (n ≡ rounds + 1) × AreRounds rounds reader writer mid between × reads mid read × writes between written
 
-  -- which calls a run of n reads made before it stopped for this cause: none behind a failed read, whole rounds if
-  -- reads ran out, else writes and at most a failed flush
+  -- which calls a run of n reads made before it stopped for this cause: n whole rounds where reads ran out; else n - 1
+  -- rounds and a last read, which failed with no write behind it (`Read`), or was followed by writes and at most one
+  -- flush, a failed one
   abbrev pub BreaksOff : {S : Type 0} → StopCause S → ℕ → R → W → R → W → Type 0
   BreaksOff (Run Read) n = EndsIn (IsReadThatFailed gives) (λ old new. new ≡ old) n
   BreaksOff (Run Endless) n = AreRounds n

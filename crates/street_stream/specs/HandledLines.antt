@@ -33,15 +33,15 @@ text_in (Some out) = out
 abbrev pub has_reply : Effect → Bool
 has_reply e = has_text e.reply
 
--- that the handler returned the text of this reply, or none where there is none; or that memory ran out for a reply
--- that has bytes
+-- that the handler returned the text of this reply, or none where there is no reply; or that memory ran out, which it
+-- can only for a reply that has bytes
 abbrev pub GivesText : Result (Option (Vec ℕ Global)) Starved → Option (List ℕ) → Type 0
 GivesText (Ok None) reply = reply ≡ None
 GivesText (Ok (Some text)) reply = reply ≡ Some text.items
 GivesText (Err starved) reply = (out : List ℕ) × (0 < length out) × (reply ≡ Some out)
 
--- that a handler's answer to a line says what the line gave: whether it is a call, and its reply, for which memory may
--- have run out
+-- that a handler's answer to a line says what the line gave: whether it is a call, and its reply, if any; where memory
+-- ran out for the reply, that there is one that has bytes
 pub record Gives (answer : LineAnswer) (effect : Effect) : Type 0 where
   pub is_call : answer.is_call ≡ effect.is_call
   pub text : GivesText answer.reply effect.reply
@@ -53,13 +53,15 @@ pub record Meaning (S Stop : Type 0) : Type 1 where
   pub takes : S → List ℕ → Effect → S → Type 0
   pub stops : S → List ℕ → Stop → S → Type 0
 
--- that the line was handled from the old state to the new one, and that the answer says what it gave
+-- that the line was handled from the old state to the new one, and that the answer says what it gave: whether it is a
+-- call, and its reply, if any, unless memory ran out for it
 abbrev pub Handled : {S : Type 0} → (S → List ℕ → Effect → S → Type 0) → S → List ℕ → S → LineAnswer → Type 0
 Handled takes old line new answer = (effect : Effect) × takes old line effect new × Gives answer effect
 
 -- ---- lines
 
--- that these lines, handled one after another, give these effects and lead from the old state to the new one
+-- that these lines, handled one after another, give these effects, one a line, and lead from the old state to the new
+-- one; no lines give none and leave the state
 abbrev pub Handles : {S : Type 0} → (S → List ℕ → Effect → S → Type 0) → S → List (List ℕ) → List Effect → S → Type 0
 Handles takes old [] effects new = (new ≡ old) × (effects ≡ [])
 Handles {S} takes old (l ∷ ls) effects new =
@@ -78,7 +80,8 @@ calls_in es = count_by (λ e. e.is_call) es
 abbrev pub replies_in : List Effect → ℕ
 replies_in es = count_by has_reply es
 
--- that a tally counts these lines: how many, the calls among them, their replies and the bytes of these
+-- that a tally counts these lines: how many they are, the calls among them, how many got replies, and the bytes of all
+-- replies together
 pub record IsTally (tally : Tally) (ls : List (List ℕ)) (es : List Effect) : Type 0 where
   pub lines : tally.lines ≡ length ls
   pub calls : tally.calls ≡ calls_in es
@@ -87,8 +90,9 @@ pub record IsTally (tally : Tally) (ls : List (List ℕ)) (es : List Effect) : T
 
 -- ---- whole runs
 
--- that a run read its text to the end, handled all lines of it, and wrote all their replies behind what was in the
--- writer (`before`, `after`), all counted
+-- that a run read its text, from `unread`, to the end (`left`), handled all lines of it, also a last one without LF,
+-- and wrote all their replies behind what the writer held (`before`, `after`), all counted; of unknown bytes (none)
+-- nothing is said
 pub record Whole {S : Type 0} (takes : S → List ℕ → Effect → S → Type 0) (start : S) (unread before : Option (List ℕ))
     (now : S) (left after : Option (List ℕ)) (tally : Tally) : Type 0 where
   pub text : List ℕ
@@ -101,11 +105,13 @@ pub record Whole {S : Type 0} (takes : S → List ℕ → Effect → S → Type 
 
 -- ---- broken runs
 
--- that a text ends where a line ends: with LF, or, if the end of all was reached, with nothing following
+-- that a text ends where a line ends: with LF; or anywhere, if no rest follows it and `at_end` holds, which says that
+-- the end of all was reached
 abbrev pub EndsLine : List ℕ → List ℕ → Type 0 → Type 0
 EndsLine text rest at_end = ((front : List ℕ) × (text ≡ front ++ 10 ∷ [])) ⊎ ((rest ≡ []) × at_end)
 
--- that `line` is the line of the text right behind the lines `done`, and that it was read to its end
+-- that `line` is the line of the text right behind the lines `done`, and that it was read to its end: its LF came, or
+-- the text ends there and `at_end` says that no more comes
 pub record IsNext (at_end : Type 0) (text : List ℕ) (done : List (List ℕ)) (line : List ℕ) : Type 0 where
   pub first : List ℕ
   pub rest : List ℕ
@@ -113,8 +119,9 @@ pub record IsNext (at_end : Type 0) (text : List ℕ) (done : List (List ℕ)) (
   pub ended : EndsLine first rest at_end
   pub lines : lines_of first ≡ done ++ line ∷ []
 
--- that state and tally are right where a run stopped: by a fault, in the state of the lines done; or by a line, which
--- is counted but of which nothing is written
+-- that state and tally are right where a run stopped: by a fault, in the state `mid` behind the lines done, which at a
+-- read are all ended lines, all replied to; or by the next line, counted but not replied to, in the state where that
+-- line stops
 abbrev pub Leaves : {S Stop : Type 0} → (S → List ℕ → Stop → S → Type 0)
     → Type 0 → List ℕ → List (List ℕ) → List Effect → S → S → StopCause Stop → Tally → Type 0
 Leaves stops at_end text done effects mid now (Run kind) tally =
@@ -122,8 +129,9 @@ Leaves stops at_end text done effects mid now (Run kind) tally =
 Leaves stops at_end text done effects mid now (Line stop) tally =
     (line : List ℕ) × IsNext at_end text done line × stops mid line stop now × (tally.lines ≡ length done + 1) × (tally.bytes ≡ length (output effects))
 
--- that a run which stopped early handled the first lines of the text and wrote the first bytes of their replies; of
--- these at most the last is cut off
+-- that a run which stopped early handled the first lines of the text, `done`, and wrote the first bytes of their
+-- replies, as many as the tally counts, with at most the last reply cut off; calls are counted, and `Leaves` tells of
+-- state and lines
 pub record Breaks {S Stop : Type 0} (takes : S → List ℕ → Effect → S → Type 0) (stops : S → List ℕ → Stop → S → Type 0) (at_end : Type 0)
     (start : S) (before : Option (List ℕ)) (text : List ℕ) (now : S) (after : Option (List ℕ)) (cause : StopCause Stop) (tally : Tally) : Type 0 where
   -- the lines that were handled, those that were not, and what the first gave
@@ -140,8 +148,9 @@ pub record Breaks {S Stop : Type 0} (takes : S → List ℕ → Effect → S →
   pub replies : CountsReplies tally (output effects) (replies_in effects)
   pub leaves : Leaves stops at_end text done effects mid now cause tally
 
--- that a run stopped before the end of its input: of what it had read the first lines were handled, and the first bytes
--- of their replies are in the writer
+-- that a run stopped early: of the text read from `unread` (`left` is not read) the first lines were handled, and the
+-- first bytes of their replies stand behind what the writer held (`before`, `after`), as `Breaks` says; of unknown
+-- bytes (none) nothing is said
 pub record Broke {S Stop : Type 0} (takes : S → List ℕ → Effect → S → Type 0) (stops : S → List ℕ → Stop → S → Type 0)
     (start : S) (unread before : Option (List ℕ)) (now : S) (left after : Option (List ℕ)) (cause : StopCause Stop) (tally : Tally) : Type 0 where
   pub text : List ℕ
@@ -151,21 +160,21 @@ pub record Broke {S Stop : Type 0} (takes : S → List ℕ → Effect → S → 
 -- ---- runs from one counted stream to another
 
 module _ {S Stop D W : Type 0} (meaning : Meaning S Stop) (remaining : D → Option (List ℕ)) (contents : W → Option (List ℕ)) where
-  -- that a run from reader to writer reached the reader's end, handled all of its lines, and put all their replies into
-  -- the writer
+  -- that a run from reader to writer reached the reader's end, handled all of its lines, also a last one without LF,
+  -- and put all their replies into the writer behind what it held, all counted
   abbrev pub HandlesAll : S → Counted D → Counted W → S → Counted D → Counted W → Tally → Type 0
   HandlesAll old reader writer new read written tally =
       Whole meaning.takes old (remaining reader.stream) (contents writer.stream) new (remaining read.stream) (contents written.stream) tally
 
-  -- that a run from reader to writer stopped early: of what it read the first lines were handled, and the first bytes
-  -- of their replies are in the writer
+  -- that a run from reader to writer stopped early, for the cause in `halt`: of what it read the first lines were
+  -- handled, and the first bytes of their replies are in the writer, as the tally in `halt` counts
   abbrev pub HandlesFirst : S → Counted D → Counted W → S → Counted D → Counted W → Halt Stop → Type 0
   HandlesFirst old reader writer new read written halt =
       Broke meaning.takes meaning.stops old (remaining reader.stream) (contents writer.stream) new (remaining read.stream)
       (contents written.stream) halt.cause halt.tally
 
   -- what a run of at most `reads` reads did: it handled all lines, or it stopped early with a cause that the streams
-  -- counted
+  -- counted, unless a line ended it or memory ran out; the reader then counts at most `reads` calls
   pub record Drives (reads : ℕ) (old : S) (reader : Counted D) (writer : Counted W) (run : Result Tally (Halt Stop))
       (new : S) (read : Counted D) (written : Counted W) : Type 0 where
     pub whole : IfOk run (HandlesAll old reader writer new read written)

@@ -23,7 +23,7 @@ if_any (x ∷ xs) = (x ∷ xs) ∷ []
 abbrev pub lines_of : List ℕ → List (List ℕ)
 lines_of text = (cut text).0 ++ if_any (cut text).1
 
--- that none of these bytes is LF, so that they lie inside one line
+-- that none of these bytes is LF (10), so that they lie inside one line
 abbrev pub IsInsideLine : List ℕ → Type 0
 IsInsideLine bytes = (k : ℕ) → k < length bytes → slice_index bytes k ≢ 10
 
@@ -36,11 +36,13 @@ abbrev pub is_blank : List ℕ → Bool
 is_blank [] = true
 is_blank (b ∷ bs) = is_space b && is_blank bs
 
--- what is kept of a line that may have `most` bytes: at most one byte more, which shows that the line is too long
+-- what is kept of a line that may have `most` bytes: its first `most` + 1 bytes, of which the last shows that the line
+-- is too long
 unfoldable pub kept : ℕ → List ℕ → List ℕ
 kept most line = take (most + 1) line
 
--- that the part is what is kept of this line, which may have `most` bytes, and says whether the line is blank
+-- that the part is what is kept of this line: it says that a line may have `most` bytes, has the line's first `most` +
+-- 1 bytes, or all, and says whether the whole line is blank
 pub record IsPart (most : ℕ) (part : PartialLine) (line : List ℕ) : Type 0 where
   pub limit : part.most ≡ most
   pub bytes : part.bytes.items ≡ kept most line

@@ -6,13 +6,14 @@ use Rattle.street_stream.specs.declared.counted.Counted.{Counted}
 use Rattle.street_stream.specs.declared.log.KeepFault.{KeepFault}
 use Rattle.street_stream.specs.declared.log.KeepFault.TheVariants.{Log, Output}
 
--- that the new contents are the old ones with some bytes, perhaps none, behind them
+-- that the new contents are the old ones with some bytes, perhaps none, behind them; nothing is said where the old
+-- contents are unknown (none)
 abbrev pub Extends : Option (List ℕ) → Option (List ℕ) → Type 0
 Extends old new = (more : List ℕ) × Appends old new more
 
 module _ {L W : Type 0} (held synced : L → Option (List ℕ)) (has_failed : L → Type 0) (contents : W → Option (List ℕ)) where
-  -- what a fault left: where the log failed, it has the first bytes of the entries and the writer got nothing; where
-  -- the writer failed, all entries are synced and it has the replies' first bytes
+  -- what a fault left: where the log failed, it holds first bytes of the entries, of which no more are synced, and the
+  -- writer got nothing; where the writer failed, all entries are held and synced, and it has first bytes of the replies
   abbrev pub KeepStops : L → Counted W → List ℕ → List ℕ → L → Counted W → KeepFault → Type 0
   KeepStops old writer entries replies new written Log =
       (written ≡ writer) × ((sent : ℕ) × (stayed : ℕ) × (stayed ≤ sent) × Appends (held old) (held new) (take sent entries) × Appends (synced old) (synced new) (take stayed entries))

@@ -9,14 +9,14 @@ use Rattle.street_stream.specs.declared.counted.Counted.{Counted}
 use Rattle.street_stream.specs.declared.open_text.OpenText.{OpenText}
 use Rattle.street_stream.specs.declared.tally.Tally.{Tally}
 
--- that `line` is what has come so far of the last line of an open text, of which the text keeps no more than it needs;
--- no LF has come yet
+-- that `line` is what has come so far of the last line of an open text, which may have `most` bytes and of which the
+-- text keeps one byte more at most; no LF has come yet
 pub record IsOpen (most : ℕ) (text : OpenText) (line : List ℕ) : Type 0 where
   pub part : IsPart most text.progress.part line
   pub inside : IsInsideLine line
 
--- that these lines were handled one after another and counted, and that their replies are in the writer behind what it
--- held
+-- that the lines ls were handled one after another, from the old state to the new one, and counted by the tally, and
+-- that their replies are in the writer behind what it held (`contents`; none where unknown)
 pub record HandlesTo {S Stop W : Type 0} (meaning : Meaning S Stop) (contents : W → Option (List ℕ)) (old : S) (writer : Counted W) (ls : List (List ℕ))
     (new : S) (written : Counted W) (tally : Tally) : Type 0 where
   pub effects : List Effect
@@ -24,8 +24,8 @@ pub record HandlesTo {S Stop W : Type 0} (meaning : Meaning S Stop) (contents : 
   pub replied : Appends (contents writer.stream) (contents written.stream) (output effects)
   pub counted : IsTally tally ls effects
 
--- that a text was ended early: by a fault, after its first lines were handled; or by the next whole line, which is
--- counted too
+-- that a text was ended early: by a fault, after its first lines, all that are counted, were handled; or by a line that
+-- ended with LF, after those before it were handled, and this line is counted too
 abbrev pub HaltsIn : {S Stop : Type 0} → Meaning S Stop → S → List ℕ → S → StopCause Stop → Tally → Type 0
 HaltsIn meaning old text new (Run kind) tally = (done : List (List ℕ)) × (rest : List (List ℕ)) × (effects : List Effect)
     × (lines_of text ≡ done ++ rest) × Handles meaning.takes old done effects new × (tally.lines ≡ length done)

@@ -10,20 +10,21 @@ use Rattle.street_text.specs.ReplyLines.{number_data, node_data, link_data, turn
 
 -- ---- objects, their keys in byte order
 
--- the JSON object of a `load` of this network
+-- the JSON object of a `load` of this network: change, cmd, dawdle, links, nodes, seed, start, turns and zone, in byte
+-- order of keys
 abbrev pub load_data : NetSpec → Data
 load_data net =
     object (number_at (codes "change") net.change (text_at (codes "cmd") (codes "load") (number_at (codes "dawdle") net.dawdle
     (list_at (codes "links") link_data net.links (list_at (codes "nodes") node_data net.nodes (number_at (codes "seed") net.seed
     (number_at (codes "start") net.start (list_at (codes "turns") turn_data net.turns (number_at (codes "zone") net.zone no_members)))))))))
 
--- the JSON object of a `close` or `reopen` (by its name) of a lane's cells from `first` to `last`
+-- the JSON object of a command of this name (`close` or `reopen`) for the cells of a lane from `first` to `last`
 abbrev pub stretch_data_of : List ℕ → ℕ → ℕ → ℕ → ℕ → Data
 stretch_data_of name link lane first last =
     object (text_at (codes "cmd") name (number_at (codes "first") first (number_at (codes "lane") lane (number_at (codes "last") last
     (number_at (codes "link") link no_members)))))
 
--- the JSON object of a command, by its name, that asks for or takes out the vehicle of a number
+-- the JSON object of a command of this name (`takeout` or `vehicle`) for the vehicle of a number
 abbrev pub car_data_of : List ℕ → ℕ → Data
 car_data_of name car = object (number_at (codes "car") car (text_at (codes "cmd") name no_members))
 
@@ -32,11 +33,12 @@ abbrev pub tells_size : Command → Bool
 tells_size (Enter plan lane depart size) = not (size == 1)
 tells_size c = false
 
--- the members of an `enter` with the vehicle's size put before the members `more`; without it where the size is 1
+-- the members of an `enter` with the vehicle's size put before the members `more`; only `more` where the size is 1
 abbrev pub size_at : ℕ → Members → Members
 size_at size more = if size == 1 then more else number_at (codes "size") size more
 
--- the JSON object by which a command is written, its keys in byte order
+-- the JSON object by which a command is written: its name under `cmd` and all its fields, but no size of 1, keys in
+-- byte order
 abbrev pub command_data : Command → Data
 command_data (Load net) = load_data net
 command_data (Enter plan lane depart size) =

@@ -12,19 +12,19 @@ use Rattle.street_base.specs.declared.net.TurnSpec.{TurnSpec}
 abbrev pub IsWord : ℕ → Type 0
 IsWord n = n < 2 ^ 64
 
--- that each number of a node is below 2^64
+-- that each number of a node (identifier, residence, capacity) is below 2^64
 abbrev pub NodeFits : NodeSpec → Type 0
 NodeFits n = IsWord n.id × IsWord n.residence × IsWord n.capacity
 
--- that each number of a link is below 2^64
+-- that each number of a link (identifier, from, to, lanes, length, limit) is below 2^64
 abbrev pub LinkFits : LinkSpec → Type 0
 LinkFits l = IsWord l.id × IsWord l.from × IsWord l.to × IsWord l.lanes × IsWord l.length × IsWord l.limit
 
--- that each number of a turn is below 2^64
+-- that each number of a turn (link, lane, next link, next lane) is below 2^64
 abbrev pub TurnFits : TurnSpec → Type 0
 TurnFits t = IsWord t.link × IsWord t.lane × IsWord t.next × IsWord t.next_lane
 
--- that each number of a green turn is below 2^64
+-- that each number of a green turn (link, lane, next link) is below 2^64
 abbrev pub GreenFits : GreenSpec → Type 0
 GreenFits g = IsWord g.link × IsWord g.lane × IsWord g.next
 
@@ -32,7 +32,8 @@ GreenFits g = IsWord g.link × IsWord g.lane × IsWord g.next
 abbrev pub PhaseFits : PhaseSpec → Type 0
 PhaseFits p = IsWord p.duration × All GreenFits p.greens
 
--- that each number of a command is below 2^64, as the numbers of lines must be
+-- that each number of a command, also in its lists, is below 2^64, as the numbers of lines must be; true of `count`,
+-- which has none
 abbrev pub Fits : Command → Type 0
 Fits (Load net) =
     All NodeFits net.nodes × All LinkFits net.links × All TurnFits net.turns

@@ -16,8 +16,8 @@ flat_data (Number n) = number_data n
 flat_data (Text text) = string text.now
 flat_data (Numbers list) = array (numbers list.items)
 
--- an object's members after these of a flat line were put under their names, one after another; of two with one name
--- the later stays
+-- an object's members after these of a flat line were put under their names, in byte order, one after another; of two
+-- with one name the later stays
 abbrev pub put_flat : List FlatMember → Members → Members
 put_flat [] found = found
 put_flat (m ∷ ms) found = put_flat ms (put m.name.now (flat_data m.value) found)
@@ -26,16 +26,16 @@ put_flat (m ∷ ms) found = put_flat ms (put m.name.now (flat_data m.value) foun
 abbrev pub flat_members : List FlatMember → Members
 flat_members ms = put_flat ms no_members
 
--- the JSON object that a flat line says
+-- the JSON object that a flat line says: its members, of two with one name the later
 abbrev pub flat_object : FlatLine → Data
 flat_object line = object (flat_members line.members.items)
 
--- that the tokens `ts`, behind an opening bracket that was read already, begin with exactly these items and the closing
--- bracket, and `rest` follows; no item is a list or an object
+-- that the tokens `ts`, behind an opening bracket that was read already, are exactly these items, the closing bracket,
+-- and then `rest`; no item is a list or an object
 abbrev pub ReadsItems : List Token → Items → List Token → Type 0
 ReadsItems ts found rest = (depth : ℕ) → converted of_items (items (value depth) (length ts) ts) ≡ Some (found, rest)
 
--- that the tokens `ts`, behind an opening brace that was read already, begin with exactly these members and the closing
--- brace, and `rest` follows; values are at most lists without lists
+-- that the tokens `ts`, behind an opening brace that was read already, are exactly these members, the closing brace,
+-- and then `rest`; values are at most lists without lists
 abbrev pub ReadsMembers : List Token → Members → List Token → Type 0
 ReadsMembers ts found rest = (depth : ℕ) → converted (λ ms. of_members ms no_members) (members (value (suc depth)) (length ts) ts) ≡ Some (found, rest)

@@ -24,16 +24,18 @@ abbrev pub is_absent : Member → Bool
 is_absent (Optional None) = true
 is_absent m = false
 
--- an object's members after this one was put under its key, in place of one that was there; as they were where this one
--- is left out
+-- an object's members after this one was put under its key, in byte order of keys and in place of one that was there;
+-- as they were where this one is an optional number that is missing
 abbrev pub put_member : List ℕ → Member → Members → Members
 put_member key m found = if is_absent m then found else put key (member_data m) found
 
--- an object's members after these were put under their keys, one after another
+-- an object's members after these were put under their keys, one after another, without optional numbers that are
+-- missing; of two with one key the later stays
 abbrev pub put_all : List (Bor (List ℕ) × Member) → Members → Members
 put_all [] found = found
 put_all ((key, m) ∷ rest) found = put_all rest (put_member key.now m found)
 
--- the JSON object of a command with these members, without those that are left out
+-- the JSON object of a command with these members, in byte order of keys, without optional numbers that are missing; of
+-- two with one key the later stays
 abbrev pub object_of : List (Bor (List ℕ) × Member) → Data
 object_of members = object (put_all members no_members)

@@ -30,7 +30,7 @@ abbrev pub items_from : {T : Type 0} → (T → Data) → List T → Items
 items_from one [] = no_items
 items_from one (x ∷ xs) = item (one x) (items_from one xs)
 
--- the JSON value of a number
+-- the JSON value of a number, written with digits alone
 abbrev pub number_data : ℕ → Data
 number_data n = number (unsigned n)
 
@@ -52,7 +52,7 @@ running_data r = array (numbers (r.start ∷ r.steps ∷ r.passes ∷ r.speeds �
 abbrev pub buffer_data : BufferEntry → Data
 buffer_data e = array (numbers (e.car ∷ e.speed ∷ e.ready ∷ []))
 
--- the JSON list of a vehicle in a cell: number, cell, speed, and its size where it covers more than one cell
+-- the JSON list of a vehicle in a cell: number, cell, speed, and its size if it covers more than one cell
 abbrev pub cell_data : CellEntry → Data
 cell_data e = array (numbers (e.car ∷ e.cell ∷ e.speed ∷ (if nat_lt 1 e.size then e.size ∷ [] else [])))
 
@@ -100,30 +100,32 @@ text_at key text more = member key (string text) more
 abbrev pub list_at : {T : Type 0} → List ℕ → (T → Data) → List T → Members → Members
 list_at key one list more = member key (array (items_from one list)) more
 
--- the members of an object with a vehicle's plan, a list of numbers, put before the members `more`
+-- the members of an object with a vehicle's plan, a list of numbers, under `plan` put before the members `more`
 abbrev pub plan_at : List ℕ → Members → Members
 plan_at plan more = list_at (codes "plan") number_data plan more
 
--- the members of a reply with a vehicle's size put before the members `more`; without it where the size is 1
+-- the members of a reply with a vehicle's size put before the members `more`; only `more` where the size is not above 1
 abbrev pub size_at : ℕ → Members → Members
 size_at size more = if nat_lt 1 size then number_at (codes "size") size more else more
 
 -- ---- objects, their keys in byte order
 
--- the members of an object with the number and the name of an error put before the members `more`
+-- the members of an object with the number of an error, under `error`, and its name, under `name`, put before the
+-- members `more`
 abbrev pub error_at : ℕ → List ℕ → Members → Members
 error_at n name more = number_at (codes "error") n (text_at (codes "name") name more)
 
--- the members of an object with the number and the name of a refusal put before the members `more`
+-- the members of an object with the number of a refusal, under `error`, and its name, under `name`, put before the
+-- members `more`
 abbrev pub refusal_at : Refusal → Members → Members
 refusal_at r more = error_at (number_of r) (name_of r) more
 
--- the JSON object of an error that has no place: its number and its name
+-- the JSON object of an error that has no place: its number under `error` and its name under `name`
 abbrev pub error_data : ℕ → List ℕ → Data
 error_data n name = object (error_at n name no_members)
 
--- the JSON object of a refusal: its number and name, and the position of the fault where it has one, of a load also the
--- part
+-- the JSON object of a refusal: its number and name; of a bad load also part and position of the fault, of a bad plan
+-- or signal plan its position
 abbrev pub refused_data : Refusal → Data
 refused_data (BadNetwork part at) =
     object (number_at (codes "at") at (refusal_at (BadNetwork part at) (text_at (codes "part") (part_name part) no_members)))
@@ -131,12 +133,14 @@ refused_data (BadPlan at) = object (number_at (codes "at") at (refusal_at (BadPl
 refused_data (BadSignal at) = object (number_at (codes "at") at (refusal_at (BadSignal at) no_members))
 refused_data refusal = object (refusal_at refusal no_members)
 
--- the JSON object of a vehicle that has ended, given its number, how it ended (`arrived` or `taken`), and in which step
+-- the JSON object of a vehicle that has ended: its number, how it ended (`arrived` or `taken`, under `state`), and in
+-- which step
 abbrev pub ended_data : ℕ → List ℕ → ℕ → Data
 ended_data car state step = object (number_at (codes "car") car (text_at (codes "state") state (number_at (codes "step") step no_members)))
 
--- the JSON object of the reply to `vehicle`: the vehicle's number, where it is or how it ended, and its plan from the
--- present link on
+-- the JSON object of the reply to `vehicle`: the vehicle's number and state; in a cell, buffer or waiting also link,
+-- lane, its plan as given, a size above 1, and what that state has (cell and speed, ready and speed, depart); ended,
+-- the step
 abbrev pub vehicle_data : ℕ → Whereabouts → Data
 vehicle_data car (Cell link lane cell speed size plan) =
     object (number_at (codes "car") car (number_at (codes "cell") cell (number_at (codes "lane") lane (number_at (codes "link") link
@@ -150,7 +154,8 @@ vehicle_data car (Waiting link lane depart size plan) =
 vehicle_data car (Ended (Arrived step)) = ended_data car (codes "arrived") step
 vehicle_data car (Ended (Taken step)) = ended_data car (codes "taken") step
 
--- the JSON object by which a reply is written, its keys in byte order
+-- the JSON object by which a reply is written: its fields by name, keys in byte order; of a vehicle and of a refusal as
+-- their own objects, and `starved` true where memory ran out
 abbrev pub reply_data : Reply → Data
 reply_data (Loaded links nodes turns) = object (number_at (codes "links") links (number_at (codes "nodes") nodes (number_at (codes "turns") turns no_members)))
 reply_data (Signalled cycle) = object (number_at (codes "cycle") cycle no_members)

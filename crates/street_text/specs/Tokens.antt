@@ -11,11 +11,11 @@ use Rattle.street_text.specs.declared.fields.Field.{Field}
 use Rattle.street_text.specs.declared.fields.Field.TheVariants.{Number, Text, Flag, Numbers, Running, Rows, Buffer, Cells, Stretches, Waiting, Optional}
 use Rattle.street_text.specs.ReplyLines.{items_from, number_data, numbers, meter_data, running_data, buffer_data, cell_data, stretch_data, waiting_data}
 
--- the JSON tokens by which a value is printed
+-- the JSON tokens by which a value is printed, in order
 abbrev pub tokens_of : Data → List Token
 tokens_of d = json_tokens (outline d)
 
--- that exactly these tokens were written behind those written before
+-- that exactly these tokens were written behind those written before, and that `before` is the same
 abbrev pub Adds : List Token → Written → Written → Type 0
 Adds ts old new = (new.before ≡ old.before) × (new.tokens ≡ old.tokens ++ ts)
 
@@ -40,11 +40,12 @@ abbrev pub is_left_out : Field → Bool
 is_left_out (Optional None) = true
 is_left_out f = false
 
--- the members of an object with these fields, in their order, without those that are left out
+-- the members of an object with these fields, each under its key, in their order, but no optional numbers that are
+-- missing
 abbrev pub members_of : List (Bor (List ℕ) × Field) → Members
 members_of [] = no_members
 members_of ((key, f) ∷ rest) = if is_left_out f then members_of rest else member key.now (field_data f) (members_of rest)
 
--- the tokens of one field of an object: its key and its value, or no tokens where the field is left out
+-- the tokens of one field of an object: its key and its value; no tokens where it is an optional number that is missing
 abbrev pub field_tokens : List ℕ → Field → List Token
 field_tokens key f = if is_left_out f then [] else token.key key ∷ tokens_of (field_data f)
