@@ -74,11 +74,11 @@ rows_of_step m = rows_between (changed m) (step m)
 abbrev pub head_after : Traffic → ℕ → RecordHead
 head_after after rows = record { clock = after.clock; rows = rows; arrived = have_arrived after; taken = were_taken after }
 
--- the bytes of a block's head: four numbers of 32 bits, least byte first
+-- the bytes of a block's head: clock, rows, arrived and taken, each a number of 32 bits, least byte first
 abbrev pub head_bytes : RecordHead → List ℕ
 head_bytes head = to_le_bytes w32 head.clock ++ to_le_bytes w32 head.rows ++ to_le_bytes w32 head.arrived ++ to_le_bytes w32 head.taken
 
--- the bytes of a row: four numbers of 32 bits, least byte first
+-- the bytes of a row: car, slot, spot and speed, each a number of 32 bits, least byte first
 abbrev pub row_bytes : RecordRow → List ℕ
 row_bytes row = to_le_bytes w32 row.car ++ to_le_bytes w32 row.slot ++ to_le_bytes w32 row.spot ++ to_le_bytes w32 row.speed
 

@@ -14,12 +14,12 @@ use Rattle.street_base.specs.Outcomes.{MayStarveUnder, Answers}
 abbrev pub StaysRefused : State → Command → Refusal → Type 0
 StaysRefused old c r = refusal old c ≡ Some r → (reply : Reply) (outcome : Outcome) (new : State) → Answers old c reply outcome new → new ≡ old
 
--- that a command with this refusal, unless it runs out of memory, is answered by the refusal
+-- that a command with this refusal, where its outcome is whole, is answered by the refusal
 abbrev pub IsToldRefused : State → Command → Refusal → Type 0
 IsToldRefused old c r = refusal old c ≡ Some r → (reply : Reply) (new : State) → Answers old c reply Whole new → reply ≡ Refused r
 
--- that a command with this refusal has the outcome whole; or starved, only where a command with such a refusal takes
--- memory
+-- that a command with this refusal has the outcome whole; or else starved, and then memory may run out under this
+-- refusal, as it may only for a load with a fault
 abbrev pub IsWholeRefused : State → Command → Refusal → Type 0
 IsWholeRefused old c r = refusal old c ≡ Some r → (reply : Reply) (outcome : Outcome) (new : State)
     → Answers old c reply outcome new → (outcome ≡ Whole) ⊎ ((outcome ≡ Starved) × MayStarveUnder (Some r))
