@@ -15,7 +15,7 @@ abbrev pub KeepsSome : Option (Box Stretches) → Type 0
 KeepsSome None = Unit {0}
 KeepsSome (Some kept) = kept.value ≢ []
 
--- the closed stretches of a lane, as contracts see them: those in its box, or none where it keeps no box
+-- the closed stretches of a lane, as contracts see them: those in its box; no stretches where it keeps no box
 abbrev pub seen : Inside → List Stretch
 seen x = kept_stretches x.kept
 

@@ -19,7 +19,8 @@ shown m = record {
 }
 
 -- that a meter is as it is between two steps: its period is from 1 to `most_period`, its running row lacks a step at
--- least and ends by `last_clock`, each sum of that row is at most 2^32 a step, and there is room for 32 full rows
+-- least, its steps so far end by `last_clock`, each sum of it is at most 2^32 a step, and there is room for exactly 32
+-- full rows
 pub record IsSound (m : Inside) : Type 0 where
   pub some : 1 ≤ m.period
   pub short : m.period ≤ most_period

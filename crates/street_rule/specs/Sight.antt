@@ -38,8 +38,8 @@ gap_up closed ahead x = gap_between (lesser ahead (entrance_after closed x)) x
 abbrev pub gap_down : Option ℕ → ℕ → ℕ
 gap_down below x = unwrap_or (option_map (λ y. x - y - 1) below) 16
 
--- whether a vehicle in cell x wants the other lane: if it is slow (its gap is at most its speed); but in the turn zone,
--- the last cells of a lane of `count` cells, yes if its own lane does not serve its next link, no if only its own does
+-- whether a vehicle in cell x wants the other lane: if it is slow (its gap is at most its speed); but in the turn zone
+-- of a lane of `count` cells, if it has a next link, yes if its own lane does not serve that, no if only its own does
 abbrev pub wishes_with : Changing → ℕ → ℕ → ℕ → ℕ → ℕ → Option ℕ → Bool
 wishes_with changing lane count gap x speed next =
     if nat_le count (x + changing.zone)

@@ -40,8 +40,8 @@ IsCausedByLine (Line stop) writer = ⊤
 
 -- ---- places
 
--- that a fault of this kind comes at a read, between lines: a failed read or reads that ran out; all others come while
--- a line is handled
+-- that a fault of this kind comes at a read: a read that failed (`Read`), or reads that ran out (`Endless`); false of
+-- `Write` and `Starved`, whether they come while a line is handled or behind the lines
 abbrev pub IsAtRead : FaultKind → Type 0
 IsAtRead Read = ⊤
 IsAtRead Endless = ⊤

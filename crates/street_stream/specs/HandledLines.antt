@@ -129,9 +129,9 @@ Leaves stops at_end text done effects mid now (Run kind) tally =
 Leaves stops at_end text done effects mid now (Line stop) tally =
     (line : List ℕ) × IsNext at_end text done line × stops mid line stop now × (tally.lines ≡ length done + 1) × (tally.bytes ≡ length (output effects))
 
--- that a run which stopped early handled the first lines of the text, `done`, and wrote the first bytes of their
--- replies, as many as the tally counts, with at most the last reply cut off; calls are counted, and `Leaves` tells of
--- state and lines
+-- that a run which stopped early handled first lines of the text, `done`, perhaps all, and wrote first bytes of their
+-- replies, as many as the tally counts, at most the last reply cut off; calls are counted, and `Leaves` tells of state
+-- and lines
 pub record Breaks {S Stop : Type 0} (takes : S → List ℕ → Effect → S → Type 0) (stops : S → List ℕ → Stop → S → Type 0) (at_end : Type 0)
     (start : S) (before : Option (List ℕ)) (text : List ℕ) (now : S) (after : Option (List ℕ)) (cause : StopCause Stop) (tally : Tally) : Type 0 where
   -- the lines that were handled, those that were not, and what the first gave
@@ -148,9 +148,9 @@ pub record Breaks {S Stop : Type 0} (takes : S → List ℕ → Effect → S →
   pub replies : CountsReplies tally (output effects) (replies_in effects)
   pub leaves : Leaves stops at_end text done effects mid now cause tally
 
--- that a run stopped early: of the text read from `unread` (`left` is not read) the first lines were handled, and the
--- first bytes of their replies stand behind what the writer held (`before`, `after`), as `Breaks` says; of unknown
--- bytes (none) nothing is said
+-- that a run stopped early: of the text read from `unread` (`left` is not read) first lines were handled, perhaps all,
+-- and first bytes of their replies, perhaps all, stand behind what the writer held (`before`, `after`), as `Breaks`
+-- says; of unknown bytes (none) nothing is said
 pub record Broke {S Stop : Type 0} (takes : S → List ℕ → Effect → S → Type 0) (stops : S → List ℕ → Stop → S → Type 0)
     (start : S) (unread before : Option (List ℕ)) (now : S) (left after : Option (List ℕ)) (cause : StopCause Stop) (tally : Tally) : Type 0 where
   pub text : List ℕ
@@ -166,8 +166,8 @@ module _ {S Stop D W : Type 0} (meaning : Meaning S Stop) (remaining : D → Opt
   HandlesAll old reader writer new read written tally =
       Whole meaning.takes old (remaining reader.stream) (contents writer.stream) new (remaining read.stream) (contents written.stream) tally
 
-  -- that a run from reader to writer stopped early, for the cause in `halt`: of what it read the first lines were
-  -- handled, and the first bytes of their replies are in the writer, as the tally in `halt` counts
+  -- that a run from reader to writer stopped early, for the cause in `halt`: of what it read first lines were handled,
+  -- and first bytes of their replies are in the writer, as the tally in `halt` counts; perhaps all
   abbrev pub HandlesFirst : S → Counted D → Counted W → S → Counted D → Counted W → Halt Stop → Type 0
   HandlesFirst old reader writer new read written halt =
       Broke meaning.takes meaning.stops old (remaining reader.stream) (contents writer.stream) new (remaining read.stream)

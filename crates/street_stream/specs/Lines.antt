@@ -37,7 +37,7 @@ is_blank [] = true
 is_blank (b ∷ bs) = is_space b && is_blank bs
 
 -- what is kept of a line that may have `most` bytes: its first `most` + 1 bytes, of which the last shows that the line
--- is too long
+-- is too long; all of it where it is no longer
 unfoldable pub kept : ℕ → List ℕ → List ℕ
 kept most line = take (most + 1) line
 

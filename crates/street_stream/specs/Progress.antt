@@ -95,15 +95,15 @@ module _ {S : Type 0} (takes : S → List ℕ → Effect → S → Type 0) (long
       × IsTally tally (lines_of seen) effects
 
 module _ {S Stop : Type 0} (takes : S → List ℕ → Effect → S → Type 0) (stops : S → List ℕ → Stop → S → Type 0) (longest : ℕ) where
-  -- that a run which was right so far stopped early within these bytes (`Breaks`: only the first lines handled, only
-  -- the first bytes of their replies written), whatever it had seen before and whatever would follow
+  -- that a run which was right so far stopped early within or right behind these bytes (`Breaks`: first lines handled,
+  -- first bytes of their replies written, perhaps all), whatever it had seen before and whatever would follow
   abbrev pub FeedBreaks : S → Option (List ℕ) → Progress → List ℕ → S → Option (List ℕ) → StopCause Stop → Tally → Type 0
   FeedBreaks old written progress bytes new written_then cause tally =
       (start : S) (before : Option (List ℕ)) (seen : List ℕ) → Stands takes longest start before seen old written progress
       → (more : List ℕ) → Breaks takes stops ⊥ start before (seen ++ (bytes ++ more)) new written_then cause tally
 
-  -- that a run which was right so far stopped early at the end of its text (`Breaks`: only the first lines handled,
-  -- only the first bytes of their replies written), whatever it had seen before
+  -- that a run which was right so far stopped early at the end of its text (`Breaks`: first lines handled, first bytes
+  -- of their replies written, perhaps all), whatever it had seen before
   abbrev pub FinishBreaks : S → Option (List ℕ) → Progress → S → Option (List ℕ) → StopCause Stop → Tally → Type 0
   FinishBreaks old written progress new written_then cause tally =
       (start : S) (before : Option (List ℕ)) (seen : List ℕ) → Stands takes longest start before seen old written progress
@@ -130,8 +130,8 @@ module _ {S Stop W : Type 0} (meaning : Meaning S Stop) (contents : W → Option
   FeedsTo old writer progress bytes new written fed =
       Feeds meaning.takes meaning.longest old (contents writer.stream) progress bytes new (contents written.stream) fed
 
-  -- that a run which was right so far stopped early within these bytes, with its first lines handled and the first
-  -- bytes of their replies in the counted writer
+  -- that a run which was right so far stopped early within or right behind these bytes: first lines were handled, and
+  -- first bytes of their replies are in the counted writer, perhaps all (`Breaks`)
   abbrev pub FeedStops : S → Counted W → Progress → List ℕ → S → Counted W → Progress → StopCause Stop → Type 0
   FeedStops old writer progress bytes new written fed cause =
       FeedBreaks meaning.takes meaning.stops meaning.longest old (contents writer.stream) progress bytes new (contents written.stream) cause fed.tally
@@ -142,8 +142,8 @@ module _ {S Stop W : Type 0} (meaning : Meaning S Stop) (contents : W → Option
   FinishesTo old writer progress new written ended =
       Finishes meaning.takes meaning.longest old (contents writer.stream) progress new (contents written.stream) ended.tally
 
-  -- that a run which was right so far stopped early at the end of its text, by a fault or by a line, with the first
-  -- bytes of its replies in the counted writer
+  -- that a run which was right so far stopped early at the end of its text, by a fault or by a line, with first bytes
+  -- of its replies, perhaps all, in the counted writer (`Breaks`)
   abbrev pub FinishStops : S → Counted W → Progress → S → Counted W → Progress → StopCause Stop → Type 0
   FinishStops old writer progress new written ended cause =
       FinishBreaks meaning.takes meaning.stops meaning.longest old (contents writer.stream) progress new (contents written.stream) cause ended.tally

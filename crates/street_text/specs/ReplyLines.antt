@@ -52,7 +52,7 @@ running_data r = array (numbers (r.start ∷ r.steps ∷ r.passes ∷ r.speeds �
 abbrev pub buffer_data : BufferEntry → Data
 buffer_data e = array (numbers (e.car ∷ e.speed ∷ e.ready ∷ []))
 
--- the JSON list of a vehicle in a cell: number, cell, speed, and its size if it covers more than one cell
+-- the JSON list of a vehicle in a cell: number, cell, speed, and behind these its size if that is above 1
 abbrev pub cell_data : CellEntry → Data
 cell_data e = array (numbers (e.car ∷ e.cell ∷ e.speed ∷ (if nat_lt 1 e.size then e.size ∷ [] else [])))
 
@@ -133,14 +133,14 @@ refused_data (BadPlan at) = object (number_at (codes "at") at (refusal_at (BadPl
 refused_data (BadSignal at) = object (number_at (codes "at") at (refusal_at (BadSignal at) no_members))
 refused_data refusal = object (refusal_at refusal no_members)
 
--- the JSON object of a vehicle that has ended: its number, how it ended (`arrived` or `taken`, under `state`), and in
--- which step
+-- the JSON object of a vehicle that has ended: its number, how it ended (`arrived` or `taken`) as `state`, and the step
+-- in which it ended
 abbrev pub ended_data : ℕ → List ℕ → ℕ → Data
 ended_data car state step = object (number_at (codes "car") car (text_at (codes "state") state (number_at (codes "step") step no_members)))
 
--- the JSON object of the reply to `vehicle`: the vehicle's number and state; in a cell, buffer or waiting also link,
--- lane, its plan as given, a size above 1, and what that state has (cell and speed, ready and speed, depart); ended,
--- the step
+-- the JSON object that tells of a vehicle: its number and state; in a cell, in a buffer or waiting also link, lane, its
+-- remaining plan, a size above 1, and what that state has (cell and speed, ready and speed, or depart); ended, the step
+-- of its end
 abbrev pub vehicle_data : ℕ → Whereabouts → Data
 vehicle_data car (Cell link lane cell speed size plan) =
     object (number_at (codes "car") car (number_at (codes "cell") cell (number_at (codes "lane") lane (number_at (codes "link") link

@@ -19,8 +19,8 @@ tokens_of d = json_tokens (outline d)
 abbrev pub Adds : List Token → Written → Written → Type 0
 Adds ts old new = (new.before ≡ old.before) × (new.tokens ≡ old.tokens ++ ts)
 
--- the JSON value of a reply's field: a number, text, truth value, or list of numbers or rows; null for an optional
--- number that is missing
+-- the JSON value of a reply's field: a number, a text, a truth value, a list of numbers, one running row, or a list of
+-- rows or entries; null for an optional number that is missing
 abbrev pub field_data : Field → Data
 field_data (Number n) = number_data n
 field_data (Text text) = string text.now
