@@ -166,15 +166,15 @@ module _ {S Stop D W : Type 0} (meaning : Meaning S Stop) (remaining : D → Opt
   HandlesAll old reader writer new read written tally =
       Whole meaning.takes old (remaining reader.stream) (contents writer.stream) new (remaining read.stream) (contents written.stream) tally
 
-  -- that a run from reader to writer stopped early, for the cause in `halt`: of what it read first lines were handled,
-  -- and first bytes of their replies are in the writer, as the tally in `halt` counts; perhaps all
+  -- that a run from reader to writer stopped early, for the cause in `halt`: of what it read first lines, perhaps all,
+  -- were handled, and first bytes of their replies, perhaps all, are in the writer, as the tally in `halt` counts
   abbrev pub HandlesFirst : S → Counted D → Counted W → S → Counted D → Counted W → Halt Stop → Type 0
   HandlesFirst old reader writer new read written halt =
       Broke meaning.takes meaning.stops old (remaining reader.stream) (contents writer.stream) new (remaining read.stream)
       (contents written.stream) halt.cause halt.tally
 
   -- what a run of at most `reads` reads did: it handled all lines, or it stopped early with a cause that the streams
-  -- counted, unless a line ended it or memory ran out; the reader then counts at most `reads` calls
+  -- counted, unless a line ended it or memory ran out; in both cases the reader counts at most `reads` calls
   pub record Drives (reads : ℕ) (old : S) (reader : Counted D) (writer : Counted W) (run : Result Tally (Halt Stop))
       (new : S) (read : Counted D) (written : Counted W) : Type 0 where
     pub whole : IfOk run (HandlesAll old reader writer new read written)

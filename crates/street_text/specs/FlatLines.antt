@@ -35,7 +35,8 @@ flat_object line = object (flat_members line.members.items)
 abbrev pub ReadsItems : List Token → Items → List Token → Type 0
 ReadsItems ts found rest = (depth : ℕ) → converted of_items (items (value depth) (length ts) ts) ≡ Some (found, rest)
 
--- that the tokens `ts`, behind an opening brace that was read already, are exactly these members, the closing brace,
--- and then `rest`; values are at most lists without lists
+-- that the tokens `ts`, behind an opening brace that was read already, are members that come to `found` (of two with
+-- one key the later), the closing brace, and then `rest`; no value is nested deeper than a list or object of plain
+-- values
 abbrev pub ReadsMembers : List Token → Members → List Token → Type 0
 ReadsMembers ts found rest = (depth : ℕ) → converted (λ ms. of_members ms no_members) (members (value (suc depth)) (length ts) ts) ≡ Some (found, rest)

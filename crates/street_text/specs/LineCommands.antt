@@ -35,7 +35,8 @@ entries_of entry (item d ds) = option_and_then (λ x. option_map (λ xs. x ∷ x
 abbrev pub list_in : {T : Type 0} → (Data → Option T) → Data → Option (List T)
 list_in entry d = option_and_then (entries_of entry) (as_array d)
 
--- the numbers of a JSON list of exactly n numbers; none where the value is anything else
+-- the numbers of a JSON list of exactly n numbers, each in digits alone and below 2^64; none where the value is
+-- anything else
 unfoldable pub row_in : ℕ → Data → Option (List ℕ)
 row_in n d = option_and_then (λ ns. if length ns == n then Some ns else None) (list_in number_in d)
 
@@ -274,7 +275,8 @@ abbrev pub or_fault : {A : Type 0} → LineFault → Option A → Result A LineF
 or_fault fault (Some x) = Ok x
 or_fault fault None = Err fault
 
--- the JSON value of a line; none where it is no UTF-8, no JSON, or nested more than 127 levels deep
+-- the JSON value of a line; none where it is no UTF-8 or no JSON, is nested more than 127 levels deep, or has a number
+-- too great for a float of 64 bits
 unfoldable pub value_of : List ℕ → Option Data
 value_of line = if is_utf8 line then read line else None
 
