@@ -98,8 +98,8 @@ AreStarts starts turns = (list d : ℕ) → list < length starts → IsStart tur
 abbrev pub list_at : List ℕ → List Turn → ℕ → List Turn
 list_at starts turns list = between (slice_index_or starts list 0) (slice_index_or starts (list + 1) 0) turns
 
--- that the table has all turns of the load, links named by position, sorted by lane and then next link, and for each of
--- two lanes a link the position where its turns begin; one start more says where the last lane's end
+-- that the table has all turns of the load, links named by position, sorted by `turn_rank` (lane, then next link), and
+-- for each of two lanes a link the position where its turns begin; one start more says where the last lane's end
 pub record IsTurnTable (net : NetSpec) (starts : List ℕ) (turns : List Turn) : Type 0 where
   pub same : IsPermutation (map (seen_turn net) net.turns) turns
   pub rising : IsNonDecreasingBy turn_rank turns

@@ -66,8 +66,8 @@ module _ {R W : Type 0} (gives : Gives R) (takes : Takes W) (passes : Passes W) 
       (rounds : ℕ) × (mid : R) × (between : W) × (n ≡ rounds + 1) × AreRounds rounds reader writer mid between × reads mid read × writes between written
 
   -- which calls a run of n reads made before it stopped for this cause: n whole rounds where reads ran out; else n - 1
-  -- rounds and a last read, which failed with no write behind it (`Read`), or was followed by writes and at most one
-  -- flush, a failed one
+  -- rounds and a last read, which failed with no call of the writer behind it (`Read`), or, failed or not, was followed
+  -- by writes, perhaps none, and at most one flush, a failed one
   abbrev pub BreaksOff : {S : Type 0} → StopCause S → ℕ → R → W → R → W → Type 0
   BreaksOff (Run Read) n = EndsIn (IsReadThatFailed gives) (λ old new. new ≡ old) n
   BreaksOff (Run Endless) n = AreRounds n

@@ -18,8 +18,8 @@ IsCausedByWriting Starved writer = ⊤
 IsCausedByWriting Read writer = ⊥
 IsCausedByWriting Endless writer = ⊥
 
--- that the streams counted the cause of this fault: a failed read with no call of the writer behind it, exactly as many
--- reads as allowed, or a writer's call that failed or took no byte; of lack of memory nothing is said
+-- that the streams counted the cause of this fault: a read that failed, with no call of the writer since the last read;
+-- exactly as many reads as allowed; or a writer's call that failed or took no byte; of lack of memory nothing is said
 abbrev pub IsCaused : {R W : Type 0} → FaultKind → Counted R → Counted W → ℕ → Type 0
 IsCaused Read reader writer reads = (0 < reader.failures) × IsLastRead reader writer
 IsCaused Endless reader writer reads = reader.calls ≡ reads

@@ -12,9 +12,9 @@ abbrev pub Extends : Option (List ℕ) → Option (List ℕ) → Type 0
 Extends old new = (more : List ℕ) × Appends old new more
 
 module _ {L W : Type 0} (held synced : L → Option (List ℕ)) (has_failed : L → Type 0) (contents : W → Option (List ℕ)) where
-  -- what a fault left: where the log failed, it holds first bytes of the entries, perhaps none or all, no more of which
-  -- are synced, and the writer got nothing; where the writer failed, the log holds all entries, all that it holds is
-  -- synced, and the writer has first bytes of the replies, perhaps none or all
+  -- what a fault left: where the log failed, first bytes of the entries, perhaps none or all, came onto it, as many of
+  -- them or fewer are synced, and the writer is as it was; where the writer failed, all entries are held, all that is
+  -- held is synced, and first bytes of the replies, perhaps none or all, are written
   abbrev pub KeepStops : L → Counted W → List ℕ → List ℕ → L → Counted W → KeepFault → Type 0
   KeepStops old writer entries replies new written Log =
       (written ≡ writer) × ((sent : ℕ) × (stayed : ℕ) × (stayed ≤ sent) × Appends (held old) (held new) (take sent entries) × Appends (synced old) (synced new) (take stayed entries))
