@@ -11,7 +11,7 @@ use Rattle.street_stream.specs.declared.tally.Tally.{Tally}
 -- ---- causes
 
 -- that the writer counted the cause of this fault where nothing is read: for `Write`, that a call of it failed or took
--- no byte; lack of memory is not counted, and faults of reading cannot come
+-- no byte; for lack of memory nothing is asked; false for the faults of reading, which cannot come there
 abbrev pub IsCausedByWriting : {W : Type 0} → FaultKind → Counted W → Type 0
 IsCausedByWriting Write writer = HasFailed writer
 IsCausedByWriting Starved writer = ⊤

@@ -67,16 +67,16 @@ Handles takes old [] effects new = (new ≡ old) × (effects ≡ [])
 Handles {S} takes old (l ∷ ls) effects new =
     (mid : S) × (first : Effect) × (rest : List Effect) × takes old l first mid × Handles takes mid ls rest new × (effects ≡ first ∷ rest)
 
--- the bytes of all replies to these lines, one behind another; a line without a reply adds none
+-- the bytes of all replies that these effects have, one behind another; an effect without a reply adds none
 abbrev pub output : List Effect → List ℕ
 output [] = []
 output (e ∷ es) = text_in e.reply ++ output es
 
--- how many of these lines were calls
+-- how many of these effects are those of calls
 abbrev pub calls_in : List Effect → ℕ
 calls_in es = count_by (λ e. e.is_call) es
 
--- how many of these lines get a reply
+-- how many of these effects have a reply, be it of no bytes
 abbrev pub replies_in : List Effect → ℕ
 replies_in es = count_by has_reply es
 
