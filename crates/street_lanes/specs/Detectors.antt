@@ -81,8 +81,8 @@ pub record IsNew (p : Place) (at steps first : ℕ) (x : Meter) : Type 0 where
   pub next : next_step x ≡ first
   pub stands : Stands x []
 
--- that the lane has one meter more, the last, new at place p in cell `at`, with rows of `steps` steps from step `first`
--- on (`IsNew`), and as many cells as before; of its watches nothing is said
+-- that the lane has, behind its meters as they were, one more, new at place p in cell `at`, with rows of `steps` steps
+-- from step `first` on (`IsNew`), and has as many cells as before; of its watches nothing is said
 pub record Placed (p : Place) (at steps first : ℕ) (old new : Detectors) : Type 0 where
   pub meter : Meter
   pub new_one : IsNew p at steps first meter
