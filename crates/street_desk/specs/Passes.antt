@@ -118,8 +118,8 @@ pub record Heard (p : PassView) (note : NoteView) (q : PassView) : Type 0 where
   pub heard : BeginsWith q.seen note.seen
   pub count : note.count ≤ q.count
 
--- that this is the journal of p's desk at its end: a legal history that begins with all that p has seen, of as many
--- calls as p knows of at least and as the desk takes at most, and with no further call of p's least session
+-- that this is the journal of p's desk at its end: a legal history that begins with all that p has seen, of no fewer
+-- calls than p knows of and no more than the desk takes, and with no further call of p's least session
 pub record Finished (p : PassView) (journal : List Entry) : Type 0 where
   pub is_history : IsHistory p.desk.sessions journal
   pub room : length journal ≤ p.desk.calls

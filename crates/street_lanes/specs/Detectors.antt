@@ -19,8 +19,8 @@ pub record Detectors : Type 0 where
 abbrev pub cleared : Meter → Watch
 cleared x = record { cell = x.cell; passes = 0; speeds = 0 }
 
--- what the watch of a meter sees of this traffic's next motion on the lane at place p: the meter's cell, how many
--- fronts pass that cell, and the sum of their speeds
+-- what the watch of a meter sees of the motion that is made from this traffic on the lane at place p: the meter's cell,
+-- how many fronts pass that cell, and the sum of their speeds
 abbrev pub watch_of : Traffic → Place → Meter → Watch
 watch_of m p x = watched (drive_on m p) (lane_at m p).track (cleared x)
 

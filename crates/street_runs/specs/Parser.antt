@@ -82,9 +82,9 @@ is_said (Some word) = bytes_eq word (codes "true")
 abbrev pub SaysDeskless : List Row → Type 0
 SaysDeskless rows = (is_said (first_of (codes "endless") rows) ≡ true) ⊎ IsSome (first_of (codes "keep") rows) ⊎ IsSome (first_of (codes "record") rows)
 
--- that what the parser found is fit: workers and calls, if said, in their ranges, at most `most_sessions` scripts;
--- replay, upgrade, and tape or scripts, one of these three at most; a run without a desk beside none of them and with
--- no count of calls; and `--unsynced` only with `--keep`
+-- that what the parser found is fit: workers and calls, if said, in their ranges, at most `most_sessions` scripts; no
+-- replay with tape or scripts, no upgrade with replay, tape or scripts, no run without a desk with any of these or a
+-- count of calls; `--unsynced` only with `--keep`
 pub record IsFit (rows : List Row) : Type 0 where
   pub workers : IsCountIfSaid most_workers (first_of (codes "workers") rows)
   pub calls : IsCountIfSaid most_calls (first_of (codes "calls") rows)

@@ -175,8 +175,8 @@ pub record SameTile (x y : TileView) : Type 0 where
 abbrev pub Each : (TileView → TileView → Type 0) → List TileView → List TileView → Type 0
 Each R xs ys = (i : ℕ) (d : TileView) → i < length xs → R (slice_index_or xs i d) (slice_index_or ys i d)
 
--- that x is tile i of k, a tile of the network (`IsTileOf`): it has the nodes from i/k of their count to below (i +
--- 1)/k of it, both rounded down
+-- that x is tile i of k, a tile of the network (`IsTileOf`): of the network's n nodes it has those from i * n / k to
+-- below (i + 1) * n / k, both rounded down
 pub record IsShare (net : NetSpec) (k i : ℕ) (x : TileView) : Type 0 where
   pub tile : IsTileOf net x
   pub low : x.low ≡ i * length net.nodes / k
