@@ -56,7 +56,7 @@ module _ {S : Type 0} (serves : S → Command → Served → S → Type 0) where
     pub bytes : redo.bytes ≡ length whole
 
   -- that the ended lines of a kept file were done again from `start` to `mid`, and counted (`Redone`), and `log`, what
-  -- the file has now, is just these lines; of a file whose text, `had`, was not known (none) nothing is said
+  -- the file has now, is just these lines; where the file's text, `had`, was not known (none), nothing is said of `log`
   pub record Recovered (start : S) (had : Option (List ℕ)) (mid : S) (log : Option (List ℕ)) (redo : RedoneLines) : Type 0 where
     pub redone : Redone start had mid redo
     pub cut_off : Keeps (first_of redo.bytes had) log

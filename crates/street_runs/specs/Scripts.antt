@@ -36,8 +36,8 @@ pub record IsOpened {R : Type 0} (desk : DeskView) (place : ℕ) (script : Scrip
 abbrev pub AreOpened : {R : Type 0} → DeskView → List (Script R) → Type 0
 AreOpened {R} desk scripts = (k : ℕ) (d : Script R) → k < length scripts → IsOpened desk k (slice_index_or scripts k d)
 
--- that there are as many scripts as before, and each, by its place, was served the lines of its file, all or, with a
--- fault, the first (`IsRun`); of one without a file pass, replies and fault are as they were
+-- that there are as many scripts as before, and each, by its place, was served the lines of some text, all or, with a
+-- fault, the first, if it had a file (`IsRun`); of one without a file pass, replies and fault are as they were
 pub record AreRun {R : Type 0} (old new : List (Script R)) : Type 0 where
   pub same : length new ≡ length old
   pub each : (k : ℕ) (d : Script R) → k < length old → IsRun (slice_index_or old k d) (slice_index_or new k d)

@@ -37,9 +37,9 @@ pub record HasFront (own : Lanes) (n : ℕ) (q : Queued) : Type 0 where
   pub stands : LaneStands (lane_of own n) lane
   pub first : slice_get lane.queue 0 ≡ Some q
 
--- that, where the mouth of lane `to` is shut, nothing has changed; where it is open, lane n lost its buffer's front, if
--- it had one: this, if its plan goes on, is handed over behind `before` as it enters `to`, and that mouth is shut;
--- there is no less room
+-- that, where the mouth of lane `to` is shut, nothing has changed; where it is open, and lane n's buffer has a front,
+-- the lane lost it, that mouth is shut, and the front, if its plan goes on, is handed over behind `before` as it enters
+-- `to`; other lanes are as they were, and there is no less room
 pub record ReleasesFront (net : NetSpec) (n : ℕ) (to : Place) (old new : Lanes) (open_old open_new : List Bool) (before after : List Transfer) : Type 0 where
   pub shut : mouth open_old to ≡ false → (new ≡ old) × (open_new ≡ open_old) × (after ≡ before)
   pub goes : mouth open_old to ≡ true → GoesAt n without_front old new
