@@ -38,8 +38,8 @@ pub record GoesOn (old new : Meter) : Type 0 where
   pub placed : IsPlacedAs new old
   pub next : next_step new ≡ next_step old + 1
 
--- that, whatever triples the old meter's rows summed, the new one's sum these and one more behind them: what watch w
--- saw, and whether the old meter's cell is covered in `cells`
+-- that, whatever triples the old meter stood for by its rows (`Stands`), the new one stands for these and one more
+-- behind them: what watch w saw, and whether the old meter's cell is covered in `cells`
 abbrev pub Notes : Cells → Watch → Meter → Meter → Type 0
 Notes cells w old new = (triples : List Triple) → Stands old triples → Stands new (triples ++ triple_of cells w old.cell ∷ [])
 
@@ -57,8 +57,8 @@ AllNote cells ws olds news = (k : ℕ) (x : Meter) (w : Watch) → k < length ol
 
 -- ---- the machine's detectors
 
--- that a meter stands for a detector of the machine: it has the detector's place, cell, period and start, and its rows
--- are those of all triples that the detector has noted
+-- that a meter stands for a detector of the machine: it has the detector's place, cell, period and start, and its rows,
+-- full and running, are those that the detector tells of all triples that it has noted (`Stands`)
 pub record MeterStands (x : Meter) (d : Detector) : Type 0 where
   pub placed : d ≡ detector_of x d.triples
   pub stands : Stands x d.triples
