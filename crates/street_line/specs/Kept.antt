@@ -176,8 +176,8 @@ abbrev pub IsPassCaused : {L W : Type 0} → (L → Type 0) → KeptFault → L 
 IsPassCaused has_failed (Run kind) log writer = IsCausedByWriting kind writer
 IsPassCaused has_failed Log log writer = has_failed log
 
--- that the fault of a kept session has its cause: the log has failed; or reader or writer counted a failed read,
--- `reads` reads, or a failed write (`IsCaused`); of lack of memory no cause is asked
+-- that the fault of a kept session has its cause: the log has failed; or reader or writer counted a failed read with no
+-- call of the writer behind it, just `reads` reads, or a failed write (`IsCaused`); of lack of memory no cause is asked
 abbrev pub IsKeptCaused : {R L W : Type 0} → (L → Type 0) → KeptFault → Counted R → L → Counted W → ℕ → Type 0
 IsKeptCaused has_failed (Run kind) reader log writer reads = IsCaused kind reader writer reads
 IsKeptCaused has_failed Log reader log writer reads = has_failed log

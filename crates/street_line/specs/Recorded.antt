@@ -65,9 +65,9 @@ module _ {W : Type 0} (contents : W → Option (List ℕ)) where
       ⊎ ((reply : Reply) × (w.has_failed ≡ false) × (v.has_failed ≡ true) × HasFailed v.writer × EngineServes old c (Answered reply) new
       × ((m : State) → StandsFor old m → (n : ℕ) × Appends (contents w.writer.stream) (contents v.writer.stream) (take n (recorded_in m c reply))))
 
-  -- that a recorded session served a command, with its blocks written, or first bytes of them, or none, and no answer
-  -- (`Records`), and no byte of the record waiting before or after; nothing is said where there is no writer or a byte
-  -- waited before
+  -- that a recorded session served a command, with its blocks written, or with first bytes of them, or none, and no
+  -- answer (`Records`), and no byte of the record waits then, unless a write has failed; nothing is said where there is
+  -- no writer, or a byte waited before with no write failed
   abbrev pub RecordServes : RecordedView W → Command → Served → RecordedView W → Type 0
   RecordServes old c served new = (w : WriterView W) → old.writer ≡ Some w → HasNoRest w
       → (v : WriterView W) × (new.writer ≡ Some v) × HasNoRest v × Records old.engine w c served new.engine v
@@ -80,7 +80,8 @@ module _ {W : Type 0} (contents : W → Option (List ℕ)) where
   HoldsRecord start w whole (Some begun) = (w.has_failed ≡ true) × HasFailed w.writer × (n : ℕ) × Appends start (contents w.writer.stream) (whole ++ take n begun)
 
   -- that the session's engine stands for the machine's state, and its writer's stream holds, behind `start`, the blocks
-  -- of all answered commands, and first bytes of those begun (`HoldsRecord`), with no byte waiting
+  -- of all answered commands, and first bytes of those begun (`HoldsRecord`), with no byte waiting, unless a write has
+  -- failed
   pub record StandsRecorded (start : Option (List ℕ)) (view : RecordedView W) (m : RecordedMachine) : Type 0 where
     pub engine : StandsFor view.engine m.machine
     pub writer : WriterView W

@@ -20,7 +20,7 @@ unfoldable pub without : ℕ → Traffic → Traffic
 without number m = record m { lanes = each_lane (λ place. lane_without number) m.lanes }
 
 -- the traffic with this signal plan at the node at position `node`, in place of the plan or none that it had; as it was
--- where there is no such node
+-- where it has no entry of signal plans at that position
 unfoldable pub planned : ℕ → SignalPlan → Traffic → Traffic
 planned node plan m = record m { signals = slice_set m.signals node (Some plan) }
 
