@@ -19,7 +19,7 @@ module _ {K D V : Type 0} (held synced : K → Option (List ℕ)) (remaining : D
   module _ {W : Type 0} (contents : W → Option (List ℕ)) where
     -- that the machine did the lines of the kept file again from nothing loaded, counted in `redo`, then served all
     -- lines of the reader: the file keeps them, synced, output is written, and the record has, behind `start`, the
-    -- blocks of these steps alone
+    -- blocks of the steps of the reader's lines alone
     abbrev pub KeepsRecorded : Option (List ℕ) → K → Counted D → Counted V → K → Option (WriterView W) → Counted D → Counted V → RedoneLines → Type 0
     KeepsRecorded start file reader writer kept recorder read written redo = (mid : State) × (log : Option (List ℕ)) × (new : RecordedMachine) × (w : WriterView W)
         × Recovered MachineServes None (held file) mid log redo
