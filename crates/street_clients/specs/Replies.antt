@@ -57,7 +57,7 @@ is_of session (Ok e) = e.session == session
 is_of session (Err f) = false
 
 -- of the lines of reply to these lines of calls, one to each and in order, those to the calls of this session, each
--- with its LF; none where one of the lists has ended
+-- with its LF; no more where one of the lists has ended
 abbrev pub own_lines : ℕ → List (List ℕ) → List (List ℕ) → List ℕ
 own_lines session [] replies = []
 own_lines session (c ∷ cs) [] = []

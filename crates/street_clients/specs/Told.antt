@@ -22,7 +22,7 @@ abbrev pub Replied : PassView → List (List ℕ) → Client → Type 0
 Replied before firsts client =
     IfSome client.replies (λ replies. (more : List (List ℕ)) × Goes DeskServes before (firsts ++ more) replies.items client.pass)
 
--- that two scripts which were both at one desk before they ran are at the same desk afterwards; nothing is said where
+-- that two scripts which were both at one desk before they ran are both at that desk afterwards; nothing is said where
 -- they were at two
 abbrev pub StayAtDesk : {R : Type 0} → Script R → Script R → Script R × Script R → Type 0
 StayAtDesk one two ran = (desk : DeskView) → one.session.desk ≡ desk → two.session.desk ≡ desk
@@ -38,8 +38,8 @@ pub record IsWhole (sessions calls : ℕ) (one two : PassView) (tape : List ℕ)
   pub first_seen : BeginsWith history one.seen
   pub second_seen : BeginsWith history two.seen
 
--- that the desk of two clients was ended: `told` has the replies of each, and its tape is that of a legal history of at
--- least `calls` calls, which begins with all that each has seen (`IsWhole`)
+-- that `told` has the replies of both clients of an ended desk, and its tape is that of a legal history of sessions
+-- below `sessions`, of at least `calls` calls, which begins with all that each client's pass has seen (`IsWhole`)
 pub record EndsDesk (sessions calls : ℕ) (one two : Client) (told : Told) : Type 0 where
   pub tape : IsWhole sessions calls one.pass two.pass told.tape.items
   pub first : one.replies ≡ Some told.first
@@ -56,8 +56,8 @@ pub record IsTold (session : ℕ) (firsts : List (List ℕ)) (replies : List ℕ
   pub served : Goes DeskServes before (firsts ++ more) replies after
   pub begins : BeginsWith history after.seen
 
--- that the replies of sessions 0 and 1, whose lines begin with `firsts` and `seconds`, are those of one legal history
--- of at least `calls` calls, whose tape `told` has (`IsTold`)
+-- that `told` has the tape of one legal history of sessions 0 and 1, of at least `calls` calls, and the replies of
+-- these two sessions, whose lines begin with `firsts` and `seconds`, as they are told in this history (`IsTold`)
 pub record AreTold (calls : ℕ) (firsts seconds : List (List ℕ)) (told : Told) : Type 0 where
   pub history : List Entry
   pub is_history : IsHistory 2 history

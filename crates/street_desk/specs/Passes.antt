@@ -66,8 +66,9 @@ pub record Rests (v : SeatView) : Type 0 where
 abbrev pub Same : PassView → PassView → Type 0
 Same p q = (q.desk ≡ p.desk) × (q.least ≡ p.least) × (q.greatest ≡ p.greatest)
 
--- that pass p called and is q then: q has seen a legal history that begins with all that p had seen and ends with this
--- call, the one new call of p's session; the desk had room, and the reply is the machine's there
+-- that pass p called and is q then: q has seen a legal history that begins with all that p had seen, with no fewer
+-- calls before this one than p knew of, and ends with this call, the one new call of p's least session; the desk had
+-- room, and the reply is the machine's there; q knows of no fewer calls, at the same desk with the same sessions
 pub record Answered (p : PassView) (command : Command) (answer : Reply) (q : PassView) : Type 0 where
   pub before : List Entry
   pub outcome : Outcome
@@ -97,8 +98,8 @@ pub record Filled (p q : PassView) : Type 0 where
   pub long : length q.seen ≡ p.desk.calls
   pub count : p.count ≤ length q.seen
 
--- that a call of pass p came back either with its reply (`Answered`), or, as the journal was full, with the command
--- itself and `calls`, the journal's count of calls; q is the pass then
+-- that a call of pass p came back either with its reply (`Answered`), or, as the journal was full (`Filled`), with the
+-- command itself and the count `calls`; q is the pass then
 abbrev pub Told : PassView → Command → ℕ → Result Reply Full → PassView → Type 0
 Told p command calls told q =
     MatchResult told (λ r. Answered p command r q) (λ f. (f.command ≡ command) × (f.served ≡ calls) × Filled p q)
@@ -117,8 +118,8 @@ pub record Heard (p : PassView) (note : NoteView) (q : PassView) : Type 0 where
   pub heard : BeginsWith q.seen note.seen
   pub count : note.count ≤ q.count
 
--- that this is the journal of p's desk at its end: a legal history that begins with all that p has seen, of as many
--- calls as p knows of at least and as the desk takes at most, and with no further call of p's least session
+-- that this is the journal of p's desk at its end: a legal history that begins with all that p has seen, of no fewer
+-- calls than p knows of and no more than the desk takes, and with no further call of p's least session
 pub record Finished (p : PassView) (journal : List Entry) : Type 0 where
   pub is_history : IsHistory p.desk.sessions journal
   pub room : length journal ≤ p.desk.calls
@@ -128,11 +129,13 @@ pub record Finished (p : PassView) (journal : List Entry) : Type 0 where
 
 -- ---- passes made
 
--- the first pass of a desk: it has seen nothing, knows of no call, and all sessions are its own, 0 to `sessions - 1`
+-- the first pass of a desk: it has seen nothing, knows of no call, and all sessions are its own, 0 to `sessions - 1`;
+-- session 0 alone where `sessions` is 0
 abbrev pub first_pass : DeskView → PassView
 first_pass d = record { desk = d; seen = []; count = 0; least = 0; greatest = d.sessions - 1 }
 
--- what stays of a pass that is split: the pass without its greatest session, and else as it was
+-- what stays of a pass that is split: the pass without its greatest session, and else as it was; with session 0 alone
+-- it stays as it was
 abbrev pub without_last : PassView → PassView
 without_last p = record p { greatest = p.greatest - 1 }
 

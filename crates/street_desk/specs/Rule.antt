@@ -34,8 +34,8 @@ home_of maybe.none r = maybe.some (Some r)
 home_of (maybe.some seat) r = maybe.none
 
 -- that what seat `seat`'s view v says is true: the history, of `count` calls or more, begins with what it has seen, and
--- with what it heard; sessions and limits are the desk's; no call bears its sessions but seen ones of the least; with
--- the turn, it has seen all
+-- with what it heard; with the turn, it has seen all; where it owns sessions, no call bears them but seen ones of the
+-- least; where it is live, limit and count of sessions are the desk's
 pub record Knows (calls sessions : ℕ) (history : List Entry) (busy : Turn) (seat : ℕ) (v : SeatView) : Type 0 where
   pub seen : BeginsWith history v.seen
   pub also : BeginsWith history v.also
@@ -68,7 +68,7 @@ pub record KeepsRule (calls sessions : ℕ) (s : State (Option Recorded) SeatVie
   pub apart : AllApart s.views
 
 -- the view of the first seat, at a desk with room for `calls` calls: live, without the turn, it has seen and heard
--- nothing, counts no call, and owns all sessions, 0 to `sessions - 1`
+-- nothing, counts no call, and owns all sessions, 0 to `sessions - 1`; session 0 alone where `sessions` is 0
 abbrev pub first_view : ℕ → ℕ → SeatView
 first_view calls sessions = record {
   seen = [];

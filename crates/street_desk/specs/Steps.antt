@@ -26,8 +26,9 @@ looked v seen count = record v { seen = seen; also = []; count = count }
 abbrev pub with_turn : SeatView → List Entry → Bool → SeatView
 with_turn v seen turn = record v { seen = seen; also = []; turn = turn }
 
--- that a seat of view v may now see this history: it is legal, begins with all that v had seen and with all heard, its
--- calls are of the desk's sessions, and it has no call of v's sessions but those of the least one that v had seen
+-- that a seat of view v may now see this history: it is legal and begins with all that v had seen and with all heard;
+-- where v is live, its calls are of the desk's sessions; where v owns sessions, it has no call of these but those of
+-- the least one that v had seen
 pub record Sees (v : SeatView) (history : List Entry) : Type 0 where
   pub legal : IsLegal history
   pub below : v.live ≡ true → AllBelow v.sessions history
@@ -37,8 +38,9 @@ pub record Sees (v : SeatView) (history : List Entry) : Type 0 where
   pub own : v.owns ≡ true → calls_of v.least history ≡ calls_of v.least v.seen
   pub unused : v.owns ≡ true → (n : ℕ) → v.least < n → n ≤ v.greatest → calls_of n history ≡ []
 
--- that a load found the word n, and made view v into w: n / 2 is the count of finished calls, no less than v's and no
--- more than the desk takes; w has seen at most these, and all where n is even, as nobody has the turn then
+-- that a load found the word n, and made view v into w: n / 2 is the count of finished calls, no less than v's and,
+-- where v is live, no more than the desk takes; w has seen at most these, and all where n is even, as nobody has the
+-- turn then
 pub record Looks (v : SeatView) (n : ℕ) (w : SeatView) : Type 0 where
   pub is : w ≡ looked v w.seen (n / 2)
   pub sees : Sees v w.seen
@@ -81,8 +83,8 @@ Calls v session command reply after = (o : Outcome)
 
 -- ---- seats split and joined
 
--- the view that stays of a seat that is split: its sessions but the greatest, with nothing heard and no turn; all else
--- of it is as it was
+-- the view that stays of a seat that is split: its sessions but the greatest (session 0 alone stays), with nothing
+-- heard and no turn; all else of it is as it was
 abbrev pub kept_half : SeatView → SeatView
 kept_half v = record v { also = []; turn = false; greatest = v.greatest - 1 }
 
@@ -92,7 +94,7 @@ abbrev pub given_half : SeatView → SeatView
 given_half v = record v { also = []; turn = false; least = v.greatest }
 
 -- the view of a note's seat: it has seen what the pass has and knows its count, and has no session, no turn and nothing
--- heard
+-- heard; the desk's limits, and whether it is live, are as the pass has them
 abbrev pub noted : SeatView → SeatView
 noted v = record v { also = []; turn = false; owns = false; least = 0; greatest = 0 }
 

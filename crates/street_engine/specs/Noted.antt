@@ -22,15 +22,15 @@ abbrev pub befores : ℕ → Traffic → List Traffic
 befores zero m = []
 befores (suc n) m = m ∷ befores n (step m)
 
--- the count of steps that an advance of n steps made, by its reply: n where it is a clock, fewer where it tells of a
--- stop short, 0 of any other reply (a refusal, starved)
+-- the count of steps that an advance of n steps made, by its reply: n where it is a clock, the count that it tells
+-- where it tells of a stop short, 0 of any other reply (a refusal, starved)
 abbrev pub advanced : ℕ → Reply → ℕ
 advanced n (Clock clock) = n
 advanced n (ShortReply clock made) = made
 advanced n reply = 0
 
--- the count of steps that a command made, by its reply: for an advance all where that is a clock, fewer where it tells
--- of a stop short, else 0; 0 for any other command
+-- the count of steps that a command made, by its reply: for an advance all where that is a clock, as many as it tells
+-- where it tells of a stop short, else 0; 0 for any other command
 abbrev pub steps_made : Command → Reply → ℕ
 steps_made (Advance n) reply = advanced n reply
 steps_made command reply = 0

@@ -31,26 +31,26 @@ Serves before command reply outcome after = (old : State) → StandsFor before o
 abbrev pub KeepsRefused : EngineView → Reply → EngineView → Type 0
 KeepsRefused before reply after = (refusal : Refusal) → reply ≡ Refused refusal → after ≡ before
 
--- that link and lane, by positions, are there in the network: the tests of them refuse nothing in any of its traffic,
--- so that those of a command come to what the further tests `rest` say
+-- that the network has a link with identifier `link`, and it a lane with number `lane`: the tests of them refuse
+-- nothing in any of its traffic, so that those of a command come to what the further tests `rest` say
 abbrev pub PassesLane : NetSpec → ℕ → ℕ → Type 0
 PassesLane net link lane = (m : Traffic) (rest : List (Bool × Refusal)) → m.network ≡ net
     → first_of (lane_tests link lane m ++ rest) ≡ first_of rest
 
--- that the tests of link and lane, by positions, refuse with `refusal` in all traffic of this network, whatever further
--- tests `rest` follow
+-- that the tests of the link with identifier `link` and its lane with number `lane` refuse with `refusal` in all
+-- traffic of this network, whatever further tests `rest` follow
 abbrev pub RefusesLane : NetSpec → ℕ → ℕ → Refusal → Type 0
 RefusesLane net link lane refusal = (m : Traffic) (rest : List (Bool × Refusal)) → m.network ≡ net
     → first_of (lane_tests link lane m ++ rest) ≡ Some refusal
 
--- that `refusal` is what the machine refuses an `enter` of this plan, lane, depart and size with, none where it does
--- not, in all traffic of the streets' network with as many numbers given to vehicles
+-- that `refusal` is what the machine refuses an `enter` of this plan of links' identifiers, lane, depart and size with,
+-- none where it does not, in all traffic of the streets' network with as many numbers given to vehicles
 abbrev pub TellsEntry : StreetsView → List ℕ → ℕ → ℕ → ℕ → Option Refusal → Type 0
 TellsEntry s plan lane depart size refusal = (m : Traffic) → m.network ≡ s.tiles.network → length m.ends ≡ length s.ends
     → refusal ≡ enter_refusal plan lane depart size m
 
--- the command for the cells `first` to `last` of a lane, named by link and lane: to close them where the truth value is
--- true, else to open them again
+-- the command for the cells `first` to `last` of a lane, named by its link's identifier and its number: to close them
+-- where the truth value is true, else to open them again
 abbrev pub closing : Bool → ℕ → ℕ → ℕ → ℕ → Command
 closing true link lane first last = CloseLane link lane first last
 closing false link lane first last = ReopenLane link lane first last

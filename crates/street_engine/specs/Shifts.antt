@@ -12,8 +12,9 @@ pub record ShiftResultView (K : Type 0) : Type 0 where
   pub sink : K
   pub made : ℕ
 
--- that `made` steps, at most `most`, led from the streets `begun` to `streets`, whose clock is as much later, and the
--- sink, which was `start` at first, was told of each step; where `start` is none, nothing is said of the sink
+-- that `made` steps, at most `most`, led from the streets `begun` to `streets`, for all traffic that these stood for,
+-- with a clock as much later, and the sink, which was `start` at first, was told of each step; where `start` is none,
+-- nothing is said of the sink
 pub record HaveRun {K : Type 0} (notes : K → Traffic → K → Type 0) (begun : StreetsView) (most : ℕ) (start : Option K) (streets : StreetsView) (sink : K) (made : ℕ) : Type 0 where
   pub within : made ≤ most
   pub clock : streets.clock ≡ begun.clock + made

@@ -7,7 +7,7 @@ use Rattle.street_tile.specs.Prelude.{detectors_on}
 use Rattle.street_engine.specs.declared.sites.DetectorSite.{DetectorSite}
 
 -- that site s names detector i of the list: s is at a lane of the network, and detector i is the detector with number
--- `s.number`, from 0, among those of the list on this lane
+-- `s.number`, from 0, among those of the list on this lane; or neither is there
 pub record IsDetectorSite (net : NetSpec) (ds : List Detector) (i : ℕ) (s : DetectorSite) : Type 0 where
   pub lane : IsLane net s.at
   pub there : slice_get (detectors_on s.at ds) s.number ≡ slice_get ds i

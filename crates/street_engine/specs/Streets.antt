@@ -58,7 +58,7 @@ StreetsSignal node plan x y = (id : ℕ) (other : SignalPlan) → node_of x.tile
     → StreetsGo (λ m. signalled m id other) x y
 
 -- that streets are as a command leaves them: no number of one who arrived is still to be noted, the clock is at most
--- the last, and they stand for some traffic, which is sound (`IsTrafficOf`)
+-- the last, and there is traffic, which is sound, for which they stand (`IsTrafficOf`)
 pub record IsKept (x : StreetsView) : Type 0 where
   pub nobody : NobodyArrived x.tiles
   pub in_time : x.clock ≤ last_clock

@@ -19,8 +19,8 @@ pub record Detectors : Type 0 where
 abbrev pub cleared : Meter → Watch
 cleared x = record { cell = x.cell; passes = 0; speeds = 0 }
 
--- what the watch of a meter sees of this traffic's next motion on the lane at place p: the meter's cell, how many
--- fronts pass that cell, and the sum of their speeds
+-- what the watch of a meter sees of the motion that is made from this traffic on the lane at place p: the meter's cell,
+-- how many fronts pass that cell, and the sum of their speeds
 abbrev pub watch_of : Traffic → Place → Meter → Watch
 watch_of m p x = watched (drive_on m p) (lane_at m p).track (cleared x)
 
@@ -38,8 +38,8 @@ pub record GoesOn (old new : Meter) : Type 0 where
   pub placed : IsPlacedAs new old
   pub next : next_step new ≡ next_step old + 1
 
--- that, whatever triples the old meter's rows summed, the new one's sum these and one more behind them: what watch w
--- saw, and whether the old meter's cell is covered in `cells`
+-- that, whatever triples the old meter stood for by its rows (`Stands`), the new one stands for these and one more
+-- behind them: what watch w saw, and whether the old meter's cell is covered in `cells`
 abbrev pub Notes : Cells → Watch → Meter → Meter → Type 0
 Notes cells w old new = (triples : List Triple) → Stands old triples → Stands new (triples ++ triple_of cells w old.cell ∷ [])
 
@@ -57,8 +57,8 @@ AllNote cells ws olds news = (k : ℕ) (x : Meter) (w : Watch) → k < length ol
 
 -- ---- the machine's detectors
 
--- that a meter stands for a detector of the machine: it has the detector's place, cell, period and start, and its rows
--- are those of all triples that the detector has noted
+-- that a meter stands for a detector of the machine: it has the detector's place, cell, period and start, and its rows,
+-- full and running, are those that the detector tells of all triples that it has noted (`Stands`)
 pub record MeterStands (x : Meter) (d : Detector) : Type 0 where
   pub placed : d ≡ detector_of x d.triples
   pub stands : Stands x d.triples
@@ -81,8 +81,8 @@ pub record IsNew (p : Place) (at steps first : ℕ) (x : Meter) : Type 0 where
   pub next : next_step x ≡ first
   pub stands : Stands x []
 
--- that the lane has one meter more, the last, new at place p in cell `at`, with rows of `steps` steps from step `first`
--- on (`IsNew`), and as many cells as before; of its watches nothing is said
+-- that the lane has, behind its meters as they were, one more, new at place p in cell `at`, with rows of `steps` steps
+-- from step `first` on (`IsNew`), and has as many cells as before; of its watches nothing is said
 pub record Placed (p : Place) (at steps first : ℕ) (old new : Detectors) : Type 0 where
   pub meter : Meter
   pub new_one : IsNew p at steps first meter

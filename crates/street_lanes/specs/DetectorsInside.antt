@@ -6,7 +6,7 @@ use Rattle.street_lanes.specs.declared.detectors.Kind.TheVariants.{Bare, Watched
 use Rattle.street_lanes.specs.Detectors.{Detectors}
 
 -- what contracts see of a lane's detectors: no meters and no watches on a bare lane, of which only its count of cells
--- is kept; else those of its meters
+-- is kept; else the length, meters and watches that are kept of it
 abbrev pub detectors_of : Kind → Detectors
 detectors_of (Bare length) = record { size = length; meters = []; watches = [] }
 detectors_of (Watched meters) = meters.value

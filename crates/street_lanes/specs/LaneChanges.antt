@@ -23,8 +23,9 @@ WhereBothStand net clock l r P = (m : Traffic) (a b : LaneState) → m.network �
 abbrev pub changed_lane : Changing → ℕ → LaneState → LaneState → LaneState
 changed_lane changing lane own other = with_cells own (changed_cells changing lane own.track other.track)
 
--- that the lists of lanes n and n + 1, lanes 0 and 1 of `link`, show the two lanes after lane changes, whatever lanes
--- they showed before, with closed stretches `own` and `other`; only their cells' lists and cars changed
+-- that the lists of lanes n and n + 1, with closed stretches `own` and `other`, show lanes 0 and 1 of `link` after the
+-- lane changes of the network at the clock, whatever two lanes they showed before; only these lanes' lists of cells,
+-- and the cars on them, may differ
 pub record ChangesLanes (net : NetSpec) (clock link : ℕ) (own other : List Stretch) (n : ℕ) (old new : Yard) : Type 0 where
   pub touches : Touches (cells_list n ∷ cells_list (n + 1) ∷ []) old new
   pub room : new.room ≡ old.room
@@ -36,8 +37,9 @@ pub record ChangesLanes (net : NetSpec) (clock link : ℕ) (own other : List Str
   pub second : WhereBothSeen net clock (lane_seen old own (link_at net link).length n) (lane_seen old other (link_at net link).length (n + 1))
       (λ m a b. IsLaneOf (lane_seen new other (link_at net link).length (n + 1)) (changed_lane (changing_on m link) 1 b a))
 
--- that lanes n and n + 1 stand for lanes 0 and 1 of the link of lane n after lane changes, whatever two lanes they
--- stood for; all other lanes, places, loose vehicles, odds and room are as they were
+-- that lanes n and n + 1 stand for lanes 0 and 1 of the link of lane n after the lane changes of the network at the
+-- clock, whatever two lanes they stood for; all other lanes, and places, sizes, loose vehicles, odds and room are as
+-- they were
 pub record ChangesAt (net : NetSpec) (clock n : ℕ) (x y : Lanes) : Type 0 where
   pub same : Same x y
   pub others : (k : ℕ) → k ≢ n → k ≢ n + 1 → lane_of y k ≡ lane_of x k

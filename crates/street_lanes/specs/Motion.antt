@@ -99,7 +99,8 @@ abbrev pub WhereSeen : NetSpec → Option SignalPlan → ℕ → Place → LaneV
 WhereSeen net signal step p lane P = (m : Traffic) → IsStepOf net signal step p m → IsLaneOf lane (lane_at m p) → P m
 
 -- that the lists of lane n show its lane after motion, whatever lane at p they showed before; `told` is who arrives,
--- taken out of the yard; the watches `before` became `after`; lists but cells and buffer are as they were
+-- taken out of the yard, or none; the watches `before` became `after`; lists but those of its cells and buffer are as
+-- they were
 pub record MovesLane (net : NetSpec) (signal : Option SignalPlan) (step : ℕ) (p : Place) (closed : List Stretch) (n : ℕ)
     (old new : Yard) (told : Option ArrivedCar) (before after : List Watch) : Type 0 where
   pub touches : Touches (cells_list n ∷ buffer_list n ∷ []) old new
@@ -122,8 +123,9 @@ MovesLeg leg old new told before after =
 abbrev pub WhereStands : NetSpec → Option SignalPlan → ℕ → ℕ → Lanes → (Traffic → Type 0) → Type 0
 WhereStands net signal step n x P = (m : Traffic) → IsStepOf net signal step (place_at x n) m → LaneStands (lane_of x n) (lane_at m (place_at x n)) → P m
 
--- that lane n stands for its lane after motion, whatever lane it stood for; `told` is who arrives, which leaves room
--- for one more; the watches `before` became `after`; other lanes are as they were
+-- that lane n stands for its lane after motion, whatever lane it stood for; `told` is who arrives, if anybody, and
+-- there is room for as many more; the watches `before` became `after`; places, sizes, loose vehicles, odds (`Same`) and
+-- other lanes are as they were
 pub record DrivesAt (net : NetSpec) (signal : Option SignalPlan) (step n : ℕ) (x y : Lanes) (told : Option ArrivedCar) (before after : List Watch) : Type 0 where
   pub same : Same x y
   pub others : Others n x y

@@ -4,7 +4,8 @@ use Rattle.street_base.specs.declared.car.Car.{Car}
 use Rattle.street_yard.specs.Prelude.{Yard, list_at, car_of, list_on, without, Has}
 use Rattle.street_lanes.specs.Lists.{cells_list, buffer_list, waiting_list, NoneLoose, Touches}
 
--- that key `Some k` is on `list`, with a car of this number; where none is found, no car on the list has the number
+-- that key `Some k` is on `list`, with a car of this number, perhaps one of several; where none is found, no car on the
+-- list has the number
 abbrev pub IsSought : Yard → ℕ → ℕ → Option ℕ → Type 0
 IsSought y list number None = (k : ℕ) (c : Car) → Has (list_at y list) k → car_of y k ≡ Some c → c.number ≢ number
 IsSought y list number (Some k) = Has (list_at y list) k × IsSomeAnd (car_of y k) (λ c. c.number ≡ number)

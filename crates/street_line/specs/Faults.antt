@@ -26,8 +26,8 @@ abbrev pub IsUnanswered : {S : Type 0} → (S → Command → Served → S → T
 IsUnanswered serves old ls new = (line : List ℕ) × (more : List (List ℕ)) × (c : Command) × (ls ≡ line ∷ more) × (said line ≡ calls c) × serves old c Unrecorded new
 
 -- that a fault ended a run: of the text's lines `done` were served, `start` to `now` (or one more with no answer), and
--- of their output `tally.bytes` bytes put behind `before` (none: unknown); `tally` counts; at a read, all ended lines
--- were done and written
+-- of their output the first `tally.bytes` bytes put behind `before` (none: unknown); `tally` counts; at a read, `done`
+-- are all ended lines and their whole output is written
 pub record Breaks {S : Type 0} (serves : S → Command → Served → S → Type 0) (start : S) (before : Option (List ℕ)) (text : List ℕ)
     (now : S) (after : Option (List ℕ)) (kind : FaultKind) (tally : Tally) : Type 0 where
   -- the lines that were served, those that were not, and the output of the first

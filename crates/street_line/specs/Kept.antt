@@ -22,8 +22,9 @@ use Rattle.street_text.specs.FaultLines.{fault_line}
 
 -- ---- one line
 
--- whether a reply tells that a command that may change the state was done whole, even if it changed nothing (an advance
--- of no steps); false of a refusal, of what is only read, and of a short advance
+-- whether a reply is of a kind that tells that a command which may change the state was done whole, even if it changed
+-- nothing (an advance of no steps); false of a refusal, of what is only read, of a short advance, and of a starved
+-- command
 abbrev pub is_change : Reply → Bool
 is_change (Loaded links nodes turns) = true
 is_change (Signalled cycle) = true
@@ -39,21 +40,21 @@ abbrev pub is_short : Reply → Bool
 is_short (Short clock short) = true
 is_short reply = false
 
--- the bytes that the log keeps of a line: where the truth value is true, as its command was done (`is_change`), the
--- line as it came, with LF; else none
+-- the bytes that the log keeps of a line: where the truth value is true, as its reply tells of a change (`is_change`),
+-- the line as it came, with LF; else none
 abbrev pub entry_of : Bool → List ℕ → List ℕ
 entry_of true line = line ++ 10 ∷ []
 entry_of false line = []
 
--- that `entry` is what the log keeps of a line whose command was served so: the line with LF where it was done
--- (`is_change`), else nothing; never so of a short advance or a command with no answer
+-- that `entry` is what the log keeps of a line whose command was served so: the line with LF where its reply tells of a
+-- change (`is_change`), else nothing; never so of a short advance or a command with no answer
 abbrev pub IsEntry : List ℕ → Served → List ℕ → Type 0
 IsEntry line (Answered reply) entry = (is_short reply ≡ false) × (entry ≡ entry_of (is_change reply) line)
 IsEntry line Full entry = entry ≡ []
 IsEntry line Unrecorded entry = ⊥
 
--- that what the log keeps of the line, with LF where its command was done, else nothing (`IsEntry`), was put behind
--- what had been noted before
+-- that what the log keeps of the line, with LF where its reply tells of a change, else nothing (`IsEntry`), was put
+-- behind what had been noted before
 abbrev pub IsNoted : List ℕ → Served → List ℕ → List ℕ → Type 0
 IsNoted line served old new = (entry : List ℕ) × IsEntry line served entry × (new ≡ old ++ entry)
 
@@ -104,8 +105,9 @@ module _ {S : Type 0} (serves : S → Command → Served → S → Type 0) where
     pub holds : Appends log held kept
     pub stays : synced ≡ held
 
-  -- that a fault left this of these lines: where the log failed, no reply, first bytes of what it keeps, and no more of
-  -- these synced; where the writer failed, all kept and synced, and first bytes of the output; else all as it was
+  -- that a fault left this of these lines: where the log failed, no reply went out, and first bytes of what it keeps
+  -- are in it, of which no more are synced; where the writer failed, all is kept and synced, and first bytes of the
+  -- output are written; else all is as it was
   abbrev pub PassStops : S → Option (List ℕ) → Option (List ℕ) → Option (List ℕ) → List (List ℕ) → KeptFault → Option (List ℕ) → Option (List ℕ) → Option (List ℕ) → Type 0
   PassStops old log stayed before ls Log held synced after =
       (out : List ℕ) × (kept : List ℕ) × (new : S) × GoesKept old ls out kept new × (after ≡ before)
@@ -143,8 +145,8 @@ module _ {S : Type 0} (serves : S → Command → Served → S → Type 0) where
     pub passed : Passed start log before (cut seen).0 mid owed owed told
     pub stops : PassStops mid owed owed told last fault held synced after
 
-  -- that, after whatever fault, the first lines of the text that was read were served, the first bytes of their output
-  -- are written, and all that the log keeps of these lines is in the log and synced, perhaps with more behind it
+  -- that of the text that was read the first lines, perhaps all or none, were served, first bytes of their output are
+  -- written, and all that the log keeps of these lines is in the log and synced, perhaps with more behind it
   pub record KeptFirst (start : S) (unread log before : Option (List ℕ)) (left held synced after : Option (List ℕ)) : Type 0 where
     pub text : List ℕ
     pub done : List (List ℕ)
@@ -174,8 +176,8 @@ abbrev pub IsPassCaused : {L W : Type 0} → (L → Type 0) → KeptFault → L 
 IsPassCaused has_failed (Run kind) log writer = IsCausedByWriting kind writer
 IsPassCaused has_failed Log log writer = has_failed log
 
--- that the fault of a kept session has its cause: the log has failed; or reader or writer counted a failed read,
--- `reads` reads, or a failed write (`IsCaused`); of lack of memory no cause is asked
+-- that the fault of a kept session has its cause: the log has failed; or reader or writer counted a failed read with no
+-- call of the writer behind it, just `reads` reads, or a failed write (`IsCaused`); of lack of memory no cause is asked
 abbrev pub IsKeptCaused : {R L W : Type 0} → (L → Type 0) → KeptFault → Counted R → L → Counted W → ℕ → Type 0
 IsKeptCaused has_failed (Run kind) reader log writer reads = IsCaused kind reader writer reads
 IsKeptCaused has_failed Log reader log writer reads = has_failed log

@@ -56,7 +56,7 @@ module _ {S : Type 0} (serves : S → Command → Served → S → Type 0) where
     pub bytes : redo.bytes ≡ length whole
 
   -- that the ended lines of a kept file were done again from `start` to `mid`, and counted (`Redone`), and `log`, what
-  -- the file has now, is just these lines; of a file whose text, `had`, was not known (none) nothing is said
+  -- the file has now, is just these lines; where the file's text, `had`, was not known (none), nothing is said of `log`
   pub record Recovered (start : S) (had : Option (List ℕ)) (mid : S) (log : Option (List ℕ)) (redo : RedoneLines) : Type 0 where
     pub redone : Redone start had mid redo
     pub cut_off : Keeps (first_of redo.bytes had) log
@@ -69,8 +69,9 @@ module _ {S : Type 0} (serves : S → Command → Served → S → Type 0) where
     pub recovered : Recovered start had mid log redo
     pub whole : KeptWhole serves mid unread log before now left held synced after
 
-  -- that a fault before a session went on left the file as it was where a line could not be done again, or none stands
-  -- there; where it was to be written anew, its text or its ended lines, with those of them synced that had been
+  -- that a fault came before a session went on: the file is as it was where a line could not be done again or it has no
+  -- line that ended; where it was to be written anew, it has its text or its ended lines, and what was synced of these
+  -- lines still is
   abbrev pub BeginBreaks : S → Option (List ℕ) → Option (List ℕ) → S → Option (List ℕ) → Option (List ℕ) → BeginFault → Type 0
   BeginBreaks start had stayed now held synced (Recover fault) = ((rest : Option (List ℕ)) × RedoBroke serves start (sound_of had) fault now rest) × (held ≡ had) × (synced ≡ stayed)
   BeginBreaks start had stayed now held synced Foreign = ((redo : RedoneLines) × Redone start had now redo × (redo.bytes ≡ 0)) × (held ≡ had) × (synced ≡ stayed)
@@ -78,9 +79,9 @@ module _ {S : Type 0} (serves : S → Command → Served → S → Type 0) where
       (redo : RedoneLines) × Redone start had now redo × (Keeps had held ⊎ Keeps (first_of redo.bytes had) held) × Extends (first_of redo.bytes stayed) synced
 
   module _ (start : S) (had stayed unread before : Option (List ℕ)) (now : S) (left held synced after : Option (List ℕ)) where
-    -- that a fault of a session that goes on from a file came before any line was served, with nothing written
-    -- (`BeginBreaks`), or behind the file's lines done again (`Recovered`), in the session (`KeptUpTo`), and left what
-    -- these say
+    -- that a fault of a session that goes on from a file came before any line was served, with nothing written to the
+    -- output (`BeginBreaks`), or behind the file's lines done again (`Recovered`), in the session (`KeptUpTo`), and
+    -- left what these say
     abbrev pub ServeBreaks : ServeFault → Type 0
     ServeBreaks (Begin fault) = BeginBreaks start had stayed now held synced fault × (after ≡ before)
     ServeBreaks (Session fault) = (mid : S) × (log : Option (List ℕ)) × (redo : RedoneLines) × Recovered start had mid log redo × KeptUpTo serves mid unread log before fault left held synced after

@@ -36,8 +36,9 @@ abbrev pub told : Option (List ℕ) → List ℕ
 told None = []
 told (Some line) = line
 
--- the session after one more line, which says this: a faulty line adds a reply; a command is done whole, adds its
--- reply, and the line is kept where it was done (`is_change`); a blank line adds nothing
+-- the session after one more line, which says this: a faulty line adds the reply that tells its fault; a command is
+-- done whole, adds its reply, and the line is kept where that tells of a change (`is_change`); a blank line adds
+-- nothing
 abbrev pub with_line : Session → Said → List ℕ → Session
 with_line s silent line = s
 with_line s (faulty fault) line = record s { replies = s.replies ++ told (fault_line fault) }

@@ -9,14 +9,14 @@ use Rattle.street_line.specs.declared.redo.RedoneLines.{RedoneLines}
 use Rattle.street_line.specs.declared.kept_file.ServeFault.{ServeFault}
 
 module _ {K D W : Type 0} (held synced : K → Option (List ℕ)) (remaining : D → Option (List ℕ)) (contents : W → Option (List ℕ)) where
-  -- that the machine did the lines of the file again from state `old` and then served all lines of the reader, whatever
-  -- state that leads to: replies are written, and the file holds the kept lines, synced (`ServesOn`)
+  -- that the machine did the lines of the file again from state `old` and then served all lines of the reader, which
+  -- led to some state: replies are written, and the file holds the kept lines, synced (`ServesOn`)
   abbrev pub MachineServesOn : State → K → Counted D → Counted W → K → Counted D → Counted W → RedoneLines → Type 0
   MachineServesOn old file reader writer kept read written redo = (new : State)
       × ServesOn MachineServes old (held file) (remaining reader.stream) (contents writer.stream) redo new (remaining read.stream) (held kept) (synced kept) (contents written.stream)
 
-  -- that the machine did the lines of the file again from state `old` and served those of the reader up to a fault,
-  -- whatever state that leads to; what file and writer then have, `ServeBreaks` says
+  -- that a fault ended a session of the machine that goes on from the file, from state `old`: before it served any line
+  -- of the reader, or behind some of them; what file and writer then have, `ServeBreaks` says
   abbrev pub MachineServesOnFirst : State → K → Counted D → Counted W → K → Counted D → Counted W → ServeFault → Type 0
   MachineServesOnFirst old file reader writer kept read written fault = (new : State)
       × ServeBreaks MachineServes old (held file) (synced file) (remaining reader.stream) (contents writer.stream) new (remaining read.stream) (held kept) (synced kept) (contents written.stream) fault
@@ -27,8 +27,9 @@ module _ {K D W : Type 0} (held synced : K → Option (List ℕ)) (remaining : D
   EngineServesOn before file reader writer after kept read written redo = (old : State) → StandsFor before old → (new : State) × StandsFor after new
       × ServesOn MachineServes old (held file) (remaining reader.stream) (contents writer.stream) redo new (remaining read.stream) (held kept) (synced kept) (contents written.stream)
 
-  -- that, for any state for which the engine stood, the machine did the lines of the file again and served those of the
-  -- reader from it up to a fault (`ServeBreaks`); of the engine afterwards nothing is said
+  -- that, for any state for which the engine stood, a fault ended a session of the machine that goes on from the file,
+  -- before it served any line of the reader or behind some of them (`ServeBreaks`); of the engine afterwards nothing is
+  -- said
   abbrev pub EngineServesOnFirst : EngineView → K → Counted D → Counted W → K → Counted D → Counted W → ServeFault → Type 0
   EngineServesOnFirst before file reader writer kept read written fault = (old : State) → StandsFor before old
       → MachineServesOnFirst old file reader writer kept read written fault

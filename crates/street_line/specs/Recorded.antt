@@ -17,16 +17,17 @@ use Rattle.street_line.specs.Streams.{ServesAll, ServesFirst}
 
 -- ---- the machine
 
--- a machine with the record of its run: `whole` has the blocks of all answered commands; `begun` those of one that has
--- no answer, as they could not be written whole, or none where there is no such command
+-- a machine with the record of its run: `whole` has the blocks of all answered commands; `begun` those of a command
+-- that was done but has no answer, of which perhaps only first bytes are written, or none where there is no such
+-- command
 pub record RecordedMachine : Type 0 where
   pub machine : State
   pub whole : List ℕ
   pub begun : Option (List ℕ)
 
 -- that a command was answered, and the blocks of its steps put behind `whole`; or that it has no answer: it was done
--- but its blocks are `begun`, as they could not be written whole, or nothing was done, as blocks were begun before; it
--- is never full
+-- and its blocks are `begun`, as their writing failed, or nothing was done, as blocks were begun before; it is never
+-- full
 abbrev pub MachineRecords : RecordedMachine → Command → Served → RecordedMachine → Type 0
 MachineRecords old c (Answered reply) new = (old.begun ≡ None) × (new.begun ≡ None) × MachineServes old.machine c (Answered reply) new.machine
     × (new.whole ≡ old.whole ++ recorded_in old.machine c reply)
@@ -54,8 +55,8 @@ module _ {W : Type 0} (contents : W → Option (List ℕ)) where
       × ((start : Option (List ℕ)) (given : List ℕ) → IsGiven contents start given old → IsGiven contents start given new)
 
   -- that a command was answered and the blocks of its steps are written; or, where it has no answer, the record had
-  -- failed before and nothing was done, or the command was done and of its blocks only first bytes are written; it is
-  -- never full
+  -- failed before and nothing was done, or the command was done and first bytes of its blocks, perhaps all or none, are
+  -- written; it is never full
   abbrev pub Records : EngineView → WriterView W → Command → Served → EngineView → WriterView W → Type 0
   Records old w c (Answered reply) new v = (w.has_failed ≡ false) × (v.has_failed ≡ false) × EngineServes old c (Answered reply) new
       × ((m : State) → StandsFor old m → Appends (contents w.writer.stream) (contents v.writer.stream) (recorded_in m c reply))
@@ -64,20 +65,23 @@ module _ {W : Type 0} (contents : W → Option (List ℕ)) where
       ⊎ ((reply : Reply) × (w.has_failed ≡ false) × (v.has_failed ≡ true) × HasFailed v.writer × EngineServes old c (Answered reply) new
       × ((m : State) → StandsFor old m → (n : ℕ) × Appends (contents w.writer.stream) (contents v.writer.stream) (take n (recorded_in m c reply))))
 
-  -- that a recorded session served a command, with its blocks written, or only first bytes and no answer (`Records`),
-  -- and no byte of the record waiting before or after; nothing is said where there is no writer or a byte waited before
+  -- that a recorded session served a command, with its blocks written, or with first bytes of them, or none, and no
+  -- answer (`Records`), and no byte of the record waits then, unless a write has failed; nothing is said where there is
+  -- no writer, or a byte waited before with no write failed
   abbrev pub RecordServes : RecordedView W → Command → Served → RecordedView W → Type 0
   RecordServes old c served new = (w : WriterView W) → old.writer ≡ Some w → HasNoRest w
       → (v : WriterView W) × (new.writer ≡ Some v) × HasNoRest v × Records old.engine w c served new.engine v
 
   -- that the record's stream, since it held `start`, has taken `whole`, the blocks of all answered commands, and no
-  -- write failed; or, where blocks were `begun`, a write has failed and first bytes of these are behind `whole`
+  -- write failed; or, where blocks were `begun`, a write has failed and first bytes of these, perhaps all or none, are
+  -- behind `whole`
   abbrev pub HoldsRecord : Option (List ℕ) → WriterView W → List ℕ → Option (List ℕ) → Type 0
   HoldsRecord start w whole None = (w.has_failed ≡ false) × Appends start (contents w.writer.stream) whole
   HoldsRecord start w whole (Some begun) = (w.has_failed ≡ true) × HasFailed w.writer × (n : ℕ) × Appends start (contents w.writer.stream) (whole ++ take n begun)
 
   -- that the session's engine stands for the machine's state, and its writer's stream holds, behind `start`, the blocks
-  -- of all answered commands, and first bytes of those begun (`HoldsRecord`), with no byte waiting
+  -- of all answered commands, and first bytes of those begun (`HoldsRecord`), with no byte waiting, unless a write has
+  -- failed
   pub record StandsRecorded (start : Option (List ℕ)) (view : RecordedView W) (m : RecordedMachine) : Type 0 where
     pub engine : StandsFor view.engine m.machine
     pub writer : WriterView W
@@ -111,8 +115,8 @@ module _ {W D V : Type 0} (contents : W → Option (List ℕ)) (remaining : D �
       × HoldsRecord contents start w new.whole None × ServesAll MachineRecords remaining outputs no_steps reader writer new read written tally
 
   -- that the machine, with nothing loaded at first, serves the first lines of the reader until a fault ends the run,
-  -- and the record's stream has taken the blocks of those answered behind `start`, and first bytes of one without
-  -- answer
+  -- and the record's stream, of the writer in `file`, has taken the blocks of those answered behind `start`, and, if
+  -- one has no answer, first bytes of its blocks
   abbrev pub MachineRecordsFirst : Option (List ℕ) → Counted D → Counted V → Option (WriterView W) → Counted D → Counted V → RunFault → Type 0
   MachineRecordsFirst start reader writer file read written fault = (new : RecordedMachine) × (w : WriterView W) × (file ≡ Some w)
       × HoldsRecord contents start w new.whole new.begun × ServesFirst MachineRecords remaining outputs no_steps reader writer new read written fault

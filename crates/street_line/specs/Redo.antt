@@ -36,8 +36,8 @@ is_refused Unrecorded = false
 is_refused (Answered (Refused refusal)) = true
 is_refused (Answered reply) = false
 
--- whether a command that was served so was not done whole for lack of memory, or has no answer, as its record could not
--- be written
+-- whether a command that was served so was not done whole for lack of memory (short or starved), or has no answer, as
+-- its record could not be written
 abbrev pub is_short : Served → Bool
 is_short Unrecorded = true
 is_short (Answered (Short clock short)) = true
@@ -59,14 +59,14 @@ module _ {S : Type 0} (serves : S → Command → Served → S → Type 0) where
   RedoSaid old (calls c) new = (reply : Reply) × serves old c (Answered reply) new × (is_done reply ≡ true)
 
   -- that a line that says this cannot be done again: it is faulty, and nothing changes, or its command is refused where
-  -- it stands; so never of a blank line
+  -- it stands or finds no place in a journal (`is_refused`); so never of a blank line
   abbrev pub BadSaid : S → Said → S → Type 0
   BadSaid old silent new = ⊥
   BadSaid old (faulty f) new = new ≡ old
   BadSaid old (calls c) new = (served : Served) × serves old c served new × (is_refused served ≡ true)
 
-  -- that a line that says this was not done again as memory ran out: to read it, before its command was served, or
-  -- while it was served (short, starved or no answer); so never of a blank line
+  -- that a line that says this was not done again as memory ran out: to read it, with nothing changed, or while its
+  -- command was served (short, starved or no answer); so never of a blank line
   abbrev pub StarvedSaid : S → Said → S → Type 0
   StarvedSaid old silent new = ⊥
   StarvedSaid old (faulty f) new = new ≡ old
@@ -124,7 +124,7 @@ module _ {S : Type 0} (serves : S → Command → Served → S → Type 0) where
     pub halts : RedoHalts start 0 text fault now
 
 -- that `fault` is what a redo tells where it ended for this cause: for a bad line the number of lines `before` and
--- those of the tally, cut to 128 bits; for any other cause that memory ran out
+-- those of the tally together, but at most 2^128 - 1; for any other cause that memory ran out
 abbrev pub IsFaultOf : ℕ → StopCause RedoStop → Tally → RedoFault → Type 0
 IsFaultOf before (causes.Line stop.Bad) tally fault = fault ≡ BadLine (min (before + tally.lines) (2 ^ 128 - 1))
 IsFaultOf before (causes.Line stop.Starved) tally fault = fault ≡ Run kind.Starved
@@ -134,8 +134,8 @@ IsFaultOf before (causes.Run why) tally fault = fault ≡ Run kind.Starved
 abbrev pub IsSilent : LineAnswer → Type 0
 IsSilent answer = answer.reply ≡ Ok None
 
--- that the fault of a redo comes while a line is done: a bad line, or memory that ran out; a fault of reading or
--- writing does not
+-- that the fault of a redo is of a kind that comes while a line is done: a bad line, or memory that ran out; a fault of
+-- reading or writing is not
 abbrev pub IsInLine : RedoFault → Type 0
 IsInLine (Run kind.Read) = ⊥
 IsInLine (Run kind.Endless) = ⊥

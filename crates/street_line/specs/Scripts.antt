@@ -29,7 +29,7 @@ IsCausedInMemory Starved reader reads = ⊤
 IsCausedInMemory Write reader reads = ⊥
 
 -- that the replies of a script are the output of all lines of this text, served by the desk to its pass, from `old` to
--- `new`; or, with a fault, the first bytes of the output of its first lines (`Breaks`)
+-- `new`; or, with a fault, first bytes, perhaps all or none, of the output of its first lines (`Breaks`)
 abbrev pub ScriptServed : PassView → List ℕ → List ℕ → Option FaultKind → PassView → Type 0
 ScriptServed old text replies None new = Goes DeskServes old (lines_of text) replies new
 ScriptServed old text replies (Some fault) new = (kind : FaultKind) × (tally : Tally)
@@ -43,13 +43,13 @@ pub record ReaderServed (old : PassView) (unread left : Option (List ℕ)) (repl
   pub at_end : fault ≡ None → IsAtEnd left
   pub served : ScriptServed old text replies fault new
 
--- that a script was served the lines of its file, whatever text the file gave, all or, with a fault, the first
--- (`ScriptServed`); with no file, its pass, replies and fault are as they were
+-- that a script with a file was served the lines of some text, all or, with a fault, the first (`ScriptServed`); that
+-- this text is the file's is not said; with no file, its pass, replies and fault are as they were
 abbrev pub IsRunFrom : {F R : Type 0} → Option F → Script R → Script R → Type 0
 IsRunFrom None old new = (new.session ≡ old.session) × (new.replies ≡ old.replies) × (new.fault ≡ old.fault)
 IsRunFrom (Some file) old new = (text : List ℕ) × ScriptServed old.session text new.replies.items new.fault new.session
 
--- that a script was served the lines of the file that was opened for it, all or, with a fault, the first; without such
--- a file its pass, replies and fault are as they were
+-- that a script for which a file was opened was served the lines of some text, all or, with a fault, the first
+-- (`IsRunFrom`); without such a file its pass, replies and fault are as they were
 abbrev pub IsRun : {R : Type 0} → Script R → Script R → Type 0
 IsRun old new = IsRunFrom old.file old new

@@ -21,8 +21,8 @@ module _ {S D W : Type 0} (serves : S → Command → Served → S → Type 0) (
   ServesAll old reader writer new read written tally =
       ServedWhole serves old (remaining reader.stream) (contents writer.stream) new (remaining read.stream) (contents written.stream) tally
 
-  -- that a fault ended the run: of what was read of the reader the first lines were served, from `old` to `new`, and of
-  -- their output the first bytes are in the writer; `fault` tells the kind and counts them
+  -- that a fault ended the run: of what was read of the reader the first lines, perhaps all or none, were served, from
+  -- `old` to `new`, and of their output first bytes are in the writer; `fault` tells the kind and counts them
   abbrev pub ServesFirst : S → Counted D → Counted W → S → Counted D → Counted W → RunFault → Type 0
   ServesFirst old reader writer new read written fault =
       ServedInPart serves old (remaining reader.stream) (contents writer.stream) new (remaining read.stream) (contents written.stream) fault
@@ -43,13 +43,13 @@ module _ {D W : Type 0} (remaining : D → Option (List ℕ)) (contents : W → 
   AloneServesLines reads old reader writer run new read written =
       ServesLines (AloneServes old.desk.calls) remaining contents reads old.seen reader writer run new.seen read written
 
-  -- that the machine serves all lines of the reader from state `old`, whatever state these lead to, their output is in
-  -- the writer, and `tally` counts them
+  -- that the machine serves all lines of the reader from state `old`, to some state, their output is in the writer, and
+  -- `tally` counts them
   abbrev pub MachineServesAll : State → Counted D → Counted W → Counted D → Counted W → Tally → Type 0
   MachineServesAll old reader writer read written tally = (new : State) × ServesAll MachineServes remaining contents old reader writer new read written tally
 
-  -- that the machine serves the first lines of the reader from state `old` until a fault ends the run, whatever state
-  -- these lead to, and first bytes of their output are in the writer
+  -- that the machine serves the first lines of the reader from state `old`, to some state, until a fault ends the run,
+  -- and first bytes of their output, perhaps all or none, are in the writer
   abbrev pub MachineServesFirst : State → Counted D → Counted W → Counted D → Counted W → RunFault → Type 0
   MachineServesFirst old reader writer read written fault =
       (new : State) × ServesFirst MachineServes remaining contents old reader writer new read written fault

@@ -34,9 +34,9 @@ pub record IsTaped (pass : PassView) (before after : Option (List ℕ)) : Type 0
   pub ended : IsEnded pass journal
   pub written : Appends before after (tape_text journal)
 
--- that a desk was ended with this pass, and of the tape of its journal only first bytes are written, `before` to
--- `after` (none where unknown), perhaps all or none, as memory ran out or the writer failed, which `fault` tells with
--- the file's name
+-- that a desk was ended with this pass, and first bytes of the tape of its journal are written, perhaps all or none,
+-- `before` to `after` (none where unknown), as memory ran out or the writer failed, which `fault` tells with the file's
+-- name
 pub record IsTapedInPart {W : Type 0} (pass : PassView) (before after : Option (List ℕ)) (writer : Counted W) (name : Bor (List ℕ))
     (fault : ProgramFault) : Type 0 where
   pub journal : List Entry
@@ -44,8 +44,9 @@ pub record IsTapedInPart {W : Type 0} (pass : PassView) (before after : Option (
   pub begun : IsBegun before after (tape_text journal)
   pub told : TellsWriting fault name writer
 
--- that the tape of a desk is not written whole: first bytes are, for memory or the writer (`IsTapedInPart`); or nothing
--- is done to the writer, told as the file `name` that cannot be written, as when the desk was left within a turn
+-- that a fault kept a desk's tape from its end: first bytes of it, perhaps all or none, are written, as memory ran out
+-- or the writer failed (`IsTapedInPart`); or the writer is as it was and the fault is `Write name`, as when the desk
+-- was left within a turn: of contents and pass nothing is said then
 abbrev pub StopsTape : {W : Type 0} → PassView → Option (List ℕ) → Option (List ℕ) → Counted W → Counted W → Bor (List ℕ) → ProgramFault → Type 0
 StopsTape pass before after old new name fault =
     IsTapedInPart pass before after new name fault ⊎ ((new ≡ old) × (fault ≡ Write name))

@@ -19,16 +19,16 @@ module _ {K D V : Type 0} (held synced : K → Option (List ℕ)) (remaining : D
   module _ {W : Type 0} (contents : W → Option (List ℕ)) where
     -- that the machine did the lines of the kept file again from nothing loaded, counted in `redo`, then served all
     -- lines of the reader: the file keeps them, synced, output is written, and the record has, behind `start`, the
-    -- blocks of these steps alone
+    -- blocks of the steps of the reader's lines alone
     abbrev pub KeepsRecorded : Option (List ℕ) → K → Counted D → Counted V → K → Option (WriterView W) → Counted D → Counted V → RedoneLines → Type 0
     KeepsRecorded start file reader writer kept recorder read written redo = (mid : State) × (log : Option (List ℕ)) × (new : RecordedMachine) × (w : WriterView W)
         × Recovered MachineServes None (held file) mid log redo
         × KeptWhole MachineRecords (recorded_from mid) (remaining reader.stream) log (outputs writer.stream) new (remaining read.stream) (held kept) (synced kept) (outputs written.stream)
         × (recorder ≡ Some w) × HoldsRecord contents start w new.whole None
 
-  -- that a fault ended a kept session with a record: before any line was read (`BeginBreaks`); as the record could not
-  -- be opened, with the file now just its ended lines, synced; or in the session (`KeptUpTo`); of the record nothing is
-  -- said
+  -- that a fault ended a kept session with a record: before any line was read (`BeginBreaks`), or as the record could
+  -- not be opened, with the file now just its ended lines, synced, both with nothing read and nothing put out; or in
+  -- the session (`KeptUpTo`); of the record nothing is said
   abbrev pub KeepsRecordedFirst : K → Counted D → Counted V → K → Counted D → Counted V → RecordedFault → Type 0
   KeepsRecordedFirst file reader writer kept read written (Begin fault) = (now : State)
       × BeginBreaks MachineServes None (held file) (synced file) now (held kept) (synced kept) fault × (read ≡ reader) × (written ≡ writer)

@@ -20,7 +20,7 @@ flag_rule name = record (new_rule name) { long = Some name; action = Some SetTru
 abbrev pub option_rule : Text → Rule
 option_rule name = record (new_rule name) { long = Some name; action = Some Set; value_names = 1 }
 
--- the parser's rule for the names of scripts, any number of words behind the options, none too
+-- the parser's rule for the names of scripts: any number of words that belong to no option, none too
 abbrev pub script_rule : Rule
 script_rule = record (new_rule (codes "script")) {
   action = Some Append;
@@ -53,7 +53,8 @@ streetsim_app = with_rules (with_version (new_app (codes "streetsim"))) streetsi
 abbrev pub found_in : List Text → List Row
 found_in = matches_of streetsim_app
 
--- the kinds of error for which the parser refuses the words; none where it takes them
+-- the kinds of error with which the parser of the command `streetsim` may refuse these words; an empty list where it
+-- takes them
 abbrev pub refusals_of : List Text → Kinds
 refusals_of = fault_of streetsim_app
 
@@ -81,8 +82,9 @@ is_said (Some word) = bytes_eq word (codes "true")
 abbrev pub SaysDeskless : List Row → Type 0
 SaysDeskless rows = (is_said (first_of (codes "endless") rows) ≡ true) ⊎ IsSome (first_of (codes "keep") rows) ⊎ IsSome (first_of (codes "record") rows)
 
--- that what the parser found is fit: counts of workers and calls, if said, in their ranges, at most `most_sessions`
--- scripts, no options or scripts together that exclude each other, and `--unsynced` only with `--keep`
+-- that what the parser found is fit: workers and calls, if said, in their ranges, at most `most_sessions` scripts; no
+-- replay with tape or scripts, no upgrade with replay, tape or scripts, no run without a desk with any of these or a
+-- count of calls; `--unsynced` only with `--keep`
 pub record IsFit (rows : List Row) : Type 0 where
   pub workers : IsCountIfSaid most_workers (first_of (codes "workers") rows)
   pub calls : IsCountIfSaid most_calls (first_of (codes "calls") rows)

@@ -34,15 +34,15 @@ abbrev pub ReplaysCounted : Option (List ℕ) → Option (List ℕ) → Option (
 ReplaysCounted unread before left after =
     (entries : List Entry) × ReadsTape unread left entries × Appends before after (output_from None entries ++ count_line entries)
 
--- that a whole tape was read and the replies to its calls are written, but of the line of the count only first bytes,
--- perhaps all or none, `before` to `after` (none where unknown), for a fault of the run (`IsOfRun`)
+-- that a whole tape was read and the replies to its calls are written, and first bytes of the line of the count behind
+-- them, perhaps all or none, `before` to `after` (none where unknown), where a fault of the run (`IsOfRun`) ended it
 abbrev pub CountStops : Option (List ℕ) → Option (List ℕ) → Option (List ℕ) → Option (List ℕ) → TapeFault → Type 0
 CountStops unread before left after fault =
     (entries : List Entry) × ReadsTape unread left entries × IsOfRun fault
     × (mid : Option (List ℕ)) × Appends before mid (output_from None entries) × IsBegun mid after (count_line entries)
 
 -- that a fault ended a replay with its count: in the replay, with first calls applied to some engine and first bytes of
--- replies (`ReplayStops`), or behind all replies, while the count's line was written (`CountStops`)
+-- replies (`ReplayStops`); or behind all replies, at the count's line, of which first bytes are written (`CountStops`)
 abbrev pub CountedStops : Option (List ℕ) → Option (List ℕ) → Option (List ℕ) → Option (List ℕ) → TapeFault → Type 0
 CountedStops unread before left after fault =
     ((view : EngineView) × ReplayStops unread before view left after fault) ⊎ CountStops unread before left after fault
@@ -56,7 +56,7 @@ module _ {D W : Type 0} (remaining : D → Option (List ℕ)) (contents : W → 
       ReplaysCounted (remaining reader.stream) (contents writer.stream) (remaining read.stream) (contents written.stream)
 
   -- that a fault ended the replay of the tape in the reader, with first bytes of its replies in the writer, or the
-  -- writing of the count's line behind all of them (`CountedStops`)
+  -- writing of the count's line behind all of them, with first bytes of that (`CountedStops`)
   abbrev pub ReplayOrCountStops : Counted D → Counted W → Counted D → Counted W → TapeFault → Type 0
   ReplayOrCountStops reader writer read written fault =
       CountedStops (remaining reader.stream) (contents writer.stream) (remaining read.stream) (contents written.stream) fault

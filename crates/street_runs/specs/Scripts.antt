@@ -18,8 +18,8 @@ use Rattle.street_runs.specs.Outputs.{IsPrinted, TellsOutput, replies_of}
 abbrev pub new_pass : DeskView → ℕ → PassView
 new_pass desk session = record { desk = desk; seen = []; count = 0; least = session; greatest = session }
 
--- that pass k of these, counted from 0, is the new pass of session `sessions - 1 - k`: the passes begin with the
--- greatest session and go down
+-- that pass k of these, counted from 0, is the new pass of session `sessions - 1 - k`, as far as there is such a
+-- session: the passes begin with the greatest session and go down
 abbrev pub ArePassesFrom : DeskView → ℕ → List PassView → Type 0
 ArePassesFrom desk sessions passes =
     (k session : ℕ) (d : PassView) → k < length passes → session + k + 1 ≡ sessions → slice_index_or passes k d ≡ new_pass desk session
@@ -36,8 +36,8 @@ pub record IsOpened {R : Type 0} (desk : DeskView) (place : ℕ) (script : Scrip
 abbrev pub AreOpened : {R : Type 0} → DeskView → List (Script R) → Type 0
 AreOpened {R} desk scripts = (k : ℕ) (d : Script R) → k < length scripts → IsOpened desk k (slice_index_or scripts k d)
 
--- that there are as many scripts as before, and each, by its place, was served the lines of its file, all or, with a
--- fault, the first (`IsRun`); one without a file is as it was
+-- that there are as many scripts as before, and each, by its place, was served the lines of some text, all or, with a
+-- fault, the first, if it had a file (`IsRun`); of one without a file pass, replies and fault are as they were
 pub record AreRun {R : Type 0} (old new : List (Script R)) : Type 0 where
   pub same : length new ≡ length old
   pub each : (k : ℕ) (d : Script R) → k < length old → IsRun (slice_index_or old k d) (slice_index_or new k d)

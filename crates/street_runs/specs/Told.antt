@@ -25,8 +25,8 @@ pub record IsTold (session : ℕ) (replies : List ℕ) (journal : List Entry) : 
   pub served : Goes DeskServes before (lines_of text) replies after
   pub begins : BeginsWith journal after.seen
 
--- that there are as many scripts as names, their replies are printed in order, in part where the writer has failed, and
--- those of each script without a fault are the machine's in one legal history, the journal, at session k of script k
+-- that there are as many scripts as names, their replies are printed in order, perhaps in part where the writer has
+-- failed, and those of each script k without a fault are the machine's to session k in one legal history, the journal
 pub record AreTold {W : Type 0} (R : Type 0) (desk : DeskView) (names : List (Bor (List ℕ))) (before after : Option (List ℕ)) (writer : Counted W)
     (journal : List Entry) : Type 0 where
   pub scripts : List (Script R)

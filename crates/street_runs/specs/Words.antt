@@ -18,8 +18,8 @@ pub record IsInRange (found : ProgramOptions) : Type 0 where
   pub few_calls : found.calls ≤ most_calls
   pub few_scripts : vec_len found.scripts ≤ most_sessions
 
--- that no options are asked for that exclude each other: a replay goes with neither scripts nor a tape to be written,
--- nor does an upgrade, nor does an upgrade go with a replay
+-- that options which exclude each other are not asked for together: a replay goes with neither scripts nor a tape to be
+-- written, nor does an upgrade, nor does an upgrade go with a replay
 pub record StandsTogether (found : ProgramOptions) : Type 0 where
   pub replay : IsSome found.replay → (found.tape ≡ None) × (vec_len found.scripts ≡ 0)
   pub upgrade : IsSome found.upgrade → (found.tape ≡ None) × (found.replay ≡ None) × (vec_len found.scripts ≡ 0)

@@ -74,8 +74,8 @@ head_in d = option_and_then (λ version. head_of version d) (number_field (codes
 unfoldable pub head_reading : List ℕ → Result TapeHead LineFault
 head_reading line = and_then (λ d. or_fault BadCommand (head_in d)) (tape_value line)
 
--- whether the calls of a tape with this head tell the sizes of vehicles: in version 1 they do not, and each vehicle has
--- size 1
+-- whether the sizes that the calls of a tape with this head tell are read: in version 1 they are not, and each vehicle
+-- has size 1
 abbrev pub is_sized : TapeHead → Bool
 is_sized Version1 = false
 is_sized (Version2 calls) = true
@@ -119,7 +119,7 @@ abbrev pub if_part : Entry → Option Entry
 if_part e = if is_part e.command e.outcome then Some e else None
 
 -- the call that a JSON value tells, with command, outcome and session; none where one of them is missing or bad;
--- `sized` says whether an `enter` may tell a size
+-- `sized` says whether the size of an `enter` is read
 unfoldable pub call_in : Bool → Data → Option Entry
 call_in sized d =
     Some (λ command outcome session. entry session command outcome)
@@ -133,7 +133,7 @@ unfoldable pub entry_in : Bool → Data → Option Entry
 entry_in sized d = option_and_then if_part (call_in sized d)
 
 -- the call that a further line of a tape says, or the first fault of that line: too long, no JSON, or `BadCommand`
--- where it says no call; `sized` says whether an `enter` may tell a size
+-- where it says no call; `sized` says whether the size of an `enter` is read
 unfoldable pub entry_reading : Bool → List ℕ → Result Entry LineFault
 entry_reading sized line = and_then (λ d. or_fault BadCommand (entry_in sized d)) (tape_value line)
 
@@ -144,8 +144,8 @@ abbrev pub onto : Result Entry LineFault → Option (List Entry) → Option (Lis
 onto (Ok e) es = option_map (λ rest. e ∷ rest) es
 onto (Err f) es = None
 
--- the calls that these lines say, one to a line, in order; none where a line has a fault; `sized` says whether an
--- `enter` may tell a size
+-- the calls that these lines say, one to a line, in order; none where a line has a fault; `sized` says whether the size
+-- of an `enter` is read
 abbrev pub entries_of : Bool → List (List ℕ) → Option (List Entry)
 entries_of sized [] = Some []
 entries_of sized (l ∷ ls) = onto (entry_reading sized l) (entries_of sized ls)

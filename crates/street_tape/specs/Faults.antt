@@ -92,8 +92,8 @@ pub record ReplayStops (unread before : Option (List ℕ)) (view : EngineView) (
   pub read : Consumes unread left text
   pub breaks : TapeBreaks (IsAtEnd left) None before text view after fault
 
--- that a fault of a replay or an upgrade has its cause counted: a failed read, just `reads` reads, or a failed write;
--- of memory, a text that is no tape, or a bad one, no cause is asked
+-- that a fault of a replay or an upgrade has its cause counted (`IsCaused`): a failed read with no call of the writer
+-- behind it, just `reads` reads, or a failed write; of memory, a text that is no tape, or a bad one, no cause is asked
 abbrev pub IsTapeCaused : {R W : Type 0} → TapeFault → Counted R → Counted W → ℕ → Type 0
 IsTapeCaused NotTape reader writer reads = ⊤
 IsTapeCaused (BadEntry line) reader writer reads = ⊤

@@ -30,7 +30,8 @@ abbrev pub silent : Effect
 silent = record { is_call = false; reply = None }
 
 -- that the call, if there is one, can be replayed and was applied, from `old` to `new`, for any state for which the
--- engine stood, and the effect is a call with the machine's reply; with no call nothing has changed
+-- engine stood, and the effect is a call with the machine's reply; with no call nothing has changed, and the effect is
+-- no call and has no reply
 abbrev pub Applies : EngineView → Option Entry → Effect → EngineView → Type 0
 Applies old None effect new = (new ≡ old) × (effect ≡ silent)
 Applies old (Some e) effect new =
@@ -62,7 +63,8 @@ CallStops m c o view BadEntry = (IsReplayable m c o → ⊥) × StandsFor view m
 CallStops m c o view Starved = HasBegun m c view
 
 -- that a replay stopped at this line: the line was not taken (`Refuses`), and the engine is as it was; or its call was
--- not replayed, as it cannot be or memory ran out, and the engine is as `CallStops` says
+-- not replayed, as it cannot be or memory ran out, and the engine is as `CallStops` says; of the head then nothing is
+-- said
 abbrev pub StopsLine : Option TapeHead × EngineView → List ℕ → Stop → Option TapeHead × EngineView → Type 0
 StopsLine old line stop new =
     (Refuses old.0 line stop × (new.1 ≡ old.1))

@@ -26,8 +26,8 @@ module _ {D W : Type 0} (remaining : D → Option (List ℕ)) (contents : W → 
   UpgradesAll reader writer read written tally =
       UpgradesWhole (remaining reader.stream) (contents writer.stream) (remaining read.stream) (contents written.stream) tally
 
-  -- that a fault ended an upgrade: first bytes of the tape of version 2 are in the writer, none unless the reader had
-  -- been read to its end, and none where its text is no tape or a bad one
+  -- that a fault ended an upgrade: first bytes of the tape of version 2, perhaps all or none, are in the writer; none
+  -- unless the reader had been read to its end, and none where its text is no tape or a bad one
   abbrev pub UpgradesFirst : Counted D → Counted W → Counted D → Counted W → TapeFault → Type 0
   UpgradesFirst reader writer read written fault =
       UpgradeStops (remaining reader.stream) (contents writer.stream) (remaining read.stream) (contents written.stream) fault

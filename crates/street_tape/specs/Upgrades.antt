@@ -59,8 +59,9 @@ pub record Cuts (at_end : Type 0) (before : Option (List ℕ)) (text : List ℕ)
   pub calls : tally.calls ≡ length entries
   pub replies : tally.replies ≡ 0
 
--- that a fault of an upgrade left nothing written where the text is no tape, or a bad one, with the number of its first
--- bad line; and else, where it is of the run, what `Cuts` says: first bytes of the new tape
+-- that a fault left this of an upgrade: nothing written, `before` to `after` (none where unknown), where the text is no
+-- tape, or is a bad one, of which the fault tells the number of the first bad line; where the fault is of the run,
+-- first bytes of the new tape, perhaps all or none, as `Cuts` says
 abbrev pub UpgradeBreaks : Type 0 → Option (List ℕ) → List ℕ → Option (List ℕ) → TapeFault → Type 0
 UpgradeBreaks at_end before text after NotTape = IsNoTape at_end text × Appends before after []
 UpgradeBreaks at_end before text after (BadEntry line) = (es : List Entry) × IsBadAt at_end (λ es. ⊤) text es line × Appends before after []
@@ -81,8 +82,8 @@ pub record UpgradeStops (unread before left after : Option (List ℕ)) (fault : 
 abbrev pub IsKept : Tally → Option (List ℕ) → List ℕ → Option (List ℕ) → Tally → Type 0
 IsKept tally before text after all = (all ≡ with_bytes tally (length text)) × Appends before after text
 
--- that only the first bytes of the text were written, perhaps all or none, `before` to `after` (none where unknown),
--- and the fault's tally is `tally` with their count
+-- that first bytes of the text were written, perhaps all or none, `before` to `after` (none where unknown), and the
+-- fault's tally is `tally` with their count in place of its own count of bytes
 abbrev pub CutShort : Tally → Option (List ℕ) → List ℕ → Option (List ℕ) → RunFault → Type 0
 CutShort tally before text after fault = (fault.tally ≡ with_bytes tally fault.tally.bytes) × IsPrefix before 0 text after fault.tally.bytes
 
@@ -106,6 +107,6 @@ UpgradesLine old line effect new =
     × (effect ≡ record { is_call = is_call call; reply = None })
 
 -- that the upgrade stopped at this line for this reason: the line is not one that the tape may have there, or memory
--- ran out (`Refuses`); of the upgrader afterwards, `new`, nothing is said
+-- ran out, of which nothing is asked (`Refuses`); of the upgrader afterwards, `new`, nothing is said
 abbrev pub RefusesLine : Upgrader → List ℕ → Stop → Upgrader → Type 0
 RefusesLine old line stop new = Refuses old.tape.rest line stop

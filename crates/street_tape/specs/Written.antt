@@ -14,11 +14,11 @@ pub record IsPrefix (before : Option (List ℕ)) (old : ℕ) (text : List ℕ) (
   pub counted : new ≡ old + sent
 
 module _ {W : Type 0} (contents : W → Option (List ℕ)) where
-  -- that the whole text is in the writer, and `bytes` is its count of bytes
+  -- that the whole text is in the writer behind what it had, and `bytes` is its count of bytes
   abbrev pub WritesAll : Counted W → List ℕ → Counted W → ℕ → Type 0
   WritesAll old text new bytes = (bytes ≡ length text) × Appends (contents old.stream) (contents new.stream) text
 
-  -- that the first `bytes` bytes of the text are in the writer, perhaps all or none, and the writing ended there for
-  -- memory or as a call of the writer failed or took no byte
+  -- that the first `bytes` bytes of the text, perhaps all or none, are in the writer behind what it had, and the
+  -- writing ended there for memory or as a call of the writer failed or took no byte
   abbrev pub WritesFirst : Counted W → List ℕ → Counted W → ℕ → FaultKind → Type 0
   WritesFirst old text new bytes kind = IsCausedByWriting kind new × IsPrefix (contents old.stream) 0 text (contents new.stream) bytes

@@ -22,12 +22,12 @@ abbrev pub BackDoes : {T : Type 0} → (ℕ → ℕ → List Bool → T → T �
 BackDoes {T} does part first shown xs ys = (j k : ℕ) (d : T) → j + k + 1 ≡ length xs
     → does part (first + k) shown (slice_index_or xs j d) (slice_index_or ys j d)
 
--- that each item of the block is one of xs from position n on, in the opposite order: the last of the block is item n
--- of xs, the first the furthest from n
+-- that the block has items of xs from position n on, in the opposite order: its last is item n of xs, the one before it
+-- item n + 1, and so on; so always where the block is empty
 abbrev pub IsBackOf : {T A : Type 0} → List T → ℕ → Vec T A → Type 0
 IsBackOf {T} xs n block = (j k : ℕ) (d : T) → j + k + 1 ≡ vec_len block → slice_index_or block.items j d ≡ slice_index_or xs (n + k) d
 
--- that xs has, from position n on, the items of the block in the opposite order, the block's last as item n; `IsBackOf`
--- says the same from the block's side
+-- that xs has, from position n on, the items of the block in the opposite order: item n is the block's last, item n + 1
+-- the one before it, and so on; `IsBackOf` says the same from the block's side
 abbrev pub HasBack : {T A : Type 0} → List T → ℕ → Vec T A → Type 0
 HasBack {T} xs n block = (j k : ℕ) (d : T) → j + k + 1 ≡ vec_len block → slice_index_or xs (n + k) d ≡ slice_index_or block.items j d

@@ -20,14 +20,15 @@ unfoldable pub without : ℕ → Traffic → Traffic
 without number m = record m { lanes = each_lane (λ place. lane_without number) m.lanes }
 
 -- the traffic with this signal plan at the node at position `node`, in place of the plan or none that it had; as it was
--- where there is no such node
+-- where it has no entry of signal plans at that position
 unfoldable pub planned : ℕ → SignalPlan → Traffic → Traffic
 planned node plan m = record m { signals = slice_set m.signals node (Some plan) }
 
 -- ---- a tile before and after
 
--- that, whatever traffic of the network tile x stood for, if P held of it, tile y stands for f of it; nodes, places and
--- sizes, hand-overs, those who come, arrived numbers and detectors are as they were
+-- that, whatever traffic of the network tile x stood for, if P held of it, tile y stands for f of it; nodes, places,
+-- sizes, loose vehicles and odds (`SameTile`), hand-overs, those who come, arrived numbers and detectors are as they
+-- were; of mouths, rows and room nothing is said
 pub record DoesIf (net : NetSpec) (P : Traffic → Type 0) (f : Traffic → Traffic) (x y : TileView) : Type 0 where
   pub same : SameTile x y
   pub handed : y.handed ≡ x.handed
@@ -36,8 +37,9 @@ pub record DoesIf (net : NetSpec) (P : Traffic → Type 0) (f : Traffic → Traf
   pub detectors : y.detectors ≡ x.detectors
   pub stands : (m : Traffic) → IsOn net m → P m → StandsFor x m → StandsFor y (f m)
 
--- that, whatever traffic of the network tile x stood for, tile y stands for f of it; nodes, places and sizes,
--- hand-overs, those who come, arrived numbers and detectors are as they were (`DoesIf`)
+-- that, for each traffic of the network for which tile x stood, tile y stands for f of it, with no condition; nodes,
+-- places, sizes, loose vehicles and odds, hand-overs, those who come, arrived numbers and detectors are as they were
+-- (`DoesIf`)
 abbrev pub Does : NetSpec → (Traffic → Traffic) → TileView → TileView → Type 0
 Does net f x y = DoesIf net (λ m. Unit {0}) f x y
 
@@ -62,13 +64,14 @@ Have ps m number = (k : ℕ) × (p : Place) × (slice_get ps k ≡ Some p) × (0
 abbrev pub Hold : List Place → Traffic → ℕ → Vehicle → Type 0
 Hold ps m number v = (k : ℕ) × (p : Place) × (slice_get ps k ≡ Some p) × (vehicle_on number (lane_at m p) ≡ Some v)
 
--- that `found` is the whereabouts of the vehicle of this number on one of these lanes of the traffic; where `found` is
--- none, that it is on none of them
+-- that `found` is the whereabouts of the vehicle of this number as one of these lanes of the traffic has it; where
+-- `found` is none, that the vehicle is on none of them, as where there are no lanes
 abbrev pub Finds : NetSpec → List Place → Traffic → ℕ → Option Whereabouts → Type 0
 Finds net ps m number None = HaveNot ps m number
 Finds net ps m number (Some found) = (k : ℕ) × (p : Place) × (slice_get ps k ≡ Some p) × (seen_in net p number (lane_at m p) ≡ Some found)
 
--- the sum of f over the traffic's lanes at these places; 0 where there are none
+-- the sum of f over the traffic's lanes at these places, a place that stands twice counted twice; 0 where there are
+-- none
 abbrev pub over : List Place → (LaneState → ℕ) → Traffic → ℕ
 over ps f m = sum_by (λ p. f (lane_at m p)) ps
 
@@ -83,6 +86,7 @@ abbrev pub WhereOnce : NetSpec → TileView → ℕ → (Traffic → Type 0) →
 WhereOnce net x number P = (m : Traffic) → IsOn net m → StandsFor x m → HaveAtMostOne x.own.places m number → P m
 
 -- that `found` is the whereabouts of the vehicle of this number on the tile's lane n, by its own lanes' numbers, or
--- none where it is not there; claimed only where the number stands at most once on the tile's lanes
+-- none where it is not there; claimed of all traffic for which the tile stands and that has the number at most once on
+-- the tile's lanes
 abbrev pub FindsAt : NetSpec → TileView → ℕ → ℕ → Option Whereabouts → Type 0
 FindsAt net x n number found = WhereOnce net x number (λ m. found ≡ seen_in net (place_at x.own n) number (lane_at m (place_at x.own n)))

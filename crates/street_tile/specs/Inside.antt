@@ -23,7 +23,8 @@ seen t = record {
 }
 
 -- that a tile's arrays are wide enough: a signal plan or none for each node, two mouths a link, each own lane's number
--- at its slot, 2 * link + lane; who comes, and memory for hand-overs, arrivals and rows, one an own lane
+-- at its slot, 2 * link + lane; an entry of who comes for each own lane, and memory for at least one hand-over, arrival
+-- and row each
 pub record IsWideEnough (t : Inside) : Type 0 where
   pub nodes : t.low + length t.signals.items ≡ t.high
   pub numbered : AreNumbers t.links t.own.places t.numbers.items

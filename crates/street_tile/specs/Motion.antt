@@ -27,7 +27,8 @@ HasPlanFor step p = is_own step.net.now step.low (step.low + length step.signals
 -- ---- one lane
 
 -- that lane n stands for its lane after motion, in all traffic of the step (`IsOfStep`), and `told` is the number and
--- speed of the vehicle that arrives; other lanes are as they were, and there is no less room
+-- speed of the vehicle that arrives, none if none does; other lanes, places and sizes are as they were, and there is no
+-- less room
 pub record DrivesLane (step : MotionStep) (n : ℕ) (old new : Lanes) (told : Option ArrivedCar) : Type 0 where
   pub same : Same old new
   pub others : Others n old new
@@ -36,8 +37,8 @@ pub record DrivesLane (step : MotionStep) (n : ℕ) (old new : Lanes) (told : Op
       → LaneStands (lane_of new n) (driven_lane m (place_at old n) (lane_at m (place_at old n)))
   pub arrived : (m : Traffic) → IsOfStep step m → LaneStands (lane_of old n) (lane_at m (place_at old n)) → told ≡ arrived_car (leaver_of m (place_at old n))
 
--- that the watches of lane n's detectors, one a meter, now hold what they see of its motion, in all traffic of the
--- step; all else of them is as it was, and where `has_meters` is false the watches are, too
+-- that the watches of lane n's detectors, one a meter, now hold what they see of its motion, in all traffic of the step
+-- for which the lane stands; meters and size are as they were, and where `has_meters` is false the watches are, too
 pub record WatchesLane (step : MotionStep) (n : ℕ) (own : Lanes) (old new : Detectors) : Type 0 where
   pub meters : new ≡ record old { watches = new.watches }
   pub bare : step.has_meters ≡ false → new ≡ old
@@ -56,8 +57,9 @@ pub record MayDrive (step : MotionStep) (own : Lanes) (detectors : List Detector
   pub sized : sizes_of detectors ≡ map (cells_on step.net.now) own.places
   pub bare : step.has_meters ≡ false → AreBare detectors
 
--- that all lanes stand for their lanes after motion, in all traffic of the step, that numbers and rows of those who
--- arrive stand, lane by lane, behind the lists before, and there is no less room; places and sizes stay
+-- that all lanes stand for their lanes after motion, in all traffic of the step, and the numbers and rows of those who
+-- arrive stand, lane by lane, behind those of the lists before; places and sizes are as they were, and there is no less
+-- room
 pub record DrivesLanes (step : MotionStep) (old new : Lanes) (before after : List ℕ) (rows_before rows_after : List RecordRow) : Type 0 where
   pub same : Same old new
   pub room : old.room ≤ new.room
@@ -65,8 +67,8 @@ pub record DrivesLanes (step : MotionStep) (old new : Lanes) (before after : Lis
   pub arrived : (m : Traffic) → IsOfStep step m → LanesStand old.places old.lanes m → after ≡ before ++ filter_map (λ p. arrival (leaver_of m p)) old.places
   pub rows : (m : Traffic) → IsOfStep step m → LanesStand old.places old.lanes m → rows_after ≡ rows_before ++ filter_map (arrival_at m) old.places
 
--- that the watches of all lanes' detectors now hold what they see of the lanes' motion, in all traffic of the step; all
--- else of them is as it was, and where `has_meters` is false the watches are, too
+-- that the watches of all lanes' detectors now hold what they see of the lanes' motion, in all traffic of the step for
+-- which the lanes stand; meters and sizes are as they were, and where `has_meters` is false the watches are, too
 pub record WatchLanes (step : MotionStep) (own : Lanes) (old new : List Detectors) : Type 0 where
   pub meters : KeepMeters old new
   pub bare : step.has_meters ≡ false → new ≡ old

@@ -9,8 +9,8 @@ use Rattle.street_record.specs.Rows.{arrival_at}
 use Rattle.street_tile.specs.Tiles.{TileView, StandsFor, SameTile, Shows, ShowsOwn, nobody}
 use Rattle.street_tile.specs.TileDetectors.{KeepMeters, HaveWatched, MetersStand, noted_by}
 
--- that, whatever traffic of the network tile x stood for, tile y stands for f of it; nodes, places, sizes, hand-overs
--- and those who come are as they were, and there is no less room
+-- that, whatever traffic of the network tile x stood for, tile y stands for f of it; nodes, places, sizes, loose
+-- vehicles and odds (`SameTile`), hand-overs and those who come are as they were, and there is no less room
 pub record GoesBy (net : NetSpec) (f : Traffic → Traffic) (x y : TileView) : Type 0 where
   pub same : SameTile x y
   pub handed : y.handed ≡ x.handed
@@ -42,8 +42,9 @@ pub record MotionPhase (net : NetSpec) (x y : TileView) : Type 0 where
   pub watched : (m : Traffic) → IsOn net m → StandsFor x m → HaveWatched m x.own.places y.detectors
   pub shown : ShowsOwn y
 
--- that tile y is tile x after it let go the fronts that go, in all traffic that x stood for and the mouths `view` show;
--- they are handed over, buffer by buffer; who comes, arrived and detectors are as they were
+-- that tile y is tile x after it let go the fronts that go, in all traffic that x stood for and of which the mouths
+-- `view` show each cell 0; these are then its hand-overs, buffer by buffer; who comes, arrived numbers, rows and
+-- detectors are as they were, and there is no less room
 pub record ReleasePhase (net : NetSpec) (view : List Bool) (x y : TileView) : Type 0 where
   pub same : SameTile x y
   pub arrived : y.arrived ≡ x.arrived
@@ -55,7 +56,7 @@ pub record ReleasePhase (net : NetSpec) (view : List Bool) (x y : TileView) : Ty
   pub handed : (m : Traffic) → IsOn net m → Shows net view m → StandsFor x m → y.handed ≡ filter_map (crossing m) x.own.places
 
 -- that tile y is tile x after those who come were put in cells 0, claimed where these were free, and then departures;
--- nobody comes to it then; clock, hand-overs, arrived and detectors are as they were
+-- nobody comes to it then; clock, hand-overs, arrived numbers, rows and detectors are as they were
 pub record EnterPhase (net : NetSpec) (x y : TileView) : Type 0 where
   pub same : SameTile x y
   pub clock : y.clock ≡ x.clock
@@ -71,8 +72,9 @@ pub record EnterPhase (net : NetSpec) (x y : TileView) : Type 0 where
 unfoldable pub ticked : Traffic → Traffic
 ticked m = record m { clock = m.clock + 1 }
 
--- that tile y is tile x with its clock one later, arrived and rows as they were, and the step noted by its detectors,
--- if its watches had seen the step's motion from the traffic `before`
+-- that tile y is tile x with its clock one later, arrived numbers and rows as they were; its meters stand for the
+-- detectors with the step noted, if they stood for them before and the watches had seen the step's motion from the
+-- traffic `before`
 pub record MeterPhase (net : NetSpec) (x y : TileView) : Type 0 where
   pub goes : GoesBy net ticked x y
   pub arrived : y.arrived ≡ x.arrived

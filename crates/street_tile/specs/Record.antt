@@ -13,8 +13,8 @@ use Rattle.street_lanes.specs.declared.motion.ArrivedCar.{ArrivedCar}
 abbrev pub arrived_from : ℕ → ArrivedCar → RecordRow
 arrived_from slot car = record { car = car.number; slot = slot; spot = arrived_spot; speed = car.speed }
 
--- the rows of lane p in the step that is made from this traffic: of who is on it after the step, then of who arrived
--- from it, each with the lowest 32 bits of its spot, which are written
+-- the rows of lane p in the step that is made from this traffic: of who is in its cells, then in its buffer, after the
+-- step, then of who arrived from it, each with the lowest 32 bits of its spot, which are written
 abbrev pub step_rows : Traffic → Place → List RecordRow
 step_rows m p = map as_written (rows_at (changed m) (step m) p)
 

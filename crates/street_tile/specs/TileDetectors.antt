@@ -65,8 +65,8 @@ AllMetersStand xs m = All (λ x. MetersStand x m) xs
 
 -- ---- a detector more
 
--- that tile y has, beyond tile x, one detector that has noted nothing, in this cell of lane p, with rows of `period`
--- steps, in all traffic that x stood for; all but its detectors is as it was
+-- that tile y is tile x in all but its detectors, and stands for each traffic that x stood for with one detector more,
+-- new in this cell of lane p, with rows of `period` steps; its meters stand for the detectors then, if those of x did
 pub record PlacesMeter (p : Place) (cell period : ℕ) (x y : TileView) : Type 0 where
   pub same : SameTile x y
   pub rest : y ≡ record x { detectors = y.detectors }

@@ -77,8 +77,8 @@ own_places net low high = filter (is_own net low high) (places net)
 abbrev pub sizes_of : List Detectors → List ℕ
 sizes_of detectors = map (λ g. g.size) detectors
 
--- that x is a tile of this network (`IsRoads`): it has the count of links, nodes of the network, and as own lanes just
--- those whose links run to these nodes, in order; each, and its record of detectors, is as long as its link
+-- that x is a tile of this network (`IsRoads`): it has the count of links, nodes of the network, its odds, and as own
+-- lanes just those whose links run to these nodes, in order; each, and its record of detectors, is as long as its link
 pub record IsTileOf (net : NetSpec) (x : TileView) : Type 0 where
   pub roads : IsRoads net
   pub links : x.links ≡ length net.links
@@ -99,8 +99,8 @@ beside p lane = record { link = p.link; lane = lane }
 abbrev pub lanes_beside : NetSpec → Place → ℕ
 lanes_beside net p = (link_at net p.link).lanes
 
--- that in this list of lanes lane 1 of a link stands right behind lane 0 of the same link, never alone, and lane 0 of a
--- link of two lanes right before lane 1; so in an empty list
+-- that in this list of lanes each lane but a lane 0 stands right behind lane 0 of its link, and each lane 0 of a link
+-- of two lanes right before lane 1 of it; so in an empty list
 pub record ArePairs (net : NetSpec) (ps : List Place) : Type 0 where
   pub first : 0 < length ps → (nth ps 0).lane ≡ 0
   pub next : (n : ℕ) → n < length ps → (nth ps n).lane ≡ 0 → lanes_beside net (nth ps n) ≡ 2 → (suc n < length ps) × (nth ps (suc n) ≡ beside (nth ps n) 1)
@@ -156,12 +156,12 @@ pub record IsIdle (x : TileView) : Type 0 where
   pub coming : x.coming ≡ nobody x
   pub arrived : x.arrived ≡ []
 
--- that the tile's arena has room for one more vehicle on each own lane, as many as can come in one step
+-- that the tile's arena has room for at least one more vehicle on each own lane, as many as can come in one step
 abbrev pub IsPrepared : TileView → Type 0
 IsPrepared x = length x.own.places ≤ x.own.room
 
 -- that y is the same tile as x: the same nodes, count of links, places, loose vehicles and odds, and lanes and
--- detectors of the same sizes; who is on them may differ
+-- detectors of the same sizes; who is on them, and all else, may differ
 pub record SameTile (x y : TileView) : Type 0 where
   pub low : y.low ≡ x.low
   pub high : y.high ≡ x.high
@@ -175,8 +175,8 @@ pub record SameTile (x y : TileView) : Type 0 where
 abbrev pub Each : (TileView → TileView → Type 0) → List TileView → List TileView → Type 0
 Each R xs ys = (i : ℕ) (d : TileView) → i < length xs → R (slice_index_or xs i d) (slice_index_or ys i d)
 
--- that x is tile i of k, a tile of the network (`IsTileOf`): it has the nodes from i/k of their count to below (i +
--- 1)/k of it, both rounded down
+-- that x is tile i of k, a tile of the network (`IsTileOf`): of the network's n nodes it has those from i * n / k to
+-- below (i + 1) * n / k, both rounded down
 pub record IsShare (net : NetSpec) (k i : ℕ) (x : TileView) : Type 0 where
   pub tile : IsTileOf net x
   pub low : x.low ≡ i * length net.nodes / k

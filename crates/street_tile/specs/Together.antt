@@ -18,7 +18,7 @@ abbrev pub tiles_of : NetSpec → List TileView → TilesView
 tiles_of net xs = record { network = net; tiles = xs }
 
 -- that these tiles are as calls leave them: all tiles of the network, at most `most_workers`, nobody on the way; and
--- `mouths`, the count of marks of their view, is two for each link
+-- `mouths`, a count of marks, is two for each link
 pub record AreKept (net : NetSpec) (xs : List TileView) (mouths : ℕ) : Type 0 where
   pub tiles : AreTiles net xs
   pub few : length xs ≤ most_workers
@@ -59,8 +59,8 @@ TilesKeep x y = TilesGo (λ m. Unit {0}) (λ m. m) x y
 abbrev pub OwnsLink : TilesView → ℕ → ℕ → Type 0
 OwnsLink x i link = (d : TileView) (p : Place) → p.link ≡ link → is_own x.network (slice_index_or x.tiles i d).low (slice_index_or x.tiles i d).high p ≡ true
 
--- that no vehicle of this number is on tile i's lanes, in all traffic for which the tiles stand and that has each
--- number in one place
+-- that no vehicle of this number is on tile i's lanes, in all traffic for which the tiles stand and that is whole
+-- (`IsWhole`): each number in one place or ended
 abbrev pub TileHasNot : TilesView → ℕ → ℕ → Type 0
 TileHasNot x i number = (m : Traffic) → IsWhole m → TilesStandFor x m → (d : TileView) → HaveNot (slice_index_or x.tiles i d).own.places m number
 
