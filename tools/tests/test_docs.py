@@ -85,6 +85,11 @@ def lost_names(page, known):
             yield f"{page.name}: no {code}"
 
 
+def flush_left(text):
+    """A text without the spaces at the begin and the end of its lines."""
+    return "\n".join(line.strip() for line in text.splitlines())
+
+
 class Pages(Case):
     def test_links(self):
         self.assertEqual([lost for page in pages(TOP) for lost in lost_links(page)], [])
@@ -109,6 +114,15 @@ class Pages(Case):
         named = {code for line in section.splitlines() if line.startswith("| ") for code in CODE.findall(line)}
         self.assertGreater(len(named), 20)
         self.assertEqual(sorted(named - edits - {"once"}), [])
+
+    def test_statements(self):
+        """The statements that the page of proofs shows stand in the sources line by line, there perhaps further in."""
+        text = (TOP / "docs/PROOFS.md").read_text(encoding="utf-8")
+        shown = [flush_left(block) for block in re.findall(r"(?ms)^```\n(.*?)^```$", text)]
+        files = [*TOP.glob("crates/*/src/*.rt"), *TOP.glob("crates/*/specs/*.antt")]
+        sources = [flush_left(path.read_text(encoding="utf-8")) for path in files]
+        self.assertEqual(len(shown), 3)
+        self.assertEqual([block for block in shown if not any(block in source for source in sources)], [])
 
     def test_each_measurement_that_a_page_names_is_there(self):
         done = subprocess.run([TOP / "bench/run", "--list"], capture_output=True, text=True, check=True)
