@@ -56,9 +56,12 @@ def two_things(found):
 
 
 def table():
-    """The list of the page: each word, what it is, and the words of earlier versions that are this one now."""
+    """The list of the page: each word but those of SUMO's command line alone, what it is, and the words of earlier
+    versions that are this one now."""
     old, lines = earlier_words(), []
     for word, own in sorted(words().items(), key=lambda item: item[0].lstrip("-").lower()):
+        if own.keys() == {SUMO}:
+            continue
         said = next((told for name, told in own.items() if not told.startswith(AS_OF)), "")
         earlier = "".join(old.get(name, "") for name in word.split(", "))
         lines.append(f"{word:<26} {thing(said)}{earlier}")
