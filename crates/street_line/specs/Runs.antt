@@ -73,7 +73,8 @@ pub record IsTally (tally : Tally) (ls : List (List ℕ)) (out : List ℕ) : Typ
   pub bytes : tally.bytes ≡ length out
 
 -- that the reader was read to its end, `unread` to `left`, all lines of its text were served, from `start` to `now`,
--- their whole output is written, `before` to `after` (none where unknown), and the tally counts them
+-- their whole output is written, `before` to `after`, and the tally counts them; of unknown bytes (none), read or
+-- written, nothing is said
 pub record ServedWhole {S : Type 0} (serves : S → Command → Served → S → Type 0) (start : S) (unread before : Option (List ℕ))
     (now : S) (left after : Option (List ℕ)) (tally : Tally) : Type 0 where
   pub text : List ℕ

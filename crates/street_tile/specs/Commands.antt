@@ -85,8 +85,8 @@ HaveAtMostOne ps m number = over ps (in_lane number) m ≤ 1
 abbrev pub WhereOnce : NetSpec → TileView → ℕ → (Traffic → Type 0) → Type 0
 WhereOnce net x number P = (m : Traffic) → IsOn net m → StandsFor x m → HaveAtMostOne x.own.places m number → P m
 
--- that `found` is the whereabouts of the vehicle of this number on the tile's lane n, by its own lanes' numbers, or
--- none where it is not there; claimed of all traffic for which the tile stands and that has the number at most once on
+-- that `found` is the whereabouts of the vehicle of this number on lane n of the tile's own, none where it is not on
+-- that lane; claimed of all traffic of the network for which the tile stands and that has the number at most once on
 -- the tile's lanes
 abbrev pub FindsAt : NetSpec → TileView → ℕ → ℕ → Option Whereabouts → Type 0
 FindsAt net x n number found = WhereOnce net x number (λ m. found ≡ seen_in net (place_at x.own n) number (lane_at m (place_at x.own n)))
