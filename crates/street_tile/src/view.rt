@@ -78,13 +78,6 @@ fn copy_lanes(own: &Lanes, net: &Network, mouths: &[bool], shown: &mut [bool])
 }
 
 impl Tile {
-    /// Whether all nodes are the tile's, and so all lanes.
-    fn has_all_nodes(&self, net: &Network) -> bool
-        ensures { IsTrue result ↔ (self.now.low ≡ 0) × (self.now.high ≡ length net.now.nodes) }
-    {
-        self.low == 0 && self.high == net.spec().nodes.as_slice().len()
-    }
-
     /// Copies into the view what the tile holds of the mouth of each own lane, as motion left it; the lanes are not looked at.
     /// Takes no memory.
     pub fn mouths(&self, net: &Network, view: &mut View)
@@ -96,7 +89,8 @@ impl Tile {
             → mouth view.new p ≡ mouth view.old p }
         ensures wide { length view.new ≡ length view.old }
     {
-        if self.has_all_nodes(net) {
+        // All nodes are the tile's, and so all lanes.
+        if self.low == 0 && self.high == net.spec().nodes.as_slice().len() {
             view.mouths.copy_from_slice(&self.mouths);
         } else {
             copy_lanes(&self.own, net, &self.mouths, &mut view.mouths);
