@@ -190,8 +190,8 @@ def load(nodes, links, turns, zone: int = 0, dawdle: int = 0, change: int = 0, s
     return {"cmd": "load", "nodes": nodes, "links": links, "turns": turns, **values}
 
 
-# ---- what a table rests on: the modules that print it, those of the tools that its commands load, and the machine's
-# definitions, all without comments, docs and blanks
+# ---- what a table rests on: what its measurement comes to of bench/, wherever it stands there, the modules of the
+# tools that this and its commands load, and the machine's definitions, all without comments, docs and blanks
 
 PARTS = ("script", "tools", "machine")
 DEFINING = ("street_base", "street_text")  # the crates that define what is answered
@@ -200,10 +200,10 @@ COMMAND = re.compile(r"(?:.*/)?streetsim-([a-z]+)")
 
 def digests_of(command: Command, top: Path) -> dict[str, str]:
     """A digest of each of PARTS for a table that a measurement prints. top: the repository."""
-    loaded = loaded_by(command, top)
+    parts = parts_for(command, top)
     return {
-        "script": digest(dumped(loaded[name]) for name in sorted(loaded) if not is_tool(name)),
-        "tools": digest_of_tools(loaded),
+        "script": digest(sorted({ast.dump(node) for part in parts.values() for node in part.body})),
+        "tools": digest_of_tools(loaded_from(parts.items(), top)),
         "machine": digest(machine(top)),
     }
 
@@ -240,25 +240,60 @@ def dumped(tree: ast.Module) -> str:
     return ast.dump(tree)
 
 
-def part_of(tree: ast.Module, name: str) -> ast.Module:
-    """What of a module a function of it needs: the other ones, the values and the imports that it names, and so on."""
-    bound = {known: node for node in tree.body for known in names_bound(node)}
-    needed, left = set(), [name]
+def parts_for(command: Command, top: Path) -> dict[str, ast.Module]:
+    """What a measurement comes to of the modules of bench/ and of the tests' helpers: functions, classes, values, and
+    each import from elsewhere. What moves from one of these modules to another stays what it is."""
+    known = {name: path for name, path in modules(top).items() if not is_tool(name)}
+    found: dict[str, dict[str, ast.stmt]] = {}
+    left, seen = [(command.module, command.function)], set()
     while left:
-        node = bound.get(left.pop())
-        if node and id(node) not in needed:
-            needed.add(id(node))
-            left += names_used(node)
-    return ast.Module([node for node in tree.body if id(node) in needed or not [*names_bound(node)]], [])
+        module, used = place = left.pop()
+        if place not in seen:
+            seen.add(place)
+            bound, have = bound_in(tree_of(known[module])), found.setdefault(module, {})
+            for node in (*bound.get(used.partition(".")[0], ()), *bound.get("", ())):
+                part, led = led_to(node, used, known)
+                if led:
+                    left.append(led)
+                else:
+                    have[ast.dump(part)] = part
+                    left += [(module, name) for name in names_used(part)]
+    return {module: ast.Module([*have.values()], []) for module, have in found.items()}
+
+
+@cache
+def bound_in(tree: ast.Module) -> dict[str, list[ast.stmt]]:
+    """The statements of a module by the names that they bind; by no name those that bind none."""
+    found: dict[str, list[ast.stmt]] = {}
+    for node in tree.body:
+        for name in {*names_bound(node)} or {""}:
+            found.setdefault(name, []).append(node)
+    return found
+
+
+def led_to(node: ast.stmt, used: str, known: Iterable[str]) -> tuple[ast.stmt, tuple[str, str] | None]:
+    """A statement, of an import what gives a name alone; and the module and name that it leads to, if it is known."""
+    if not isinstance(node, (ast.Import, ast.ImportFrom)):
+        return node, None
+    name, _, attribute = used.partition(".")
+    one = next(one for one in node.names if name in (one.asname, one.name.partition(".")[0]))
+    if isinstance(node, ast.Import):
+        return ast.Import([one]), (one.name, attribute) if one.name in known else None
+    if f"{node.module}.{one.name}" in known:
+        return node, (f"{node.module}.{one.name}", attribute)
+    return ast.ImportFrom(node.module, [one], node.level), (node.module, one.name) if node.module in known else None
 
 
 def names_used(node: ast.stmt) -> set[str]:
-    """The names of the module that a statement may use: in a function not those that it gives to values of its own,
-    but for those of comprehensions, behind which a name means what it meant before."""
+    """The names of the module that a statement may use, and what it takes of them (NAME.ATTRIBUTE): in a function not
+    those that it gives to values of its own, but for those of comprehensions, behind which a name means what it meant
+    before."""
     every = [one for one in ast.walk(node) if isinstance(one, ast.Name)]
     inner = [one for part in ast.walk(node) if isinstance(part, ast.comprehension) for one in ast.walk(part.target)]
     own = {one.id for one in {*every} - {*inner} if isinstance(one.ctx, ast.Store)}
-    return {one.id for one in every} - (own if isinstance(node, ast.FunctionDef) else set())
+    taken = [one for one in ast.walk(node) if isinstance(one, ast.Attribute) and isinstance(one.value, ast.Name)]
+    names = {one.id for one in every} - (own if isinstance(node, ast.FunctionDef) else set())
+    return names | {f"{one.value.id}.{one.attr}" for one in taken if one.value.id in names}
 
 
 def names_bound(node: ast.stmt) -> Iterator[str]:
@@ -283,9 +318,10 @@ def modules(top: Path) -> dict[str, Path]:
 
 
 def loaded_by(command: Command, top: Path) -> dict[str, ast.Module]:
-    """The part of its module that a measurement needs, and all modules that it and its commands load, by name."""
-    begin = part_of(tree_of(modules(top)[command.module]), command.function)
-    return {command.module: begin, **loaded_from([(command.module, begin)], top)}
+    """By name what a measurement comes to of our modules, and all modules of the tools that it and its commands
+    load."""
+    parts = parts_for(command, top)
+    return {**parts, **loaded_from(parts.items(), top)}
 
 
 def loaded_from(begin: Iterable[tuple[str, ast.Module]], top: Path) -> dict[str, ast.Module]:

@@ -18,7 +18,8 @@ from pathlib import Path
 
 import shared
 
-COPIED = ("tools", "docs", "examples", "debian", "bench", "README.md", "SECURITY.md", "CHANGELOG.md", "CONTRIBUTING.md")
+COPIED = ("tools", "docs", "examples", "debian", "bench", "dev")
+COPIED += ("README.md", "SECURITY.md", "CHANGELOG.md", "CONTRIBUTING.md")
 RULES = """[run]
 parallel = True
 data_file = {folder}/data

@@ -66,7 +66,7 @@ def main_unseen(argv: list[str]) -> int:
 MADE = {
     "bench/program/both.py": SEEN,
     "bench/helper.py": 'TOOL = "tools/streetsim-run"\n',
-    "bench/other.py": "OTHER = 1\n",
+    "bench/other.py": 'TOOL = "tools/streetsim-run"\n',
     "tools/streetsim/__init__.py": "",
     "tools/streetsim/cli/__init__.py": "",
     "tools/streetsim/cli/run.py": "def main():\n    from ..base import low\n    return low\n",
@@ -134,7 +134,7 @@ class Sources(Case):
     def test_what_a_table_rests_on_changes_its_digests(self):
         for name, text, part in (
             ("bench/program/both.py", SEEN.replace("is not run", "is run"), "script"),
-            ("bench/helper.py", MADE["bench/helper.py"] + "MORE = 1\n", "script"),
+            ("bench/helper.py", 'TOOL = str("tools/streetsim-run")\n', "script"),
             ("tools/streetsim/base/low.py", "LOW = 2\n", "tools"),
             ("crates/street_base/specs/One.antt", "one = 2\n", "machine"),
         ):
@@ -142,7 +142,10 @@ class Sources(Case):
 
     def test_nothing_else_does(self):
         for name, text in (
-            ("bench/other.py", "OTHER = 2\n"),
+            ("bench/other.py", MADE["bench/other.py"] + "OTHER = 2\n"),
+            ("bench/helper.py", MADE["bench/helper.py"] + "MORE = 1\n"),
+            ("bench/helper.py", "from other import TOOL\n"),  # where it stands too
+            ("bench/helper.py", "import other\n" + MADE["bench/helper.py"]),
             ("bench/program/both.py", SEEN.replace("return play.PLAY", "return play.PLAY + 1")),
             ("tools/streetsim/cli/play.py", "PLAY = 2\n"),
             ("tools/streetsim/base/low.py", '"""Other docs."""\n\nLOW = 1\n'),
