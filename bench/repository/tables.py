@@ -313,8 +313,9 @@ def main_tables(argv: list[str]) -> int | None:
 
     Each table has a measurement that prints its rows. What was printed is kept in the folder of --work with digests of
     what it rests on: the functions and values that the measurement comes to, wherever they stand, the modules of the
-    tools that its commands load, and the machine's definitions, all without docs and comments. So a call that was interrupted goes on with the next
-    table, and a table of other digests is made anew. Two calls may run side by side with one folder.
+    tools that its commands load, and the machine's definitions, all without docs and comments. So a call that was
+    interrupted goes on with the next table, and a table of other digests is made anew. Two calls may run side by side
+    with one folder.
 
     --put writes rows that moved into the page, and the digests into tables.json; it says what the page does not have,
     and no digests are written where the page has rows that were not printed. --list runs nothing: it says of each table
