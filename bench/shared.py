@@ -7,6 +7,7 @@ import both behind it.
 
 import argparse
 import ast
+import csv
 import hashlib
 import inspect
 import json
@@ -174,6 +175,18 @@ def spread(values: Sequence[float]) -> str:
 def teleports_of(statistic: Path) -> int:
     """The teleports of a statistic output of SUMO's."""
     return int(ElementTree.parse(statistic).getroot().find("teleports").get("total"))
+
+
+def trips_from_wish(tripinfo: Path) -> dict[str, float]:
+    """Seconds of each trip of SUMO's from its wished departure, by name."""
+    found = ElementTree.parse(tripinfo).getroot().iter("tripinfo")
+    return {one.get("id"): float(one.get("duration")) + float(one.get("departDelay")) for one in found}
+
+
+def durations_here(out: Path) -> dict[str, int]:
+    """Seconds of each trip that ended, by name, of the folder of a run."""
+    with open(out / "trips.csv", encoding="utf-8") as file:
+        return {row["id"]: int(row["duration"]) for row in csv.DictReader(file) if row["duration"]}
 
 
 # ---- lines of the program
