@@ -203,6 +203,13 @@ def load(nodes, links, turns, zone: int = 0, dawdle: int = 0, change: int = 0, s
     return {"cmd": "load", "nodes": nodes, "links": links, "turns": turns, **values}
 
 
+def ring_of(links: int, cells: int = 20, lanes: int = 1, first: int = 0, **values: int) -> dict:
+    """The command that loads a ring. first: the number of its first link."""
+    roads = [[first + at, at, (at + 1) % links, lanes, cells, 5] for at in range(links)]
+    turns = [[first + at, lane, first + (at + 1) % links, lane] for at in range(links) for lane in range(lanes)]
+    return load([[at, 1, 2] for at in range(links)], roads, turns, **values)
+
+
 # ---- what a table rests on: what its measurement comes to of bench/, wherever it stands there, the modules of the
 # tools that this and its commands load, and the machine's definitions, all without comments, docs and blanks
 
