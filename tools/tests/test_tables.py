@@ -10,7 +10,7 @@ from support import TOOLS, Case
 
 TOP = TOOLS.parent
 sys.path.insert(0, str(TOP / "bench"))
-from repository.tables import TABLES, grids, put, section  # noqa: E402
+from repository.pages import TABLES, grids, put, section  # noqa: E402
 from shared import all_commands, digests_of, loaded_by  # noqa: E402
 
 PAGE = """# Page
