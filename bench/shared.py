@@ -7,6 +7,7 @@ import both behind it.
 
 import argparse
 import ast
+import copy
 import csv
 import hashlib
 import inspect
@@ -210,8 +211,9 @@ def ring_of(links: int, cells: int = 20, lanes: int = 1, first: int = 0, **value
     return load([[at, 1, 2] for at in range(links)], roads, turns, **values)
 
 
-# ---- what a table rests on: what its measurement comes to of bench/, wherever it stands there, the modules of the
-# tools that this and its commands load, and the machine's definitions, all without comments, docs and blanks
+# ---- what a table rests on: what its measurement comes to of bench/, wherever it stands there and whatever it is
+# called, the modules of the tools that this and its commands load, and the machine's definitions, all without comments,
+# docs and blanks
 
 PARTS = ("script", "tools", "machine")
 DEFINING = ("street_base", "street_text")  # the crates that define what is answered
@@ -221,8 +223,9 @@ COMMAND = re.compile(r"(?:.*/)?streetsim-([a-z]+)")
 def digests_of(command: Command, top: Path) -> dict[str, str]:
     """A digest of each of PARTS for a table that a measurement prints. top: the repository."""
     parts = parts_for(command, top)
+    bare = {ast.dump(node) for name in parts for node in bound_in(tree_of(modules(top)[name])).get("", ())}
     return {
-        "script": digest(sorted({ast.dump(node) for part in parts.values() for node in part.body})),
+        "script": digest([*sorted(bare), Definitions(top).digest(command.module, command.function)]),
         "tools": digest_of_tools(loaded_from(parts.items(), top)),
         "machine": digest(machine(top)),
     }
@@ -304,6 +307,52 @@ def led_to(node: ast.stmt, used: str, known: Iterable[str]) -> tuple[ast.stmt, t
     return ast.ImportFrom(node.module, [one], node.level), (node.module, one.name) if node.module in known else None
 
 
+class Definitions(ast.NodeTransformer):
+    """Digests of what is defined in our modules. In the place of each name of a definition stands the digest of what it
+    names, so that neither names nor places of functions and modules count."""
+
+    def __init__(self, top: Path) -> None:
+        self.known = {name: path for name, path in modules(top).items() if not is_tool(name)}
+        self.made: dict[tuple[str, str], str] = {}
+        self.within: list[tuple[str, set[str]]] = []  # module of a definition that is looked at, names that it uses
+
+    def digest(self, module: str, used: str) -> str:
+        """The digest of what a name means in a module, NAME or of another module MODULE.NAME."""
+        name = used.partition(".")[0]
+        if (module, used) not in self.made:
+            self.made[module, used], texts = "itself", []
+            for node in bound_in(tree_of(self.known[module])).get(name, ()):
+                part, led = led_to(node, used, self.known)
+                texts.append(self.digest(*led) if led else digest([self.text(module, name, part)]))
+            self.made[module, used] = texts[0] if len(texts) == 1 else digest(texts)
+        return self.made[module, used]
+
+    def text(self, module: str, name: str, node: ast.stmt) -> str:
+        """A definition with digests for names. Of a statement that binds several names the place of one counts."""
+        at = [*names_bound(node)].index(name) if not isinstance(node, (ast.Import, ast.ImportFrom)) else 0
+        self.within.append((module, names_used(node)))
+        made = self.visit(copy.deepcopy(node))
+        self.within.pop()
+        if isinstance(made, (ast.FunctionDef, ast.ClassDef)):
+            made.name = ""
+        return f"{at} {ast.dump(made)}"
+
+    def visit_Name(self, node: ast.Name) -> ast.Name:
+        module, used = self.within[-1]
+        bound = bound_in(tree_of(self.known[module]))
+        if isinstance(node.ctx, ast.Store):
+            return ast.Name("", node.ctx) if node.id in bound and node.id in used else node
+        return ast.Name(self.digest(module, node.id)) if node.id in bound and node.id in used else node
+
+    def visit_Attribute(self, node: ast.Attribute) -> ast.expr:
+        module, used = self.within[-1]
+        taken = f"{node.value.id}.{node.attr}" if isinstance(node.value, ast.Name) else ""
+        bound = bound_in(tree_of(self.known[module])).get(taken.partition(".")[0], ()) if taken in used else ()
+        if any((led_to(one, taken, self.known)[1] or ("", ""))[1] == node.attr for one in bound):
+            return ast.Name(self.digest(module, taken))
+        return self.generic_visit(node)
+
+
 def names_used(node: ast.stmt) -> set[str]:
     """The names of the module that a statement may use, and what it takes of them (NAME.ATTRIBUTE): in a function not
     those that it gives to values of its own, but for those of comprehensions, behind which a name means what it meant
@@ -311,6 +360,7 @@ def names_used(node: ast.stmt) -> set[str]:
     every = [one for one in ast.walk(node) if isinstance(one, ast.Name)]
     inner = [one for part in ast.walk(node) if isinstance(part, ast.comprehension) for one in ast.walk(part.target)]
     own = {one.id for one in {*every} - {*inner} if isinstance(one.ctx, ast.Store)}
+    own |= {one.arg for one in ast.walk(node.args) if isinstance(one, ast.arg)} if hasattr(node, "args") else set()
     taken = [one for one in ast.walk(node) if isinstance(one, ast.Attribute) and isinstance(one.value, ast.Name)]
     names = {one.id for one in every} - (own if isinstance(node, ast.FunctionDef) else set())
     return names | {f"{one.value.id}.{one.attr}" for one in taken if one.value.id in names}
