@@ -337,6 +337,19 @@ class Definitions(ast.NodeTransformer):
             made.name = ""
         return f"{at} {ast.dump(made)}"
 
+    def visit_inner(self, node: ast.expr) -> ast.expr:
+        """A comprehension, or a lambda: its own names mean nothing of the module."""
+        targets = [node.args] if isinstance(node, ast.Lambda) else [one.target for one in node.generators]
+        walked = [one for target in targets for one in ast.walk(target) if isinstance(one, (ast.arg, ast.Name))]
+        own = {one.arg if isinstance(one, ast.arg) else one.id for one in walked}
+        module, used = self.within[-1]
+        self.within.append((module, {name for name in used if name.partition(".")[0] not in own}))
+        made = self.generic_visit(node)
+        self.within.pop()
+        return made
+
+    visit_ListComp = visit_SetComp = visit_DictComp = visit_GeneratorExp = visit_Lambda = visit_inner
+
     def visit_Name(self, node: ast.Name) -> ast.Name:
         module, used = self.within[-1]
         bound = bound_in(tree_of(self.known[module]))
@@ -373,7 +386,8 @@ def names_bound(node: ast.stmt) -> Iterator[str]:
     elif isinstance(node, (ast.Import, ast.ImportFrom)):
         yield from (one.asname or one.name.partition(".")[0] for one in node.names)
     elif isinstance(node, (ast.Assign, ast.AnnAssign)):
-        yield from (one.id for one in ast.walk(node) if isinstance(one, ast.Name) and isinstance(one.ctx, ast.Store))
+        named = (one for target in getattr(node, "targets", None) or [node.target] for one in ast.walk(target))
+        yield from (one.id for one in named if isinstance(one, ast.Name) and isinstance(one.ctx, ast.Store))
 
 
 @cache

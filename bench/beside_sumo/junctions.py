@@ -1,5 +1,5 @@
-"""Lone junctions beside SUMO, side by side in one network of netconvert's: who passes them against full streams, and what
-the few lose.
+"""Lone junctions beside SUMO, side by side in one network of netconvert's: who passes them against full streams, and
+what the few lose.
 
 A junction has arms to the west, east, north and south, of 500 m if not told. One stream is looked at, others go along
 or across.
