@@ -63,7 +63,7 @@ def main_unseen(argv: list[str]) -> int:
     """What is not."""
     return play.PLAY
 '''
-OF_IT = "helper.TOOL\n"
+IT = "helper.TOOL\n"
 MADE = {
     "bench/program/both.py": SEEN,
     "bench/helper.py": 'TOOL = "tools/streetsim-run"\n',
@@ -148,7 +148,7 @@ class Sources(Case):
             ("bench/helper.py", "from other import TOOL\n"),  # where it stands too
             ("bench/helper.py", "import other\n" + MADE["bench/helper.py"]),
             ("bench/program/both.py", SEEN.replace("KNOWN", "CALLED_OTHERWISE")),
-            ("bench/program/both.py", SEEN.replace("from helper import TOOL", "import helper").replace("TOOL\n", OF_IT)),
+            ("bench/program/both.py", SEEN.replace("from helper import TOOL", "import helper").replace("TOOL\n", IT)),
             ("bench/program/both.py", SEEN.replace("return play.PLAY", "return play.PLAY + 1")),
             ("tools/streetsim/cli/play.py", "PLAY = 2\n"),
             ("tools/streetsim/base/low.py", '"""Other docs."""\n\nLOW = 1\n'),
