@@ -7,6 +7,8 @@ import both behind it.
 
 import argparse
 import ast
+import copy
+import csv
 import hashlib
 import inspect
 import json
@@ -176,6 +178,18 @@ def teleports_of(statistic: Path) -> int:
     return int(ElementTree.parse(statistic).getroot().find("teleports").get("total"))
 
 
+def trips_from_wish(tripinfo: Path) -> dict[str, float]:
+    """Seconds of each trip of SUMO's from its wished departure, by name."""
+    found = ElementTree.parse(tripinfo).getroot().iter("tripinfo")
+    return {one.get("id"): float(one.get("duration")) + float(one.get("departDelay")) for one in found}
+
+
+def durations_here(out: Path) -> dict[str, int]:
+    """Seconds of each trip that ended, by name, of the folder of a run."""
+    with open(out / "trips.csv", encoding="utf-8") as file:
+        return {row["id"]: int(row["duration"]) for row in csv.DictReader(file) if row["duration"]}
+
+
 # ---- lines of the program
 
 
@@ -190,8 +204,16 @@ def load(nodes, links, turns, zone: int = 0, dawdle: int = 0, change: int = 0, s
     return {"cmd": "load", "nodes": nodes, "links": links, "turns": turns, **values}
 
 
-# ---- what a table rests on: the modules that print it, those of the tools that its commands load, and the machine's
-# definitions, all without comments, docs and blanks
+def ring_of(links: int, cells: int = 20, lanes: int = 1, first: int = 0, **values: int) -> dict:
+    """The command that loads a ring. first: the number of its first link."""
+    roads = [[first + at, at, (at + 1) % links, lanes, cells, 5] for at in range(links)]
+    turns = [[first + at, lane, first + (at + 1) % links, lane] for at in range(links) for lane in range(lanes)]
+    return load([[at, 1, 2] for at in range(links)], roads, turns, **values)
+
+
+# ---- what a table rests on: what its measurement comes to of bench/, wherever it stands there and whatever it is
+# called, the modules of the tools that this and its commands load, and the machine's definitions, all without comments,
+# docs and blanks
 
 PARTS = ("script", "tools", "machine")
 DEFINING = ("street_base", "street_text")  # the crates that define what is answered
@@ -200,10 +222,11 @@ COMMAND = re.compile(r"(?:.*/)?streetsim-([a-z]+)")
 
 def digests_of(command: Command, top: Path) -> dict[str, str]:
     """A digest of each of PARTS for a table that a measurement prints. top: the repository."""
-    loaded = loaded_by(command, top)
+    parts = parts_for(command, top)
+    bare = {ast.dump(node) for name in parts for node in bound_in(tree_of(modules(top)[name])).get("", ())}
     return {
-        "script": digest(dumped(loaded[name]) for name in sorted(loaded) if not is_tool(name)),
-        "tools": digest_of_tools(loaded),
+        "script": digest([*sorted(bare), Definitions(top).digest(command.module, command.function)]),
+        "tools": digest_of_tools(loaded_from(parts.items(), top)),
         "machine": digest(machine(top)),
     }
 
@@ -240,25 +263,120 @@ def dumped(tree: ast.Module) -> str:
     return ast.dump(tree)
 
 
-def part_of(tree: ast.Module, name: str) -> ast.Module:
-    """What of a module a function of it needs: the other ones, the values and the imports that it names, and so on."""
-    bound = {known: node for node in tree.body for known in names_bound(node)}
-    needed, left = set(), [name]
+def parts_for(command: Command, top: Path) -> dict[str, ast.Module]:
+    """What a measurement comes to of the modules of bench/ and of the tests' helpers: functions, classes, values, and
+    each import from elsewhere. What moves from one of these modules to another stays what it is."""
+    known = {name: path for name, path in modules(top).items() if not is_tool(name)}
+    found: dict[str, dict[str, ast.stmt]] = {}
+    left, seen = [(command.module, command.function)], set()
     while left:
-        node = bound.get(left.pop())
-        if node and id(node) not in needed:
-            needed.add(id(node))
-            left += names_used(node)
-    return ast.Module([node for node in tree.body if id(node) in needed or not [*names_bound(node)]], [])
+        module, used = place = left.pop()
+        if place not in seen:
+            seen.add(place)
+            bound, have = bound_in(tree_of(known[module])), found.setdefault(module, {})
+            for node in (*bound.get(used.partition(".")[0], ()), *bound.get("", ())):
+                part, led = led_to(node, used, known)
+                if led:
+                    left.append(led)
+                else:
+                    have[ast.dump(part)] = part
+                    left += [(module, name) for name in names_used(part)]
+    return {module: ast.Module([*have.values()], []) for module, have in found.items()}
+
+
+@cache
+def bound_in(tree: ast.Module) -> dict[str, list[ast.stmt]]:
+    """The statements of a module by the names that they bind; by no name those that bind none."""
+    found: dict[str, list[ast.stmt]] = {}
+    for node in tree.body:
+        for name in {*names_bound(node)} or {""}:
+            found.setdefault(name, []).append(node)
+    return found
+
+
+def led_to(node: ast.stmt, used: str, known: Iterable[str]) -> tuple[ast.stmt, tuple[str, str] | None]:
+    """A statement, of an import what gives a name alone; and the module and name that it leads to, if it is known."""
+    if not isinstance(node, (ast.Import, ast.ImportFrom)):
+        return node, None
+    name, _, attribute = used.partition(".")
+    one = next(one for one in node.names if name in (one.asname, one.name.partition(".")[0]))
+    if isinstance(node, ast.Import):
+        return ast.Import([one]), (one.name, attribute) if one.name in known else None
+    if f"{node.module}.{one.name}" in known:
+        return node, (f"{node.module}.{one.name}", attribute)
+    return ast.ImportFrom(node.module, [one], node.level), (node.module, one.name) if node.module in known else None
+
+
+class Definitions(ast.NodeTransformer):
+    """Digests of what is defined in our modules. In the place of each name of a definition stands the digest of what it
+    names, so that neither names nor places of functions and modules count."""
+
+    def __init__(self, top: Path) -> None:
+        self.known = {name: path for name, path in modules(top).items() if not is_tool(name)}
+        self.made: dict[tuple[str, str], str] = {}
+        self.within: list[tuple[str, set[str]]] = []  # module of a definition that is looked at, names that it uses
+
+    def digest(self, module: str, used: str) -> str:
+        """The digest of what a name means in a module, NAME or of another module MODULE.NAME."""
+        name = used.partition(".")[0]
+        if (module, used) not in self.made:
+            self.made[module, used], texts = "itself", []
+            for node in bound_in(tree_of(self.known[module])).get(name, ()):
+                part, led = led_to(node, used, self.known)
+                texts.append(self.digest(*led) if led else digest([self.text(module, name, part)]))
+            self.made[module, used] = texts[0] if len(texts) == 1 else digest(texts)
+        return self.made[module, used]
+
+    def text(self, module: str, name: str, node: ast.stmt) -> str:
+        """A definition with digests for names. Of a statement that binds several names the place of one counts."""
+        at = [*names_bound(node)].index(name) if not isinstance(node, (ast.Import, ast.ImportFrom)) else 0
+        self.within.append((module, names_used(node)))
+        made = self.visit(copy.deepcopy(node))
+        self.within.pop()
+        if isinstance(made, (ast.FunctionDef, ast.ClassDef)):
+            made.name = ""
+        return f"{at} {ast.dump(made)}"
+
+    def visit_inner(self, node: ast.expr) -> ast.expr:
+        """A comprehension, or a lambda: its own names mean nothing of the module."""
+        targets = [node.args] if isinstance(node, ast.Lambda) else [one.target for one in node.generators]
+        walked = [one for target in targets for one in ast.walk(target) if isinstance(one, (ast.arg, ast.Name))]
+        own = {one.arg if isinstance(one, ast.arg) else one.id for one in walked}
+        module, used = self.within[-1]
+        self.within.append((module, {name for name in used if name.partition(".")[0] not in own}))
+        made = self.generic_visit(node)
+        self.within.pop()
+        return made
+
+    visit_ListComp = visit_SetComp = visit_DictComp = visit_GeneratorExp = visit_Lambda = visit_inner
+
+    def visit_Name(self, node: ast.Name) -> ast.Name:
+        module, used = self.within[-1]
+        bound = bound_in(tree_of(self.known[module]))
+        if isinstance(node.ctx, ast.Store):
+            return ast.Name("", node.ctx) if node.id in bound and node.id in used else node
+        return ast.Name(self.digest(module, node.id)) if node.id in bound and node.id in used else node
+
+    def visit_Attribute(self, node: ast.Attribute) -> ast.expr:
+        module, used = self.within[-1]
+        taken = f"{node.value.id}.{node.attr}" if isinstance(node.value, ast.Name) else ""
+        bound = bound_in(tree_of(self.known[module])).get(taken.partition(".")[0], ()) if taken in used else ()
+        if any((led_to(one, taken, self.known)[1] or ("", ""))[1] == node.attr for one in bound):
+            return ast.Name(self.digest(module, taken))
+        return self.generic_visit(node)
 
 
 def names_used(node: ast.stmt) -> set[str]:
-    """The names of the module that a statement may use: in a function not those that it gives to values of its own,
-    but for those of comprehensions, behind which a name means what it meant before."""
+    """The names of the module that a statement may use, and what it takes of them (NAME.ATTRIBUTE): in a function not
+    those that it gives to values of its own, but for those of comprehensions, behind which a name means what it meant
+    before."""
     every = [one for one in ast.walk(node) if isinstance(one, ast.Name)]
     inner = [one for part in ast.walk(node) if isinstance(part, ast.comprehension) for one in ast.walk(part.target)]
     own = {one.id for one in {*every} - {*inner} if isinstance(one.ctx, ast.Store)}
-    return {one.id for one in every} - (own if isinstance(node, ast.FunctionDef) else set())
+    own |= {one.arg for one in ast.walk(node.args) if isinstance(one, ast.arg)} if hasattr(node, "args") else set()
+    taken = [one for one in ast.walk(node) if isinstance(one, ast.Attribute) and isinstance(one.value, ast.Name)]
+    names = {one.id for one in every} - (own if isinstance(node, ast.FunctionDef) else set())
+    return names | {f"{one.value.id}.{one.attr}" for one in taken if one.value.id in names}
 
 
 def names_bound(node: ast.stmt) -> Iterator[str]:
@@ -268,7 +386,8 @@ def names_bound(node: ast.stmt) -> Iterator[str]:
     elif isinstance(node, (ast.Import, ast.ImportFrom)):
         yield from (one.asname or one.name.partition(".")[0] for one in node.names)
     elif isinstance(node, (ast.Assign, ast.AnnAssign)):
-        yield from (one.id for one in ast.walk(node) if isinstance(one, ast.Name) and isinstance(one.ctx, ast.Store))
+        named = (one for target in getattr(node, "targets", None) or [node.target] for one in ast.walk(target))
+        yield from (one.id for one in named if isinstance(one, ast.Name) and isinstance(one.ctx, ast.Store))
 
 
 @cache
@@ -283,9 +402,10 @@ def modules(top: Path) -> dict[str, Path]:
 
 
 def loaded_by(command: Command, top: Path) -> dict[str, ast.Module]:
-    """The part of its module that a measurement needs, and all modules that it and its commands load, by name."""
-    begin = part_of(tree_of(modules(top)[command.module]), command.function)
-    return {command.module: begin, **loaded_from([(command.module, begin)], top)}
+    """By name what a measurement comes to of our modules, and all modules of the tools that it and its commands
+    load."""
+    parts = parts_for(command, top)
+    return {**parts, **loaded_from(parts.items(), top)}
 
 
 def loaded_from(begin: Iterable[tuple[str, ast.Module]], top: Path) -> dict[str, ast.Module]:

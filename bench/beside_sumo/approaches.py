@@ -1,4 +1,5 @@
-"""Lone approaches and lanes beside SUMO: who leaves in each green, where some turn left or are long; and detectors."""
+"""Lone approaches and lanes beside SUMO: who leaves in each green, where some turn left or are long; detectors, and
+lights that these drive."""
 
 import csv
 import gzip
@@ -12,12 +13,12 @@ from itertools import product
 from statistics import correlation, fmean
 
 import shared
-from crosses import FIRST, FULL, LAST, a_green, cases, demand
 from beside_sumo.rows import run_files, sumo_trips, trips_here
+from crosses import FIRST, FULL, LAST, a_green, cases, demand
+from networks.unseen import KINDS as MADE, make
 from shared import SAMPLES, TOP, run
 from streetsim.model.folder import read_folder
 from streetsim.report.beside_sumo import edge_counts_of, geh, read_edgedata, read_tripinfo, trip_times_of
-
 
 def in_sumo(net, routes, folder):
     words = ["-n", net, "-r", routes, "--end", LAST, "--time-to-teleport", -1]
@@ -354,3 +355,121 @@ def main_detectors(argv: list[str]) -> int | None:
         edges = by_edge(lanes)
         both = " | ".join(f"{value:.2f}" for value in means(lanes.values()))
         print(f"| {figure.name} | {both} | {together(lanes):.2f} | {together(edges):.2f} |")
+
+
+DRIVEN = ("actuated-grid", "actuated-arterial", "actuated-town", "actuated-turn-lanes", "nema-cross", "nema-arterial")
+HOUR = 3600
+ENDED = 4 * HOUR  # second by which a run of SUMO ends that is locked
+NEAR = 1.0  # seconds of green
+
+
+def driven_in_sumo(made, net, folder):
+    """The mean trip of those who arrived, how many did, and the greens by (light, state)."""
+    programs = list(ElementTree.parse(net).getroot().iter("tlLogic"))
+    lights = {one.get("id") for one in programs}
+    rings = {
+        one.get("id"): [phase.get("state") for phase in one.iter("phase")]
+        for one in programs
+        if one.get("type") == "NEMA"
+    }
+    events, states, trips = folder / "events.add.xml", folder / "states.xml", folder / "trips.xml"
+    wanted = "".join(f'<timedEvent type="SaveTLSStates" source="{one}" dest="{states}"/>' for one in sorted(lights))
+    events.write_text(f"<additional>{wanted}</additional>", encoding="utf-8")
+    routes = ",".join(map(str, made.routes))
+    words = ["sumo", "-n", net, "-r", routes, "-a", events, "--tripinfo-output", trips, "--end", ENDED]
+    shared.run([*words, "--no-step-log", "--no-warnings", "--time-to-teleport", 300], folder)
+    seconds = shared.trips_from_wish(trips).values()
+    return fmean(seconds), len(seconds), greens_in(states, rings)
+
+
+def greens_in(path, rings):
+    """{(light, state): how long each lasted} of a file of SUMO's states, of the first hour; rings: the states of the
+    phases of NEMA lights, of which two are shown at once."""
+    found, shown = defaultdict(list), {}
+    for _, one in ElementTree.iterparse(path):
+        if one.tag == "tlsState":
+            light, state, time = one.get("id"), one.get("state"), float(one.get("time"))
+            own = [phase for phase in rings[light] if is_green(phase, state)] if light in rings else [state]
+            for key in [key for key in shown if key[0] == light and key[1] not in own]:
+                since = shown.pop(key)
+                if time <= HOUR:
+                    found[key].append(time - since)
+            for phase in own:
+                shown.setdefault((light, phase), time)
+            one.clear()
+    return found
+
+
+def is_green(phase, state):
+    """Whether a phase of a ring is green in a state of its light."""
+    return all(shown == "G" for own, shown in zip(phase, state) if own == "G")
+
+
+def driven_here(program, run, folder, lights):
+    """The same of a run here, and whether it is to be trusted."""
+    out = folder / f"out-{lights}"
+    words = [shared.TOP / "tools/streetsim-run", *run, "--lights", lights, "--program", program, "--out", out]
+    told = shared.run([*words, "--every", 0], folder)
+    seconds = shared.durations_here(out).values()
+    greens = defaultdict(list)
+    if (out / "phases.csv").exists():
+        with open(out / "phases.csv", encoding="utf-8") as file:
+            for row in csv.DictReader(file):
+                if row["ended"] not in ("", "listed") and int(row["begin"]) + int(row["seconds"]) <= HOUR:
+                    greens[row["light"], row["state"]].append(int(row["seconds"]))
+    return fmean(seconds), len(seconds), greens, "not to be trusted" in told
+
+
+def compared(there, own):
+    """How many greens differ by less than a second, of how many, and the mean difference."""
+    apart = [fmean(own[key]) - fmean(there[key]) for key in own if there.get(key)]
+    near = sum(abs(one) < NEAR for one in apart)
+    return f"{near} of {len(apart)}, {fmean(apart):+.1f}" if apart else ""
+
+
+def driven_row(program, kind, made):
+    """A line of the table."""
+    folder = made.folder
+    fixed = folder / "fixed.net.xml"
+    text = made.net.read_text(encoding="utf-8")
+    for driven in ("actuated", "NEMA", "delay_based"):
+        text = text.replace(f'type="{driven}"', 'type="static"')
+    fixed.write_text(text, encoding="utf-8")
+    there = [driven_in_sumo(made, net, folder) for net in (fixed, made.net)]
+    run = [folder / "run.jsonl", "--map", folder / "map.json"]
+    shared.run([shared.TOP / "tools/streetsim-import", made.net, "--routes", *made.routes, "-o", *run], folder)
+    own = [driven_here(program, run, folder, lights) for lights in ("listed", "actuated")]
+    gains = [100 * (after[0] / before[0] - 1) for before, after in (there, own)]
+    cells = [
+        kind, f"{made.level:g}", f"{made.vehicles:,}", f"{there[1][1]:,}, {own[1][1]:,}",
+        f"{there[0][0]:.1f} -> {there[1][0]:.1f}", f"{own[0][0]:.1f} -> {own[1][0]:.1f}",
+        f"{100 * (own[1][0] / there[1][0] - 1):+.1f}", f"{gains[0]:+.0f}, {gains[1]:+.0f}",
+        compared(there[1][2], own[1][2]), "not to be trusted" if own[1][3] else "",
+    ]  # fmt: skip
+    return f"| {' | '.join(cells)} |"
+
+
+def main_actuated(argv: list[str]) -> int | None:
+    """What detectors gain at lights, and whether their greens are SUMO's.
+
+    Takes minutes a network; needs sumo, sumo-tools.
+
+    Each network runs an hour of demand until all have arrived, in SUMO and here, with its actuated lights and with the
+    same programs as fixed plans (--lights listed). A trip counts from its wished departure. Greens are of those phases
+    that detectors extend, of the first hour, by light and phase: how many of them differ by less than a second on the
+    mean, and the mean difference. Those of a NEMA light are of each phase of its rings.
+    """
+    parser = shared.parser_of(main_actuated, work=True)
+    parser.add_argument("--seed", type=int, required=True)
+    shared.add_some(parser, "--kinds", MADE, DRIVEN)
+    parser.add_argument("--levels", default="0.5,0.7", help="of the busiest approach's capacity (default %(default)s)")
+    args = parser.parse_args(argv)
+    work = shared.work_of(args)
+    trips = "SUMO, fixed -> actuated, s | here, s | apart, % | gain in SUMO, here, %"
+    greens = "greens within 1 s, mean difference | "
+    shared.print_heads(f"Network | level | vehicles | arrived in SUMO, here | {trips} | {greens}")
+    for kind in args.kinds:
+        for level in map(float, args.levels.split(",")):
+            folder = work / f"{level:g}"
+            folder.mkdir(exist_ok=True)
+            print(driven_row(args.program, kind, make(kind, args.seed, folder, level)), flush=True)

@@ -1,15 +1,174 @@
-"""Lone junctions beside SUMO: who passes them against full streams, and what the few lose."""
+"""Lone junctions beside SUMO, side by side in one network of netconvert's: who passes them against full streams, and
+what the few lose.
 
+A junction has arms to the west, east, north and south, of 500 m if not told. One stream is looked at, others go along
+or across.
+"""
+
+import math
 import random
-from collections import defaultdict
-from collections.abc import Callable
+from collections import Counter, defaultdict
+from collections.abc import Callable, Sequence
 from dataclasses import dataclass
+from pathlib import Path
 from statistics import fmean
 
 import shared
-from networks import lone
-from networks.lone import Junction, Stream, Trips
+from beside_sumo.rows import run_files, sumo_trips, trips_here
+from shared import TOOLS, run
+from streetsim.report.beside_sumo import read_tripinfo
 from streetsim.report.picture_files import load_pyplot, save_picture
+
+FIRST, LAST = 600, 3900  # seconds of the count
+ARM, OUT, SPEED = 500, 200, 13.89  # metres of an arm that leads to the junction, and of one from it; metres a second
+RADIUS, RING = 18, 8.33  # of a roundabout: metres, metres a second
+APART = 2500  # metres from junction to junction
+PLACES = {"w": (-1, 0), "e": (1, 0), "n": (0, 1), "s": (0, -1)}
+ROUND = "enws"  # the arms in the order of driving
+TYPES = {"equal": "right_before_left", "stop": "priority_stop", "allway": "allway_stop"}
+Trips = dict[str, tuple[float, float]]  # departure and arrival
+
+
+@dataclass(frozen=True)
+class Stream:
+    ends: str  # from, to
+    hourly: float
+    lane: int | str = "best"  # on which it departs
+
+
+@dataclass(frozen=True)
+class Junction:
+    name: str
+    arms: str = "wens"
+    kind: str = "priority"  # or a word of TYPES, roundabout, or a type of SUMO's
+    looked_at: tuple[Stream, ...] = ()
+    others: tuple[Stream, ...] = ()
+    lanes: int = 1  # of the main street
+    arm: int = ARM
+    out: int = OUT
+    speed: float = SPEED
+    radius: int = RADIUS
+
+    @property
+    def type(self) -> str:
+        return TYPES.get(self.kind, "priority" if self.kind == "roundabout" else self.kind)
+
+    def priority(self, arm: str) -> int:
+        return 5 if self.kind in ("equal", "allway") else 10 if arm in "we" else 1
+
+
+def plain(junction: Junction, x: float) -> tuple[list[str], list[str]]:
+    """Nodes and edges of a lone junction, in SUMO's plain XML."""
+    if junction.kind == "roundabout":
+        return roundabout(junction, x)
+    nodes, edges = [f'<node id="{junction.name}" x="{x}" y="0" type="{junction.type}"/>'], []
+    for arm in junction.arms:
+        lanes = junction.lanes if arm in "we" else 1
+        edges += arm_of(junction, junction.name, arm, junction.priority(arm), lanes)
+        nodes += ends_of(junction, arm, x, 0)
+    return nodes, edges
+
+
+def ends_of(junction: Junction, arm: str, x: float, radius: float) -> list[str]:
+    """The far ends of an arm."""
+    right, up = PLACES[arm]
+    return [
+        f'<node id="{junction.name}{arm}{side}" x="{x + right * (radius + length)}" y="{up * (radius + length)}"/>'
+        for side, length in (("in", junction.arm), ("out", junction.out))
+    ]
+
+
+def arm_of(junction: Junction, node: str, arm: str, priority: int, lanes: int = 1) -> list[str]:
+    """The two edges of an arm."""
+    name, usual = junction.name, f'numLanes="{lanes}" speed="{junction.speed}" priority="{priority}"'
+    return [
+        f'<edge id="{name}{arm}c" from="{name}{arm}in" to="{node}" {usual}/>',
+        f'<edge id="{name}c{arm}" from="{node}" to="{name}{arm}out" {usual}/>',
+    ]
+
+
+def roundabout(junction: Junction, x: float) -> tuple[list[str], list[str]]:
+    nodes, edges, name, radius = [], [], junction.name, junction.radius
+    for at, arm in enumerate(ROUND):
+        begin, following = at * math.pi / 2, ROUND[(at + 1) % 4]
+        nodes.append(
+            f'<node id="{name}{arm}" x="{x + radius * math.cos(begin):.2f}" y="{radius * math.sin(begin):.2f}" '
+            'type="priority"/>'
+        )
+        nodes += ends_of(junction, arm, x, radius)
+        edges += arm_of(junction, f"{name}{arm}", arm, 5)
+        angles = (begin + part * math.pi / 8 for part in range(5))
+        shape = " ".join(f"{x + radius * math.cos(angle):.2f},{radius * math.sin(angle):.2f}" for angle in angles)
+        ring = f'numLanes="1" speed="{RING}" priority="10" shape="{shape}"'
+        edges.append(f'<edge id="{name}q{arm}" from="{name}{arm}" to="{name}{following}" {ring}/>')
+    return nodes, edges
+
+
+def way(junction: Junction, ends: str) -> str:
+    """The edges from one arm to another."""
+    (begin, end), name = ends, junction.name
+    if junction.kind != "roundabout":
+        return f"{name}{begin}c {name}c{end}"
+    first, last = ROUND.index(begin), ROUND.index(end)
+    ring = [f"{name}q{ROUND[(first + at) % 4]}" for at in range((last - first) % 4)]
+    return " ".join([f"{name}{begin}c", *ring, f"{name}c{end}"])
+
+
+def demand(junctions: Sequence[Junction], seed: int) -> str:
+    """The routes: vehicles at random, whose names tell the junction, whether they are looked at, and where they go."""
+    draws, found = random.Random(seed), []
+    for junction in junctions:
+        streams = [("minor", stream) for stream in junction.looked_at] + [("major", other) for other in junction.others]
+        for kind, stream in streams:
+            clock = 0.0
+            while stream.hourly and (clock := clock + draws.expovariate(stream.hourly / 3600)) < LAST:
+                name = f"{junction.name}.{kind}.{len(found)}.{stream.ends}"
+                found.append((clock, name, stream.lane, way(junction, stream.ends)))
+    lines = (
+        f'<vehicle id="{name}" depart="{clock:.1f}" departLane="{lane}" departSpeed="max"><route edges="{edges}"/>'
+        "</vehicle>"
+        for clock, name, lane, edges in sorted(found)
+    )
+    return f"<routes>{''.join(lines)}</routes>"
+
+
+def prepare(junctions: Sequence[Junction], folder: Path, seed: int, more: str = "") -> tuple[Path, Path]:
+    """The network and the routes."""
+    net, routes = folder / "net.net.xml", folder / f"demand-{seed}.rou.xml"
+    if not net.exists():
+        made = [plain(junction, at * APART) for at, junction in enumerate(junctions)]
+        for kind, place in (("nodes", 0), ("edges", 1)):
+            text = "".join(line for one in made for line in one[place])
+            (folder / f"plain.{kind}.xml").write_text(f"<{kind}>{text}</{kind}>", encoding="utf-8")
+        words = (
+            "netconvert -n plain.nodes.xml -e plain.edges.xml --roundabouts.guess true --no-turnarounds true "
+            f"{more} -o net.net.xml"
+        )
+        run(words.split(), folder)
+    if not routes.exists():
+        routes.write_text(demand(junctions, seed), encoding="utf-8")
+    return net, routes
+
+
+def in_sumo(net: Path, routes: Path, folder: Path, seed: int, last: int = LAST) -> Trips:
+    words = ["-n", net, "-r", routes, "--end", last, "--seed", seed, "--time-to-teleport", -1]
+    return read_tripinfo(str(sumo_trips(folder / f"trips-{seed}.xml", words)))
+
+
+def here(net: Path, routes: Path, folder: Path, program: str, tools: Path = TOOLS, last: int = LAST) -> Trips:
+    words = ["--until", last, "--every", 0, "--rescue", 0]
+    run_files(folder, [net, "--routes", routes], words, program, tools)
+    return trips_here(folder)
+
+
+def capacities(trips: Trips) -> dict[str, float]:
+    """Vehicles an hour of those looked at that arrived at the end of their way, by junction."""
+    passed = Counter(
+        name.split(".")[0]
+        for name, (_, arrival) in trips.items()
+        if name.split(".")[1] == "minor" and FIRST <= arrival < LAST
+    )
+    return {name: count * 3600 / (LAST - FIRST) for name, count in passed.items()}
 
 
 @dataclass(frozen=True)
@@ -19,7 +178,6 @@ class Case:
     arms: str
     minor: str  # from, to
     others: str  # from, to of the streams that go first, with blanks between
-    lanes: int = 1  # of the main street, each with its own stream
 
 
 @dataclass(frozen=True)
@@ -27,16 +185,14 @@ class Cases:
     flows: tuple[int, ...]  # of each stream, vehicles an hour
     all: tuple[Case, ...]
     full: Callable[[int], int]  # vehicles an hour of the minor street, by the flow
-    measured: Callable[[Trips], dict[str, float]] = lone.capacities
 
     def junctions(self) -> list[tuple[Case, int, Junction]]:
         return [(case, flow, self.junction(at, case, flow)) for at, case in enumerate(self.all) for flow in self.flows]
 
     def junction(self, at: int, case: Case, flow: int) -> Junction:
-        lanes = ["best"] if case.lanes == 1 else range(case.lanes)
-        others = tuple(Stream(ends, flow, lane) for ends in case.others.split() for lane in lanes)
+        others = tuple(Stream(ends, flow) for ends in case.others.split())
         minor = tuple(Stream(ends, self.full(flow)) for ends in case.minor.split())
-        return Junction(f"j{at}_{flow}", case.arms, case.kind, minor, others, case.lanes)
+        return Junction(f"j{at}_{flow}", case.arms, case.kind, minor, others)
 
 
 ONE = (
@@ -49,15 +205,6 @@ ONE = (
     Case("right before left, straight on (crossing)", "equal", "wens", "sn", "ew"),
     Case("right before left, left turn (joining)", "equal", "wens", "sw", "ew"),
     Case("right before left, left turn (crossing)", "equal", "wens", "sw", "ns"),
-)
-STREAMS = (
-    Case("across one", "priority", "wens", "sn", "we"),
-    Case("across two, of both directions", "priority", "wens", "sn", "we ew"),
-    Case("across two lanes of one direction", "priority", "wens", "sn", "we", 2),
-    Case("across two lanes of each direction", "priority", "wens", "sn", "we ew", 2),
-    Case("left turn of a T across one, into one", "priority", "wes", "sw", "we ew"),
-    Case("left turn of a T across two lanes, into two", "priority", "wes", "sw", "we ew", 2),
-    Case("right turn into one", "priority", "wes", "se", "we"),
 )
 STOPS = (
     Case("T, right turn (joining)", "stop", "wes", "se", "we"),
@@ -75,21 +222,10 @@ ALL_WAY = (
     Case("left turn, one across", "allway", "wens", "sw", "we"),
     Case("right turn, one across", "allway", "wens", "se", "we"),
 )
-LIGHT = (
-    Case("right turn", "priority", "wes", "se", "we"),
-    Case("right turn, stop sign", "stop", "wes", "se", "we"),
-    Case("left turn", "priority", "wes", "sw", "we"),
-    Case("left turn, stop sign", "stop", "wes", "sw", "we"),
-    Case("straight on", "priority", "wens", "sn", "we"),
-    Case("straight on, stop sign", "stop", "wens", "sn", "we"),
-    Case("all have to stop, with as many from each side", "allway", "wens", "sn", "we ew ns"),
-)
 CASES = {
     "one": Cases((0, 100, 200, 400, 600, 800, 1000, 1200), ONE, lambda flow: 1500 if flow <= 200 else 1000),
-    "streams": Cases((150, 300, 450, 600), STREAMS, lambda flow: 1500 if flow <= 300 else 1100),
     "stops": Cases((0, 100, 200, 400, 600, 800, 1000), STOPS, lambda _: 700),
     "all-way": Cases((0, 50, 100, 200, 300, 400, 600), ALL_WAY, lambda _: 700),
-    "light": Cases((0, 100, 200, 400), LIGHT, lambda _: 100, lone.durations),
 }
 
 
@@ -126,9 +262,8 @@ def main_junctions(argv: list[str]) -> int | None:
 
     Takes minutes; needs sumo.
 
-    Cases: one (one stream that goes first), streams (one, two and four, of so many each), stops (stop signs), all-way
-    (all have to stop), light (seconds of a trip of 100 minor vehicles an hour, at stop signs and without). All
-    junctions of some cases stand in one network that netconvert makes. What SUMO wrote is kept in the folder of --work.
+    Cases: one (one stream that goes first), stops (stop signs), all-way (all have to stop). All junctions of some cases
+    stand in one network that netconvert makes. What SUMO wrote is kept in the folder of --work.
     """
     parser = shared.parser_of(main_junctions, work=True)
     parser.add_argument("--cases", default="one", choices=CASES)
@@ -137,9 +272,9 @@ def main_junctions(argv: list[str]) -> int | None:
     args = parser.parse_args(argv)
     folder, cases = shared.work_of(args) / args.cases, CASES[args.cases]
     folder.mkdir(exist_ok=True)
-    net, routes = lone.prepare([junction for *_, junction in cases.junctions()], folder, args.seed)
-    theirs = cases.measured(lone.in_sumo(net, routes, folder, args.seed))
-    ours = cases.measured(lone.here(net, routes, folder, args.program))
+    net, routes = prepare([junction for *_, junction in cases.junctions()], folder, args.seed)
+    theirs = capacities(in_sumo(net, routes, folder, args.seed))
+    ours = capacities(here(net, routes, folder, args.program))
     print(*table(cases, theirs, ours), sep="\n")
     if args.picture:
         draw(cases, theirs, ours, args.picture)
@@ -197,7 +332,7 @@ def means(kind: str, trips: Trips) -> dict[tuple[int, str], list[float]]:
     """The trips of those who depart in the count, by (percent of the flows, way), and of all ways ("")."""
     found = defaultdict(list)
     for name, (depart, arrival) in trips.items():
-        if lone.FIRST <= depart < lone.LAST - lone.FIRST:
+        if FIRST <= depart < LAST - FIRST:
             junction, _, _, ends = name.split(".")
             for way in ("", way_of(kind, ends)):
                 found[int(junction.partition("_")[2]), way].append(arrival - depart)
@@ -228,9 +363,9 @@ def main_lone_trips(argv: list[str]) -> int | None:
         own = folder / f"{kind}-{args.draw}"
         own.mkdir(exist_ok=True)
         junctions = drawn(kind, args.draw, args.count)
-        net, routes = lone.prepare(junctions, own, args.seed, " ".join(LIT))
-        theirs = means(kind, lone.in_sumo(net, routes, own, args.seed))
-        ours = means(kind, lone.here(net, routes, own, args.program, args.tools))
+        net, routes = prepare(junctions, own, args.seed, " ".join(LIT))
+        theirs = means(kind, in_sumo(net, routes, own, args.seed))
+        ours = means(kind, here(net, routes, own, args.program, args.tools))
         for way in sorted({way for _, way in theirs}) if args.ways else [""]:
             pairs = [(theirs.get((round(100 * level), way)), ours.get((round(100 * level), way))) for level in LEVELS]
             cells = (f"{fmean(a):.1f} {fmean(b) - fmean(a):+.2f}" if a and b else "" for a, b in pairs)
@@ -245,15 +380,15 @@ WAITS = {  # kind, arms, from and to of the minor street and of those that go fi
     "right before left, straight on": ("equal", "wens", "sn", "ew"),
     "right before left, left turn (joining)": ("equal", "wens", "sw", "ew"),
 }
-FIRST, MINOR = (0, 100, 200, 400), (40, 160)  # vehicles an hour
-LAST = 14400  # seconds
+OTHERS, MINOR = (0, 100, 200, 400), (40, 160)  # vehicles an hour
+UNTIL = 14400  # seconds
 Key = tuple[str, int, int]  # case, vehicles an hour of the minor street and of the others
 
 
 def waiting_junctions() -> dict[Key, Junction]:
     return {
         (title, minor, first): Junction(f"j{at}_{minor}_{first}", arms, kind, arm=200, out=150)
-        for at, (title, (kind, arms, *_)) in enumerate(WAITS.items()) for minor in MINOR for first in FIRST
+        for at, (title, (kind, arms, *_)) in enumerate(WAITS.items()) for minor in MINOR for first in OTHERS
     }  # fmt: skip
 
 
@@ -264,9 +399,9 @@ def waiting_demand(every: dict[Key, Junction]) -> str:
         *_, own, other = WAITS[title]
         for kind, ends, hourly, seed in (("minor", own, minor, f"{title}{minor}"), ("major", other, first, title)):
             draws, clock = random.Random(f"{kind} {seed} {hourly}"), 0.0
-            while hourly and (clock := clock + draws.expovariate(hourly / 3600)) < LAST - 300:
+            while hourly and (clock := clock + draws.expovariate(hourly / 3600)) < UNTIL - 300:
                 factor = min(1.3, max(0.7, draws.gauss(1, 0.1)))
-                found.append((clock, f"{junction.name}.{kind}.{len(found)}", factor, lone.way(junction, ends)))
+                found.append((clock, f"{junction.name}.{kind}.{len(found)}", factor, way(junction, ends)))
     lines = (
         f'<vehicle id="{name}" depart="{clock:.1f}" departSpeed="max" speedFactor="{factor:.3f}">'
         f'<route edges="{edges}"/></vehicle>'
@@ -296,13 +431,13 @@ def main_light_waits(argv: list[str]) -> int | None:
     parser = shared.parser_of(main_light_waits, work=True)
     parser.add_argument("--tools", default=shared.TOOLS, type=shared.whole, help="other tools than these")
     args = parser.parse_args(argv)
-    folder, every, lone.LAST = shared.work_of(args), waiting_junctions(), LAST
+    folder, every = shared.work_of(args), waiting_junctions()
     routes = folder / "demand-1.rou.xml"
     routes.write_text(waiting_demand(every), encoding="utf-8")
-    net, _ = lone.prepare(list(every.values()), folder, 1)
-    theirs = lost_by(lone.in_sumo(net, routes, folder, 1), every)
-    ours = lost_by(lone.here(net, routes, folder, args.program, args.tools), every)
-    columns = [(minor, first) for minor in MINOR for first in FIRST if first]
+    net, _ = prepare(list(every.values()), folder, 1)
+    theirs = lost_by(in_sumo(net, routes, folder, 1, UNTIL), every)
+    ours = lost_by(here(net, routes, folder, args.program, args.tools, UNTIL), every)
+    columns = [(minor, first) for minor in MINOR for first in OTHERS if first]
     shared.print_heads(f"SUMO / here, s | {' | '.join(f'{minor} against {first}' for minor, first in columns)}")
     for title in WAITS:
         keys = [(title, *column) for column in columns]

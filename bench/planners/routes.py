@@ -17,15 +17,13 @@ from pathlib import Path
 from statistics import fmean
 
 import shared
-from shared import RANDOM_TRIPS, SAMPLES, SHIPPED, SUMO_HOME, TOP
+from shared import RANDOM_TRIPS, SAMPLES, SUMO_HOME, TOP
 from streetsim.base.files import elements
 from streetsim.base.seeds import mean_and_half_width, seeds_of
 
-ACOSTA = SHIPPED / "acosta"
 UNTIL = 10_800
 SLICE = 300
 MADE = {  # by netgenerate: its words, and the seed of randomTrips
-    "grid": ("--grid --grid.number 10 --grid.length 200 --grid.attach-length 200 -L 1 --seed 1 -j traffic_light", 11),
     "spider": (
         "--spider --spider.arm-number 9 --spider.circle-number 5 --spider.space-radius 180 -L 1 --seed 2718 "
         "-j traffic_light",
@@ -36,27 +34,11 @@ MADE = {  # by netgenerate: its words, and the seed of randomTrips
         92,
     ),
 }
-CASES = {  # the network, its trips in an hour
-    "town": ("town", 3000),
-    "town x1.5": ("town", 4500),
-    "acosta": ("acosta", 8622),
-    "spider": ("spider", 4000),
-    "random": ("random", 3600),
-    "grid, 9,000": ("grid", 9000),
-    "grid, 12,000": ("grid", 12_000),
-}
-FULL = ("town x1.5", "acosta", "grid, 12,000")  # on the way of free flow more want to drive than the streets let pass
-NEW = ("spider", "random")  # chose nothing
-MOST_GAP, MOST_GAP_FULL, MOST_PROCESSOR, MOST_LOSS = 2.5, 4.5, 1 / 3, 1.015
+CASES = {"town": 3000, "spider": 4000, "random": 3600}  # networks, and their trips in an hour
 WORKS_FROM, WORKS_UNTIL, WORKS_FREE = 900, 2700, 20  # seconds; metres of a closed lane that stay open at its ends
-WITH_WORKS = ("town", "spider", "random")  # where works are tried if none is named
 OBSTACLE = "works-"  # with which the names of vehicles begin that stand where works are in SUMO
-METHODS = FREE, MAROUTER, ITERATED, OURS = (
-    "free flow (duarouter)",
-    "marouter SUE",
-    "duaIterate Gawron",
-    "streetsim-route",
-)
+FREE = "free flow (duarouter)"
+METHODS = (FREE, "marouter SUE", "duaIterate Gawron", "streetsim-route")
 
 
 @dataclass
@@ -65,16 +47,7 @@ class Case:
 
     folder: Path
     net: Path
-    trips: Path  # with their vehicle types
-    additional: tuple = ()
-    types: Path | None = None  # those of the trips, in a file of their own
-
-    def additional_to(self, routes):
-        """The additional files for routes, of which those of marouter have no types."""
-        return [
-            *self.additional,
-            *([self.types] if self.types and "<vType " not in routes.read_text(encoding="utf-8") else []),
-        ]
+    trips: Path
 
 
 @dataclass
@@ -151,48 +124,32 @@ def processor_of(group):
 
 def case_of(name, folder):
     """The files of a case, made where they are not there yet."""
-    network, count = CASES[name]
-    trips = folder / "demand.trips.xml"
-    if network == "acosta":
-        types = ACOSTA / "acosta_vtypes.add.xml"
-        made = trips_of(ACOSTA / "acosta.rou.xml", trips, count, types)
-        return Case(folder, ACOSTA / "acosta_buslanes.net.xml", made, (ACOSTA / "acosta_tls.add.xml",), types)
-    if network == "town":
-        return Case(folder, SAMPLES / "town.net.xml.gz", trips_of(SAMPLES / "town.rou.xml.gz", trips, count))
-    net, (words, seed) = folder / "made.net.xml", MADE[network]
+    count, trips = CASES[name], folder / "demand.trips.xml"
+    if name == "town":
+        return Case(folder, SAMPLES / "town.net.xml.gz", trips_of(SAMPLES / "town.rou.xml.gz", trips))
+    net, (words, seed) = folder / "made.net.xml", MADE[name]
     if not trips.exists():
         run(["netgenerate", *shlex.split(words), "--no-turnarounds", "true", "-o", net], folder)
         often = f"-b 0 -e 3600 -p {3600 / count:.6f} --seed {seed} --min-distance 500 --validate -r validated.rou.xml"
         run([sys.executable, RANDOM_TRIPS, "-n", net, *shlex.split(often)], folder)
-        trips_of(folder / "validated.rou.xml", trips, None)
+        trips_of(folder / "validated.rou.xml", trips)
     return Case(folder, net, trips)
 
 
-def trips_of(routes, path, count, types=None):
-    """The vehicles of a file as trips from their first to their last edge, with the vehicle types of another file;
-    as many as are wished, every so many of them twice."""
+def trips_of(routes, path):
+    """The vehicles of a file as trips from their first to their last edge."""
     if path.exists():
         return path
     with gzip.open(routes) if routes.suffix == ".gz" else open(routes, "rb") as file:
         vehicles = list(ElementTree.parse(file).getroot().iter("vehicle"))
-    every = len(vehicles) // (count - len(vehicles)) if count and count > len(vehicles) else 0
-    rows = (
-        [ElementTree.tostring(one, encoding="unicode") for one in ElementTree.parse(types).getroot()] if types else []
-    )
-    for place, vehicle in enumerate(vehicles):
+    rows = []
+    for vehicle in vehicles:
         edges = vehicle.find("route").get("edges").split()
         kept = "".join(f' {word}="{vehicle.get(word)}"' for word in ("type", "departLane") if vehicle.get(word))
-        for name in ("", "again-")[: 1 + bool(every and place % every == every - 1)]:
-            rows.append(
-                f'<trip id="{name}{vehicle.get("id")}" depart="{vehicle.get("depart")}"{kept} from="{edges[0]}" '
-                f'to="{edges[-1]}"/>'
-            )
+        ends = f'from="{edges[0]}" to="{edges[-1]}"'
+        rows.append(f'<trip id="{vehicle.get("id")}" depart="{vehicle.get("depart")}"{kept} {ends}/>')
     path.write_text("<routes>\n" + "\n".join(rows) + "\n</routes>\n", encoding="utf-8")
     return path
-
-
-def added(files, word="-a"):
-    return [word, ",".join(map(str, files))] if files else []
 
 
 def routes_of(case, method, args):
@@ -229,7 +186,7 @@ def iterated(case, place, found, args):
         "-e", UNTIL,
     ]
     spent, ended = run(
-        [*words, *added(case.additional, "-+"), "--disable-summary", "--disable-tripinfos", "-w"], place, args.patience
+        [*words, "--disable-summary", "--disable-tripinfos", "-w"], place, args.patience
     )
     steps = sorted(place.glob("*/*.rou.xml"))[: None if ended else -1]
     if steps:
@@ -239,7 +196,7 @@ def iterated(case, place, found, args):
 
 def route(case, place, found, args):
     words = [
-        TOP / "tools/streetsim-route", case.net, *case.additional, "--trips", case.trips, "-o", found,
+        TOP / "tools/streetsim-route", case.net, "--trips", case.trips, "-o", found,
         "--out", place / "out",
     ]
     words += ["--until", UNTIL, "--iterations", args.steps, "--jobs", args.jobs, "--program", args.program]
@@ -264,7 +221,7 @@ def in_sumo(case, routes, seed, obstacles=None):
     if not told.exists():
         given = ",".join(map(str, [routes, *([obstacles] if obstacles else [])]))
         words = [
-            "sumo", "-n", case.net, "-r", given, *added(case.additional_to(routes)), "--seed", seed, "-e", UNTIL,
+            "sumo", "-n", case.net, "-r", given, "--seed", seed, "-e", UNTIL,
             "--tripinfo-output", trips,
         ]
         words += ["--tripinfo-output.write-unfinished", "--vehroute-output", passes, "--vehroute-output.exit-times"]
@@ -292,7 +249,7 @@ def judge(case, routes, args):
     from streetsim.sumo.way_costs import costs_of, mean_observed, nothing_observed
 
     words = [
-        case.net, *case.additional_to(routes), "--trips", routes, "-o", routes.parent / "x.rou.xml",
+        case.net, "--trips", routes, "-o", routes.parent / "x.rou.xml",
         "--out", routes.parent / "x",
     ]
     words += ["--until", UNTIL, "--check", args.check_text, "--program", args.program]
@@ -351,24 +308,6 @@ def row(name, case, method, args):
     return found
 
 
-def verdict(name, rows):
-    """What holds of what is aimed at in a case, of its rows by method."""
-    ours, free, theirs = (rows.get(method) for method in (OURS, FREE, ITERATED))
-    most = MOST_GAP_FULL if name in FULL else MOST_GAP
-    yield f"gap here {ours.gap:.1f} %, {'at most' if ours.gap <= most else 'ABOVE'} {most} %"
-    if theirs and theirs.processor is not None:
-        apart = ours.sumo / theirs.sumo - 1
-        yield f"mean trip in SUMO {100 * apart:+.1f} % to duaIterate's{', ABOVE' * (apart > 0)}"
-        share = ours.processor / theirs.processor
-        yield f"processor time {share:.2f} of duaIterate's{', ABOVE a third' * (share > MOST_PROCESSOR)}"
-    if free:
-        share = ours.sumo / free.sumo
-        yield (
-            f"in SUMO {100 * (share - 1):+.1f} % to free-flow "
-            f"routes{', ABOVE 1.5 %' * (name in NEW and share > MOST_LOSS)}"
-        )
-
-
 @dataclass
 class Street:
     """A street that is closed both ways. edges: in both directions, or the one that there is;
@@ -422,8 +361,7 @@ def busiest(case, args):
 
 
 def works(name, case, args):
-    """What works add to the mean trip by the share of drivers who know of them: lines of a table,
-    and whether trips fall with it."""
+    """What works add to the mean trip by the share of drivers who know of them: lines of a table."""
     street, place = busiest(case, args), case.folder / "works"
     place.mkdir(exist_ok=True)
     trips, found = place / "demand.trips.xml", place / "found.rou.xml"
@@ -432,7 +370,7 @@ def works(name, case, args):
     trips.write_text("\n".join(row for row in rows if not any(f" {end}" in row for end in ends)), encoding="utf-8")
     if not (place / "out/knowing.csv").exists():
         words = [
-            TOP / "tools/streetsim-route", case.net, *case.additional, "--trips", trips, "-o", found,
+            TOP / "tools/streetsim-route", case.net, "--trips", trips, "-o", found,
             "--out", place / "out",
         ]
         words += [
@@ -444,7 +382,7 @@ def works(name, case, args):
         here = list(csv.DictReader(file))
     without = Path(shutil.copy(place / "out/before.rou.xml", place))
     before = [in_sumo(case, without, seed).mean for seed in args.check]
-    obstacles, means = street.obstacles(place / "obstacles.rou.xml"), []
+    obstacles = street.obstacles(place / "obstacles.rou.xml")
     yield (
         f"| {name}, {' and '.join(street.edges)} | before | {float(here[0]['mean_trip_s']):.1f} | | "
         f"{fmean(before):.1f} | | |"
@@ -452,34 +390,18 @@ def works(name, case, args):
     for row in here[1:]:
         runs = [in_sumo(case, place / f"found-{row['knowing']}.rou.xml", seed, obstacles) for seed in args.check]
         apart, half = mean_and_half_width([one.mean - other for one, other in zip(runs, before, strict=True)])
-        means.append((float(row["mean_trip_s"]), fmean(one.mean for one in runs)))
         here_apart = f"{float(row['difference_s']):+.1f} +- {float(row['half_width_95_s']):.1f}"
         yield (
-            f"| | {100 * float(row['knowing']):g} % know | {means[-1][0]:.1f} | {here_apart} | "
-            f"{means[-1][1]:.1f} | {apart:+.1f} +- {half:.1f} | {fmean(one.teleports for one in runs):.0f} |"
+            f"| | {100 * float(row['knowing']):g} % know | {float(row['mean_trip_s']):.1f} | {here_apart} | "
+            f"{fmean(one.mean for one in runs):.1f} | {apart:+.1f} +- {half:.1f} | "
+            f"{fmean(one.teleports for one in runs):.0f} |"
         )
-    for where, side in zip(("here", "in SUMO"), zip(*means, strict=True), strict=True):
-        falls = all(later <= sooner for sooner, later in pairwise(side))
-        yield f"- {name}: trips {'fall' if falls else 'DO NOT FALL'} with the share that knows {where}"
 
 
 def folder_of(name, args):
-    """The folder of a case, made anew where that is asked for."""
-    folder = args.work / name.replace(", ", "-").replace(",", "").replace(" ", "-")
-    if args.anew:
-        shutil.rmtree(folder, ignore_errors=True)
+    folder = args.work / name
     folder.mkdir(parents=True, exist_ok=True)
     return folder
-
-
-def compared(name, case, methods, args):
-    """Lines of the table of methods, and what holds of what is aimed at."""
-    rows = {}
-    for method in methods:
-        rows[method] = row(name, case, method, args)
-        yield rows[method].line()
-    if OURS in rows:
-        yield f"- {name}: {'; '.join(verdict(name, rows))}"
 
 
 def main_routes(argv: list[str]) -> int | None:
@@ -488,9 +410,8 @@ def main_routes(argv: list[str]) -> int | None:
     Takes minutes a network, hours all; needs sumo, sumo-tools.
 
     All routes are judged by seeds that no search saw. What was found, what SUMO said and each row is kept in the folder
-    of --work, so that a table may be ended and gone on with. Of the networks town, Acosta and the grid were at hand
-    when streetsim-route was written; the spider and the random network are made by this script, from seeds of their
-    own, and chose nothing. Below the table stands for each case what holds of what is aimed at.
+    of --work, so that a table may be ended and gone on with. Town was at hand when streetsim-route was written; the
+    spider and the random network are made by this script, from seeds of their own, and chose nothing.
 
     A duaIterate that has had --patience seconds of processor time is ended, as it may not come to its end on a network
     that locks; the routes of its last whole step are judged then, and the table says how many steps it had.
@@ -508,10 +429,9 @@ def main_routes(argv: list[str]) -> int | None:
     parser.add_argument("--patience", type=int, default=1800, help="processor seconds after which duaIterate is ended")
     parser.add_argument("--works", action="store_true", help="the table of works instead")
     parser.add_argument("--knowing", default="0,0.3,0.6,1", help="shares of drivers who know of the works")
-    parser.add_argument("--anew", action="store_true", help="forget what is kept of these cases")
     args = parser.parse_args(argv)
     args.check_text, args.check = args.check, seeds_of(args.check, "--check")
-    names = args.only.split(";") if args.only else WITH_WORKS if args.works else CASES
+    names = args.only.split(";") if args.only else CASES
     methods = args.methods.split(",") if args.methods else METHODS
     if unknown := [name for name in (*names, *methods) if name not in (*CASES, *METHODS)]:
         parser.error(f"{unknown[0]!r} is none of {'; '.join((*CASES, *METHODS))}")
@@ -519,12 +439,8 @@ def main_routes(argv: list[str]) -> int | None:
         shared.print_heads("Street | | here, s | more | SUMO, s | more | teleports")
     else:
         shared.print_heads("Case | Routes | processor, s | SUMO, s | here, s | gap here, % | gap in SUMO, %")
-    told = []
     for name in names:
         case = case_of(name, folder_of(name, args))
-        for line in works(name, case, args) if args.works else compared(name, case, methods, args):
-            if line.startswith("|"):
-                print(line, flush=True)
-            else:
-                told.append(line)
-    print("", *told, sep="\n")
+        lines = works(name, case, args) if args.works else (row(name, case, method, args).line() for method in methods)
+        for line in lines:
+            print(line, flush=True)

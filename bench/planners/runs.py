@@ -1,24 +1,40 @@
-"""What whole runs take, beside SUMO and beside other tools."""
+"""What whole runs take: a day, all tables beside SUMO's outputs, rounds; and the live page, with its pictures."""
 
+import argparse
 import contextlib
-import csv
 import gzip
+import json
 import os
 import random
 import re
 import statistics
 import subprocess
 import tempfile
+import threading
 import time
-from dataclasses import dataclass, field
-from itertools import zip_longest
+from collections.abc import Iterator
+from contextlib import contextmanager
+from dataclasses import dataclass
 from pathlib import Path
 from statistics import fmean
+from typing import TYPE_CHECKING
 
 import shared
-from shared import TOP
+from program import steps
+from shared import TOOLS, TOP
+from streetsim.base import limits
 from streetsim.cli import run as running
+from streetsim.control.settings import Settings
+from streetsim.live.bridge import Bridge
+from streetsim.live.page import live_page
+from streetsim.live.session import PageSession
+from streetsim.live.world import PageRun
 from streetsim.model.folder import read_folder
+from streetsim.model.mapping import Map, MapLink, read_map
+from streetsim.model.runs import Run, read_run
+
+if TYPE_CHECKING:
+    from selenium.webdriver import Chrome
 
 SIDE = 30
 # Vehicles of each hour, of 1,000.
@@ -58,16 +74,13 @@ def route(draws, side):
     return edges
 
 
-def make_routes(path, vehicles, side):
-    draws = random.Random(1)
-    departs = sorted(3600 * hour + draws.randrange(3600) for hour in draws.choices(range(24), HOURS, k=vehicles))
-    with open(path, "w", encoding="utf-8") as file:
-        file.write("<routes>\n")
-        for number, depart in enumerate(departs):
-            file.write(
-                f'<vehicle id="{number}" depart="{depart}"><route edges="{" ".join(route(draws, side))}"/></vehicle>\n'
-            )
-        file.write("</routes>\n")
+def write_routes(path, departs, draws, side):
+    """Vehicles on drawn ways over a grid, by when they depart."""
+    lines = (
+        f'<vehicle id="{number}" depart="{depart}"><route edges="{" ".join(route(draws, side))}"/></vehicle>\n'
+        for number, depart in enumerate(departs)
+    )
+    path.write_text(f"<routes>\n{''.join(lines)}</routes>\n", encoding="utf-8")
 
 
 def measured(name, command, folder):
@@ -100,17 +113,13 @@ def resident(process):
     return 0
 
 
-def sumo_words(net, routes, additional, until, folder, plain=False):
-    """The words of SUMO for a run with its outputs, or plain without."""
-    words = ["sumo", "-n", net, "-r", ",".join(map(str, routes)), "--end", until, "--no-step-log", "--no-warnings"]
-    words += ["--time-to-teleport", 300]
-    if not plain:
-        data = (f'<{kind}Data id="{kind}" file="{kind}.xml" freq="900"/>' for kind in ("edge", "lane"))
-        additional = [*additional, folder / "outputs.add.xml"]
-        additional[-1].write_text(f"<additional>{''.join(data)}</additional>", encoding="utf-8")
-        words += ["--tripinfo-output", "t.xml", "--summary-output", "s.xml", "--queue-output", "q.xml"]
-        words += ["--statistic-output", "st.xml"]
-    return [*words, *(["-a", ",".join(map(str, additional))] if additional else [])]
+def sumo_words(net, routes, until, folder):
+    """The words of SUMO for a run with its outputs."""
+    data = (f'<{kind}Data id="{kind}" file="{kind}.xml" freq="900"/>' for kind in ("edge", "lane"))
+    (folder / "outputs.add.xml").write_text(f"<additional>{''.join(data)}</additional>", encoding="utf-8")
+    words = ["sumo", "-n", net, "-r", routes, "-a", "outputs.add.xml", "--end", until, "--no-step-log", "--no-warnings"]
+    words += ["--time-to-teleport", 300, "--tripinfo-output", "t.xml", "--summary-output", "s.xml"]
+    return [*words, "--queue-output", "q.xml", "--statistic-output", "st.xml"]
 
 
 def main_day(argv: list[str]) -> int | None:
@@ -135,7 +144,9 @@ def main_day(argv: list[str]) -> int | None:
     network, routes, run, mapped = (folder / name for name in ("net.xml", "rou.xml", "run.jsonl", "map.json"))
     if not routes.exists():
         make_network(network, args.side, args.type)
-        make_routes(routes, args.vehicles, args.side)
+        draws = random.Random(1)
+        departs = [3600 * hour + draws.randrange(3600) for hour in draws.choices(range(24), HOURS, k=args.vehicles)]
+        write_routes(routes, sorted(departs), draws, args.side)
     shared.print_heads("What | s by the clock | s of processors | most memory, MB")
     if not run.exists():
         command = [TOP / "tools/streetsim-import", network, "--routes", routes, "-o", run, "--map", mapped]
@@ -143,13 +154,7 @@ def main_day(argv: list[str]) -> int | None:
     command = [TOP / "tools/streetsim-run", run, "--map", mapped, "--until", args.until, "--program", args.program]
     measured("run", [*command, "--out", folder / "out", *more], folder)
     if args.sumo:
-        measured("SUMO", sumo_words(network, [routes], [], args.until, folder), folder)
-
-
-CORRIDOR, SAMPLES, ACOSTA = shared.CORRIDOR, shared.SAMPLES, shared.SHIPPED / "acosta"
-TABLES = "trips counts edges queues summary detectors areas movements approaches junctions phases works stops".split()
-LOOPS = ("WJ1_0", "J1J2_0", "J2J3_1", "J3J4_0", "J4J5_1")
-LANE_AREAS = ("J1J2_1", "J2J3_0", "J3J4_1", "N1J1_0")
+        measured("SUMO", sumo_words(network, routes, args.until, folder), folder)
 
 
 @dataclass
@@ -157,99 +162,30 @@ class Made:
     """The files of a run, and the words by which it is made."""
 
     net: Path
-    routes: tuple[Path, ...]
+    routes: Path
     until: int
     words: tuple[str, ...] = ("--junctions", "900")
-    additional: tuple[Path, ...] = ()
-    import_words: tuple[str, ...] = field(default=())
 
 
-def corridor(folder, words=()):
-    net, routes = CORRIDOR / "corridor.net.xml.gz", CORRIDOR / "corridor.rou.xml"
-    return Made(net, (routes,), 4500, ("--every", "1", "--junctions", "900", *words))
+def corridor(folder):
+    net, routes = shared.CORRIDOR / "corridor.net.xml.gz", shared.CORRIDOR / "corridor.rou.xml"
+    return Made(net, routes, 4500, ("--every", "1", "--junctions", "900"))
 
 
-def trucks(folder):
-    """Flows of the corridor as vehicles, with trucks among them."""
-    made, routes, additional = corridor(folder), folder / "trucks.rou.xml", folder / "detectors.add.xml"
-    found = []
-    for name, begin, hourly, edges in re.findall(
-        r'<flow id="(\w+)" begin="(\d+)" end="3600" vehsPerHour="(\d+)"><route edges="([^"]+)"/></flow>',
-        made.routes[0].read_text(encoding="utf-8"),
-    ):
-        departs = (int(begin) + at * 3600 / int(hourly) for at in range(int(hourly)))
-        found += [(depart, f"{name}.{at}", edges) for at, depart in enumerate(departs) if depart < 3600]
-    lines = ['<routes><vType id="truck" vClass="truck" length="16.5"/>']
-    for at, (depart, name, edges) in enumerate(sorted(found)):
-        kind = ' type="truck"' if at % 7 == 0 else ""
-        lines.append(f'<vehicle id="{name}"{kind} depart="{depart:.1f}"><route edges="{edges}"/></vehicle>')
-    routes.write_text("\n".join([*lines, "</routes>"]), encoding="utf-8")
-    loops = (f'<inductionLoop id="loop.{lane}" lane="{lane}" pos="-30" period="300" file="x.xml"/>' for lane in LOOPS)
-    areas = (
-        f'<laneAreaDetector id="area.{lane}" lane="{lane}" pos="10" endPos="-1" period="300" file="x.xml"/>'
-        for lane in LANE_AREAS
-    )
-    additional.write_text("\n".join(["<additional>", *loops, *areas, "</additional>"]), encoding="utf-8")
-    words = ("--classes", "passenger,truck")
-    return Made(made.net, (routes,), made.until, made.words, (additional,), words)
-
-
-def works(folder):
-    return corridor(folder, ("--close", "J2J3_0:150-200:600-3000"))
-
-
-def grid(folder):
-    return Made(SAMPLES / "grid.net.xml.gz", (SAMPLES / "grid.rou.xml.gz",), 5400)
-
-
-def generated(folder, name, side, lanes, metres, kind, vehicles):
-    """A grid of SUMO's with vehicles between random edges, within an hour."""
-    net, routes = folder / f"{name}.net.xml", folder / f"{name}.rou.xml"
-    made = Made(net, (routes,), 5400)
-    if routes.exists():
-        return made
-    words = ["netgenerate", "--grid", "--grid.number", side, "--grid.length", metres, "-L", lanes]
-    words += ["-j", "traffic_light", "--tls.default-type", kind, "--no-turnarounds", "true", "--seed", 1, "-o", net]
-    shared.run(words, folder)
-    draws = random.Random(1)
-    lines = ["<routes>"]
-    for at, depart in enumerate(sorted(draws.randrange(3600) for _ in range(vehicles))):
-        edges = " ".join(route(draws, side))
-        lines.append(f'<vehicle id="{at}" depart="{depart}"><route edges="{edges}"/></vehicle>')
-    routes.write_text("\n".join([*lines, "</routes>"]), encoding="utf-8")
-    return made
+def sample_grid(folder):
+    return Made(shared.SAMPLES / "grid.net.xml.gz", shared.SAMPLES / "grid.rou.xml.gz", 5400)
 
 
 def big(folder):
-    return generated(folder, "big", 12, 1, 200, "static", 8_000)
+    """A grid of SUMO's of 144 lights with vehicles between random edges, within an hour."""
+    net, routes, draws = folder / "big.net.xml", folder / "big.rou.xml", random.Random(1)
+    if not routes.exists():
+        make_network(net, 12, "traffic_light")
+        write_routes(routes, sorted(draws.randrange(3600) for _ in range(8000)), draws, 12)
+    return Made(net, routes, 5400)
 
 
-def actuated(folder):
-    return generated(folder, "actuated", 6, 2, 250, "actuated", 3_600)
-
-
-def town(folder):
-    """The samples' town with a third more vehicles."""
-    routes = folder / "town.rou.xml"
-    text = gzip.decompress((SAMPLES / "town.rou.xml.gz").read_bytes()).decode()
-    found = re.findall(r'<vehicle id="([^"]+)" depart="([\d.]+)"(.*?)</vehicle>', text, re.DOTALL)
-    several = []
-    for at, (name, depart, rest) in enumerate(found):
-        for more in range(1 if at % 3 else 2):
-            late = float(depart) + 20 * more
-            several.append((late, f'<vehicle id="{name}.{more}" depart="{late:.2f}"{rest}</vehicle>'))
-    types = "".join(re.findall(r"<vType .*?/>", text))
-    lines = (line for _, line in sorted(several))
-    routes.write_text("\n".join(["<routes>", types, *lines, "</routes>"]), encoding="utf-8")
-    return Made(SAMPLES / "town.net.xml.gz", (routes,), 5400)
-
-
-def acosta(folder):
-    more = ACOSTA / "acosta_vtypes.add.xml", ACOSTA / "acosta_tls.add.xml"
-    return Made(ACOSTA / "acosta_buslanes.net.xml", (ACOSTA / "acosta.rou.xml",), 5400, additional=more)
-
-
-RUNS = {one.__name__: one for one in (corridor, trucks, works, grid, big, actuated, town, acosta)}
+RUNS = {"corridor": corridor, "grid": sample_grid, "big": big}
 
 
 def seconds_of(words, folder, told):
@@ -262,100 +198,45 @@ def seconds_of(words, folder, told):
     return shared.children_seconds() - before
 
 
-def import_run(made, folder, tools):
-    """Imports a run by some tools, where that is not done; the seconds are those of nobody."""
-    if not (folder / "run.map.json").exists():
-        words = [tools / "streetsim-import", made.net, *made.additional, "--routes", *made.routes]
-        shared.run([*words, *made.import_words, "-o", "run.jsonl", "--map", "run.map.json"], folder)
-
-
-def tools_words(tools, program, made, out, plain):
-    own = ("--every", "0") if plain else made.words
-    if plain and "--close" in made.words:
-        own = (*own, *made.words[made.words.index("--close") :])
-    words = [tools / "streetsim-run", "run.jsonl", "--map", "run.map.json", "--until", made.until, "--rounds", 0]
-    return [*words, "--program", program, "--out", out, *own]
-
-
-def compared(folder):
-    """How many tables of both tools are equal, and which are not."""
-    equal, others = 0, []
-    for name in (f"{table}.csv" for table in TABLES):
-        here, there = folder / "here" / name, folder / "there" / name
-        if here.exists() or there.exists():
-            same = here.exists() and there.exists() and here.read_bytes() == there.read_bytes()
-            equal, others = equal + same, others if same else [*others, f"{name} {difference(here, there)}"]
-    pairs = zip_longest(*(read_folder(str(folder / name)).polls() for name in ("here", "there")))
-    if any(here != there for here, there in pairs):
-        others.append("polls")
-    return f"{equal} tables are equal" + (f", not {', '.join(others)}" if others else "")
-
-
-def difference(*paths):
-    """In how many rows tables differ, and in which of the columns that both have."""
-    if not all(path.exists() for path in paths):
-        return "(one alone)"
-    here, there = (list(csv.DictReader(path.open(encoding="utf-8"))) for path in paths)
-    columns = [name for name in (here or [{}])[0] if name in (there or [{}])[0]]
-    pairs = list(zip_longest(here, there, fillvalue={}))
-    found = [name for name in columns if any(one.get(name) != other.get(name) for one, other in pairs)]
-    rows = sum(any(one.get(name) != other.get(name) for name in columns) for one, other in pairs)
-    return f"({rows} of {len(pairs)} rows: {', '.join(found) or 'columns of one alone'})"
-
-
 def main_kernel_runs(argv: list[str]) -> int | None:
-    """What runs with all tables take, beside SUMO with its outputs and beside other tools.
+    """What runs with all tables take, beside SUMO with its outputs.
 
     Takes minutes a run; needs sumo, sumo-tools.
 
     | Run | is | until, s |
     |---|---|---|
     | corridor | the corridor of the tools' walk, 2,400 vehicles, with `--every 1` | 4,500 |
-    | trucks | the same, every seventh vehicle a truck of 16.5 m; five induction loops and four lane areas | 4,500 |
-    | works | the corridor, a lane of its third street closed from 600 to 3,000 s | 4,500 |
     | grid | the samples' grid, 36 lights, 3,600 vehicles | 5,400 |
     | big | netgenerate's grid of 12 by 12 lights, one lane, 200 m; 8,000 vehicles in an hour | 5,400 |
-    | actuated | netgenerate's grid of 6 by 6 actuated lights, two lanes, 250 m; 3,600 vehicles in an hour | 5,400 |
-    | town | the samples' town, each third vehicle twice, the second time 20 s later | 5,400 |
-    | acosta | Bologna, of sumo-tools, 8,622 vehicles | 5,400 |
 
-    All of them with `--junctions 900`, and with `--rounds 0`, as rounds are runs of their own. With --other, the folder
-    of other tools and the program that these run, these import the runs, each table is compared with theirs, byte for
-    byte, and what polls show; of tables that differ it says in how many rows, and in which of their columns. Seconds
-    are those of the processor, of all processes, the median of N turns in which both, and SUMO with tripinfo, summary,
-    queues, edges, lanes and statistics, go in turn. --plain: without tables of junctions and polls (--every 0), and
-    SUMO without outputs.
+    All of them with `--junctions 900`, and with `--rounds 0`, as rounds are runs of their own. Seconds are those of the
+    processor, of all processes, the median of N turns in which streetsim, and SUMO with tripinfo, summary, queues,
+    edges, lanes and statistics, go in turn.
     """
     parser = shared.parser_of(main_kernel_runs, work=True)
     shared.add_some(parser, "--only", RUNS)
     parser.add_argument("--times", type=int, default=3)
-    parser.add_argument("--other", type=shared.whole, help="the folder of other tools")
-    parser.add_argument("--other-program", help="the program that these run")
-    parser.add_argument("--plain", action="store_true")
     args = parser.parse_args(argv)
     top = shared.work_of(args)
-    shared.print_heads("Run | here, s | SUMO, s | other tools, s | here : SUMO | here : other")
+    shared.print_heads("Run | here, s | SUMO, s | here : SUMO")
     for name in args.only:
         folder = top / name
         folder.mkdir(exist_ok=True)
         one = RUNS[name](folder)
-        import_run(one, folder, args.other if args.other else shared.TOP / "tools")
+        if not (folder / "run.map.json").exists():
+            words = [TOP / "tools/streetsim-import", one.net, "--routes", one.routes]
+            shared.run([*words, "-o", "run.jsonl", "--map", "run.map.json"], folder)
+        words = ["run.jsonl", "--map", "run.map.json", "--until", one.until, "--rounds", 0, *one.words]
         turns = {
-            "here": tools_words(shared.TOP / "tools", args.program, one, "here", args.plain),
-            "sumo": sumo_words(one.net, one.routes, one.additional, one.until, folder, args.plain),
+            "here": [TOP / "tools/streetsim-run", *words, "--program", args.program, "--out", "here"],
+            "sumo": sumo_words(one.net, one.routes, one.until, folder),
         }
-        if args.other:
-            turns["there"] = tools_words(args.other, args.other_program, one, "there", args.plain)
         took = {turn: [] for turn in turns}
         for _ in range(args.times):
             for turn, command in turns.items():
                 took[turn].append(seconds_of(command, folder, folder / f"{turn}.log"))
-        turns = ("here", "sumo", "there")
-        here, sumo, there = (statistics.median(took.get(turn) or [float("nan")]) for turn in turns)
-        cells = f"{here:.2f} | {sumo:.2f} | {there:.2f} | {here / sumo:.3f} | {here / there:.3f}"
-        print(f"| {name} | {cells} |", flush=True)
-        if args.other:
-            print(f"  {name}: {compared(folder)}", flush=True)
+        here, sumo = (statistics.median(took[turn]) for turn in turns)
+        print(f"| {name} | {here:.2f} | {sumo:.2f} | {here / sumo:.3f} |", flush=True)
 
 
 ROUNDS = range(5)
@@ -396,3 +277,243 @@ def main_rounds(argv: list[str]) -> int | None:
         rows.append(f"| {count} | {fmean(means):.1f} | {spent:.1f} | {spent / usual:.1f} |")
     shared.print_heads("Rounds | mean trip, s | processor, s | times")
     print(*rows, sep="\n")
+
+
+VEHICLES, SPACING, ROW = 10_000, 750, 32  # metres, and nodes in a row
+# Pixels a metre of each view; none is the whole network.
+VIEWS = {"whole": None, "0.25 pixels a metre": 0.25, "2 pixels a metre": 2.0, "most lanes": "most"}
+VIEW = """
+const [scale] = arguments, shown = () => scene.links.filter(link => scene.isInView(link));
+const lanes = () => shown().reduce((sum, link) => sum + link.lanes, 0);
+scene.moved = false; scene.fit();
+const middle = session.data.nodes[Math.floor(session.data.nodes.length / 2)];
+if (scale) { scene.moved = true; [scene.x, scene.y, scene.scale] = [middle.x, middle.y, scale === "most" ? 2 : scale]; }
+if (scale === "most") { while (lanes() <= MOST_LANES) scene.scale *= 0.99; scene.scale /= 0.99; }
+if (!playing) toggle();
+return lanes();
+"""
+COUNT = """
+const [seconds, done] = arguments, from = performance.now(), clock = session.clock;
+let frames = 0;
+const count = () => { frames++; \
+if (performance.now() - from < 1000 * seconds) requestAnimationFrame(count); \
+else done([frames, session.clock - clock, performance.now() - from]); };
+requestAnimationFrame(count);
+"""
+
+
+def grid(folder: Path) -> tuple[Run, Map]:
+    """The grid of `steps` as a run and its map."""
+    lines, _ = steps.grid(VEHICLES)
+    path = folder / "grid.jsonl"
+    path.write_text("".join(line + "\n" for line in lines))
+    load = json.loads(lines[0])
+    place = [(SPACING * (at // ROW), SPACING * (at % ROW)) for at in range(ROW * ROW)]
+    links = [
+        MapLink(f"link{number}", (0, 1), begin, end, cells, limit, float(SPACING), (place[begin], place[end]))
+        for number, begin, end, _, cells, limit in load["links"]
+    ]
+    nodes = [[f"node{at}", *place[at], 4] for at in range(ROW * ROW)]
+    names = [f"vehicle{number}" for number in range(VEHICLES)]
+    return read_run(path), Map(nodes=nodes, links=links, turns=[], signals=[], cars=names, options={}, warnings=[])
+
+
+@contextmanager
+def browser() -> Iterator["Chrome"]:
+    from selenium import webdriver  # which the measurements above do without
+
+    options = webdriver.ChromeOptions()
+    for word in ("headless=new", "no-sandbox", "window-size=1366,768"):
+        options.add_argument(f"--{word}")
+    options.add_argument("--host-resolver-rules=MAP * ~NOTFOUND, EXCLUDE 127.0.0.1")
+    made = webdriver.Chrome(options=options, service=webdriver.chrome.service.Service("/usr/bin/chromedriver"))
+    made.set_script_timeout(600)
+    try:
+        yield made
+    finally:
+        made.quit()
+
+
+@contextmanager
+def served(run: Run, mapping: Map, program: str) -> Iterator[str]:
+    """The address of a page that the bridge serves."""
+    of = PageRun(run, mapping, Settings(limits.CLOCK, 0), program)
+    with contextlib.closing(PageSession(of)) as session, Bridge(session, live_page(of)) as bridge:
+        threading.Thread(target=bridge.serve_forever, daemon=True).start()
+        yield bridge.address
+        bridge.shutdown()
+
+
+def opened(page: "Chrome", address: str, begin: int) -> None:
+    """Opens a page and makes its first steps."""
+    page.get(address)
+    while not page.execute_script("return document.body?.dataset.ready || ''"):
+        time.sleep(0.2)
+    page.execute_async_script("const done = arguments[1]; guarded(() => advance(arguments[0])).then(done)", begin)
+
+
+def measure(page: "Chrome", name: str, scale: float | str | None, seconds: int) -> None:
+    """Plays in a view for some seconds, and prints a row."""
+    lanes = page.execute_script(VIEW, scale)
+    time.sleep(2)
+    frames, made, spent = page.execute_async_script(COUNT, seconds)
+    shown = json.loads(page.execute_script("if (playing) toggle(); return document.body.dataset.shown"))
+    load = os.getloadavg()[0]
+    print(
+        f"| {name} | {lanes:,} | {shown['driving']:,} | {1000 * frames / spent:.0f} | "
+        f"{1000 * made / spent:.1f} | {load:.1f} |",
+        flush=True,
+    )
+
+
+def measure_all(page: "Chrome", words: argparse.Namespace, folder: Path) -> None:
+    """Prints a row for each view of the corridor and the grid."""
+    corridor = read_run(words.corridor), read_map(words.map)
+    for name, (run, mapping), begin, views in (
+        ("corridor", corridor, 900, {"whole": None}),
+        (f"grid of {VEHICLES:,}", grid(folder), 500, VIEWS),
+    ):
+        with served(run, mapping, words.program) as address:
+            opened(page, address, begin)
+            for view, scale in views.items():
+                measure(page, f"{name}, {view}", scale, words.seconds)
+            page.get("about:blank")
+
+
+def main_live(argv: list[str]) -> int | None:
+    """Frames and steps a second of the live page.
+
+    Takes minutes; needs python3-selenium, chromium-driver.
+
+    The corridor is a run file and a map as streetsim-import wrote them; the grid is that of `steps`, with 10,000
+    vehicles, in four views: the whole, a scale at which some hundred lanes are seen, one junction, and the view with as
+    many lanes as vehicles are drawn on, which costs the most. The load of the machine is printed beside.
+    """
+    parser = shared.parser_of(main_live)
+    parser.add_argument("corridor")
+    parser.add_argument("map")
+    parser.add_argument("--seconds", type=int, default=6)
+    args = parser.parse_args(argv)
+    shared.print_heads("Page | lanes in view | vehicles driving | frames a second | steps a second | load")
+    with tempfile.TemporaryDirectory() as folder, browser() as page:
+        measure_all(page, args, Path(folder))
+
+
+EXAMPLES = TOOLS / "examples"
+CROSS_STREETS = ("Mill Lane", "Church Street", "Station Road", "Park Road", "School Lane")
+STEP = "await guarded(async () => { await advance(%d); draw(1); showTables(); });"
+# The light in the middle of the corridor gets another offset, and time passes.
+LIGHT = f"""
+setTheme("light");
+{STEP % 700}
+choose({{ node: session.data.nodes.find(({{ light }}) => light?.name === "J2").number }});
+await turn;
+editor.bars.offset = 25; editor.show();
+await guarded(() => editor.send());
+{STEP % 300}
+const {{ x, y }} = junctions.get(chosen.node);
+scene.look({{ x, y, scale: 1 }});
+draw(1); showTables();
+"""
+WAVE = f"""
+setTheme("dark");
+{STEP % 900}
+setMode("path");
+const named = name => session.data.links.find(link => link.name === name);
+wave.pick(named("WJ1").begin);
+for (const name of ["WJ1", "J1J2", "J2J3", "J3J4", "J4J5", "J5E"]) wave.pick(named(name).end);
+setMode(null);
+for (let step = 0; step < 160; step++) await guarded(() => advance(1));
+draw(1); showTables();
+"""
+# The light at which the most streets meet.
+TOWN = f"""
+setTheme("dark");
+{STEP % 600}
+const lights = session.data.nodes.filter(node => session.plans.has(node.number));
+const count = node => approaches(node.number).length;
+const most = lights.reduce((one, other) => count(other) > count(one) ? other : one);
+choose({{ node: most.number }});
+await turn;
+scene.look({{ x: most.x, y: most.y, scale: 1 }});
+draw(1); showTables();
+"""
+PICTURES = {  # where each lies below the examples, of which run, how wide and high, and what is done
+    "corridor/live.png": ("corridor", 1366, 768, LIGHT),
+    "corridor/live-wave.png": ("corridor", 1366, 768, WAVE),
+    "live-town.png": ("town", 800, 1180, TOWN),
+}
+
+
+def named(net: str) -> str:
+    """The corridor's network with names of its streets."""
+    name = {"3": lambda _: "High Street", "1": lambda edge: CROSS_STREETS[int(re.sub(r"\D", "", edge)[0]) - 1]}
+
+    def with_name(found: re.Match) -> str:
+        return f'{found[0]} name="{name[found[3]](found[1])}"'
+
+    return re.sub(r'<edge id="([^:"]*)" from="([^"]*)" to="[^"]*" priority="([13])"', with_name, net)
+
+
+def make_runs(work: Path) -> None:
+    """Imports the corridor and the town into a folder."""
+    for name in ("corridor", "town"):
+        shared.run([TOOLS / "streetsim-example", name, "--out", work], work)
+    net = gzip.decompress((work / "corridor.net.xml.gz").read_bytes()).decode()
+    (work / "named.net.xml").write_text(named(net), encoding="utf-8")
+    for name, words in (
+        ("corridor", ["named.net.xml", "--routes", "corridor.rou.xml"]),
+        ("town", ["town.net.xml.gz", "--routes", "town.rou.xml.gz"]),
+    ):
+        shared.run([TOOLS / "streetsim-import", *words, "-o", f"{name}.jsonl", "--map", f"{name}.map.json"], work)
+
+
+@contextmanager
+def served_by_tool(work: Path, name: str, program: str) -> Iterator[str]:
+    """The address that streetsim-live prints for a run."""
+    words = [TOOLS / "streetsim-live", f"{name}.jsonl", "--map", f"{name}.map.json", "--no-open", "--program", program]
+    with subprocess.Popen(map(str, words), cwd=work, stdout=subprocess.PIPE, text=True) as process:
+        try:
+            yield process.stdout.readline().strip()
+        finally:
+            process.terminate()
+
+
+def take(page: "Chrome", address: str, wide: int, high: int, script: str) -> bytes:
+    """The picture of a page once a script is done in it; SystemExit with what the page tells where that fails."""
+    size = {"width": wide, "height": high, "deviceScaleFactor": 1, "mobile": False}
+    page.execute_cdp_cmd("Emulation.setDeviceMetricsOverride", size)
+    page.get(address)
+    while not page.execute_script("return document.body?.dataset.ready || ''"):
+        time.sleep(0.2)
+    doing = f"(async () => {{ {script} }})().then(() => arguments[0](''), fault => arguments[0](fault.message))"
+    fault = page.execute_async_script(doing) or page.execute_script("return at('fault').textContent")
+    if fault:
+        raise SystemExit(fault)
+    time.sleep(1)
+    picture = page.get_screenshot_as_png()
+    page.get("about:blank")
+    return picture
+
+
+def main_live_pictures(argv: list[str]) -> int | None:
+    """The pictures of tools/LIVE.md.
+
+    Takes a minute; needs python3-selenium, chromium-driver.
+
+    The corridor gets names of streets first.
+    """
+    parser = shared.parser_of(main_live_pictures)
+    parser.add_argument("--work", help="a folder for the runs (default: one that goes again)")
+    parser.add_argument("--out", default=str(EXAMPLES), help="where the pictures go (default: tools/examples)")
+    words = parser.parse_args(argv)
+    with tempfile.TemporaryDirectory() as spare, browser() as page:
+        work = Path(words.work or spare)
+        work.mkdir(parents=True, exist_ok=True)
+        make_runs(work)
+        for path, (run, wide, high, script) in PICTURES.items():
+            with served_by_tool(work, run, words.program) as address:
+                picture = Path(words.out) / path
+                picture.parent.mkdir(parents=True, exist_ok=True)
+                picture.write_bytes(take(page, address, wide, high, script))
+            print(path, flush=True)

@@ -183,7 +183,6 @@ def street_row(case: Case, hourly: int, place: int, program: str, seeds: range) 
 
 DRAWN = ("street", "street", "street", "street", "street", "arterial", "town", "turn-lanes")
 FIRST, LAST, OVER = 600, 3000, 7200
-LEVEL = 0.9
 # Metres of an edge with works, and vehicles that pass it: the first where there is one.
 LEAST, FEW = (150, 100), (200, 100, 50)
 
@@ -209,11 +208,10 @@ class Drawn:
         return found
 
 
-def drawn(seed: int, number: int, work: Path, share: float | None = None) -> Drawn:
-    """A network of a kind, and works on one lane of an edge of two or more lanes that many pass. share: of what the
-    open lanes pass that comes to them, where no approach has above LEVEL of what it can pass; else it is drawn."""
+def drawn(seed: int, number: int, work: Path) -> Drawn:
+    """A network of a kind, and works on one lane of an edge of two or more lanes that many pass."""
     kind, draws = DRAWN[number], random.Random(f"works {seed} {number}")
-    made = make(kind, seed + number, work, LEVEL if share else 0.7)
+    made = make(kind, seed + number, work, 0.7)
     net = read_net(made.net)
     through = Counter(edge for way in ways(made) for edge in way)
     able = next(filter(None, (edges_for(net, through, least, few) for few in FEW for least in LEAST)))
@@ -222,7 +220,7 @@ def drawn(seed: int, number: int, work: Path, share: float | None = None) -> Dra
     length = min(draws.choice((50, 100, 200)), int(edge.getLength()) - 2 * FREE - 21)
     begin = draws.randrange(FREE + 20, int(edge.getLength()) - FREE - length + 1)
     lanes = edge.getLaneNumber()
-    wanted = (draws.uniform(0.5, 0.95) if share is None else share) * PASSES * (lanes - 1)
+    wanted = draws.uniform(0.5, 0.95) * PASSES * (lanes - 1)
     if through[edge.getID()] > wanted:
         made = make(kind, seed + number, work, vehicles=round(made.vehicles * wanted / through[edge.getID()]))
         through = Counter(edge for way in ways(made) for edge in way)
@@ -241,12 +239,12 @@ def ways(made: Made) -> list[list[str]]:
     return ways_of(made.folder / "demand.rou.xml")
 
 
-def drawn_rows(seed: int, folder: Path, program: str, seeds: range, share: float | None):
+def drawn_rows(seed: int, folder: Path, program: str, seeds: range):
     """A row for each of the networks of a seed: seconds that works add for those who pass their edge meanwhile."""
     yield "| Network | works | of what the open lanes pass | SUMO adds, s | here | longest stand | |"
     yield "|---|---|---|---|---|---|---|"
     for number in range(len(DRAWN)):
-        yield drawn_row(drawn(seed, number, folder, share), program, seeds)
+        yield drawn_row(drawn(seed, number, folder), program, seeds)
 
 
 def drawn_row(one: Drawn, program: str, seeds: range) -> str:
@@ -281,7 +279,6 @@ LAST_SECOND, WORKS_BEGIN, LEAST_METRES = 7200, 600, 120.0
 LENGTHS, SECONDS = (100, 50, 200), (1800, 3600)
 NETWORKS = {  # network, routes, additional files, and how many edges of each number of lanes
     "grid": (SAMPLES / "grid.net.xml.gz", SAMPLES / "grid.rou.xml.gz", (), {2: 4}),
-    "town": (SAMPLES / "town.net.xml.gz", SAMPLES / "town.rou.xml.gz", (), {1: 3}),
     "acosta": (
         ACOSTA / "acosta_buslanes.net.xml",
         ACOSTA / "acosta.rou.xml",
@@ -367,7 +364,7 @@ def here_trip(name, works, closing, args, folder):
     words = [f"{name}.jsonl", "--map", f"{name}.map.json", "--until", LAST_SECOND, "--every", 0, "--jobs", 1]
     words += ["--seeds", args.seeds, "--departures", "listed", "--out", "here", "--program", args.program]
     if closing:
-        words += [f"--close={works.closing()}", "--merge", args.merge]
+        words.append(f"--close={works.closing()}")
     elif works.lanes > 1:
         words += [f"--joint={works.edge}_{works.lane}"]
     run([TOP / "tools/streetsim-run", *words], folder)
@@ -417,9 +414,8 @@ def main_works(argv: list[str]) -> int | None:
 
     --street: one lane of a street of two is closed for an hour, at 800 to 1,600 vehicles an hour and four places; and
     what passes at 2,400. --drawn: works on streets and towns that unseen-nets makes from a seed, and what they add to
-    the trips of those who pass their edge meanwhile; nobody is teleported in SUMO. --share: of what the open lanes pass
-    that comes to them, as far as no approach has more than 0.9 of what it can pass (else 0.5 to 0.95 are drawn, up to
-    0.7).
+    the trips of those who pass their edge meanwhile; nobody is teleported in SUMO. By the
+    seed 0.5 to 0.95 of what the open lanes pass come to them, where no lane of the network has above 0.7 of it.
 
     Of each network and number of lanes the edges of 120 m and more are put in order by the vehicles that pass them, and
     of so many equal parts of these (of the busier half, where there are several lanes) the middle one is taken; lane,
@@ -433,14 +429,12 @@ def main_works(argv: list[str]) -> int | None:
     parser.add_argument("--edges", help="of the networks' edges with works, these alone")
     parser.add_argument("--street", action="store_true", help="the table of one street of two lanes")
     parser.add_argument("--drawn", type=int, metavar="SEED", help="the table of streets and towns from a seed")
-    parser.add_argument("--share", type=float, help="of what the open lanes pass, of the drawn works")
-    parser.add_argument("--merge", choices=["turns", "none"], default="turns", help="before works, of these networks")
     args = parser.parse_args(argv)
     folder, seeds = shared.work_of(args), numbers(args.seeds)
     if args.street:
         table = street_rows(folder, args.program, seeds)
     elif args.drawn is not None:
-        table = drawn_rows(args.drawn, folder, args.program, seeds, args.share)
+        table = drawn_rows(args.drawn, folder, args.program, seeds)
     else:
         table = named_rows(args, folder)
     for row in table:

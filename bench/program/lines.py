@@ -1,22 +1,30 @@
-"""Lines of sessions: how many a second of each kind, and the memory of their calls."""
+"""Lines of sessions: how many a second of each kind, the memory of calls, what keeping a session costs, and whether a
+reply is ever contradicted where calls of the system fail."""
 
+import argparse
 import json
+import os
 import random
 import statistics
 import subprocess
 import sys
 import tempfile
 import time
+from collections import Counter
 from collections.abc import Callable, Sequence
+from concurrent.futures import ThreadPoolExecutor
+from pathlib import Path
 
 import shared
+from disks import Fault, Noting
+from shared import ring_of
+from test_kept import random_lines
+from trials import ERRORS, RECORD, Contradicted, LinkedTrial, Session, Trial, record_of
 
-MEBIBYTE = 1 << 20
-MOST_NODES = MOST_LINKS = 4_096
+MOST = 4_096  # nodes, and links
 TURNS_OF_A_LINK = 8
 ALL_CALLS = ["--calls", "1000000"]  # by default fewer are served
 FIRST_LINK = 100_000_000
-
 LINKS_OF_A_PLAN = 20
 SHARE_OF_A_KIND = 5  # so many fewer lines of a kind than short lines
 
@@ -30,35 +38,25 @@ def line(command):
     return shared.text_of(command).encode() + b"\n"
 
 
-def load(nodes, links, turns):
-    return line(shared.load(nodes, links, turns))
-
-
-SMALL = load([[1, 1, 2], [2, 1, 2]], [[10, 1, 2, 1, 10, 5]], [])
+SMALL = line(shared.load([[1, 1, 2], [2, 1, 2]], [[10, 1, 2, 1, 10, 5]], []))
 SMALL_LOADED = line({"links": 1, "nodes": 2, "turns": 0})
 
 
 def great():
     """A load with as many nodes, links and turns as there may be, and its reply.
     All links run from the first node to itself."""
-    nodes = [[number, 1, 2] for number in range(1, MOST_NODES + 1)]
-    links = [[FIRST_LINK + at, 1, 1, 1, 10, 5] for at in range(MOST_LINKS)]
-    turns = [
-        [FIRST_LINK + at, 0, FIRST_LINK + (at + further) % MOST_LINKS, 0]
-        for at in range(MOST_LINKS)
-        for further in range(TURNS_OF_A_LINK)
-    ]
+    nodes = [[number, 1, 2] for number in range(1, MOST + 1)]
+    links = [[FIRST_LINK + at, 1, 1, 1, 10, 5] for at in range(MOST)]
+    pairs = ((at, (at + further) % MOST) for at in range(MOST) for further in range(TURNS_OF_A_LINK))
+    turns = [[FIRST_LINK + at, 0, FIRST_LINK + onward, 0] for at, onward in pairs]
     reply = line({"links": len(links), "nodes": len(nodes), "turns": len(turns)})
-    return load(nodes, links, turns), reply
+    return line(shared.load(nodes, links, turns)), reply
 
 
 def ring():
     """A ring of links that a plan does not go round, and its reply."""
     count = 2 * LINKS_OF_A_PLAN
-    nodes = [[number, 1, 2] for number in range(1, count + 1)]
-    links = [[FIRST_LINK + at, at + 1, (at + 1) % count + 1, 1, 10, 5] for at in range(count)]
-    turns = [[FIRST_LINK + at, 0, FIRST_LINK + (at + 1) % count, 0] for at in range(count)]
-    return load(nodes, links, turns), line({"links": count, "nodes": count, "turns": count})
+    return line(ring_of(count, cells=10, first=FIRST_LINK)), line({"links": count, "nodes": count, "turns": count})
 
 
 def kinds(number):
@@ -88,16 +86,9 @@ def session(words, text):
         return wall, spent, target.read()
 
 
-def whole_run(program, text, wanted):
-    """The time on the wall of a run, in seconds."""
-    wall, _, said = session([program, *ALL_CALLS], text)
-    equal(said, wanted)
-    return wall
-
-
-def processor_time(program, text, wanted):
-    """The processor time of a run, in seconds."""
-    _, spent, said = session([program, *ALL_CALLS], text)
+def spent_by(program, text, wanted):
+    """The time on the wall of a run, and its processor seconds; the replies must be those."""
+    *spent, said = session([program, *ALL_CALLS], text)
     equal(said, wanted)
     return spent
 
@@ -140,39 +131,27 @@ def tell(name, value):
 
 def time_short_lines(args):
     lines = NOTHING * args.lines
-    base = min(whole_run(args.program, SMALL, SMALL_LOADED) for _ in range(args.times))
+    base = min(spent_by(args.program, SMALL, SMALL_LOADED)[0] for _ in range(args.times))
     replies = SMALL_LOADED + AT_ZERO * args.lines
-    runs = [whole_run(args.program, SMALL + lines, replies) - base for _ in range(args.times)]
+    runs = [spent_by(args.program, SMALL + lines, replies)[0] - base for _ in range(args.times)]
     print(f"{args.lines} lines that advance by 0 steps")
     tell("lines a second", f"{args.lines / min(runs):.0f} (median {args.lines / statistics.median(runs):.0f})")
 
 
 def microseconds(program, start, texts, number):
     """The processor time of a line of each text, in µs. That of the session without these lines is taken off."""
-    base = processor_time(program, *start)
-    return [(processor_time(program, text, said) - base) / number * 1e6 for text, said in texts]
+    base = spent_by(program, *start)[1]
+    return [(spent_by(program, text, said)[1] - base) / number * 1e6 for text, said in texts]
 
 
 def time_kind(args, start, name, commands, replies):
     said = start[1] + b"".join(map(line, replies))
     with_null = [{**command, "x": None} for command in commands]
     texts = [(start[0] + b"".join(map(line, sent)), said) for sent in (commands, with_null)]
-    programs = [args.program, args.beside] if args.beside else [args.program]
-    turns = [[microseconds(program, start, texts, len(commands)) for program in programs] for _ in range(args.times)]
+    plain, null = zip(*(microseconds(args.program, start, texts, len(commands)) for _ in range(args.times)))
     print(f"{len(commands)} lines: {name}")
-    for at, program in enumerate(programs):
-        plain, null = zip(*(turn[at] for turn in turns))
-        tell("processor time a line", f"{min(plain):.2f} µs (median {statistics.median(plain):.2f} µs) {program}")
-        tell('with "x":null', f"{min(null):.2f} µs (median {statistics.median(null):.2f} µs)")
-    if args.beside:
-        ratios = [other[0] / one[0] for one, other in turns]
-        tell("lines a second", f"{statistics.median(ratios):.2f} of the other program's (median of the turns)")
-
-
-def time_kinds(args):
-    number = max(1, args.lines // SHARE_OF_A_KIND)
-    for name, commands, replies in kinds(number):
-        time_kind(args, ring(), name, commands, replies)
+    tell("processor time a line", f"{min(plain):.2f} µs (median {statistics.median(plain):.2f} µs)")
+    tell('with "x":null', f"{min(null):.2f} µs (median {statistics.median(null):.2f} µs)")
 
 
 def time_line(args, name, text, wanted, wanted_next):
@@ -191,19 +170,18 @@ def main_lines(argv: list[str]) -> int | None:
     It stops where a reply is not the one that the rules give. Times are those of the clock on the wall, but for lines
     of a kind: theirs is the processor's, each kind in turn with the same lines and a member `"x":null` more, which are
     read by way of a JSON value. Memory, told of the two long lines, is the most that the program has had in use once
-    the line is answered; Linux tells it while the program runs. OTHER is another program for the lines of a kind: the
-    runs of both take turns, and their replies must be the same.
+    the line is answered; Linux tells it while the program runs.
     """
     parser = shared.parser_of(main_lines)
-    parser.add_argument("--beside", metavar="OTHER")
     parser.add_argument("--lines", type=int, default=500_000)
     parser.add_argument("--times", type=int, default=5)
     args = parser.parse_args(argv)
 
     time_short_lines(args)
-    time_kinds(args)
+    for kind in kinds(max(1, args.lines // SHARE_OF_A_KIND)):
+        time_kind(args, ring(), *kind)
     time_line(args, "one load of 4,096 nodes, 4,096 links and 32,768 turns", *great(), AT_ZERO)
-    time_line(args, "one line that is too long", b"x" * (10 * MEBIBYTE) + b"\n", TOO_LONG, NOT_LOADED)
+    time_line(args, "one line that is too long", b"x" * ((10 << 20)) + b"\n", TOO_LONG, NOT_LOADED)
 
 
 LINKS, CELLS, STEPS = 1_000, 2_000, 400  # in which all enter, and few go round
@@ -241,12 +219,6 @@ def sessions(vehicles, lines, waiting):
     yield "vehicle, one of these", rings_of(1) + entered, asked, [{"car": car, "state": "waiting"} for car in cars]
 
 
-def words_of(path):
-    """A program, with the most calls that a run may have where its help says that it counts them."""
-    told = subprocess.run([path, "--help"], stdin=subprocess.DEVNULL, capture_output=True, text=True, check=False)
-    return [path, *ALL_CALLS] if "--calls" in told.stdout else [path]
-
-
 def check(replies, expected):
     for reply, fields in zip(replies.splitlines()[-len(expected) :], expected, strict=True):
         said = json.loads(reply)
@@ -259,44 +231,28 @@ def main_vehicles(argv: list[str]) -> int | None:
 
     Takes minutes.
 
-    The vehicles drive on 1,000 one-lane links of 2,000 cells, each from a node to itself. OTHER is another program for
-    the same lines: the runs of both take turns, and their replies must be the same, byte for byte.
+    The vehicles drive on 1,000 one-lane links of 2,000 cells, each from a node to itself.
     """
     parser = shared.parser_of(main_vehicles)
-    parser.add_argument("--beside")
     parser.add_argument("--vehicles", type=int, default=100_000)
     parser.add_argument("--lines", type=int, default=300_000)
     parser.add_argument("--waiting", type=int, default=20_000)
     parser.add_argument("--times", type=int, default=5)
     args = parser.parse_args(argv)
 
-    programs = [words_of(path) for path in (args.program, args.beside) if path]
     shared.print_heads("What | Measured")
     for name, base, timed, expected in sessions(args.vehicles, args.lines, args.waiting):
-        below, whole = [[] for _ in programs], [[] for _ in programs]
+        below, whole, words = [], [], [args.program, *ALL_CALLS]
         for _ in range(args.times):
-            for at, program in enumerate(programs):
-                below[at].append(session(program, base)[1])
-                _, spent, replies = session(program, base + timed)
-                whole[at].append(spent)
-                if at == 0:
-                    check(replies, expected)
-                    first = replies
-                elif replies != first:
-                    raise SystemExit(f"{name}: the replies of the two differ")
-        rates = [len(expected) / (min(more) - min(less)) for more, less in zip(whole, below, strict=True)]
-        beside = f", beside {rates[1]:.0f}: {rates[0] / rates[1]:.2f}" if args.beside else ""
-        print(f"| lines a second beside {args.vehicles:,} vehicles: {name} | {rates[0]:,.0f}{beside} |", flush=True)
+            below.append(session(words, base)[1])
+            _, spent, replies = session(words, base + timed)
+            whole.append(spent)
+            check(replies, expected)
+        rate = len(expected) / (min(whole) - min(below))
+        print(f"| lines a second beside {args.vehicles:,} vehicles: {name} | {rate:,.0f} |", flush=True)
 
 
-ROW = 7  # nodes of the ring
-NODES = [[at, 1, 2] for at in range(ROW)]
-
-
-def ring_of_seven(lanes: int = 1, cells: int = 20) -> dict:
-    """A ring of seven links."""
-    links = [[at, at, (at + 1) % ROW, lanes, cells, 5] for at in range(ROW)]
-    return shared.load(NODES, links, [[at, 0, (at + 1) % ROW, 0] for at in range(ROW)])
+ROW = 7  # links of the ring
 
 
 def enter(links: int, depart: int = 0, first: int = 0) -> dict:
@@ -324,7 +280,7 @@ print(json.dumps([used.ru_utime + used.ru_stime, used.ru_maxrss * 1024]), file=s
 
 def memory(program: str, command: dict, count: int, refused: bool, prefix: Sequence[dict] = ()) -> str:
     """Bytes that one call takes."""
-    first, last = (run(program, [command] * times, prefix or [ring_of_seven()]) for times in (count, 4 * count))
+    first, last = (run(program, [command] * times, prefix or [ring_of(ROW)]) for times in (count, 4 * count))
     if ("error" in json.loads(last[2])) != refused:
         raise SystemExit(f"{shared.text_of(command)[:80]}: {last[2][:200]}")
     return f"{(last[1] - first[1]) / (3 * count):,.0f} bytes"
@@ -356,17 +312,17 @@ def closing(step: int) -> list[dict]:
 
 def closes(program: str, step: int, last: int) -> str:
     """Microseconds of each of the last closings of 64,000."""
-    prefix, all_ = [ring_of_seven(cells=200_000)], closing(step)
+    prefix, all_ = [ring_of(ROW, cells=200_000)], closing(step)
     return f"{seconds(program, all_[-last:], [*prefix, *all_[:-last]]) / last * 1e6:.1f} µs"
 
 
 def departs(program: str, order: Callable[[int], float]) -> str:
     commands = [enter(1, 1_000 + at) for at in sorted(range(100_000), key=order)]
-    return f"{seconds(program, commands, [ring_of_seven()]):.2f} s"
+    return f"{seconds(program, commands, [ring_of(ROW)]):.2f} s"
 
 
 def waiting(program: str, car: int) -> str:
-    prefix = [ring_of_seven(), *[enter(1, 1_000_000)] * 400_000]
+    prefix = [ring_of(ROW), *[enter(1, 1_000_000)] * 400_000]
     return f"{seconds(program, [{'cmd': 'vehicle', 'car': car}] * 300_000, prefix) / 300_000 * 1e6:.1f} µs"
 
 
@@ -376,10 +332,6 @@ def empty_steps(program: str) -> str:
     made = shared.load([[at, 1, 2] for at in range(1_000)], links, [])
     steps = [{"cmd": "advance", "steps": 10_000}]
     return f"{seconds(program, steps, [made]) / 10_000 * 1e6:.0f} µs a step"
-
-
-def mixed(at: int) -> float:
-    return random.Random(at).random()
 
 
 ROWS: tuple[tuple[str, Callable[[str], str]], ...] = (
@@ -393,7 +345,7 @@ ROWS: tuple[tuple[str, Callable[[str], str]], ...] = (
     ("`close` of single cells, side by side", lambda it: closes(it, 1, 64_000)),
     ("100,000 `enter` on one lane, departs rising", lambda it: departs(it, lambda at: at)),
     ("departs falling", lambda it: departs(it, lambda at: -at)),
-    ("departs in random order", lambda it: departs(it, mixed)),
+    ("departs in random order", lambda it: departs(it, lambda at: random.Random(at).random())),
     ("`vehicle` of the first of 400,000 who wait", lambda it: waiting(it, 0)),
     ("`vehicle` of the last", lambda it: waiting(it, 399_999)),
     ("a step of 7,936 lanes with nobody on them", empty_steps),
@@ -416,3 +368,155 @@ def main_calls(argv: list[str]) -> int | None:
     for name, measure in ROWS:
         if args.only in name:
             print(f"| {name} | {measure(args.program)} |", flush=True)
+
+
+STREET = ring_of(2, cells=10)
+WAYS = (("--calls", "1000000"), ("--endless",), ("--keep", "day.jsonl", "--unsynced"), ("--keep", "day.jsonl"))
+
+
+def seconds_by_way(args: argparse.Namespace, folder: Path) -> dict[tuple[str, ...], list[float]]:
+    """How long each run takes by each of WAYS, in turn; all must have the same replies."""
+    kept, pair = folder / "day.jsonl", line({**enter(1), "plan": [0, 1]}) + line({"cmd": "advance", "steps": 1})
+    given, taken, first = line(STREET) + pair * (args.lines // 2), {way: [] for way in WAYS}, b""
+    for way in WAYS * args.times:
+        kept.unlink(missing_ok=True)
+        wall, _, replies = session([args.program, *(str(kept) if word == "day.jsonl" else word for word in way)], given)
+        taken[way].append(wall)
+        if replies != (first := first or replies):
+            sys.exit(f"{way}: other replies")
+    return taken
+
+
+def most_memory(program: str, calls: int, folder: Path) -> int:
+    """The most memory, in KiB, of a run of so many calls without an end of calls."""
+    reader, writer = os.pipe()
+    child = subprocess.Popen([program, "--endless"], stdin=reader, stdout=subprocess.DEVNULL, cwd=folder)
+    os.close(reader)
+    with open(writer, "wb") as lines:
+        part = line({"cmd": "count"}) * 1000
+        for _ in range(calls // 1000):
+            lines.write(part)
+    _, status, usage = os.wait4(child.pid, 0)
+    child.returncode = os.waitstatus_to_exitcode(status)
+    if child.returncode:
+        sys.exit(f"the program ended with status {child.returncode}")
+    return usage.ru_maxrss
+
+
+def main_kept(argv: list[str]) -> int | None:
+    """Lines a second of a kept session, and of one without an end of calls; memory of calls.
+
+    Takes minutes.
+
+    The same lines, `enter` and steps in turn, go from a file to a file with each of these words in turn, as often as
+    --times says; what is told is the median, and its ratio to the first words of the same round. FOLDER is where the
+    kept file lies: its disk is what is measured.
+    """
+    parser = shared.parser_of(main_kept)
+    parser.add_argument("--lines", type=int, default=100_000)
+    parser.add_argument("--times", type=int, default=5)
+    parser.add_argument("--calls", type=int, default=5_000_000)
+    parser.add_argument("--folder", type=Path)
+    args = parser.parse_args(argv)
+    with tempfile.TemporaryDirectory(dir=args.folder) as folder:
+        taken = seconds_by_way(args, Path(folder))
+        shared.print_heads("What | Measured")
+        for way, times in taken.items():
+            ratio = statistics.median(one / base for one, base in zip(times, taken[WAYS[0]], strict=True))
+            lines = args.lines / statistics.median(times)
+            print(f"| lines a second with `{' '.join(way)}` | {lines:,.0f}; {ratio:.2f} times as long |")
+        for calls in (50_000, args.calls):
+            memory = most_memory(args.program, calls, Path(folder))
+            print(f"| memory of `--endless` after {calls:,} calls | {memory:,} KiB |", flush=True)
+
+
+MOST_LINES, AT_ONCE = 900, 300  # of a session; of a run
+MOST_RUNS = 24  # of a trial
+TORN = (b"", b'{"cmd":"torn', b"\0" * 100, b"\0" * 100 + b"\n")
+
+
+def more_words(draw: random.Random) -> list[str]:
+    """The words of a program beside those of its file."""
+    more = ([], ["--unsynced"]), ([], ["--record", RECORD]), ([], ["--endless"])
+    words = ["--workers", draw.choice(("1", "4"))]
+    return words + [word for pair in more for word in draw.choice(pair)]
+
+
+def trial_of(draw: random.Random, seed: int, noting: Noting, folder: Path) -> Trial:
+    """A trial in a new folder. seed: of its lines."""
+    folder.mkdir()
+    words, lines = more_words(draw), random_lines(seed, draw.randrange(100, MOST_LINES))
+    session = Session(lines, record_of(lines, folder) if "--record" in words else b"")
+    begin = session.begin(draw.randrange(40), draw.choice(TORN))
+    kind = draw.choice((Trial, Trial, LinkedTrial))
+    return kind(session, noting, words, folder / "kept", draw.choice((None, begin)))
+
+
+def run_on(trial: Trial, draw: random.Random, most: int) -> tuple[int, list[str]]:
+    """A run of which one of so many calls fails, or four from it on, and what then ends: how many calls it made, and
+    which of them failed."""
+    # Where the file keeps its place, a sync that failed and could not be withdrawn is not covered.
+    many = 1 if isinstance(trial, LinkedTrial) else draw.choice((1, 1, 4))
+    # The later of two draws, since most calls are made before the first line is read.
+    fault = Fault(max(draw.randint(1, most), draw.randint(1, most)), draw.choice(ERRORS), many)
+    calls = trial.go_on(fault, trial.next() + draw.randint(1, AT_ONCE))
+    made = [call.name for call in calls if call.name != "close"]
+    if draw.random() < 0.5:
+        trial.put(trial.drawn(draw))
+    return len(made), made[fault.number - 1 :][: fault.many]
+
+
+def tried(seed: int, noting: Noting, folder: Path) -> Counter[str]:
+    """The trial of a seed: how many runs it had, and which calls failed in them; what contradicted a reply is told."""
+    draw, most = random.Random(seed), 30
+    trial = trial_of(draw, seed, noting, folder)
+    found: Counter[str] = Counter()
+    try:
+        while found["runs"] < MOST_RUNS and trial.next() < len(trial.session.lines):
+            most, failed = run_on(trial, draw, most)
+            found.update(["runs", *(["failing"] if failed else []), *(f"call {name}" for name in failed)])
+        trial.go_on()
+        trial.check_crashes()
+    except Contradicted as fault:
+        print(f"seed {seed}, {' '.join(trial.words)}: {fault}"[:1000])
+        found["contradicted"] += 1
+    found["lines"] += trial.answered
+    return found
+
+
+def failed_in(found: Counter[str]) -> dict[str, int]:
+    """How many of which calls failed."""
+    return {name.removeprefix("call "): found[name] for name in sorted(found) if name.startswith("call ")}
+
+
+def main_failing_calls(argv: list[str]) -> int | None:
+    """Whether a reply of a kept session is contradicted where calls of the system fail.
+
+    Takes minutes; needs clang, or the kit's.
+
+    Each trial has a session of random commands, with one or four workers, and with or without --unsynced, --record and
+    --endless; it begins in an empty folder, or behind a file that a crash has torn. Run after run goes on with it, and
+    in each of them one call, drawn, or four from it on, fails (EIO, ENOSPC, EINTR) or moves half its bytes. Behind a
+    run the program has ended, or the machine too: then the file has what a disk would have that forgets what was not
+    synced, or a first part of that and NULs, and what a failed sync had; by the names as they were last, or when their
+    folder was last synced. At each reply this file has to have what was answered, and nothing that was not sent; each
+    reply and the record have to be those of a run that nothing ends. A seed draws all of it. The program is that of
+    STREETSIM_PROGRAM.
+    """
+    parser = shared.parser_of(main_failing_calls, program=False)
+    parser.add_argument("--runs", type=int, default=2_000, help="of which a call fails, at least")
+    parser.add_argument("--seed", type=int, default=1, help="of the first session")
+    parser.add_argument("--jobs", type=int, default=len(os.sched_getaffinity(0)))
+    args = parser.parse_args(argv)
+    found, seed = Counter[str](), args.seed
+    with tempfile.TemporaryDirectory() as made, ThreadPoolExecutor(args.jobs) as pool:
+        noting = Noting(Path(made))
+        while found["failing"] < args.runs:
+            seeds = range(seed, seed := seed + args.jobs)
+            found += sum(pool.map(lambda one: tried(one, noting, Path(made) / str(one)), seeds), Counter[str]())
+    failed = failed_in(found)
+    print(f"{found['runs']:,} runs of {seed - args.seed:,} sessions, {found['lines']:,} lines answered")
+    print(f"in {found['failing']:,} of them calls failed:")
+    print(f"{sum(failed.values()):,} calls: {', '.join(f'{name} {count:,}' for name, count in failed.items())}")
+    print(f"{found['contradicted']:,} sessions in which a reply was contradicted")
+    return 1 if found["contradicted"] else 0

@@ -1,15 +1,24 @@
-"""Sessions of many vehicles: how fast steps are, in which instructions, and whether threads change a reply."""
+"""Sessions of many vehicles: how fast steps are, in which instructions, whether threads change a reply, and what the
+record of a run costs."""
 
 import json
+import os
 import random
 import re
+import statistics
 import subprocess
+import sys
 import tempfile
 import time
+from collections.abc import Iterator, Sequence
 from concurrent.futures import ThreadPoolExecutor
+from dataclasses import dataclass
 from pathlib import Path
 
 import shared
+from shared import ring_of
+from streetsim.base.program import find_program
+from streetsim.model.record import ARRIVED, RecordReader, open_record
 
 DIRECTIONS = [(0, 1), (1, 0), (0, -1), (-1, 0)]
 BATCH = 50  # lines that are sent before their replies are read, so that no pipe fills
@@ -28,15 +37,7 @@ def ring(density):
     """The lines that a session begins with, and the steps of each timed advance."""
     links = 100
     here = range(links)
-    lines = [
-        load(
-            [[at, 1, 2] for at in here],
-            [[at, at, (at + 1) % links, 1, 1_000, 5] for at in here],
-            [[at, 0, (at + 1) % links, 0] for at in here],
-            zone=0,
-            change=0,
-        )
-    ]
+    lines = [shared.text_of(ring_of(links, cells=1_000, dawdle=200, seed=1))]
     red = [line(cmd="signal", node=at, offset=0, phases=[[600, []]]) for at in here]
     green = [line(cmd="signal", node=at, offset=0, phases=[[600, [[(at - 1) % links, 0, at]]]]) for at in here]
     plans = [[(at + lap) % links for lap in range(links)] for at in here]
@@ -104,15 +105,8 @@ def star(vehicles, arms=200):
     onward = {at: [arms + (at + ahead) % arms for ahead in (1, 7, 50)] for at in inward}
     onward |= {arms + at: [at] for at in inward}
     turns = [[at, lane, then, lane] for at, after in onward.items() for then in after for lane in (0, 1)]
-    lines = [
-        load(
-            [[at, 1, 4] for at in range(arms + 1)],
-            [[*link, 2, 100, 5] for link in ends],
-            turns,
-            zone=20,
-            change=800,
-        )
-    ]
+    nodes = [[at, 1, 4] for at in range(arms + 1)]
+    lines = [load(nodes, [[*link, 2, 100, 5] for link in ends], turns, zone=20, change=800)]
     for _ in range(vehicles):
         plan = [draws.randrange(arms)]
         while len(plan) < 40:
@@ -143,10 +137,13 @@ class Program:
         replies = []
         for at in range(0, len(lines), BATCH):
             part = lines[at : at + BATCH]
-            self.process.stdin.write("".join(text + "\n" for text in part).encode())
-            self.process.stdin.flush()
+            self.send(part)
             replies += [self.process.stdout.readline() for _ in part]
         return replies
+
+    def send(self, lines):
+        self.process.stdin.write("".join(text + "\n" for text in lines).encode())
+        self.process.stdin.flush()
 
     def end(self):
         self.process.stdin.close()
@@ -305,10 +302,7 @@ SECONDS = 120
 
 def commands(seed):
     """A load, vehicles that enter evenly, some advances of many steps and of one, and a count."""
-    nodes = [[link + 1, 1, 2] for link in range(LINKS)]
-    links = [[1_000 + link, link + 1, (link + 1) % LINKS + 1, 2, LENGTH, 5] for link in range(LINKS)]
-    turns = [[1_000 + link, lane, 1_000 + (link + 1) % LINKS, lane] for link in range(LINKS) for lane in (0, 1)]
-    yield shared.load(nodes, links, turns, dawdle=200, seed=seed)
+    yield ring_of(LINKS, LENGTH, lanes=2, first=1_000, dawdle=200, seed=seed)
     for vehicle in range(VEHICLES):
         plan = [1_000 + (vehicle + seed + onward) % LINKS for onward in range(6)]
         yield {"cmd": "enter", "plan": plan, "lane": vehicle // LINKS % 2, "depart": 0}
@@ -347,3 +341,154 @@ def main_short_sessions(argv: list[str]) -> int | None:
         equal = sum(pool.map(is_equal, range(args.runs)))
     told = f"{args.runs - equal:,} with other replies than one worker's"
     print(f"{args.runs:,} sessions with {WORKERS[0]} to {WORKERS[-1]} workers: {told}, none hung")
+
+
+ADVANCE, COUNT = '{"cmd":"advance","steps":1}', '{"cmd":"count"}'
+IN_MEMORY = "/dev/shm"
+
+
+@dataclass
+class Recorded:
+    """The lines that a session begins with, and the seconds that it goes on for."""
+
+    name: str
+    begin: list[str]
+    seconds: int
+
+    def text(self) -> bytes:
+        return "".join(f"{text}\n" for text in [*self.begin, *[ADVANCE] * self.seconds, COUNT]).encode()
+
+
+def imported(name: str, net: Path, routes: Path, seconds: int) -> Recorded:
+    """A session of SUMO's files, as streetsim-import makes its run, without what is sent later."""
+    with tempfile.TemporaryDirectory() as folder:
+        words = ["-o", "run.jsonl", "--map", "run.map.json"]
+        shared.run([shared.TOP / "tools/streetsim-import", net, "--routes", routes, *words], folder)
+        lines = Path(folder, "run.jsonl").read_text().splitlines()
+    return Recorded(name, [line for line in lines if '"at":' not in line], seconds)
+
+
+def corridor() -> Recorded:
+    return imported(
+        "corridor, 2,400 vehicles, 4,500 s", shared.CORRIDOR / "corridor.net.xml.gz",
+        shared.CORRIDOR / "corridor.rou.xml", 4_500,
+    )
+
+
+def sessions() -> Iterator[Recorded]:
+    """All sessions, each made when it is its turn."""
+    yield corridor()
+    samples = shared.SAMPLES
+    yield imported("sample grid, 5,400 s", samples / "grid.net.xml.gz", samples / "grid.rou.xml.gz", 5_400)
+    lines, chunks = grid(100_000)
+    yield Recorded("grid of 100,000, 1,000 s", lines, sum(chunks))
+
+
+def run_once(words: Sequence[str | Path], given: Path, told: Path) -> float:
+    """The processor seconds of a run from a file to a file."""
+    begin = shared.children_seconds()
+    with given.open("rb") as lines, told.open("wb") as replies:
+        subprocess.run(words, stdin=lines, stdout=replies, check=True)
+    return shared.children_seconds() - begin
+
+
+def check_record(record: Path, replies: list[bytes], seconds: int) -> None:
+    """Ends the script where a record has other blocks than a session's seconds, or others in the last than `count`."""
+    count, blocks, last = json.loads(replies[-1]), 0, None
+    with open_record(record) as file:
+        for last in RecordReader(file, record):
+            blocks += 1
+    there = int((last.spot != ARRIVED).sum()) if last else 0
+    found = blocks, there, last and last.arrived, last and last.taken
+    if found != (seconds, count["cells"] + count["buffers"], count["arrived"], count["taken"]):
+        sys.exit(f"{record}: {found} are not of {seconds} seconds with {count}")
+
+
+def measured(program: str, session: Recorded, times: int, folder: Path) -> str:
+    """The row of a session."""
+    given, told, same, record = (folder / name for name in ("lines", "replies", "replies-too", "record"))
+    given.write_bytes(session.text())
+    without, beside = [], []
+    for _ in range(times):
+        without.append(run_once([program, "--endless"], given, told))
+        beside.append(run_once([program, "--record", record], given, same))
+        if told.read_bytes() != same.read_bytes():
+            sys.exit(f"{session.name}: the replies are not the same")
+    check_record(record, told.read_bytes().splitlines(), session.seconds)
+    megabytes = record.stat().st_size / 1e6
+    record.unlink()
+    ratio = statistics.median(two / one for one, two in zip(without, beside, strict=True))
+    one, two = statistics.median(without), statistics.median(beside)
+    return f"| {session.name} | {one:.3f} | {two:.3f} | {ratio:.2f} | {megabytes:,.0f} |"
+
+
+class Followed(Program):
+    """A program whose record comes by a FIFO."""
+
+    def __init__(self, program: str, folder: Path) -> None:
+        fifo = folder / "fifo"
+        os.mkfifo(fifo)
+        self.record = open_record(fifo)
+        super().__init__("followed", [program, "--record", fifo])
+        self.reader = RecordReader(self.record, fifo)
+
+    def second(self) -> int:
+        """Makes a second and looks at its block: how many stand still. Then its reply is read."""
+        self.send([ADVANCE])
+        block = self.reader.read()
+        stand = int((block.speed == 0).sum())
+        self.process.stdout.readline()
+        return stand
+
+    def end(self) -> None:
+        super().end()
+        if self.process.returncode or self.reader.read() is not None:
+            sys.exit("the program failed, or wrote more than was asked for")
+        self.record.close()
+
+
+def lock_step(program: str, session: Recorded) -> tuple[float, float, float, int]:
+    """Seconds on the wall of all seconds in lock step, processor seconds of this script, of the program with its begin,
+    and how many vehicles stood still in a second, summed."""
+    with tempfile.TemporaryDirectory() as folder:
+        before = shared.children_seconds()
+        followed = Followed(program, Path(folder))
+        followed.ask(session.begin)
+        begin, own = time.perf_counter(), time.process_time()
+        stand = sum(followed.second() for _ in range(session.seconds))
+        wall, own = time.perf_counter() - begin, time.process_time() - own
+        followed.end()
+        return wall, own, shared.children_seconds() - before, stand
+
+
+def main_record(argv: list[str]) -> int | None:
+    """What the record of a run costs, and how fast a reader follows it.
+
+    Takes minutes; needs numpy.
+
+    Each session is made second by second, by one `advance` a line, from a file to a file, with `--endless` and with
+    `--record` in turn, N times each. Told are the processor seconds of the program, the median of the turns, and the
+    median of the ratios of each turn; the replies must be the same, byte for byte, and the record must have a block for
+    each second, whose vehicles are those that `count` tells at the end. Sessions: the corridor of the tools' walk, the
+    sample grid, and the grid of two-lane links with 100,000 vehicles of `steps`, whose record takes a gigabyte of the
+    folder.
+
+    Last the corridor goes in lock step: the record comes by a FIFO, each block is looked at by NumPy, and then the next
+    `advance` is sent. FOLDER, by default in memory, is where the records lie.
+    """
+    parser = shared.parser_of(main_record)
+    parser.add_argument("--only", default="")
+    parser.add_argument("--times", type=int, default=5)
+    parser.add_argument("--folder", type=Path, default=IN_MEMORY)
+    args = parser.parse_args(argv)
+    program = find_program(args.program)
+    shared.print_heads("Session | without, s | with the record, s | ratio | MB")
+    with tempfile.TemporaryDirectory(dir=args.folder) as folder:
+        for session in sessions():
+            if args.only in session.name:
+                print(measured(program, session, args.times, Path(folder)), flush=True)
+    if args.only in "lock step":
+        runs = [lock_step(program, corridor()) for _ in range(args.times)]
+        wall, own, theirs, _ = (statistics.median(column) for column in zip(*runs, strict=True))
+        print(f"\nlock step, 4,500 s of the corridor, {runs[0][3]:,} looks at vehicles that stand:")
+        print(f"{wall:.2f} s on the wall, {own:.2f} s of this script's processor, {theirs:.2f} s of the program's")

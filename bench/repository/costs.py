@@ -1,4 +1,4 @@
-"""What the gate costs, crate by crate."""
+"""What the gate costs, crate by crate; and what files take that are made to hurt."""
 
 import argparse
 import contextlib
@@ -13,6 +13,7 @@ import sys
 import threading
 import time
 from collections import Counter, defaultdict
+from itertools import groupby
 from pathlib import Path
 
 import shared
@@ -427,3 +428,30 @@ def main_costs(argv: list[str]) -> int | None:
         print("costs: this was not the gate, or it has not passed; docs/COSTS.md stays", file=sys.stderr)
         return 1
     return 0 if write(runs, words.gaps) else 1
+
+
+def main_hostile(argv: list[str]) -> int | None:
+    """Which hostile files are not refused, and what the others take.
+
+    Takes two minutes.
+
+    Each is read in a process of its own, and is to end within 10 s with status 2 and one line, with at most 512 MB more
+    than a small valid file takes at its peak. It prints the greatest of each kind.
+    """
+    made = shared.parser_of(main_hostile)
+    made.add_argument("kinds", nargs="*")
+    args = made.parse_args(argv)
+    words = [sys.executable, str(shared.TOP / "tools/tests/hostile.py"), *args.kinds]
+    environment = {**shared.with_sumo(), "STREETSIM_PROGRAM": str(args.program)}
+    done = subprocess.run(words, env=environment, stdout=subprocess.PIPE, text=True, check=True)
+    ill = 0
+    for kind, forms in groupby(map(json.loads, done.stdout.splitlines()), lambda one: one[0]):
+        (*_, valid), *forms = forms
+        slowest, largest = (max(forms, key=lambda one: one[at]) for at in (5, 6))
+        most = (largest[6] - valid) >> 20
+        print(f"{kind}: {len(forms)} files, slowest {slowest[5]:.1f} s ({slowest[1]}), {most} MB more ({largest[1]})")
+        for _, form, _, status, told, seconds, peak in forms:
+            if (status, told.count("\n")) != (2, 1) or seconds > 10 or peak - valid > 512 << 20:
+                ill += 1
+                print(f"  NOT REFUSED: {form}: status {status}, {seconds:.1f} s, {told[:200]!r}")
+    return 1 if ill else 0

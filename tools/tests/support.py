@@ -11,7 +11,7 @@ from pathlib import Path
 TOOLS = Path(__file__).resolve().parents[1]
 DATA = Path(__file__).resolve().parent / "data"
 SCENARIOS = Path("/usr/share/sumo/tools/sumolib/scenario/scenarios/RealWorld")
-sys.path.insert(0, str(TOOLS))
+sys.path[:0] = [str(TOOLS), str(TOOLS.parent / "dev")]
 
 BUILT = TOOLS.parent / "crates/street_sim/out/street_sim"
 # Tests that start no program, as ./test --quick runs them.

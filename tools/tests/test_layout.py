@@ -28,7 +28,7 @@ def long_lines(paths):
 
 class Layout(Case):
     def test_lines(self):
-        paths = [path for folder in ("tools", "check", "bench") for path in sorted((TOP / folder).rglob("*"))]
+        paths = [path for folder in ("tools", "check", "bench", "dev") for path in sorted((TOP / folder).rglob("*"))]
         self.assertEqual(list(long_lines([*paths, *(TOP / name for name in SCRIPTS)])), [])
 
     def test_any_is_rare(self):

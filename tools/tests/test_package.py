@@ -57,7 +57,7 @@ class Refused(GateCase):
         super().setUp()
         for name in ("package", "tools/packing.py", "tools/pyproject.toml"):
             shutil.copy(TOP / name, self.top / name)
-        shutil.copytree(TOOLS / "package", self.top / "tools/package", ignore=shutil.ignore_patterns("__pycache__"))
+        shutil.copytree(TOP / "dev/package", self.top / "dev/package", ignore=shutil.ignore_patterns("__pycache__"))
 
     def refusal(self):
         """The one line by which ./package says why it packs nothing."""

@@ -557,14 +557,14 @@ class Limits(ProgramCase):
 
     def test_the_script_at_the_top_starts_the_program_with_the_signal_ignored(self):
         top = self.folder / "clone"
-        for name in ("streetsim", "tools/built.py", "tools/unproved.py", "tools/streetsim/__init__.py"):
+        for name in ("streetsim", "dev/built.py", "dev/unproved.py", "tools/streetsim/__init__.py"):
             (top / name).parent.mkdir(parents=True, exist_ok=True)
             shutil.copy(TOP / name, top / name)
         shutil.copytree(TOP / "tools/streetsim/base", top / "tools/streetsim/base")
         (top / "crates.txt").write_text("street_sim:\n")
         (top / "crates/street_sim/out").mkdir(parents=True)
         shutil.copy(PROGRAM, top / "crates/street_sim/out/street_sim")
-        subprocess.run([sys.executable, "-c", "import built; built.mark()"], cwd=top / "tools", check=True)
+        subprocess.run([sys.executable, "-c", "import built; built.mark()"], cwd=top / "dev", check=True)
         _, status, said = self.limited(
             [], '{"cmd":"count"}\n' * 400, resource.RLIMIT_FSIZE, 4_096, program=top / "streetsim"
         )

@@ -10,7 +10,7 @@ from support import TOOLS, Case
 
 TOP = TOOLS.parent
 sys.path.insert(0, str(TOP / "bench"))
-from repository.tables import TABLES, grids, put, section  # noqa: E402
+from repository.pages import TABLES, grids, put, section  # noqa: E402
 from shared import all_commands, digests_of, loaded_by  # noqa: E402
 
 PAGE = """# Page
@@ -63,10 +63,11 @@ def main_unseen(argv: list[str]) -> int:
     """What is not."""
     return play.PLAY
 '''
+IT = "helper.TOOL\n"
 MADE = {
     "bench/program/both.py": SEEN,
     "bench/helper.py": 'TOOL = "tools/streetsim-run"\n',
-    "bench/other.py": "OTHER = 1\n",
+    "bench/other.py": 'TOOL = "tools/streetsim-run"\n',
     "tools/streetsim/__init__.py": "",
     "tools/streetsim/cli/__init__.py": "",
     "tools/streetsim/cli/run.py": "def main():\n    from ..base import low\n    return low\n",
@@ -134,7 +135,7 @@ class Sources(Case):
     def test_what_a_table_rests_on_changes_its_digests(self):
         for name, text, part in (
             ("bench/program/both.py", SEEN.replace("is not run", "is run"), "script"),
-            ("bench/helper.py", MADE["bench/helper.py"] + "MORE = 1\n", "script"),
+            ("bench/helper.py", 'TOOL = str("tools/streetsim-run")\n', "script"),
             ("tools/streetsim/base/low.py", "LOW = 2\n", "tools"),
             ("crates/street_base/specs/One.antt", "one = 2\n", "machine"),
         ):
@@ -142,7 +143,12 @@ class Sources(Case):
 
     def test_nothing_else_does(self):
         for name, text in (
-            ("bench/other.py", "OTHER = 2\n"),
+            ("bench/other.py", MADE["bench/other.py"] + "OTHER = 2\n"),
+            ("bench/helper.py", MADE["bench/helper.py"] + "MORE = 1\n"),
+            ("bench/helper.py", "from other import TOOL\n"),  # where it stands too
+            ("bench/helper.py", "import other\n" + MADE["bench/helper.py"]),
+            ("bench/program/both.py", SEEN.replace("KNOWN", "CALLED_OTHERWISE")),
+            ("bench/program/both.py", SEEN.replace("from helper import TOOL", "import helper").replace("TOOL\n", IT)),
             ("bench/program/both.py", SEEN.replace("return play.PLAY", "return play.PLAY + 1")),
             ("tools/streetsim/cli/play.py", "PLAY = 2\n"),
             ("tools/streetsim/base/low.py", '"""Other docs."""\n\nLOW = 1\n'),

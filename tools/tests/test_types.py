@@ -35,7 +35,7 @@ class Types(Case):
 
     def test_all_modules(self):
         """But tests and examples."""
-        paths = [path.relative_to(TOOLS) for path in TOOLS.rglob("*.py")]
+        paths = [path.relative_to(top) for top in (TOOLS, TOOLS.parent / "dev") for path in top.rglob("*.py")]
         modules = [path for path in paths if path.parts[0] not in ("tests", "examples")]
         self.assertEqual(self.checked(), f"Success: no issues found in {len(modules)} source files\n")
 

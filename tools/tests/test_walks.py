@@ -6,7 +6,7 @@ import unittest
 from support import PROGRAM, TOOLS, Case, needs_package, needs_simulator, needs_sumo_tools
 
 sys.path.insert(0, str(TOOLS.parent / "bench"))
-from repository import walks  # noqa: E402
+from repository import pages as walks  # noqa: E402
 
 try:
     import matplotlib

@@ -1,4 +1,4 @@
-"""The tables of the pages: which are of the present tools, making them again, and putting rows into pages.
+"""What pages show: tables, which of them are of the present tools, and putting rows into pages; and walks.
 
 A page may leave out columns and rows of what was printed; the heads of its columns are those of the measurement, in the
 same order. A row is known by its first cells, as many as tell the printed rows apart; an empty first cell is the one
@@ -7,17 +7,19 @@ above.
 
 import fcntl
 import json
+import os
 import re
 import shlex
 import subprocess
 import sys
+import time
 from collections.abc import Iterator, Sequence
 from dataclasses import dataclass, field
 from itertools import takewhile
 from pathlib import Path
 
 import shared
-from shared import PARTS, TOP, all_commands, digest, digests_of
+from shared import CORRIDOR, PARTS, TOP, all_commands, digest, digests_of
 
 RULE = re.compile(r"\s*\|[|\s:-]+\|\s*")
 Row = tuple[str, ...]
@@ -312,9 +314,10 @@ def main_tables(argv: list[str]) -> int | None:
     Takes seconds with --list, else the minutes that --list says.
 
     Each table has a measurement that prints its rows. What was printed is kept in the folder of --work with digests of
-    what it rests on: the functions and modules of the measurement, the modules of the tools that its commands load, and
-    the machine's definitions, all without docs and comments. So a call that was interrupted goes on with the next
-    table, and a table of other digests is made anew. Two calls may run side by side with one folder.
+    what it rests on: the functions and values that the measurement comes to, wherever they stand, the modules of the
+    tools that its commands load, and the machine's definitions, all without docs and comments. So a call that was
+    interrupted goes on with the next table, and a table of other digests is made anew. Two calls may run side by side
+    with one folder.
 
     --put writes rows that moved into the page, and the digests into tables.json; it says what the page does not have,
     and no digests are written where the page has rows that were not printed. --list runs nothing: it says of each table
@@ -335,3 +338,140 @@ def main_tables(argv: list[str]) -> int | None:
     if not (args.program and args.work):
         parser.error("PROGRAM and --work are needed, but for --list")
     return 1 if make_all(chosen(args.only), args.program, shared.work_of(args), args.put) else 0
+
+
+FIRST = ""  # what stands before the first heading of a page
+SECTIONS = {  # of pages of tools/: the headings of their walks
+    "../README": ("Quick start",),
+    "README": ("A walk of ten minutes",),
+    "WORKS": ("A walk of two minutes",),
+    "ACTUATED": (FIRST,),
+    "BUSES": (FIRST, "Lights that wait for buses"),
+    "SIGNALS": ("A walk of two minutes", "Plans by time of day", "A study"),
+    "ROUTES": ("A walk of two minutes",),
+    "COUNTS": ("A walk of five commands",),
+    "CALIBRATION": ("A walk",),
+}
+INSTALLING = "mkdir "  # a block with it is left out: all is run in the folder of this call
+APT = "apt install "  # a line with it is left out: the tools are there
+EXAMPLES = ("corridor", "town")  # whose files the walks take
+EQUAL = re.compile(r"each of the [\d,]+ numbers (on the page|in [\d,]+ files) is that of a run")
+
+
+def blocks(page, heading):
+    """The commands of a section, each with the lines that are shown after it."""
+    text = (TOP / f"tools/{page}.md").read_text(encoding="utf-8")
+    begin = rf"^## {re.escape(heading)}$" if heading else r"\A"
+    found = re.search(rf"{begin}(.*?)(?=^## |\Z)", text, re.MULTILINE | re.DOTALL)
+    if not found:
+        raise SystemExit(f"{page}.md: no section {heading!r}")
+    for body, shown in re.findall(r"^```sh\n(.*?)^```\n(?:\n```text\n(.*?)^```$)?", found[1], re.MULTILINE | re.DOTALL):
+        if INSTALLING not in body:
+            lines = [line for line in body.splitlines() if not line.startswith(APT)]
+            yield "\n".join(lines), shown.splitlines()
+
+
+def lacking(shown, printed):
+    """The lines of a page that are not printed, in order."""
+    place = 0
+    for line in shown:
+        if line == "..":
+            continue
+        wanted = re.compile(".*".join(map(re.escape, line.split(".."))))
+        found = next((at for at in range(place, len(printed)) if wanted.fullmatch(printed[at])), None)
+        if found is None:
+            yield line
+        else:
+            place = found + 1
+
+
+def runner(folder, surroundings):
+    """Runs commands of the shell in a folder, and gives how they ended with all that they printed."""
+    joined = {"stdout": subprocess.PIPE, "stderr": subprocess.STDOUT, "text": True, "check": False}
+    return lambda body: subprocess.run(["bash", "-ec", body], cwd=folder, env=surroundings, **joined)
+
+
+def walk(page, heading, runs):
+    """Runs a section; gives how much is other than the page says."""
+    wrong = 0
+    for body, shown in blocks(page, heading):
+        done = runs(body)
+        printed = done.stdout.replace("\r", "\n").splitlines()
+        missing = list(lacking(shown, printed))
+        status = f", status {done.returncode}" if done.returncode else ""
+        print(f"{page}.md: {body.splitlines()[0]}: {'OTHER' if missing else 'as shown'}{status}", flush=True)
+        if missing or done.returncode:
+            wrong += 1
+            told = [*(f"  lacks: {line}" for line in missing), *(f"  prints: {line}" for line in printed[-12:])]
+            print(*told, sep="\n", flush=True)
+    return wrong
+
+
+def surroundings_of(args):
+    """The variables with which commands run: this environment's and the tools here, or the installed ones alone; lines
+    come in the order in which a terminal shows them."""
+    if args.installed:
+        own = {name: value for name, value in os.environ.items() if not name.startswith(("STREETSIM", "SUMO_HOME"))}
+    else:
+        path = f"{TOP / 'tools'}:{os.environ['PATH']}"
+        own = {**shared.with_sumo(), "PATH": path, "STREETSIM_PROGRAM": args.program}
+    return {**own, "PYTHONUNBUFFERED": "1"}
+
+
+def to_check(folder, bodies, begin):
+    """The commands that check what the commands of a page made since a moment: of each page of streetsim-report, which
+    is made again with a seal where it has none, and of each folder of a run or a study."""
+    for line in (line for body in bodies for line in body.replace("\\\n", " ").splitlines()):
+        if found := re.match(r"streetsim-report .* -o (\S+)$", line):
+            yield f"{'true' if '--sealed' in line else f'{line} --sealed'}; streetsim-check {found[1]}"
+    for top in sorted(path for path in folder.iterdir() if path.is_dir() and path.stat().st_mtime >= begin):
+        if (top / "made.json").exists():
+            study = json.loads((top / "made.json").read_text())["study"]  # as seen from the folder of the study
+            yield f"streetsim-check {top.name} --study {top.name}/{study}"
+        elif (top / "run.jsonl.gz").exists():
+            yield f"streetsim-check {top.name}"
+
+
+def checked(page, folder, runs, begin):
+    """Checks what the walks of a page made since a moment; gives how many are other."""
+    bodies, wrong = [body for heading in SECTIONS[page] for body, _ in blocks(page, heading)], 0
+    for body in to_check(folder, bodies, begin):
+        done = runs(body)
+        last = done.stdout.splitlines()[-1:]
+        equal = done.returncode == 0 and last and EQUAL.search(last[0])
+        wrong += not equal
+        print(f"{page}.md: {body.split('; ')[-1]}: {'equal' if equal else 'OTHER: ' + done.stdout}", flush=True)
+    return wrong
+
+
+def main_walks(argv: list[str]) -> int | None:
+    """Whether the walks print what the pages show, and checks of what they made say equal.
+
+    Takes minutes; needs sumo.
+
+    The commands of a page's sections are run in one folder, in the page's order and with the tools as they are here, or
+    with those that are installed; of the text that a page shows right after a command each line must be printed, in
+    that order ('..' stands for any line, and within one for any text). The status is 1 where a line is lacking, a
+    command fails, or a check says other.
+    """
+    parser = shared.parser_of(main_walks, work=True, program=False)
+    parser.add_argument("program", metavar="PROGRAM", nargs="?", type=shared.found_program)
+    parser.add_argument("--installed", action="store_true", help="run the installed commands, in place of these")
+    shared.add_some(parser, "--only", SECTIONS)
+    args = parser.parse_args(argv)
+    if bool(args.program) == args.installed:
+        parser.error("PROGRAM, or --installed")
+    folder = shared.work_of(args)
+    surroundings = surroundings_of(args)
+    for name in EXAMPLES:
+        for path in (CORRIDOR.parent / name).iterdir():
+            (folder / path.name).unlink(missing_ok=True)
+        subprocess.run(["streetsim-example", name, "--out", "."], cwd=folder, env=surroundings, check=True)
+    runs = runner(folder, surroundings)
+    wrong = 0
+    for page in args.only:
+        begin = time.time()
+        wrong += sum(walk(page, heading, runs) for heading in SECTIONS[page]) + checked(page, folder, runs, begin)
+    good = "each walk prints what its page says, and what it makes is checked to be equal"
+    print(good if not wrong else f"{wrong} commands print other lines, or fail, or are not equal")
+    return 1 if wrong else 0

@@ -126,7 +126,7 @@ def page(found: Record, version: str, commit: str) -> str:
         f"Functions proved: {found['functions']:,}, in {found['crates'] - lacking} crates{uncounted}",
         *([f"Edits (wrong bodies) refused: {edits[1]}"] if edits else []),
         "",
-        f"SHA-256 of the program's sources, as tools/built.py sums them up: {found['sources']}",
+        f"SHA-256 of the program's sources, as dev/built.py sums them up: {found['sources']}",
         *("", FILES),
         *(f"{total}  {name}" for name, total in found["files"].items()),
     ]

@@ -1,6 +1,8 @@
-"""What tests notice: changes of single places in the tools, and hostile files."""
+"""Trials in copies: package and wheel on a fresh Debian without a network, and changes that no test of the tools
+notices."""
 
 import ast
+import contextlib
 import json
 import os
 import random
@@ -13,12 +15,226 @@ import tempfile
 import time
 from concurrent.futures import ThreadPoolExecutor
 from dataclasses import dataclass
-from itertools import groupby
 from pathlib import Path
 
 import shared
+from repository.pages import EXAMPLES, SECTIONS, walk
+from shared import TOP
 
-COPIED = ("tools", "docs", "examples", "debian", "bench", "README.md", "SECURITY.md", "CHANGELOG.md", "CONTRIBUTING.md")
+INCLUDED = "python3,python3-matplotlib,python3-scipy,python3-venv,sumo,sumo-tools,man-db,bash-completion,curl"
+MIRROR = "http://deb.debian.org/debian"
+SYSTEM_PATH = "/usr/sbin:/usr/bin:/sbin:/bin"
+VENV, WALK = "/root/streetsim-tools", "/root/streetsim-walk"
+# Folders in which other programs keep notes of their own.
+NOTES = {"dev", "proc", "root", "run", "sys", "tmp", "var/cache", "var/lib/apt", "var/lib/dpkg", "var/log"}
+SESSION = """
+streetsim-example sessions
+streetsim < sessions/one-vehicle.jsonl | cmp - sessions/one-vehicle.out
+test "$(streetsim --version)" = "streetsim {version}"
+! command -v gcc cc rt
+! timeout 5 curl -sS http://deb.debian.org/
+"""
+SUMS = "cd {prefix}; grep -E '^[0-9a-f]{{64}}  ' share/doc/streetsim/PROVED | sha256sum -c --strict"
+MANUAL = """
+man -w streetsim-run | grep -x {prefix}/share/man/man1/streetsim-run.1.*
+MANPAGER=cat man streetsim-run | grep -q 'seconds of a count (default 900)'
+"""
+COMPLETION = """
+{load}
+complete -p streetsim-run streetsim-plot streetsim
+COMP_WORDS=(streetsim-run --jun); COMP_CWORD=1; _streetsim streetsim-run --jun; test "${{COMPREPLY[*]}}" = --junctions
+COMP_WORDS=(streetsim-plot cor); COMP_CWORD=1; _streetsim streetsim-plot cor; test "${{COMPREPLY[*]}}" = corridor
+"""
+OPEN = """
+streetsim-example town --out town
+streetsim-open town | tail -1 | grep -x 'town.html: .* bytes'
+grep -c 'id="player"' town.html
+for tool in /usr/bin/streetsim-*; do test "$($tool --version)" = "${{tool##*/}} {version}"; done
+"""
+GAME = "/usr/share/sumo/tools/game"  # of sumo-tools
+OSM = """netconvert --osm-files osm.osm.xml --output.street-names --geometry.remove --junctions.join -o osm.net.xml"""
+PAGES = {  # what is opened by streetsim-open: what is done before, its words, seconds on two processors at most
+    "the corridor": ("streetsim-example corridor", "corridor/corridor.net.xml.gz corridor/corridor.rou.xml", 30),
+    "the town": ("streetsim-example town", "town", 60),
+    "game/cross": ("true", f"{GAME}/cross.sumocfg", 30),
+    "game/ramp": ("true", f"{GAME}/ramp.sumocfg", 30),
+    "a map of OpenStreetMap": (f"SUMO_HOME=/usr/share/sumo {OSM}", "osm.net.xml --vehicles 3000", 30),
+}
+LIVE = """
+streetsim-live zero.jsonl --map zero.map.json --no-open > live.txt &
+for _ in $(seq 100); do grep -q ^http live.txt && break; sleep 0.2; done
+address=$(head -1 live.txt)
+curl -sS --fail "$address" | grep -c '<canvas'
+curl -sS --fail --data-binary '' "${address}page/begin" | grep -aq '"clock":0'
+curl -sS --fail --data-binary '{"steps":10}' "${address}page/step" | grep -aq '"clock":10'
+kill $!
+"""
+
+
+class Machine:
+    """A folder that stands for a machine, without any network but its own."""
+
+    def __init__(self, root):
+        self.root, self.path, self.faults = root, SYSTEM_PATH, 0
+
+    def runs(self, body, folder=WALK):
+        """Runs commands of the shell, and gives how they ended with all that they printed."""
+        place = self.root / folder.lstrip("/")
+        place.mkdir(parents=True, exist_ok=True)
+        inside = f"ip link set lo up; exec chroot {self.root} bash -ec 'cd \"$0\"; eval \"$1\"' {folder} \"$0\""
+        apart = ["unshare", "--net", "--mount", "--pid", "--fork", f"--mount-proc={self.root}/proc"]
+        kept = {"PATH": self.path, "HOME": "/root", "LC_ALL": "C.UTF-8", "DEBIAN_FRONTEND": "noninteractive"}
+        kept["PYTHONUNBUFFERED"] = "1"  # lines come as a terminal shows them
+        joined = {"stdout": subprocess.PIPE, "stderr": subprocess.STDOUT, "text": True, "errors": "replace"}
+        return subprocess.run([*apart, "bash", "-c", inside, body], env=kept, check=False, **joined)
+
+    def tries(self, what, body, folder=WALK):
+        """Runs commands that have to pass, and says whether they do."""
+        done = self.runs(body, folder)
+        print(f"{what}: {f'status {done.returncode}' if done.returncode else 'well'}", flush=True)
+        if done.returncode:
+            self.faults += 1
+            print(*(f"  {line}" for line in done.stdout.splitlines()[-12:]), sep="\n", flush=True)
+
+    def files(self):
+        """The files of the machine, but for those in which programs keep notes."""
+        found = set()
+        for at, folders, names in os.walk(self.root):
+            inside = Path(at).relative_to(self.root)
+            folders[:] = [name for name in folders if str(inside / name) not in NOTES]
+            found.update(str(inside / name) for name in [*folders, *names])
+        noted = (self.root / "var/lib/dpkg/info").glob("streetsim*")
+        return found | {str(path.relative_to(self.root)) for path in noted}
+
+    def leaves_nothing(self, before):
+        self.tells_left(self.files() - before)
+
+    def tells_left(self, paths):
+        left = sorted(paths)
+        print(f"what is left of it: {', '.join(left[:5]) or 'nothing'}", flush=True)
+        self.faults += bool(left)
+
+
+def osm_town():
+    """A town as OpenStreetMap has it: four streets across six, with names, and lights where they cross inside."""
+    rows, columns = range(4), range(6)
+    light, street = '<tag k="highway" v="traffic_signals"/>', '<tag k="highway" v="secondary"/><tag k="lanes" v="2"/>'
+    nodes = [
+        f'<node id="{6 * row + column + 1}" version="1" lat="{52.5 + 0.0018 * row:.4f}" '
+        f'lon="{13.4 + 0.003 * column:.3f}">{light if row in (1, 2) and 0 < column < 5 else ""}</node>'
+        for row in rows for column in columns
+    ]
+    streets = [[6 * row + column + 1 for column in columns] for row in rows]
+    streets += [[6 * row + column + 1 for row in rows] for column in columns]
+    ways = [
+        f'<way id="{number}" version="1">{"".join(f"""<nd ref="{node}"/>""" for node in at)}{street}'
+        f'<tag k="name" v="{number}. Street"/></way>'
+        for number, at in enumerate(streets, 101)
+    ]
+    return "\n".join(['<osm version="0.6">', *nodes, *ways, "</osm>"])
+
+
+def opened(machine):
+    """Opens what PAGES has, each on two processors, and says how long each page takes."""
+    folder = f"{WALK}/pages"
+    machine.tries("a folder for pages", "true", folder)
+    (machine.root / folder.lstrip("/") / "osm.osm.xml").write_text(osm_town(), encoding="utf-8")
+    for name, (before, words, most) in PAGES.items():
+        done = machine.runs(f"{before}\nTIMEFORMAT='took %R %U %S'\ntime taskset -c 0,1 streetsim-open {words}", folder)
+        took = re.search(r"took ([\d.]+) ([\d.]+) ([\d.]+)", done.stdout)
+        page = re.search(r"^\S+\.html: [\d,]+ bytes$", done.stdout, re.MULTILINE)
+        if done.returncode or not took or not page or float(took[1]) > most:
+            machine.faults += 1
+            print(*(f"  {line}" for line in done.stdout.splitlines()[-12:]), sep="\n", flush=True)
+        wall, *cpu = map(float, took.groups() if took else (0, 0, 0))
+        told = page[0] if page else "no page"
+        print(f"{name}: {told}, {wall:.1f} s (at most {most}), {sum(cpu):.1f} s of processor", flush=True)
+
+
+def used(machine, prefix, load, version, pages):
+    """All that a user does with what is installed below a prefix, the walks of some pages among it."""
+    machine.tries("the sums of PROVED", SUMS.format(prefix=prefix), prefix)
+    machine.tries("README's first session", SESSION.format(version=version), f"{WALK}{prefix}")
+    folder = f"{WALK}{prefix}/walk"
+    files = "\n".join(f"streetsim-example {name} --out ." for name in EXAMPLES)
+    machine.tries("the walks' files", files, folder)
+    for page in pages:
+        for heading in SECTIONS[page]:
+            machine.faults += walk(page, heading, lambda body: machine.runs(body, folder))
+    machine.tries("a page in one command", OPEN.format(version=version).replace("/usr", prefix), folder)
+    opened(machine)
+    machine.tries("a manual page", MANUAL.format(prefix=prefix))
+    machine.tries("completion", COMPLETION.format(load=load))
+    machine.tries("a live page", LIVE, folder)
+
+
+def package(machine, name, version, pages):
+    """The trial of Debian's package."""
+    before = machine.files()
+    machine.tries(f"apt-get install ./{name}", f"apt-get install -qy ./{name}", "/root")
+    load = "set +eu; . /usr/share/bash-completion/bash_completion; _completion_loader streetsim-run; "
+    load += "_completion_loader streetsim-plot; _completion_loader streetsim; set -e"
+    used(machine, "/usr", load, version, pages)
+    machine.tries("apt-get purge streetsim", "apt-get purge -qy streetsim", "/root")
+    machine.leaves_nothing(before)
+
+
+def wheel(machine, name, version):
+    """The trial of the wheel."""
+    machine.tries("an environment", f"python3 -m venv --system-site-packages {VENV}", "/root")
+    machine.path = f"{VENV}/bin:{SYSTEM_PATH}"
+    in_venv = machine.root / VENV.lstrip("/")
+    before = {path for path in in_venv.rglob("*") if path.suffix != ".pyc" and path.name != "__pycache__"}
+    machine.tries(f"pip install {name}", f"pip install -q --no-index ./{name}", "/root")
+    load = f". {VENV}/share/bash-completion/completions/streetsim"
+    used(machine, VENV, load, version, ("../README", "README"))
+    machine.tries("pip uninstall", "pip uninstall -qy streetsim-tools", "/root")
+    left = {path for path in in_venv.rglob("*") if path.is_file() and path.suffix != ".pyc"} - before
+    machine.tells_left(map(str, left))
+
+
+def main_installed(argv: list[str]) -> int | None:
+    """Whether package and wheel work on a fresh Debian 12 without a network.
+
+    Takes five minutes, the first time ten; needs root, mmdebstrap.
+
+    FILE is the archive of a Debian 12 with python3, matplotlib, scipy and sumo, and neither the kit nor a compiler:
+    where it is not there, Debian's mmdebstrap makes it, which takes the network and some minutes. In a copy of it, cut
+    off from every network, first the package is installed and then, once that is purged and has left nothing, the wheel
+    in an environment. Of each: the sums of PROVED, README's first session, walks with what they print (of the package
+    all, or those of --walks; of the wheel those of both README), a page in one command, pages of five networks with the
+    seconds that each takes on two processors, a manual page, completion, and a live page that answers. The status is 1
+    where anything is other than it should be.
+    """
+    parser = shared.parser_of(main_installed, program=False)
+    parser.add_argument("folder", metavar="FOLDER", type=Path)
+    parser.add_argument("--base", metavar="FILE", type=Path, required=True)
+    parser.add_argument("--walks", metavar="PAGES", default=",".join(SECTIONS), help="pages, with commas between")
+    args = parser.parse_args(argv)
+    begun = time.monotonic()
+    if not args.base.exists():
+        args.base.parent.mkdir(parents=True, exist_ok=True)
+        words = ["mmdebstrap", "--quiet", "--variant=minbase", f"--include={INCLUDED}", "bookworm", args.base, MIRROR]
+        subprocess.run(words, check=True)
+        print(f"{args.base} is made, {(time.monotonic() - begun) / 60:.1f} min", flush=True)
+        begun = time.monotonic()
+    subprocess.run(["sha256sum", "--quiet", "-c", "SHA256SUMS"], cwd=args.folder, check=True)
+    [deb], [whl] = args.folder.glob("streetsim_*_amd64.deb"), args.folder.glob("streetsim_tools-*.whl")
+    version = deb.name.split("_")[1]
+    with tempfile.TemporaryDirectory(prefix="streetsim-installed-", dir=args.base.parent) as root:
+        subprocess.run(["tar", "-xpf", args.base.resolve(), "-C", root], check=True)
+        os.chmod(root, 0o755)
+        machine = Machine(Path(root).resolve())
+        subprocess.run(["cp", deb, whl, machine.root / "root"], check=True)
+        package(machine, deb.name, version, args.walks.split(","))
+        wheel(machine, whl.name, version)
+    told = f"{machine.faults} things are other than they should be" if machine.faults else "all is as it should be"
+    print(f"{told}, {(time.monotonic() - begun) / 60:.1f} min ({TOP.name}, Debian 12, no network)")
+    return 1 if machine.faults else 0
+
+
+COPIED = ("tools", "docs", "examples", "debian", "bench", "dev")
+COPIED += ("README.md", "SECURITY.md", "CHANGELOG.md", "CONTRIBUTING.md")
 RULES = """[run]
 parallel = True
 data_file = {folder}/data
@@ -82,10 +298,8 @@ def tested(top, names, most, more=None):
             except subprocess.TimeoutExpired:
                 status = None
             finally:
-                try:  # also what the tests left behind
+                with contextlib.suppress(ProcessLookupError):  # also what the tests left behind
                     os.killpg(process.pid, signal.SIGKILL)
-                except ProcessLookupError:
-                    pass
         told.seek(0)
         found = re.search(r"^(?:FAIL|ERROR): \S+ \((\S+)\)", told.read(), re.MULTILINE)
     return () if status == 0 else (found[1],) if found and found[1].count(".") == 2 else tuple(names)
@@ -100,21 +314,15 @@ def noted(top, module, most):
     (folder / "start").mkdir(parents=True)
     (folder / "start/sitecustomize.py").write_text(STARTED)
     (folder / "rules").write_text(RULES.format(folder=folder, top=top))
-    more = {
-        "COVERAGE_PROCESS_START": str(folder / "rules"),
-        "PYTHONPATH": str(folder / "start"),
-        "TESTED_TIMES": str(folder / "times"),
-    }
+    more = {"COVERAGE_PROCESS_START": "rules", "PYTHONPATH": "start", "TESTED_TIMES": "times"}
     begin = time.monotonic()
-    tested(top, [module], most, more)
+    tested(top, [module], most, {name: str(folder / file) for name, file in more.items()})
     whole = CoverageData(str(folder / "whole"))
     for part in folder.glob("data.*"):
         one = CoverageData(str(part))
-        try:
+        with contextlib.suppress(CoverageException):  # of a process that was ended while it wrote
             one.read()
             whole.update(one)
-        except CoverageException:  # of a process that was ended while it wrote
-            pass
         part.unlink()
     whole.write()
     times = {}
@@ -153,11 +361,8 @@ def runs_of(names, seconds):
     classes = {}
     for test in sorted(tests):
         classes.setdefault(test.rpartition(".")[0], []).append(test)
-    found = [
-        (seconds.get(kind, 0) + sum(seconds[test] for test in chosen), sorted(chosen, key=seconds.__getitem__))
-        for kind, chosen in classes.items()
-    ]
-    return sorted(found)
+    whole = {kind: seconds.get(kind, 0) + sum(seconds[test] for test in chosen) for kind, chosen in classes.items()}
+    return sorted((whole[kind], sorted(chosen, key=seconds.__getitem__)) for kind, chosen in classes.items())
 
 
 OTHER = {ast.Lt: "<=", ast.LtE: "<", ast.Gt: ">=", ast.GtE: ">", ast.Eq: "!=", ast.NotEq: "==", ast.In: "not in",
@@ -182,11 +387,9 @@ def places(path):
 
 def stands(text, node):
     """Whether a node is what its place has: places within texts with values are not."""
-    try:
-        found = ast.parse(text).body[0]
-    except (SyntaxError, IndexError):
-        return False
-    return ast.dump(found) in (ast.dump(node), ast.dump(ast.Expr(node)))
+    with contextlib.suppress(SyntaxError, IndexError):
+        return ast.dump(ast.parse(text).body[0]) in (ast.dump(node), ast.dump(ast.Expr(node)))
+    return False
 
 
 def other(node):
@@ -223,7 +426,6 @@ class Change:
 
     @property
     def tests(self):
-        """How many tests pass its line."""
         return sum(len(tests) for _, tests in self.runs)
 
     def told(self, top):
@@ -259,23 +461,21 @@ class Change:
         return None
 
 
-def functions(top, lines, below):
+def functions(top, lines):
     """{(file, line of a function): its places that a test passes, with their tests}."""
     found = {}
     for path in sorted((top / "tools/streetsim").rglob("*.py")):
         name = os.path.relpath(path, top / "tools/streetsim")
-        if not below or name.split("/")[0] in below.split(","):
-            for function, place, text in places(path):
-                if names := lines.get(name, {}).get(place[0]):
-                    found.setdefault((name, function), []).append((place, text, names))
+        for function, place, text in places(path):
+            if names := lines.get(name, {}).get(place[0]):
+                found.setdefault((name, function), []).append((place, text, names))
     return found
 
 
 def keep(path, entries):
     """Adds changes to a list of them, but those that it has."""
     known = json.loads(path.read_text()) if path.exists() else []
-    had = [one[:3] for one in known]
-    new = [entry for entry in entries if entry[:3] not in had]
+    new = [entry for entry in entries if entry[:3] not in [one[:3] for one in known]]
     path.write_text("[\n" + ",\n".join(map(json.dumps, sorted(known + new))) + "\n]\n")
 
 
@@ -296,7 +496,6 @@ def main_mutants(argv: list[str]) -> int | None:
     parser.add_argument("count", metavar="N", type=int)
     parser.add_argument("--seed", type=int, default=1)
     parser.add_argument("--tests", default="", help="modules, with commas between")
-    parser.add_argument("--below", default="", help="packages, with commas between")
     parser.add_argument("--jobs", type=int, default=2)
     parser.add_argument("--longest", type=float, default=240)
     parser.add_argument("--most", type=float, default=300)
@@ -307,7 +506,7 @@ def main_mutants(argv: list[str]) -> int | None:
     all_tests = sorted((path.stem for path in (tops[0] / "tools/tests").glob("test_*.py")))
     modules = args.tests.split(",") if args.tests else all_tests
     seconds, lines = map_of(tops[0], modules, args.jobs, args.longest)
-    drawn = functions(tops[0], lines, args.below)
+    drawn = functions(tops[0], lines)
     chance = random.Random(args.seed)
     work = []
     for name, function in chance.sample(sorted(drawn), min(args.count, len(drawn))):
@@ -329,30 +528,3 @@ def main_mutants(argv: list[str]) -> int | None:
     print(*sorted(change.told(tops[0]) for change in lived), sep="\n")
     if args.keep:
         keep(args.keep, [entry for change in work if (entry := change.entry(tops[0]))])
-
-
-def main_hostile(argv: list[str]) -> int | None:
-    """Which hostile files are not refused, and what the others take.
-
-    Takes two minutes.
-
-    Each is read in a process of its own, and is to end within 10 s with status 2 and one line, with at most 512 MB more
-    than a small valid file takes at its peak. It prints the greatest of each kind.
-    """
-    made = shared.parser_of(main_hostile)
-    made.add_argument("kinds", nargs="*")
-    args = made.parse_args(argv)
-    words = [sys.executable, str(shared.TOP / "tools/tests/hostile.py"), *args.kinds]
-    environment = {**shared.with_sumo(), "STREETSIM_PROGRAM": str(args.program)}
-    done = subprocess.run(words, env=environment, stdout=subprocess.PIPE, text=True, check=True)
-    ill = 0
-    for kind, forms in groupby(map(json.loads, done.stdout.splitlines()), lambda one: one[0]):
-        (*_, valid), *forms = forms
-        slowest, largest = (max(forms, key=lambda one: one[at]) for at in (5, 6))
-        most = (largest[6] - valid) >> 20
-        print(f"{kind}: {len(forms)} files, slowest {slowest[5]:.1f} s ({slowest[1]}), {most} MB more ({largest[1]})")
-        for _, form, _, status, told, seconds, peak in forms:
-            if (status, told.count("\n")) != (2, 1) or seconds > 10 or peak - valid > 512 << 20:
-                ill += 1
-                print(f"  NOT REFUSED: {form}: status {status}, {seconds:.1f} s, {told[:200]!r}")
-    return 1 if ill else 0
