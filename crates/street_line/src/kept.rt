@@ -1,5 +1,5 @@
-//! Lines served in memory: their replies, and what is to be kept of them; nothing is written. A line whose command changed something
-//! is kept as it came. `kept_runs.rt` calls it for the bytes of each read.
+//! Lines served in memory: their replies, and what is to be kept of them; nothing is written. A line whose command was done, and
+//! may change the traffic, is kept as it came. `kept_runs.rt` calls it for the bytes of each read.
 ghost use Rattle.std.specs.Prelude.{◌≡◌, ◌<◌, ◌^◌, ◌++◌, [], List, ℕ, IfOk, OnOk, length};
 ghost use Rattle.street_stream.specs.Lines.{cut, if_any};
 ghost use Rattle.street_stream.specs.OpenTexts.{IsOpen};
@@ -58,8 +58,8 @@ fn is_short(reply: &Reply) -> bool
     }
 }
 
-/// Puts a line, and LF, behind the entries where its command changed something, as its reply tells; of any other line nothing is
-/// kept.
+/// Puts a line, and LF, behind the entries where its command was done and may change the traffic, as its reply tells; of any
+/// other line nothing is kept.
 ///
 /// # Errors
 ///

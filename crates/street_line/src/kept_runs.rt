@@ -121,8 +121,8 @@ fn serve_and_keep_last<S: Service, L: WriteAheadLog, W: Write>(
     }
 }
 
-/// Serves the lines of a text, in order and each once. What is kept of the lines that end in a read, each that changed something as
-/// it came, is in the log, and stays, before any reply to them goes out; and all replies are passed on before the next read.
+/// Serves the lines of a text, in order and each once. What is kept of the lines that end in a read, each that was done and may
+/// change the traffic, as it came, is in the log, and stays, before any reply to them goes out; and all replies are passed on before the next read.
 ///
 /// # Errors
 ///

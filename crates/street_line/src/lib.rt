@@ -6,8 +6,8 @@
 //! one session alone, what is served is `AloneServes` there. Scripts are sessions on threads of their own ([`run_scripts`]).
 //!
 //! Without a desk, and with no end of calls, an engine serves ([`run_engine`], or [`run_team`] for several workers). A session that
-//! is kept ([`run_kept`]) writes each line that changed something into a log before its reply goes out, and goes on from such
-//! lines ([`redo_log`]): `specs/Kept`, `specs/Redo`. Both, over a file ([`serve_on`], by an engine [`keep_engine`]):
+//! is kept ([`run_kept`]) writes each line that was done, and may change the traffic, into a log before its reply goes out, and
+//! goes on from such lines ([`redo_log`]): `specs/Kept`, `specs/Redo`. Both, over a file ([`serve_on`], by an engine [`keep_engine`]):
 //! `specs/KeptFiles`.
 //!
 //! What a line says, and what a reply's line is, stands in `street_text`, and what a stream counts in `street_stream`; their

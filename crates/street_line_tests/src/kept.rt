@@ -223,7 +223,7 @@ fn clock_after(lines: u128) -> u64 {
     }
 }
 
-/// How many lines that changed something were answered by these replies.
+/// How many lines that were done, and may change the traffic, were answered by these replies.
 fn changes_in(replies: &[u8]) -> u128 {
     let mut count = 0u128;
     for line in replies.split(|byte| *byte == b'\n') {

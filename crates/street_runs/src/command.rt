@@ -97,7 +97,7 @@ fn arguments<'a>(alloc: Global) -> Result<Vec<Arg<'a>>, AllocError>
             alloc,
             "keep",
             "FILE",
-            "Does the lines of FILE first, and keeps each line that changes something there before its reply goes out; \
+            "Does the lines of FILE first, and keeps there each line that was done and may change the traffic, before its reply goes out; \
              without an end of calls, and with neither scripts, --calls nor tapes",
         ),
         flag(

@@ -1,9 +1,10 @@
 """The files of a page's session that is kept, so that the page goes on after it, the bridge or the program has ended.
 
-FILE has the lines that changed something, which the program keeps. FILE.page has what the page alone knows, its
-changes in words, one note a line, each written before the lines that it is of are sent. FILE.new is a session in the
-making, as all is run anew; it takes FILE's place when it is whole. What was kept is run anew by a program that keeps
-nothing, from the changes and the clock, so that all is known that was; the program that keeps goes on from there."""
+FILE has the lines that were done and may change the traffic, which the program keeps. FILE.page has what the page
+alone knows, its changes in words, one note a line, each written before the lines that it is of are sent. FILE.new is a
+session in the making, as all is run anew; it takes FILE's place when it is whole. What was kept is run anew by a
+program that keeps nothing, from the changes and the clock, so that all is known that was; the program that keeps goes
+on from there."""
 import fcntl
 import hashlib
 import json
