@@ -318,13 +318,13 @@ class Network:
 
     def over_limits(self) -> Iterator[str]:
         """The limits of nodes, links, turns and cells that this network is above, a text each; none where it fits."""
-        for what, count, most in (
+        for noun, count, limit in (
             ("nodes", len(self.nodes), limits.NODES),
             ("links", len(self.links), limits.LINKS),
             ("turns", len(self.turns), limits.TURNS),
         ):
-            if count > most:
-                yield f"{count:,} {what}, at most {most:,}"
+            if count > limit:
+                yield f"{count:,} {noun}, at most {limit:,}"
         if long := [link.edge for link in self.links if link.cells > limits.CELLS]:
             yield f"{len(long)} links above {limits.CELLS:,} cells of {limits.CELL_METRES} m: edges {first_few(long)}"
 
