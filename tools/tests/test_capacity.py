@@ -204,7 +204,8 @@ class OneIndex(Lanes):
         """What is shown of the green from second 0 on, of (seconds, parts, seconds before them) of each movement."""
         made = [self.movement(("w", "left"), ("w", 0), 100, [0]) for _ in those]
         for one, (seconds, parts, lead) in zip(made, those, strict=True):
-            one.shown, one.parts, one.leads, one.stops = {0: seconds}, parts, {0: lead}, dict.fromkeys(stops, 9)
+            one.shown_seconds, one.shown_parts = {0: seconds}, parts
+            one.leads, one.stops = {0: lead}, dict.fromkeys(stops, 9)
             one.foes = made if foes else []
         return shown_by_gaps(dict(enumerate(made)))[0][0]
 

@@ -114,7 +114,7 @@ class Routing(unittest.TestCase):
 
     def test_a_trip_of_one_edge(self):
         router = Router(GRAPH, costs_with({way("a"): [20] * 4}))
-        found = router.found(Wish(7, 0, 0, 50.0, (0,)))
+        found = router.best_path(Wish(7, 0, 0, 50.0, (0,)))
         self.assertEqual((found.path, found.least, found.own), ((0,), 20, 20))
 
     def test_straight_lines_between_slices(self):
@@ -209,7 +209,7 @@ class Written(Case):
         town = read_town(self.write("x.net.xml", STREET), [], Options(classes=("passenger", "bus")), report)
         files = [self.write("r.rou.xml", text)]
         trips = read_trips(files, town.net, town.graph, town.types, town.options, report)
-        for trip in trips.all:
+        for trip in trips.trips:
             trip.path = tuple(town.graph.number[name] for name in "abc")
         write_routes(str(self.folder / "out.xml"), trips, town.graph)
         read = {one.get("id"): one for one in ElementTree.parse(self.folder / "out.xml").iter("vehicle")}

@@ -47,7 +47,7 @@ def crossing_seconds(connection: NetConnection, net: SumoNet, drivers: Drivers) 
     driving += LOOKING if looks_out else TURNING if slow < before else 0.0
     if not connection.light:
         return driving
-    starting = starting_seconds(drivers, min(behind, drivers.most))
+    starting = starting_seconds(drivers, min(behind, drivers.max_speed))
     if may_turn_on_red(connection, net):
         starting = lost(drivers, before, 0.0, behind)
     return (1 - RED) * driving + RED * (connection.metres * drivers.slowness(inside) + starting)

@@ -37,7 +37,7 @@ class Constraint:
         """The most seconds that the phase may last."""
         return limits.PHASE_STEPS if self.most is None else min(self.most, limits.PHASE_STEPS)
 
-    def kept(self, seconds: int) -> int:
+    def clamp(self, seconds: int) -> int:
         """The nearest seconds that keep the constraint."""
         return min(self.high, max(self.low, seconds)) if any(self.values()) else seconds
 

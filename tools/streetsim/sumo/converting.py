@@ -69,7 +69,7 @@ def converted(
     network.kinds = kinds_of(driven, types)
     network.starts = slow_starts(net, driven, types.drivings)
     network.reserved = reserved_lanes(network, driven, lambda name: types.class_kept(name, options.classes))
-    network.last = max((command["depart"] for command in entered), default=options.begin)
+    network.last_depart = max((command["depart"] for command in entered), default=options.begin)
     network.open_beside_works()
     if doubted:
         warn_of_rules(net, network, programs_shown(net, days), report)

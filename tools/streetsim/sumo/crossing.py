@@ -56,14 +56,14 @@ class CrossingMovement:
     foes: list[CrossingMovement] = field(default_factory=list)  # that it gives way to
     meets: dict[int, list[Meeting]] = field(default_factory=dict)  # by first second of one of runs or stops
     # By first second of one of runs or stops: how many seconds of it are shown.
-    shown: dict[int, int] = field(default_factory=dict)
-    parts: int = 1  # in which those of one of runs are shown
+    shown_seconds: dict[int, int] = field(default_factory=dict)
+    shown_parts: int = 1  # in which those of one of runs are shown
     # By first second of one of runs: how many of its seconds pass before it is shown, of a lane that is far from full.
     leads: dict[int, int] = field(default_factory=dict)
     sharing: list[CrossingMovement] = field(default_factory=list)  # its lane, with it
     lanes: int = 1  # of its edge
     share: float = 1.0  # of the vehicles on its lane that wait for gaps
-    beside: float = 0.0  # seconds between vehicles of a queue of those on its lane that do not
+    headway_beside: float = 0.0  # seconds between vehicles of a queue of those on its lane that do not
     heads: Heads | None = None  # its lane and the one that faces it, where some wait on both
     opposite: tuple[str, int] | None = None  # the lane that faces it
 
@@ -79,14 +79,14 @@ class CrossingMovement:
     @property
     def shown_open(self) -> int:
         """How many seconds of its permissive greens are shown, in all, once settle has set these."""
-        return sum(self.shown[start] for start in self.runs)
+        return sum(self.shown_seconds[start] for start in self.runs)
 
 
 def movements_of(
     connections: Sequence[NetConnection], states: Sequence[str], yields: Mapping[int, Iterable[int]],
     flows: Mapping[EdgePair, float], limits_of: Mapping[str, int],
 ) -> dict[int, CrossingMovement]:  # fmt: skip
-    """The movements of a junction, by the connections' requests, of which none is None; their shown is set by settle.
+    """The movements of a junction, by the connections' requests, of which none is None; settle sets their seconds.
     Connections of the same edges share their flow equally, but reserved ones have none beside others; of those that one
     gives way to, foes are those with a flow that do not wait together with it. states: of its light, one for each
     second; yields: by request those that it gives way to; flows: vehicles an hour by (edge, next edge); limits_of:
@@ -171,11 +171,11 @@ def set_lane(movement: CrossingMovement, movements: Collection[CrossingMovement]
     has no vehicles) and beside (its own headway where all wait)."""
     movement.lanes = len({other.lane for other in movements if other.pair[0] == movement.pair[0]})
     movement.sharing = [other for other in movements if other.lane == movement.lane]
-    movement.parts = 2 if movement.lanes > 1 and any(one.flow and not one.runs for one in movement.sharing) else 1
+    movement.shown_parts = 2 if movement.lanes > 1 and any(one.flow and not one.runs for one in movement.sharing) else 1
     going = [one for one in movement.sharing if not one.waits]
     whole, free = (sum(one.flow for one in group) for group in (movement.sharing, going))
     movement.share = max(LEAST_SHARE, 1 - free / whole) if whole else 1.0
-    movement.beside = sum(one.flow * one.headway for one in going) / free if free else movement.headway
+    movement.headway_beside = sum(one.flow * one.headway for one in going) / free if free else movement.headway
 
 
 class SignTimes(NamedTuple):

@@ -55,7 +55,7 @@ class DemandVehicle:
     route: str = ""  # the name of its route, as SUMO has it; none where the route stands in the vehicle
     stops: tuple[Stop, ...] = ()
     line: str = ""  # of public transport
-    more: tuple[tuple[str, str], ...] = ()  # those of USED_ATTRIBUTES count, others have no effect here
+    further_attributes: tuple[tuple[str, str], ...] = ()  # those of USED_ATTRIBUTES count, others have no effect here
 
 
 class Demand:

@@ -19,7 +19,7 @@ KINDS = {"inductionLoop": E1, "e1Detector": E1, "laneAreaDetector": E2, "e2Detec
 class SumoDetector:
     """A detector as its file tells it; period in seconds."""
 
-    where: str  # file and element, for what is told
+    element_label: str  # file and element, for what is told
     name: str
     kind: str
     lane: str
@@ -84,7 +84,7 @@ def detectors_on_cells(
     on_cells = {}
     for detector in detectors:
         if detector.name in on_cells:
-            raise Fault(f"{detector.where}: a second detector of this name")
+            raise Fault(f"{detector.element_label}: a second detector of this name")
         if detector.lane in place_of_lane:
             place, at = place_of_lane[detector.lane], mapping.links[place_of_lane[detector.lane][0]]
             cells = detector_cells(detector, at, report)
@@ -94,7 +94,7 @@ def detectors_on_cells(
             told = f"detector {detector.name} lies on {detector.lane}, which is left out"
             report.warn(told, [detector.name], kind="detectors lie on lanes that are left out")
         else:
-            raise Fault(f"{detector.where}: the network has no lane {detector.lane!r}")
+            raise Fault(f"{detector.element_label}: the network has no lane {detector.lane!r}")
     if sum(detector.kind == E1 for detector in on_cells.values()) > limits.METERS:
         raise Fault(f"more than {limits.METERS:,} induction loops")
     return list(on_cells.values())
@@ -109,13 +109,13 @@ def detector_cells(detector: SumoDetector, link: MapLink, report: Report) -> tup
     end = detector.end + link.metres if detector.end is not None and detector.end < 0 else detector.end
     lane = f"lane {detector.lane!r} is {link.metres:g} m long"
     if not detector.friendly and not -NEAR <= begin <= link.metres + NEAR:
-        raise Fault(f"{detector.where}: begins at {detector.begin:g} m, and {lane}")
+        raise Fault(f"{detector.element_label}: begins at {detector.begin:g} m, and {lane}")
     if end is not None and end > link.metres + NEAR and not detector.friendly:
         if not detector.goes_on:
-            raise Fault(f"{detector.where}: ends at {detector.end:g} m, and {lane}")
+            raise Fault(f"{detector.element_label}: ends at {detector.end:g} m, and {lane}")
         tell_beyond(detector.name, detector.lane, report)
     if end is not None and end <= begin:
-        raise Fault(f"{detector.where}: ends at {end:g} m, and begins at {begin:g} m")
+        raise Fault(f"{detector.element_label}: ends at {end:g} m, and begins at {begin:g} m")
     first, _ = link.cells_between(begin, begin)
     if detector.kind == E1:
         return first, first

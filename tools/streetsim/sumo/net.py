@@ -79,7 +79,7 @@ class LightProgram:
     bounds: list[tuple[float | None, float | None]] = field(default_factory=list)
     following: list[tuple[int, ...]] = field(default_factory=list)  # the phases that each names as its next
     parameters: dict[str, str] = field(default_factory=dict)
-    more: tuple[str, ...] = ()  # what else its phases and it have, by name
+    further_names: tuple[str, ...] = ()  # what else its phases and it have, by name
     name: str = "0"
     # Of the phases of a NEMA light: name, extension, yellow and red, in seconds.
     timing: list[tuple[str, float, float, float]] = field(default_factory=list)

@@ -30,7 +30,7 @@ class Drivers:
         self.total = sum(counts.values()) if counts else 0
         self.accel = self.mean(lambda one: one.accel)  # metres a second and second
         self.mean_accel = self.mean(Driving.mean_accel)  # the same, with what is lost by chance
-        self.most = self.mean(lambda one: one.most)  # metres a second
+        self.max_speed = self.mean(lambda one: one.max_speed)  # metres a second
 
     def mean(self, value: Callable[[Driving], float]) -> float:
         """The mean of a value over the vehicles."""
@@ -62,7 +62,8 @@ class Paces:
             journeys[vehicle.edges, vehicle.type] += 1
             first_depart = min(first_depart, vehicle.depart) if at else vehicle.depart
             last_depart = max(last_depart, vehicle.depart) if at else vehicle.depart
-            speed = dict(vehicle.more).get("departSpeed", "0") if vehicle.more else "0"
+            attributes = vehicle.further_attributes
+            speed = dict(attributes).get("departSpeed", "0") if attributes else "0"
             departing[vehicle.edges[0], vehicle.type, speed] += 1
         driving_of_type = {name: (drivings.get(name, USUAL), class_of(name)) for _, name in journeys}
         self.types_of: defaultdict[tuple[Driving, str], set[str]] = defaultdict(set)
@@ -83,7 +84,7 @@ class Paces:
         self.seconds = max(LEAST_SECONDS, last_depart - first_depart)
         self.known: dict[tuple[str, frozenset[str] | None], Drivers] = {}
 
-    def on(self, edge: str, classes: frozenset[str] | None = None) -> Drivers:
+    def drivers_on(self, edge: str, classes: frozenset[str] | None = None) -> Drivers:
         """Who drives on an edge: of some classes, or all (None)."""
         if (edge, classes) not in self.known:
             counts = Counter[Driving]()

@@ -43,7 +43,7 @@ def residences(
         elif at in into:
             seconds = seconds_in_ring(into[at], connections, net, paces, flows) - seconds_of_cells(into[at], dawdle)
         elif connections:
-            seconds = mean_crossing(connections, net, paces.on, flows) - MEAN_LINE
+            seconds = mean_crossing(connections, net, paces.drivers_on, flows) - MEAN_LINE
         steps.append(min(limits.RESIDENCE, max(1, round(seconds))))
     return steps
 
@@ -60,8 +60,8 @@ def seconds_in_ring(
 ) -> float:  # fmt: skip
     """Mean seconds of one alone in SUMO on a link of a ring and over the junction at its end; at_end: the connections
     there."""
-    drivers, own = paces.on(link.edge), [one for one in at_end if one.source == link.edge]
-    crossing = mean_crossing(own, net, paces.on, flows) if own else 0.0
+    drivers, own = paces.drivers_on(link.edge), [one for one in at_end if one.source == link.edge]
+    crossing = mean_crossing(own, net, paces.drivers_on, flows) if own else 0.0
     return link.metres * drivers.slowness(link.speed) + crossing if link.speed else 0.0
 
 
@@ -162,7 +162,7 @@ class Pacing:
     def seconds(self, link: Link, classes: Collection[str] | None) -> float:
         """The seconds that a vehicle alone is to take in a link's cells; classes: as in set_cells."""
         edge = self.net.edges[link.edge]
-        drivers = self.paces.on(link.edge, None if classes is None else frozenset(classes))
+        drivers = self.paces.drivers_on(link.edge, None if classes is None else frozenset(classes))
         seconds = link.metres * drivers.slowness(link.speed)
         if sum(lane.closed == link.closed for lane in edge.lanes) == 1:  # nobody overtakes
             whole = self.metres_of_street.get(link.edge, link.metres)

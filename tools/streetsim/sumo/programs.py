@@ -46,7 +46,7 @@ def kept_programs(net: SumoNet, network: Network, lights: Iterable[tuple[str, in
             "offset": program.offset,
             "phases": [[seconds, state, *bounds, list(then)] for (seconds, state), bounds, then in phases],
             "parameters": program.parameters,
-            "more": list(program.more),
+            "more": list(program.further_names),
             "ways": [connection_fields(connection, net) for connection in connections],
             "lanes": [lane_fields(*key, net, before) for key in lanes],
             "nodes": [node_fields(node, network.nodes[node], net, flows, at_junction) for node in nodes[light]],

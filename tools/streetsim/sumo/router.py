@@ -33,8 +33,8 @@ class FoundPath(NamedTuple):
 
     trip: int
     path: Path
-    least: float
-    own: float
+    seconds: float
+    own_seconds: float
 
 
 class Router:
@@ -47,7 +47,7 @@ class Router:
         pairs = [one for one in self.shut if isinstance(one, tuple)]
         # By edge: those to which one may not turn at times.
         self.barred = {edge: {after for before, after in pairs if before == edge} for edge, _ in pairs}
-        self.least = [costs.least(movement) for movement in range(len(graph.movements))]
+        self.least_seconds = [costs.least_seconds(movement) for movement in range(len(graph.movements))]
         self.arcs: list[list[tuple[int, array]] | None] = [None] * len(graph.edges)
         self.target, self.bounds = END, [FAR]
 
@@ -56,7 +56,7 @@ class Router:
         made = self.arcs[edge]
         if made is None:
             made = self.arcs[edge] = [
-                (following, self.table.row(movement)) for following, movement in self.graph.out[edge]
+                (following, self.table.row(movement)) for following, movement in self.graph.outgoing[edge]
             ]
         return made
 
@@ -64,7 +64,7 @@ class Router:
         """For each edge the least seconds from its begin to that of the target; FAR where no way leads there."""
         if self.target == target:
             return self.bounds
-        least_seconds, into = self.least, self.graph.into
+        least_seconds, into = self.least_seconds, self.graph.incoming
         bounds, heap = [FAR] * len(into), [(0.0, target)]
         bounds[target] = 0.0
         while heap:
@@ -83,7 +83,7 @@ class Router:
         """(the path that is quickest from a clock on, its seconds to the end of the target); an empty path and FAR
         where there is no way. Nobody waits: an edge or movement that would be reached while it is shut is not used;
         whether the origin is shut is not looked at."""
-        bounds, inverse, last_part, shut = self.bounds_to(target), self.table.inverse, self.table.last, self.shut
+        bounds, inverse, last_part, shut = self.bounds_to(target), self.table.inverse, self.table.last_part, self.shut
         best, before = {origin: clock}, dict[int, int]()
         # Of equal ones the farthest comes first.
         heap = [(clock + bounds[origin], -clock, origin)] if bounds[origin] < FAR else []
@@ -155,7 +155,7 @@ class Router:
         """The seconds of the path that a trip has, with waits where it is shut; FAR where it has none."""
         return self.clocks(wish.path, wish.clock)[-1] - wish.clock if wish.path else FAR
 
-    def found(self, wish: Wish) -> FoundPath:
+    def best_path(self, wish: Wish) -> FoundPath:
         """The best path of a trip with its seconds, and the seconds of the trip's own path (FAR: it has none)."""
         path, least = self.search(wish.origin, wish.target, wish.clock)
         return FoundPath(wish.trip, path, least, self.own_seconds(wish))

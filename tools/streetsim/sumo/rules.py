@@ -100,7 +100,7 @@ def warn_of_types(network: Network, report: Report) -> None:
     its mean pace."""
     own_seconds, mean_seconds = defaultdict[Key, float](float), defaultdict[Key, float](float)
     for link, users in zip(network.links, network.users, strict=True):
-        drivers = network.paces.on(link.edge, users)
+        drivers = network.paces.drivers_on(link.edge, users)
         for (driving, vclass), count in network.paces.passing.get(link.edge, {}).items():
             if link.speed and (users is None or vclass in users):
                 own_seconds[driving, vclass] += count * link.metres * driving.slowness(link.speed)

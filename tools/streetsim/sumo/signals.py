@@ -39,7 +39,7 @@ FINE = GRAINS[:2]
 
 @dataclass(frozen=True, slots=True)
 class LitNode:
-    """A node with a light. Where found is empty, a share of each permissive green is shown: of a green in which
+    """A node with a light. Where movements is empty, a share of each permissive green is shown: of a green in which
     vehicles give way."""
 
     node: int
@@ -49,7 +49,7 @@ class LitNode:
     program: LightProgram
     permissive: float | None  # the share, of each permissive green its last part; None: DEFAULT_SHARE
     report: Report
-    found: Mapping[int, CrossingMovement] = field(default_factory=dict)  # by request: who gives way there
+    movements: Mapping[int, CrossingMovement] = field(default_factory=dict)  # by request: who gives way there
     cut: float = 0.0  # seconds that are cut from greens, in the mean over nodes
     shares: Pairs = ()  # of permissive greens that were surveyed: (edge, share)
 
@@ -59,15 +59,15 @@ class LitNode:
 
     def shown_seconds(self, states: Sequence[str]) -> ShownSeconds:
         """What is shown, by first second, as shown_by_gaps or shown_by_share has it; states: as states gives them."""
-        if self.found:
-            shown = shown_by_gaps(self.found)
+        if self.movements:
+            seconds_shown = shown_by_gaps(self.movements)
         else:
-            shown = shown_by_share(self.light, self.turns, states, self.permissive)
+            seconds_shown = shown_by_share(self.light, self.turns, states, self.permissive)
         known = {edge: share for edge, share in self.shares}
         for edge in known.keys() & {*self.edges.values()}:
             own = [one for one in self.turns if self.edges[one[0]] == edge]
-            shown = {**shown, **shown_by_share(self.light, own, states, known[edge])}
-        return shown
+            seconds_shown = {**seconds_shown, **shown_by_share(self.light, own, states, known[edge])}
+        return seconds_shown
 
 
 def movements(
@@ -153,7 +153,7 @@ def signal_commands(
         if known:
             movements = movements_at.get(junction, {}) if network.options.permissive is None else {}
             lit = lit_node(net, network, node, turns, known[0], movements, report)
-            until = ends.get(known[0], network.last + AFTER)
+            until = ends.get(known[0], network.last_depart + AFTER)
             commands += [(known[0], command) for command in signal_lines(lit, network.options.begin, until)]
     for light in sorted({light for light, _ in commands}):
         warn_of_kind(light, net.programs[light], report)
@@ -281,14 +281,14 @@ def shown_by_gaps(movements: Mapping[int, CrossingMovement]) -> ShownSeconds:
     """What is shown of permissive greens, and of reds in which one may go after a stop, by the movements of those who
     give way; of movements that share an index the most. One against which nobody comes goes as if first (AS_MAIN
     parts)."""
-    shown: defaultdict[int | None, dict[int, ShownPart]] = defaultdict(dict)
+    by_index: defaultdict[int | None, dict[int, ShownPart]] = defaultdict(dict)
     for movement in movements.values():
-        of_index = shown[movement.index]
-        for start, seconds in movement.shown.items():
-            parts = movement.parts if movement.foes or start in movement.stops else AS_MAIN
+        of_index = by_index[movement.index]
+        for start, seconds in movement.shown_seconds.items():
+            parts = movement.shown_parts if movement.foes or start in movement.stops else AS_MAIN
             own = seconds, parts, movement.leads.get(start)
             of_index[start] = max(own, of_index.get(start, NOTHING), key=itemgetter(0, 1))
-    return shown
+    return by_index
 
 
 def shown_by_share(

@@ -158,8 +158,8 @@ def part_edge(edge_part: EdgePart, edge_parts: Sequence[EdgePart], whole_edge: N
     begin = whole_edge.begin if edge_part == edge_parts[0] else edge_part.name
     end = whole_edge.end if edge_part == edge_parts[-1] else edge_parts[edge_parts.index(edge_part) + 1].name
     lanes = [part_lane(lane, edge_part, edge_parts[-1].end, slow) for lane in whole_edge.lanes]
-    is_inner = edge_part != edge_parts[-1]
-    return NetEdge(edge_part.name, begin, end, whole_edge.priority, lanes, whole_edge.street, is_inner, edge_part.slow)
+    is_cut = edge_part != edge_parts[-1]
+    return NetEdge(edge_part.name, begin, end, whole_edge.priority, lanes, whole_edge.street, is_cut, edge_part.slow)
 
 
 def part_lane(lane: NetLane, edge_part: EdgePart, metres: float, slow: SlowStretch) -> NetLane:

@@ -36,18 +36,18 @@ class Stop:
     """A stop of a vehicle, as its file tells it: of duration seconds at least, ending at the clock until or later
     (None: not told)."""
 
-    where: str  # file and element, for what is told
+    element_label: str  # file and element, for what is told
     name: str  # of the bus stop, or of what one that cannot be made names; else empty
     bus_stop: BusStop | None  # where the lane is told
     duration: int
     until: int | None
-    why: str = ""  # it cannot be made; empty where it can
-    told: tuple[tuple[str, str], ...] = ()  # its attributes in the file
+    reason: str = ""  # it cannot be made; empty where it can
+    attributes: tuple[tuple[str, str], ...] = ()  # its attributes in the file
 
     def text(self) -> str:
         """Its element as XML text, as a file of routes has it."""
         until = {} if self.until is None else {"until": str(self.until)}
-        return f"<stop{attributes_of({**dict(self.told), **until})}/>"
+        return f"<stop{attributes_of({**dict(self.attributes), **until})}/>"
 
     def later(self, shift: float) -> Stop:
         """The stop with its until shift seconds later; without until it stays as it is."""
@@ -169,7 +169,7 @@ def unnamed_bus_stop(path: FilePath, element: Element, net: SumoNet, element_lab
 
 def edge_of(stop: Stop, net: SumoNet) -> str:
     """The name of the edge where a stop lies; empty where neither it nor its bus stop tells a lane or edge."""
-    bus_stop, told = net.bus_stops.get(stop.name) if stop.name else stop.bus_stop, dict(stop.told)
+    bus_stop, told = net.bus_stops.get(stop.name) if stop.name else stop.bus_stop, dict(stop.attributes)
     lane = bus_stop.lane if bus_stop else told.get("lane", "")
     return lane.rpartition("_")[0] or told.get("edge", "")
 
@@ -190,12 +190,12 @@ class Stops:
         route_stops, at, before = FoundStops(), 0, 0.0
         for stop in stops:
             bus_stop = self.bus_stop_of(stop)
-            reason, edge = stop.why, bus_stop.lane.rpartition("_")[0] if bus_stop else ""
+            reason, edge = stop.reason, bus_stop.lane.rpartition("_")[0] if bus_stop else ""
             if bus_stop and not reason and bus_stop.lane in self.net.closed_lanes:
                 reason = LEFT_OUT
             if bus_stop and not reason:
                 begin, end = begin_and_end_on_lane(
-                    bus_stop, metres_of_lane(bus_stop.lane, self.net, stop.where), True, stop.where
+                    bus_stop, metres_of_lane(bus_stop.lane, self.net, stop.element_label), True, stop.element_label
                 )
                 first = at + (end < before and at < len(edges) and edges[at] == edge)
                 further = next((here for here in range(first, len(edges)) if edges[here] == edge), None)
@@ -211,8 +211,8 @@ class Stops:
 
     def bus_stop_of(self, stop: Stop) -> BusStop | None:
         """The bus stop of a stop, if any. Fault where it can be made, but no file has the bus stop that it names."""
-        if stop.name and stop.name not in self.net.bus_stops and not stop.why:
-            raise Fault(f"{stop.where}: there is no busStop {stop.name!r}")
+        if stop.name and stop.name not in self.net.bus_stops and not stop.reason:
+            raise Fault(f"{stop.element_label}: there is no busStop {stop.name!r}")
         return self.net.bus_stops.get(stop.name) if stop.name else stop.bus_stop
 
     def add_visits(

@@ -42,7 +42,7 @@ class Trip:
     route: str = ""  # the name of the route that it was given
     stops: tuple[Stop, ...] = ()
     line: str = ""  # of public transport
-    more: tuple[tuple[str, str], ...] = ()  # further attributes that its file has, as departSpeed
+    further_attributes: tuple[tuple[str, str], ...] = ()  # further attributes that its file has, as departSpeed
     calls: tuple[tuple[str, str], ...] = ()  # (edge or, where it is not known, an empty text; element) of each stop
 
 
@@ -121,7 +121,7 @@ class TripDemand(Demand):
 class Trips:
     """All trips in order of departure, and the vehicle types of their files as XML texts."""
 
-    all: list[Trip]
+    trips: list[Trip]
     types: list[str]
 
 
@@ -147,7 +147,7 @@ def read_trips(
             vehicle.name, vehicle.depart, *ends, vehicle.type, way, vehicle.depart, not back, vehicle.route,
             vehicle.stops, vehicle.line,
         )  # fmt: skip
-        trip.more = vehicle.more
+        trip.further_attributes = vehicle.further_attributes
         trip.calls = tuple((edge_of(stop, net), stop.text()) for stop in vehicle.stops)
         trips.append(trip)
     if not trips:
@@ -199,7 +199,8 @@ def vehicles_from_trips(trips: Iterable[Trip], graph: Graph) -> list[DemandVehic
     """The trips, with their present ways and their stops, as vehicles of an import."""
     return [
         DemandVehicle(
-            one.name, one.depart, graph.names(one.path), one.type, stops=one.stops, line=one.line, more=one.more
+            one.name, one.depart, graph.names(one.path), one.type, stops=one.stops, line=one.line,
+            further_attributes=one.further_attributes,
         )
         for one in trips
     ]
@@ -211,7 +212,7 @@ def write_routes(path: str, trips: Trips, graph: Graph) -> None:
     lie on their ways, one after the other."""
     with whole_file(path) as file:
         file.write("<routes>\n" + "".join(f"    {one}\n" for one in trips.types))
-        for trip in trips.all:
+        for trip in trips.trips:
             edges = graph.names(trip.path)
             inside = [f"<route edges={quoteattr(' '.join(edges))}/>", *calls_on(trip, edges)]
             file.write(f"    <vehicle{attributes_of(attributes_in(trip))}>{''.join(inside)}</vehicle>\n")
@@ -227,7 +228,8 @@ def attributes_in(trip: Trip) -> dict[str, str]:
         depart += 0.01
     kind = {"type": trip.type} if trip.type != DEFAULT else {}
     line = {"line": trip.line} if trip.line else {}
-    return {"id": trip.name, "depart": f"{depart:.2f}", **kind, "departLane": "best", **line, **dict(trip.more)}
+    further = dict(trip.further_attributes)
+    return {"id": trip.name, "depart": f"{depart:.2f}", **kind, "departLane": "best", **line, **further}
 
 
 def calls_on(trip: Trip, edges: Sequence[str]) -> Iterator[str]:

@@ -123,7 +123,7 @@ def day_lines(
     at_junction, limits_of = connections_of(net), {link.edge: link.limit for link in network.links}
     for light, node in sorted((light, node) for node, light in lights.items() if light and light in days):
         known = {one.name: one for one in net.programs_of(light)}
-        for (clock, name), (end, _) in list(pairwise([*days[light], (network.last + AFTER, "")]))[1:]:
+        for (clock, name), (end, _) in list(pairwise([*days[light], (network.last_depart + AFTER, "")]))[1:]:
             changed = replace(net, programs={**net.programs, light: known[name]})
             own = network.nodes[node], at_junction[network.nodes[node]], changed, flows, limits_of
             found = movements_of_junction(*own) if flows and network.options.permissive is None else {}

@@ -72,7 +72,7 @@ class Costs:
             for share in SHARES
         ])  # fmt: skip
 
-    def least(self, movement: int) -> float:
+    def least_seconds(self, movement: int) -> float:
         """The least seconds that a movement takes at any time."""
         means = self.means[movement]
         return means if isinstance(means, float) else min(means)
@@ -85,7 +85,7 @@ class Table:
         """costs: of all movements of a graph."""
         self.costs = costs
         self.rows: list[array | None] = [None] * len(costs.means)
-        self.inverse, self.last = 1 / costs.part_seconds, PARTS_OF_SLICE * costs.slices - 1
+        self.inverse, self.last_part = 1 / costs.part_seconds, PARTS_OF_SLICE * costs.slices - 1
 
     def row(self, movement: int) -> array:
         """The seconds of a movement in each part of all slices; made at the first call."""
@@ -97,7 +97,7 @@ class Table:
     def at(self, movement: int, clock: float) -> float:
         """The seconds of a movement that begins at a clock (seconds from 0, where the first slice begins); after the
         last slice those of its last part."""
-        return self.row(movement)[min(self.last, int(clock * self.inverse))]
+        return self.row(movement)[min(self.last_part, int(clock * self.inverse))]
 
 
 def costs_of(
