@@ -168,7 +168,7 @@ class OneLane(Lanes):
         # Of 360 against, 360 e^-0.45 / (1 - e^-0.25) = 1,037.7 an hour find a gap, one in 3.469 s; one alone takes 2 s
         # and the wait, 4.655 s. One in five follows another that waited: 0.2 * 3.469 + 0.8 * 4.655.
         west, left, *_ = self.lanes(80, 20, 360, 0)
-        self.assertEqual((west.waits, left.waits, west.share, left.beside), (False, True, left.share, 2.0))
+        self.assertEqual((west.waits, left.waits, west.share, left.headway_beside), (False, True, left.share, 2.0))
         self.assertAlmostEqual(left.share, 0.2)
         self.assertAlmostEqual(time_of(left, 360), 4.418, places=3)
         self.assertEqual((time_of(left, 0), time_of(west, 360)), (2.0, 2.0))

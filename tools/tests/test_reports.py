@@ -69,7 +69,7 @@ class Numbers(unittest.TestCase):
         day = difference_of(*values, drawn=True)
         self.assertEqual((day.change, day.of_days, day.stands_out()), (-3.0, True, False))
         self.assertAlmostEqual(day.half, 4.303 * (4 / 3) ** 0.5)
-        self.assertEqual(difference_of({1: 1.0}, {1: 3.0}, drawn=False).told(), "+2.0")
+        self.assertEqual(difference_of({1: 1.0}, {1: 3.0}, drawn=False).in_words(), "+2.0")
         self.assertIsNone(difference_of({1: 1.0}, {2: 1.0}, drawn=True))
 
     def test_who_arrives_with_one_plan_alone_is_told(self):

@@ -62,7 +62,7 @@ class Mismatches(unittest.TestCase):
             ("41 in all", "42 in all", "Junctions"), ("51", "52", "Junctions, J2"), ("Town", "City", "City"),
         ):  # fmt: skip
             other = self.PAGE.replace(f">{said}<", f">{found}<", 1)
-            told = [(one.where, one.said, one.found) for one in page_mismatches(self.PAGE, other)]
+            told = [(one.place, one.stated_text, one.remade_text) for one in page_mismatches(self.PAGE, other)]
             self.assertEqual(told, [(where, said, found)])
         self.assertEqual(page_mismatches(self.PAGE, self.PAGE), [])
 
@@ -259,7 +259,7 @@ class Changes(Sealed):
                 self.assertTrue(found, pattern)
                 changed = other_digit(self.text, found.end(1) - 1)
                 [one] = page_mismatches(changed, self.made)
-                self.assertNotEqual(one.said, one.found)
+                self.assertNotEqual(one.stated_text, one.remade_text)
 
     def test_each_word(self):
         for name, (pattern, word) in WORDS.items():
@@ -271,7 +271,7 @@ class Changes(Sealed):
     def test_it_says_where(self):
         found = re.search(DIGITS["seconds of a flow"], self.text, re.DOTALL)
         [one] = page_mismatches(other_digit(self.text, found.end(1) - 1), self.made)
-        self.assertRegex(one.told(), r"What it costs whom, \w+, before, s: said '[\d.]+', found '[\d.]+'")
+        self.assertRegex(one.in_words(), r"What it costs whom, \w+, before, s: said '[\d.]+', found '[\d.]+'")
 
     def test_there_are_enough(self):
         self.assertGreaterEqual(len(DIGITS) + len(WORDS), 40)
