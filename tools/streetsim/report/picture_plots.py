@@ -34,7 +34,7 @@ def refuse_broken(folder: Folder, edges: Sequence[str]) -> None:
 
 @dataclass(frozen=True, slots=True)
 class Corridor:
-    """What a picture of ways along a path shows: its edges, from one second to another, and whether also the way back."""
+    """What a picture of ways along a path shows: its edges, its seconds, and whether also the way back."""
 
     edges: Sequence[str]
     first_second: int  # seconds
