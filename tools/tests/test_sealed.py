@@ -62,7 +62,7 @@ class Mismatches(unittest.TestCase):
             ("41 in all", "42 in all", "Junctions"), ("51", "52", "Junctions, J2"), ("Town", "City", "City"),
         ):  # fmt: skip
             other = self.PAGE.replace(f">{said}<", f">{found}<", 1)
-            told = [(one.place, one.stated_text, one.remade_text) for one in page_mismatches(self.PAGE, other)]
+            told = [(one.place_in_words, one.stated_text, one.remade_text) for one in page_mismatches(self.PAGE, other)]
             self.assertEqual(told, [(where, said, found)])
         self.assertEqual(page_mismatches(self.PAGE, self.PAGE), [])
 

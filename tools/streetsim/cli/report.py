@@ -102,22 +102,22 @@ def main(arguments: list[str]) -> int:
     kept_words = given_words(tool_parser, args, ELSEWHERE)
     complete_outputs(args, output=f"{stem_of(args.runs[-1])}.report.html")
     refuse_clashing_words(args)
-    beside = {f"{COUNTS}{at}": path for at, path in enumerate(paths_in(args.counts), 1)}
-    beside |= {NAMES: args.names} if args.names else {}
-    refuse_unwritable(".", {"-o": args.output, "--csv": args.csv}, beside.values())
+    paths_beside = {f"{COUNTS}{at}": path for at, path in enumerate(paths_in(args.counts), 1)}
+    paths_beside |= {NAMES: args.names} if args.names else {}
+    refuse_unwritable(".", {"-o": args.output, "--csv": args.csv}, paths_beside.values())
     plans = read_plans(args)
-    shown = interval_of(plans, args)
+    interval = interval_of(plans, args)
     seal: Seal | None = None
     large: dict[str, bytes] = {}
     if args.sealed:
-        seal, large = seal_for(plans, kept_words, args.output, beside)
-    text = report_of(plans, shown, wishes_of(plans, args, seal))
+        seal, large = seal_for(plans, kept_words, args.output, paths_beside)
+    text = report_of(plans, interval, wishes_of(plans, args, seal))
     write_beside(args.output, large)
     with whole_file(args.output) as file:
         file.write(text)
     if args.csv:
-        write_table(args.csv, CHANGES, change_rows(plans, shown))
-    count = len(ranked_rows(plans, shown))
+        write_table(args.csv, CHANGES, change_rows(plans, interval))
+    count = len(ranked_rows(plans, interval))
     more = f", and {beside_of(args.output)} beside it" if large else ""
     print(f"{args.output}: {count} junctions, {len(text.encode()):,} bytes{more}")
     return 0

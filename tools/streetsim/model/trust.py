@@ -201,7 +201,7 @@ def full_doubts(mapping: Map) -> Iterator[str]:
     whose queue grows all the time."""
     full = mapping.full
     if full.share > MOST_FULL or full.overfull_share > MOST_OVERFULL:
-        first = "; ".join(one.told() for one in full.lanes[:NAMED])
+        first = "; ".join(one.in_words() for one in full.lanes[:NAMED])
         most = f", most of all {first}" if len(full.lanes) > NAMED else f": {first}"
         yield (
             f"{full.vehicles:,} of {count_told(full.of, 'vehicle')} pass lanes that are nearly full by the demand, and "
@@ -213,14 +213,14 @@ def start_doubts(mapping: Map) -> Iterator[str]:
     """A doubt where more than 0.15 of the vehicles start slowly at lights."""
     starts = mapping.starts
     if starts and starts.vehicles > MOST_SLOW * starts.of:
-        yield f"{starts.told()}; mean trips of such drawn rows were {SLOW_OFF} too short"
+        yield f"{starts.in_words()}; mean trips of such drawn rows were {SLOW_OFF} too short"
 
 
 def reserved_doubts(mapping: Map) -> Iterator[str]:
     """A doubt where more than 0.05 of the vehicles drive on lanes of their own class."""
     own = mapping.reserved
     if own and own.vehicles > MOST_RESERVED * own.of:
-        yield f"{own.told()}; trips of such buses were {RESERVED_OFF} too short"
+        yield f"{own.in_words()}; trips of such buses were {RESERVED_OFF} too short"
 
 
 def length_doubts(clock: int, run: Run, mapping: Map) -> Iterator[str]:

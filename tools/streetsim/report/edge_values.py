@@ -46,13 +46,14 @@ def traffic_of_parts(row_parts: Sequence[tuple[dict, float, float]]) -> Traffic:
     these as a share of its period). Density is a mean by seconds, speed by vehicles, of the rows that have them."""
     vehicles_left = sum(int(row["left"]) * share for row, _, share in row_parts)
     seconds = sum(those for _, those, _ in row_parts)
-    seen = [
+    measured = [
         (float(row["density_per_km"]), row["mean_speed_kmh"], those)
         for row, those, _ in row_parts
         if row["density_per_km"]
     ]
-    density = sum(value * those for value, _, those in seen) / sum(those for *_, those in seen) if seen else None
-    moved = [(value * those, float(speed)) for value, speed, those in seen if speed]
+    weights = sum(those for *_, those in measured)
+    density = sum(value * those for value, _, those in measured) / weights if measured else None
+    moved = [(value * those, float(speed)) for value, speed, those in measured if speed]
     weight = sum(those for those, _ in moved)
     speed = sum(those * value for those, value in moved) / weight if weight else None
     return Traffic(vehicles_left * 3600 / seconds, density, speed)

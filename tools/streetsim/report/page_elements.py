@@ -17,14 +17,14 @@ HEADS = ("h1", "h2", "h3")
 class Mismatch:
     """What a page says somewhere, and what was found there anew."""
 
-    place: str
+    place_in_words: str
     stated_text: str
     remade_text: str
 
     def in_words(self) -> str:
         """The difference in words; long texts cut to what is around it."""
         said, found = around_difference(self.stated_text, self.remade_text)
-        return f"{self.place}: said {said!r}, found {found!r}"
+        return f"{self.place_in_words}: said {said!r}, found {found!r}"
 
 
 def around_difference(stated_text: str, remade_text: str) -> tuple[str, str]:
@@ -131,9 +131,9 @@ def page_mismatches(stated_page: str, remade_page: str) -> list[Mismatch]:
 def mismatches(stated_pieces: Sequence[str], remade_pieces: Sequence[str]) -> Iterator[Mismatch]:
     """What differs of the pieces of two pages, as of page_mismatches: one by one where they have equally many, else the
     parts that were put in, taken out or changed, and as one where these are long."""
-    places = places_of(remade_pieces) or [""]
+    piece_places = places_of(remade_pieces) or [""]
     if len(stated_pieces) == len(remade_pieces):
-        for one, other, piece_place in zip(stated_pieces, remade_pieces, places, strict=True):
+        for one, other, piece_place in zip(stated_pieces, remade_pieces, piece_places, strict=True):
             if one != other:
                 yield Mismatch(piece_place, one.strip() or one, other.strip() or other)
         return
@@ -146,5 +146,5 @@ def mismatches(stated_pieces: Sequence[str], remade_pieces: Sequence[str]) -> It
         spans = SequenceMatcher(None, *changed_pieces).get_opcodes()
     for kind, first, last, start, stop in spans:
         if kind != "equal":
-            piece_place = places[min(begin + start, len(places) - 1)]
+            piece_place = piece_places[min(begin + start, len(piece_places) - 1)]
             yield Mismatch(piece_place, "".join(changed_pieces[0][first:last]), "".join(changed_pieces[1][start:stop]))

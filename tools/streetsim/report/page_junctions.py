@@ -56,7 +56,7 @@ def full_mark(row: ResultRow) -> str:
 
 def full_lanes(runs: Runs, name: str) -> str:
     """A sentence on the lanes of a junction that are nearly full by the demand, as HTML; empty where there are none."""
-    told = "; ".join(one.told() for one in runs.first_folder.mapping.full.lanes if one.junction == name)
+    told = "; ".join(one.in_words() for one in runs.first_folder.mapping.full.lanes if one.junction == name)
     return f'<p class="small">Nearly full by the demand: {escape(told)}. {FULL}</p>' if told else ""
 
 

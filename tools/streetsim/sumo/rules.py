@@ -53,7 +53,7 @@ def warn_of_classes(net: SumoNet, network: Network, report: Report) -> None:
 def warn_of_reserved(network: Network, report: Report) -> None:
     """Reports vehicles that drive on lanes of their own class."""
     if own := network.reserved:
-        report.warn(f"{own.told()}: they may be faster there than in SUMO", [own.edge])
+        report.warn(f"{own.in_words()}: they may be faster there than in SUMO", [own.edge])
 
 
 def warn_of_lengths(network: Network, report: Report) -> None:
