@@ -341,7 +341,7 @@ class Pages(Given):
 
     def test_a_corridor_of_one_way_streets(self):
         """The street of two links has no edge back."""
-        first = read_runs(str(self.folder / "before")).first
+        first = read_runs(str(self.folder / "before")).first_folder
         self.assertEqual(path_and_way_back(first, ["a", "b"]), [["a", "b"]])
         first.mapping.links.append(replace(first.mapping.links[0], edge="c", begin=1, end=0))
         first.mapping.links_of["c"] = [2]

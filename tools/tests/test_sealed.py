@@ -392,7 +392,7 @@ class Whole(Sealed):
             page = str(self.folder / "big.html")
             made, large = sealing.sealed(content, {a: b"x" * 50, b: os.urandom(200)}, page)
         sealing.write_beside(page, large)
-        self.assertEqual((list(large), sorted(made.texts), made.beside), ([b], [a], "big.sealed.zip"))
+        self.assertEqual((list(large), sorted(made.texts), made.beside_name), ([b], [a], "big.sealed.zip"))
         found = seal_of(page, made.html())
         self.assertEqual(dict(sealing.sealed_files(found, page))[b], large[b])
         sealing.write_beside(page, {b: b"y"})
