@@ -333,7 +333,7 @@ class Forgotten:
         """How many pass each count in a run of some routes, and how many vehicles there are."""
         town = self.read()
         trips = read_trips([str(one) for one in routes], town.net, town.graph, town.types, self.options, Report())
-        all_ = connected_trips(trips.all, town.net, town.graph, True, Report())
+        all_ = connected_trips(trips.trips, town.net, town.graph, True, Report())
         ground = RunGround(self.program, program_digest(self.program), town.graph, 300, 2 * HOUR + 7200, 2)
         done = run_demand(ground, town.loaded(all_), seed)
         by_edges, kinds = CountsByEdges(counts, town.graph), [""] * len(all_)

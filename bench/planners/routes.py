@@ -256,14 +256,14 @@ def judge(case, routes, args):
     job = job_of(parser().parse_args(list(map(str, words))))
     runs = [in_sumo(case, routes, seed) for seed in args.check]
     with team(job.ground, args.jobs, None) as workers:
-        search = RouteSearch(job.town, job.ground, job.trips.all, workers, lambda _: False)
+        search = RouteSearch(job.town, job.ground, job.trips.trips, workers, lambda _: False)
         here = search.judged(job.check)
-        places = {trip.name: place for place, trip in enumerate(job.trips.all)}
+        places = {trip.name: place for place, trip in enumerate(job.trips.trips)}
         sights = [
             sumo_passes(one.passes, job, places, nothing_observed(len(job.town.graph.movements), job.ground.slices))
             for one in runs
         ]
-        for place, trip in enumerate(job.trips.all):
+        for place, trip in enumerate(job.trips.trips):
             trip.entry = fmean(entries.get(place, trip.depart) for _, entries in sights)
         costs = costs_of(job.town.graph, here.loaded.free, mean_observed([observed for observed, _ in sights]), SLICE)
         return runs, here, relative_gap(search.best_ways(costs))

@@ -12,7 +12,7 @@ from streetsim.report.beside_sumo import trip_times_of
 from streetsim.sumo.across import may_turn_on_red
 from streetsim.sumo.crossing import CrossingMovement, set_heads, set_lane, wait_together
 from streetsim.sumo.gaps import gap_capacity, gap_wait, until_first
-from streetsim.sumo.greens import green_here, hidden_middle, hidden_start, leaving, passing_here
+from streetsim.sumo.greens import green_here, hidden_middle, hidden_start, passing_here, vehicles_leaving
 from streetsim.sumo.heads import Heads, passing_heads
 from streetsim.sumo.import_files import convert
 from streetsim.sumo.net import NetConnection, NetEdge, SumoNet, request_of, wait_inside
@@ -74,11 +74,11 @@ class Formulas(unittest.TestCase):
         right = {9: 3.7, 12: 4.9, 20: 7.9, 42: 16.4, 60: 23.2}
         for speed, measured in ((13.89, straight), (6.5, right)):
             for seconds, vehicles in measured.items():
-                self.assertAlmostEqual(leaving(seconds, speed), vehicles, delta=0.4)
+                self.assertAlmostEqual(vehicles_leaving(seconds, speed), vehicles, delta=0.4)
                 first, after = hidden_middle(seconds, speed, 2)
                 whole, parts = passing_here(seconds, 2), passing_here(first, 2) + passing_here(seconds - after, 2)
-                self.assertAlmostEqual(parts if after > first else whole, leaving(seconds, speed), delta=0.6)
-                shown = min(seconds, green_here(leaving(seconds, speed), 2))
+                self.assertAlmostEqual(parts if after > first else whole, vehicles_leaving(seconds, speed), delta=0.6)
+                shown = min(seconds, green_here(vehicles_leaving(seconds, speed), 2))
                 self.assertEqual(seconds - hidden_start(seconds, speed, 2), shown)
         self.assertEqual([hidden_start(1, 13.89, 2), hidden_start(0, 13.89, 2)], [0, 0])
         for seconds, left_out in {0: (0, 0), 1: (0, 0), 8: (0, 2), 42: (21, 21)}.items():
@@ -168,7 +168,7 @@ class OneLane(Lanes):
         # Of 360 against, 360 e^-0.45 / (1 - e^-0.25) = 1,037.7 an hour find a gap, one in 3.469 s; one alone takes 2 s
         # and the wait, 4.655 s. One in five follows another that waited: 0.2 * 3.469 + 0.8 * 4.655.
         west, left, *_ = self.lanes(80, 20, 360, 0)
-        self.assertEqual((west.waits, left.waits, west.share, left.beside), (False, True, left.share, 2.0))
+        self.assertEqual((west.waits, left.waits, west.share, left.headway_beside), (False, True, left.share, 2.0))
         self.assertAlmostEqual(left.share, 0.2)
         self.assertAlmostEqual(time_of(left, 360), 4.418, places=3)
         self.assertEqual((time_of(left, 0), time_of(west, 360)), (2.0, 2.0))
@@ -204,7 +204,8 @@ class OneIndex(Lanes):
         """What is shown of the green from second 0 on, of (seconds, parts, seconds before them) of each movement."""
         made = [self.movement(("w", "left"), ("w", 0), 100, [0]) for _ in those]
         for one, (seconds, parts, lead) in zip(made, those, strict=True):
-            one.shown, one.parts, one.leads, one.stops = {0: seconds}, parts, {0: lead}, dict.fromkeys(stops, 9)
+            one.shown_seconds, one.shown_parts = {0: seconds}, parts
+            one.leads, one.stops = {0: lead}, dict.fromkeys(stops, 9)
             one.foes = made if foes else []
         return shown_by_gaps(dict(enumerate(made)))[0][0]
 

@@ -49,7 +49,7 @@ class Numbers(Case):
 
 class Told(unittest.TestCase):
     def test_rows_and_intervals(self):
-        runs = SimpleNamespace(folders={}, rows=[0], first=SimpleNamespace(unproved=""))
+        runs = SimpleNamespace(folders={}, rows=[0], first_folder=SimpleNamespace(unproved=""))
         for begins, text in (((0, 0), "2 rows of edges and junctions in 1 interval"), ((0, 900), "in 2 intervals")):
             told = export_told("x.geojson", runs, [{"properties": {"begin": begin}} for begin in begins])
             self.assertTrue(told.endswith(text), told)

@@ -54,8 +54,8 @@ class Errors(unittest.TestCase):
             ((0, 0), 100, [(9, "G")], 5, WAVE), ((0, 0), 90, [(9, "G")], 0, None),
         ):  # fmt: skip
             changed = SimpleNamespace(phases=phases, offset=offset)
-            plans = [SimpleNamespace(vehicles=100, first=works[0], lights={"L": light, "M": light})]
-            plans.append(SimpleNamespace(vehicles=vehicles, first=works[1], lights={"L": changed}))
+            plans = [SimpleNamespace(vehicles=100, first_folder=works[0], lights={"L": light, "M": light})]
+            plans.append(SimpleNamespace(vehicles=vehicles, first_folder=works[1], lights={"L": changed}))
             with (
                 mock.patch("streetsim.report.page_works.works_rows", lambda first: [{}] * first),
                 mock.patch("streetsim.report.page_summary.timings_of", lambda runs: runs.lights),

@@ -13,7 +13,7 @@ from streetsim.base import unpacking
 from streetsim.base.files import Fault, elements, open_bytes
 from streetsim.base.unpacking import lines_of, refuse_bomb, refuse_crowded
 from streetsim.cli.check import PAGE_BYTES_AT_MOST
-from streetsim.report.page_seal import MOST
+from streetsim.report.page_seal import MOST_BYTES
 from streetsim.search.study_variants import MOST_DOTS, MOST_VARIANTS
 
 
@@ -48,7 +48,7 @@ class Limits(Case):
             f"| {unpacking.BRACKETS:,} objects and lists, and a quarter of the bytes of the file more, in one text |",
             f"| {unpacking.LONGEST >> 20} MB a line, 131,072 letters a cell |", f"| {unpacking.LINE >> 20} MB a line |",
             f"| 4 MB, {MOST_DOTS} dots a line, {MOST_VARIANTS:,} variants |",
-            f"| {PAGE_BYTES_AT_MOST >> 20} MB, and all that is sealed together {MOST >> 20} MB |",
+            f"| {PAGE_BYTES_AT_MOST >> 20} MB, and all that is sealed together {MOST_BYTES >> 20} MB |",
         ):  # fmt: skip
             self.assertIn(told, text)
 

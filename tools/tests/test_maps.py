@@ -10,7 +10,7 @@ from streetsim.base.shapes import distance
 from streetsim.model.mapping import Map, MapLink, MapNode
 from streetsim.report.page_drawings import difference_map, service_keys, service_map
 from streetsim.report.page_labels import Room, steps, text_width
-from streetsim.report.page_map import BETWEEN, Stroke, map_figure, moved, street_map
+from streetsim.report.page_map import LINE_GAP, Stroke, map_figure, moved, street_map
 
 LONG, SHORT = "Long Street", "A street with a name that is much longer than the street itself"
 
@@ -62,7 +62,8 @@ class Directions(Case):
             for one, back in (("we", "ew"), ("en", "ne")):
                 with self.subTest(one, width=width):
                     apart = [distance(point, drawn[back]) for point in drawn[one]]
-                    self.assertTrue(all(width + BETWEEN - 0.2 < away < width + BETWEEN + 0.2 for away in apart), apart)
+                    expected = width + LINE_GAP
+                    self.assertTrue(all(expected - 0.2 < away < expected + 0.2 for away in apart), apart)
             self.assertGreater(drawn["we"][0][1], drawn["ew"][0][1], "east: the right is below, and y goes down")
             self.assertGreater(drawn["en"][0][0], drawn["ne"][0][0])
 

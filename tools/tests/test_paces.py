@@ -49,8 +49,8 @@ class Drivings(unittest.TestCase):
             ('speedFactor="norm(0.9, 0.2)" speedDev="0.05"', Driving(factor=0.9, deviation=0.05)),
             ('sigma="0.9" carFollowModel="IDM"', Driving(sigma=0.0)),
             ('sigma="0.9" carFollowModel="KraussOrig1"', Driving(sigma=0.9)),
-            ('vClass="bus"', Driving(deviation=0.0, most=27.78)),
-            ('vClass="moped" maxSpeed="9"', Driving(most=9.0)),
+            ('vClass="bus"', Driving(deviation=0.0, max_speed=27.78)),
+            ('vClass="moped" maxSpeed="9"', Driving(max_speed=9.0)),
         ):
             self.assertEqual(driving(f'<vType id="t" {text}/>'), expected, text)
 
@@ -63,7 +63,7 @@ class Drivings(unittest.TestCase):
         # 13.89 m/s with 2.6 * 0.75 m/s2 take 7.12 s, in which half of the way is lost.
         self.assertAlmostEqual(Driving().gaining(50 / KMH), 3.561, places=3)
         self.assertAlmostEqual(Driving(accel=0.8, sigma=0.0).gaining(50 / KMH), 8.681, places=3)
-        self.assertEqual(Driving(most=8.0).gaining(50 / KMH, 8.0), 0.0)
+        self.assertEqual(Driving(max_speed=8.0).gaining(50 / KMH, 8.0), 0.0)
 
 
 class OfADemand(Case):
@@ -162,7 +162,7 @@ class Bunches(unittest.TestCase):
     def test_who_follows_a_slower_one_loses(self):
         """None where nobody drives, more the more there are."""
         alone, lost = Paces(), []
-        self.assertEqual(alone.bunching(alone.on("a"), 1000.0, 50 / KMH), 0.0)
+        self.assertEqual(alone.bunching(alone.drivers_on("a"), 1000.0, 50 / KMH), 0.0)
         for count in (100, 200, 400):
             drivers = Drivers({Driving(): count})
             alone.seconds = 3600.0

@@ -50,7 +50,8 @@ class Works(Given):
         self.assertEqual(point_along([(0, 0), (75, 0)], 1 / 3), (25, 0))
         self.assertEqual(point_along([(0, 0), (0, 10), (30, 10)], 0.5), (10, 10))
         runs = read_runs(str(self.folder / "after"))
-        self.assertEqual(closed_shapes(runs), [("a", closed_shape(runs.first.mapping, ("a", "0", "30.0", "60.0")))])
+        shape = closed_shape(runs.first_folder.mapping, ("a", "0", "30.0", "60.0"))
+        self.assertEqual(closed_shapes(runs), [("a", shape)])
         [(_, (begin, _, end))] = closed_shapes(runs)
         self.assertEqual((round(begin[0]), round(end[0])), (30, 60))
 
@@ -71,7 +72,7 @@ class Works(Given):
             file.write('{"clock": 310, "lanes": []}\n')
         runs = read_runs(str(path))
         self.assertEqual([(one.queues[310], one.queues[320]) for one in seen_in(runs)], [([10], [0]), ([5], [6])])
-        lengths = [one.lengths for one in works_places_of(runs.first)]
+        lengths = [one.lengths for one in works_places_of(runs.first_folder)]
         self.assertEqual(lengths, [{310: 10.0}, {310: 5.0, 320: 6.0}])
 
     def test_the_page(self):
@@ -134,7 +135,7 @@ class Counts(Given):
         shutil.rmtree(self.folder / "after")
         counts = [Count(0, 3600, ("a",), 100, "x"), Count(0, 3600, ("b",), 100, "x")]
         runs = read_runs(str(self.folder / "before"))
-        text = counts_section("p", judge_counts(counts, [100, 400]), runs.first.mapping)
+        text = counts_section("p", judge_counts(counts, [100, 400]), runs.first_folder.mapping)
         self.assertIn("counted: 432 vehicles/h", text)
         self.assertEqual((text.count('fill="#c04000"'), text.count('fill="#225588"')), (1, 1))
         self.assertIn("b: +300", text)

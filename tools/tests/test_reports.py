@@ -69,7 +69,7 @@ class Numbers(unittest.TestCase):
         day = difference_of(*values, drawn=True)
         self.assertEqual((day.change, day.of_days, day.stands_out()), (-3.0, True, False))
         self.assertAlmostEqual(day.half, 4.303 * (4 / 3) ** 0.5)
-        self.assertEqual(difference_of({1: 1.0}, {1: 3.0}, drawn=False).told(), "+2.0")
+        self.assertEqual(difference_of({1: 1.0}, {1: 3.0}, drawn=False).in_words(), "+2.0")
         self.assertIsNone(difference_of({1: 1.0}, {2: 1.0}, drawn=True))
 
     def test_who_arrives_with_one_plan_alone_is_told(self):
@@ -341,7 +341,7 @@ class Pages(Given):
 
     def test_a_corridor_of_one_way_streets(self):
         """The street of two links has no edge back."""
-        first = read_runs(str(self.folder / "before")).first
+        first = read_runs(str(self.folder / "before")).first_folder
         self.assertEqual(path_and_way_back(first, ["a", "b"]), [["a", "b"]])
         first.mapping.links.append(replace(first.mapping.links[0], edge="c", begin=1, end=0))
         first.mapping.links_of["c"] = [2]

@@ -114,8 +114,8 @@ class Routing(unittest.TestCase):
 
     def test_a_trip_of_one_edge(self):
         router = Router(GRAPH, costs_with({way("a"): [20] * 4}))
-        found = router.found(Wish(7, 0, 0, 50.0, (0,)))
-        self.assertEqual((found.path, found.least, found.own), ((0,), 20, 20))
+        found = router.best_path(Wish(7, 0, 0, 50.0, (0,)))
+        self.assertEqual((found.path, found.seconds, found.own_seconds), ((0,), 20, 20))
 
     def test_straight_lines_between_slices(self):
         # Middles of slices at 50, 150, 250 and 350 s; five parts of 20 s, each with the value of its middle.
@@ -209,7 +209,7 @@ class Written(Case):
         town = read_town(self.write("x.net.xml", STREET), [], Options(classes=("passenger", "bus")), report)
         files = [self.write("r.rou.xml", text)]
         trips = read_trips(files, town.net, town.graph, town.types, town.options, report)
-        for trip in trips.all:
+        for trip in trips.trips:
             trip.path = tuple(town.graph.number[name] for name in "abc")
         write_routes(str(self.folder / "out.xml"), trips, town.graph)
         read = {one.get("id"): one for one in ElementTree.parse(self.folder / "out.xml").iter("vehicle")}
@@ -221,7 +221,7 @@ class Written(Case):
         stops = {name: [(stop.get("lane"), stop.get("until")) for stop in those] for name, those in made.items()}
         self.assertEqual(stops, {"v": [("b_0", "99")], "t": [], "f.0": [("c_0", "30")], "f.1": [("c_0", "45")]})
         self.assertEqual(report.ignored["decel of vTypes"], 1)
-        self.assertEqual([one.line for one in vehicles_from_trips(trips.all, town.graph)], ["12", "", "", ""])
+        self.assertEqual([one.line for one in vehicles_from_trips(trips.trips, town.graph)], ["12", "", "", ""])
 
 
     def test_departures_are_in_the_second_in_which_they_were(self):

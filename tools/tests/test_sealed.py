@@ -62,7 +62,7 @@ class Mismatches(unittest.TestCase):
             ("41 in all", "42 in all", "Junctions"), ("51", "52", "Junctions, J2"), ("Town", "City", "City"),
         ):  # fmt: skip
             other = self.PAGE.replace(f">{said}<", f">{found}<", 1)
-            told = [(one.where, one.said, one.found) for one in page_mismatches(self.PAGE, other)]
+            told = [(one.place_in_words, one.stated_text, one.remade_text) for one in page_mismatches(self.PAGE, other)]
             self.assertEqual(told, [(where, said, found)])
         self.assertEqual(page_mismatches(self.PAGE, self.PAGE), [])
 
@@ -259,7 +259,7 @@ class Changes(Sealed):
                 self.assertTrue(found, pattern)
                 changed = other_digit(self.text, found.end(1) - 1)
                 [one] = page_mismatches(changed, self.made)
-                self.assertNotEqual(one.said, one.found)
+                self.assertNotEqual(one.stated_text, one.remade_text)
 
     def test_each_word(self):
         for name, (pattern, word) in WORDS.items():
@@ -271,7 +271,7 @@ class Changes(Sealed):
     def test_it_says_where(self):
         found = re.search(DIGITS["seconds of a flow"], self.text, re.DOTALL)
         [one] = page_mismatches(other_digit(self.text, found.end(1) - 1), self.made)
-        self.assertRegex(one.told(), r"What it costs whom, \w+, before, s: said '[\d.]+', found '[\d.]+'")
+        self.assertRegex(one.in_words(), r"What it costs whom, \w+, before, s: said '[\d.]+', found '[\d.]+'")
 
     def test_there_are_enough(self):
         self.assertGreaterEqual(len(DIGITS) + len(WORDS), 40)
@@ -392,7 +392,7 @@ class Whole(Sealed):
             page = str(self.folder / "big.html")
             made, large = sealing.sealed(content, {a: b"x" * 50, b: os.urandom(200)}, page)
         sealing.write_beside(page, large)
-        self.assertEqual((list(large), sorted(made.texts), made.beside), ([b], [a], "big.sealed.zip"))
+        self.assertEqual((list(large), sorted(made.texts), made.beside_name), ([b], [a], "big.sealed.zip"))
         found = seal_of(page, made.html())
         self.assertEqual(dict(sealing.sealed_files(found, page))[b], large[b])
         sealing.write_beside(page, {b: b"y"})

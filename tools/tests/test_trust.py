@@ -34,9 +34,10 @@ class Marks(unittest.TestCase):
         """Trips of 20 and 40 s; two are under way for 100 and 300 s; one departs after the end."""
         made = self.trips(row(0, 20), row(10, 50), row(900), row(700), row(1000))
         told = "5 vehicles, 2 arrived, mean trip 30.0 s of these, 200.0 s to date of 2 under way"
-        self.assertEqual(made.told(), told)
-        self.assertEqual(self.trips(row(0, 20)).told(), "1 vehicles, 1 arrived, mean trip 20.0 s")
-        self.assertEqual(self.trips(row(0)).told(), "1 vehicles, 0 arrived, no trip, 1000.0 s to date of 1 under way")
+        self.assertEqual(made.in_words(), told)
+        self.assertEqual(self.trips(row(0, 20)).in_words(), "1 vehicles, 1 arrived, mean trip 20.0 s")
+        told = "1 vehicles, 0 arrived, no trip, 1000.0 s to date of 1 under way"
+        self.assertEqual(self.trips(row(0)).in_words(), told)
 
     def test_when_all_had_arrived(self):
         """At the last arrival; never where one is under way; at the begin where nobody departs."""

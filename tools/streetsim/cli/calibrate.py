@@ -173,13 +173,13 @@ def calibrate_street(args: argparse.Namespace, options: list[str], folder: str) 
     result = fit.solve(values_of(day, classes, names_in(args.free)))
     meanwhile.end()
     usual = FittedDrivers(dawdle=options_of(args).dawdle / 1000)
-    both = {BEFORE: usual, AFTER: result.drivers}
-    days = [judged_day(args, FITTED, day, street, both, seeds)]
+    named_drivers = {BEFORE: usual, AFTER: result.drivers}
+    days = [judged_day(args, FITTED, day, street, named_drivers, seeds)]
     if args.validate:
         validation_day = other_day(args, net, folder, notes, day)
         other_demand = demand_of(args, options, validation_day.counts, folder, OTHER)
         other_street = street_runs(args, validation_day, [other_demand])
-        days.append(judged_day(args, OTHER, validation_day, other_street, both, check))
+        days.append(judged_day(args, OTHER, validation_day, other_street, named_drivers, check))
     sums = {path: sum_of_input(path) for path in inputs_of(args)}
     digest = program_digest(args.program) or "unknown"
     shares = options_of(args).shares
@@ -236,13 +236,13 @@ def runs_of(
 
 
 def judged_day(
-    args: argparse.Namespace, name: str, day: FieldDay, street: StreetRuns, both: dict[str, FittedDrivers],
+    args: argparse.Namespace, name: str, day: FieldDay, street: StreetRuns, named_drivers: dict[str, FittedDrivers],
     seeds: Sequence[int],
 ) -> JudgedDay:
     """A day with its runs, without and with calibration, and its criteria."""
     with Slow(f"judging the {name} day"):
-        runs = dict(zip(both, runs_of(args, street, [*both.values()], seeds), strict=True))
-    criteria = {drivers: list(criteria_of(day, runs[drivers], fitted)) for drivers, fitted in both.items()}
+        runs = dict(zip(named_drivers, runs_of(args, street, [*named_drivers.values()], seeds), strict=True))
+    criteria = {drivers: list(criteria_of(day, runs[drivers], fitted)) for drivers, fitted in named_drivers.items()}
     return JudgedDay(name, day, runs, criteria)
 
 

@@ -121,7 +121,7 @@ def tell_result(target: str, mismatches: Sequence[Mismatch], good: str, note: st
     if not mismatches:
         print(f"{target}: {good}{note}")
         return 0
-    named = "; ".join(mismatch.told() for mismatch in mismatches[:NAMED_AT_MOST])
+    named = "; ".join(mismatch.in_words() for mismatch in mismatches[:NAMED_AT_MOST])
     more = f"; and {len(mismatches) - NAMED_AT_MOST:,} more" if len(mismatches) > NAMED_AT_MOST else ""
     places_text = "1 place is" if len(mismatches) == 1 else f"{len(mismatches):,} places are"
     print(f"{target}: {places_text} not what the runs give: {named}{more}{note}")
@@ -155,7 +155,7 @@ def remake_from_files(args: argparse.Namespace, seal: Seal, temporary: str) -> s
     counts = [files[name] for name in sorted(files.keys() - {NAMES}, key=lambda name: int(name[len(COUNTS) :]))]
     arguments = [*folders, *seal.content["words"], *names, *(["--counts", *counts] if counts else [])]
     plan_names = ["--plans", *(plan["name"] for plan in plans)]
-    sealing = partial(sealed_again, said=seal, page=args.target, others=files)
+    sealing = partial(sealed_again, stated_seal=seal, page=args.target, other_paths=files)
     return remake_text([*arguments, *plan_names, "-o", args.target], sealing)
 
 

@@ -67,16 +67,16 @@ def with_sumo(path: str, files: list[str]) -> int:
     it. Status 1 where the trips, or the edges, have nothing in common, else 0. Fault for more than two files."""
     if len(files) > 2:
         raise Fault("--sumo takes tripinfo.xml and at most one edgedata.xml")
-    with Slow(f"reading {path}") as shown:
+    with Slow(f"reading {path}") as progress:
         folder = read_folder(path)
         if is_drawn(folder.made):
             raise Fault(f"{path}: its departures were drawn, and SUMO had those of the file: --departures listed")
         run_times, names = trip_times_of(folder), [row["id"] for row in folder.trips()]
-        shown.text = f"reading {files[0]}"
+        progress.text = f"reading {files[0]}"
         sumo_times = read_tripinfo(files[0])
         lines, common = list(compare_trips(run_times, sumo_times, names)), bool(run_times.keys() & sumo_times.keys())
         if len(files) == 2:
-            shown.text = f"reading {files[1]}"
+            progress.text = f"reading {files[1]}"
             edges, sumo = edge_values_of(folder), read_edges(files[1])
             lines += compare_edges(edges, sumo, folder.period, len(folder.mapping.links_of))
             common = common and any(key in sumo for key in edges)
@@ -103,10 +103,10 @@ def with_counts(path: str, files: list[str], attribute: str | None, out: str | N
     """Prints how a folder meets counts by the usual criteria for each hour; writes tables and pictures where a folder
     `out` is named. attribute: of SUMO's files, that is the count, or none. Status 1 where the criteria are not met,
     else 0; that the run is not to be trusted is printed and does not change it."""
-    with Slow(f"reading {path}") as shown:
+    with Slow(f"reading {path}") as progress:
         folder = read_folder(path)
         counts = read_counts(files, attribute)
-        shown.text = f"comparing with {len(counts):,} counts"
+        progress.text = f"comparing with {len(counts):,} counts"
         fit = judge_counts(counts, passed_in(folder, counts))
         if out:
             with whole_folder(out, LAST_FILE, COMPARED) as out_folder:

@@ -38,10 +38,10 @@ def main(arguments: list[str]) -> int:
         find_ogr2ogr()
     checked_output_path(args.output)
     runs = read_with_any_tables(args.run)
-    mapping = runs.first.mapping
+    mapping = runs.first_folder.mapping
     if args.names:
         read_own(args.names, mapping)
-    map_features = list(features(runs, converter_of(mapping.location, args.projection, runs.first.path)))
+    map_features = list(features(runs, converter_of(mapping.location, args.projection, runs.first_folder.path)))
     (write_package if ending == ".gpkg" else write_geojson)(args.output, map_features)
     print(export_told(args.output, runs, map_features))
     return 0

@@ -29,15 +29,16 @@ def given_words(parser: argparse.ArgumentParser, args: argparse.Namespace, witho
 
 
 def refuse_other_words(
-    parser: argparse.ArgumentParser, kept_words: list[str], needed: Sequence[str], without: Collection[str], where: str
+    parser: argparse.ArgumentParser, kept_words: list[str], needed_words: Sequence[str], without: Collection[str],
+    target: str,
 ) -> None:
     """Fault for words, as a page or folder keeps them, that given_words would not give of a parser: those that name a
-    host, a program or a path (`without`), stand there twice, or ask for help. needed: words without which the parser
-    takes none; where: for the Fault."""
-    message = f"{where}: what made it has words that the tools do not keep"
+    host, a program or a path (`without`), stand there twice, or ask for help. needed_words: those without which the
+    parser takes none; target: for the Fault."""
+    message = f"{target}: what made it has words that the tools do not keep"
     try:
         with contextlib.redirect_stdout(io.StringIO()):
-            parsed_words = given_words(parser, parser.parse_args([*needed, *kept_words]), without)
+            parsed_words = given_words(parser, parser.parse_args([*needed_words, *kept_words]), without)
     except SystemExit:
         raise Fault(f"{message}: they ask for help") from None
     except (Fault, ValueError) as fault:

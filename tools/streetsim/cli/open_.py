@@ -22,7 +22,7 @@ from streetsim.model.mapping import read_map
 from streetsim.sumo.demand import Unrouted
 from streetsim.sumo.net import read_net
 
-MOST = 100_000  # invented vehicles an hour
+MOST_INVENTED = 100_000  # invented vehicles an hour
 RUNS, NETWORKS = (".jsonl", ".jsonl.gz"), (".net.xml", ".net.xml.gz")
 ROOTS = ("net", "configuration", "sumoConfiguration")  # of a network, and of a configuration
 WITHOUT = "{}: a network without routes: name them behind it, or give --vehicles N: so many an hour, invented"
@@ -31,7 +31,7 @@ CLASSES = ("passenger",)  # whose lanes invented trips take, as the import does
 
 def parser() -> Parser:
     """The parser of the words that streetsim-open takes."""
-    made = Parser(
+    tool_parser = Parser(
         prog="streetsim-open",
         description="Makes one page of a network and its routes, of a run or of what a run left: imports, runs and "
         "reports, and prints the commands that do the same. The page has the map, the junctions by level of service, "
@@ -42,70 +42,72 @@ def parser() -> Parser:
             "streetsim-open town.net.xml --vehicles 3000",
         ),
     )
-    made.add_argument(
+    tool_parser.add_argument(
         "target", metavar="NET|CFG|RUN|FOLDER",
         help="a network (.net.xml), a configuration of SUMO's (.sumocfg), a run (.jsonl), a folder that streetsim-run "
         "wrote, or one with a configuration or a network",
     )
-    made.add_argument(
+    tool_parser.add_argument(
         "routes", metavar="ROUTES", nargs="*", help="of a network: vehicles, flows or trips, and additional files"
     )
-    made.add_argument(
-        "--vehicles", type=integer_within(1, MOST), metavar="N",
+    tool_parser.add_argument(
+        "--vehicles", type=integer_within(1, MOST_INVENTED), metavar="N",
         help="of a network without routes: so many an hour from border to border, invented",
     )
-    add_clock(made, "--begin", "the clock at the start", default=None)
-    add_clock(made, "--until", "the clock at the end", least=1)
-    made.add_argument("-o", "--output", metavar="PAGE", help="the file to write: the page (default: NAME.html, here)")
-    made.add_argument(
+    add_clock(tool_parser, "--begin", "the clock at the start", default=None)
+    add_clock(tool_parser, "--until", "the clock at the end", least=1)
+    tool_parser.add_argument(
+        "-o", "--output", metavar="PAGE", help="the file to write: the page (default: NAME.html, here)"
+    )
+    tool_parser.add_argument(
         "--live", action="store_true", help="serve the page that runs the simulation instead, until Ctrl-C"
     )
-    made.add_argument("--no-open", action="store_true", help="start no browser")
-    made.add_argument("--program", help=program.HELP)
-    return made
+    tool_parser.add_argument("--no-open", action="store_true", help="start no browser")
+    tool_parser.add_argument("--program", help=program.HELP)
+    return tool_parser
 
 
 def main(arguments: list[str]) -> int:
     """Runs streetsim-open: imports, runs and makes the page, where each is needed, and prints the commands that do the
     same and where the page is; gives status 0. Fault where one of them raises one."""
-    words = parser().parse_args(arguments)
-    refuse_clashing_words(words)
-    given = ["--program", words.program] if words.program else []
-    kind, path = kind_of(words.target)
+    args = parser().parse_args(arguments)
+    refuse_clashing_words(args)
+    program_words = ["--program", args.program] if args.program else []
+    kind, path = kind_of(args.target)
     if kind == "net":
-        path = imported(words, path)
-    if words.live:
-        return run_tool("live", [path, *(["--no-open"] if words.no_open else []), *given])
-    folder = path if kind == "folder" else made_run(words, path, given)
-    page = words.output or f"{stem_of(words.target)}.html"
+        path = imported(args, path)
+    if args.live:
+        return run_tool("live", [path, *(["--no-open"] if args.no_open else []), *program_words])
+    folder = path if kind == "folder" else made_run(args, path, program_words)
+    page = args.output or f"{stem_of(args.target)}.html"
     from streetsim.cli.open_page import write_page  # which loads what draws
 
     with Slow(f"writing {page}"):
         write_page(page, folder, path if kind != "folder" else "")
     print("its parts alone:", *(f"$ {shlex.join(part)}" for part in parts_of(folder)), sep="\n")
     print(f"{page}: {Path(page).stat().st_size:,} bytes")
-    if not words.no_open and sys.stdout.isatty():
+    if not args.no_open and sys.stdout.isatty():
         webbrowser.open(Path(page).resolve().as_uri())
     return 0
 
 
-def refuse_clashing_words(words: argparse.Namespace) -> None:
+def refuse_clashing_words(args: argparse.Namespace) -> None:
     """Fault for words that do not fit to each other or to what is opened, or a page that cannot be written."""
-    kind, _ = kind_of(words.target)
-    if words.vehicles and words.routes:
+    kind, _ = kind_of(args.target)
+    if args.vehicles and args.routes:
         raise Fault("--vehicles is for a network without routes: leave it out, or ROUTES")
     if kind != "net":
         for name in ("routes", "vehicles", "begin"):
-            if getattr(words, name):
-                raise Fault(f"{words.target}: {'ROUTES are' if name == 'routes' else f'--{name} is'} of a network")
+            if getattr(args, name):
+                raise Fault(f"{args.target}: {'ROUTES are' if name == 'routes' else f'--{name} is'} of a network")
     if kind == "folder":
         for name in ("until", "live"):
-            if getattr(words, name):
-                raise Fault(f"{words.target}: --{name} is of a run that is still to be made")
-    if words.output and words.live:
+            if getattr(args, name):
+                raise Fault(f"{args.target}: --{name} is of a run that is still to be made")
+    if args.output and args.live:
         raise Fault("--live serves its page: leave -o out")
-    if words.output:
-        checked_output_path(words.output)
+    if args.output:
+        checked_output_path(args.output)
 
 
 def kind_of(target: str) -> tuple[str, str]:
@@ -143,17 +145,17 @@ def network_in(folder: str) -> str:
     raise Fault(f"{folder}: nothing that streetsim-run wrote is in it, and no configuration or network of SUMO's")
 
 
-def imported(words: argparse.Namespace, path: str) -> str:
+def imported(args: argparse.Namespace, path: str) -> str:
     """Imports a network or configuration; gives the path of the run file, of its name, here. Fault where it has no
     vehicles and none are to be invented."""
     run = f"{stem_of(path)}.jsonl"
-    begin = [] if words.begin is None else ["--begin", str(words.begin)]
-    more = [path, *(name for name in words.routes if is_additional(name))]
-    routes = [name for name in words.routes if not is_additional(name)]
-    if words.vehicles:
+    begin = [] if args.begin is None else ["--begin", str(args.begin)]
+    files = [path, *(name for name in args.routes if is_additional(name))]
+    routes = [name for name in args.routes if not is_additional(name)]
+    if args.vehicles:
         trips = f"{stem_of(path)}.invented.trips.xml"
-        write_invented(trips, read_net(plan_files(path)[0], CLASSES, Report()), words.vehicles, words.begin or 0)
-        print(f"{trips}: {words.vehicles:,} vehicles in an hour from border to border: invented")
+        write_invented(trips, read_net(plan_files(path)[0], CLASSES, Report()), args.vehicles, args.begin or 0)
+        print(f"{trips}: {args.vehicles:,} vehicles in an hour from border to border: invented")
         tries = [["--trips", trips]]
     elif routes:
         tries = [["--routes", *routes], ["--trips", *routes]]
@@ -163,7 +165,7 @@ def imported(words: argparse.Namespace, path: str) -> str:
         raise Fault(WITHOUT.format(path))
     for last, how in enumerate(tries, 1):
         try:
-            run_tool("import_", [*more, *how, *begin])
+            run_tool("import_", [*files, *how, *begin])
             break
         except Unrouted:
             if last == len(tries):
@@ -180,10 +182,10 @@ def is_additional(path: str) -> bool:
     return path.endswith((".add.xml", ".add.xml.gz"))
 
 
-def made_run(words: argparse.Namespace, run: str, given: Sequence[str]) -> str:
+def made_run(args: argparse.Namespace, run: str, program_words: Sequence[str]) -> str:
     """Makes the run of a run file, with junction tables and each second polled; gives its folder, of its name, here."""
-    until = [] if words.until is None else ["--until", str(words.until)]
-    run_tool("run", [run, "--junctions", "900", "--every", "1", *until, *given])
+    until = [] if args.until is None else ["--until", str(args.until)]
+    run_tool("run", [run, "--junctions", "900", "--every", "1", *until, *program_words])
     folder = f"{stem_of(run)}-run"
     note_kept(folder)
     return folder
@@ -194,9 +196,9 @@ def parts_of(folder: str) -> list[list[str]]:
     return [["streetsim-report", folder], ["streetsim-plot", "queues", folder], ["streetsim-play", folder]]
 
 
-def run_tool(module: str, words: Sequence[str]) -> int:
+def run_tool(module: str, arguments: Sequence[str]) -> int:
     """Prints a command and runs it, by its module below cli; gives its status."""
-    print(f"$ streetsim-{module.rstrip('_')} {shlex.join(words)}", flush=True)
-    status: int = import_module(f"streetsim.cli.{module}").main(list(words))
+    print(f"$ streetsim-{module.rstrip('_')} {shlex.join(arguments)}", flush=True)
+    status: int = import_module(f"streetsim.cli.{module}").main(list(arguments))
     COMPLETED.clear()
     return status

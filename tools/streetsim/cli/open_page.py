@@ -54,7 +54,7 @@ def write_page(path: str, folder: str, run: str) -> None:
         shown = interval_of([runs], argparse.Namespace(interval=None))
         timings = timings_of(runs)
         more = list(sections(runs, shown[0], run, timings))
-        wishes = PageWishes(runs.name, "", DETAIL, False, clashes(timings, runs), first=more)
+        wishes = PageWishes(runs.name, "", DETAIL, False, clashes(timings, runs), first_sections=more)
         text = report_of([runs], shown, wishes)
     except Fault as fault:
         text = page_without_junctions(read_folders(folder), run, str(fault))
@@ -62,21 +62,21 @@ def write_page(path: str, folder: str, run: str) -> None:
         file.write(text)
 
 
-def page_without_junctions(runs: Runs, run: str, why: str) -> str:
-    """The page of a run that has no junction tables, as HTML; why: there are none, or they cannot be shown."""
-    notes = "".join(f'<p class="doubt">{escape(text)}</p>' for text in runs.first.notes)
-    lead = f"{notes}<p>No junctions are shown: {escape(why)}</p>"
+def page_without_junctions(runs: Runs, run: str, reason: str) -> str:
+    """The page of a run that has no junction tables, as HTML; reason: there are none, or they cannot be shown."""
+    notes = "".join(f'<p class="doubt">{escape(text)}</p>' for text in runs.first_folder.notes)
+    lead = f"{notes}<p>No junctions are shown: {escape(reason)}</p>"
     doubts = Section("doubts", "What is doubted", doubted([runs]))
     run_section = Section("run", "What was run", what_was_run([runs]))
-    return page(runs.name, lead, [*sections(runs, runs.first.made.get("start", 0), run), doubts], [run_section])
+    return page(runs.name, lead, [*sections(runs, runs.first_folder.made.get("start", 0), run), doubts], [run_section])
 
 
 def sections(runs: Runs, begin: int, run: str, timings: Timings = MappingProxyType({})) -> Iterator[Section]:
     """What the page has beside a report: queues, the player from a clock on, and what next; what cannot be drawn is
     told there. timings: programs of lights, of those that are known."""
     for name, title, content in (
-        ("queues", "Queues over time", lambda: queues_html(runs.first)),
-        ("player", "The vehicles as they drive", lambda: player_html(runs.first, begin)),
+        ("queues", "Queues over time", lambda: queues_html(runs.first_folder)),
+        ("player", "The vehicles as they drive", lambda: player_html(runs.first_folder, begin)),
         ("next", "What next", lambda: next_steps_html(runs, run, search_words(timings))),
     ):
         try:
@@ -119,7 +119,7 @@ def search_words(timings: Timings) -> list[str]:
 def next_steps_html(runs: Runs, run: str, search: Sequence[str]) -> str:
     """Five questions, each with the command that answers it, as HTML; run: path of the run file, or none; search:
     further words of a search for signals."""
-    folder = runs.first
+    folder = runs.first_folder
     name = run or folder.made.get("run", "RUN.jsonl")
     net = net_of(folder, name)
     lane, metres, is_only = lane_to_close(folder)

@@ -18,36 +18,36 @@ LISTS = ("classes", "joint", "slow")  # a word with commas between
 ENDING = ".add.xml"  # of the file that a search writes
 
 
-def plan_commands(words: argparse.Namespace, mapping: Map) -> list[str]:
+def plan_commands(args: argparse.Namespace, mapping: Map) -> list[str]:
     """The lines of the shell that import what was found, run it and the plan given by five days, and make a report of
-    both; none where the files of the import are not known or have changed. words: of streetsim-signals, complete."""
+    both; none where the files of the import are not known or have changed. args: of streetsim-signals, complete."""
     try:
-        sources = sources_of(mapping.sources, words.map, words.run)
+        sources = sources_of(mapping.sources, args.map, args.run)
     except Fault:
         return []
     known = {os.path.realpath(path) for path in sources.additional}
-    more = [path for path in words.plans[1:] if os.path.realpath(path) not in known]
-    files = [shown(path) for path in (sources.net, *sources.additional)]
+    more_files = [path for path in args.plans[1:] if os.path.realpath(path) not in known]
+    files = [path_from_here(path) for path in (sources.net, *sources.additional)]
     named = {"--routes": sources.routes, "--trips": sources.trips}
-    demand = [word for name, paths in named.items() if paths for word in (name, *map(shown, paths))]
+    demand = [word for name, paths in named.items() if paths for word in (name, *map(path_from_here, paths))]
     tail = [*demand, *import_words(mapping.options), "-o"]
-    given, until = f"{stem_of(words.run)}.given.jsonl" if more else words.run, ["--until", str(words.until)]
-    run = found_run(words.output, given)
-    lines = [["streetsim-import", *files, *more, *tail, given]] if more else []
-    lines.append(["streetsim-import", *files, *more, words.output, *tail, run])
-    own = ["--map", words.map] if not more and words.map != map_beside(given) else []
-    lines += [["streetsim-run", given, *own, *until, *DAYS], ["streetsim-run", run, *until, *DAYS]]
-    lines.append(["streetsim-report", f"{stem_of(given)}-seeds", f"{stem_of(run)}-seeds"])
+    given_run, until = f"{stem_of(args.run)}.given.jsonl" if more_files else args.run, ["--until", str(args.until)]
+    run = found_run(args.output, given_run)
+    lines = [["streetsim-import", *files, *more_files, *tail, given_run]] if more_files else []
+    lines.append(["streetsim-import", *files, *more_files, args.output, *tail, run])
+    own = ["--map", args.map] if not more_files and args.map != map_beside(given_run) else []
+    lines += [["streetsim-run", given_run, *own, *until, *DAYS], ["streetsim-run", run, *until, *DAYS]]
+    lines.append(["streetsim-report", f"{stem_of(given_run)}-seeds", f"{stem_of(run)}-seeds"])
     return [shlex.join(line) for line in lines]
 
 
-def found_run(output: str, given: str) -> str:
+def found_run(output: str, given_run: str) -> str:
     """The run file of what was found, beside its file of programs, with another name than the run of what was given."""
     stem = output.removesuffix(ENDING).removesuffix(".xml")
-    return f"{stem}.found.jsonl" if stem_of(stem) == stem_of(given) else f"{stem}.jsonl"
+    return f"{stem}.found.jsonl" if stem_of(stem) == stem_of(given_run) else f"{stem}.jsonl"
 
 
-def shown(path: str) -> str:
+def path_from_here(path: str) -> str:
     """A path as seen from here, where that is shorter."""
     return min(os.path.relpath(path), path, key=len)
 
@@ -55,8 +55,8 @@ def shown(path: str) -> str:
 def import_words(options: Json) -> Iterator[str]:
     """The words of streetsim-import by which it gets the options that a map keeps; of the usual ones none."""
     usual = {one.name: one.default for one in fields(Options)}
-    own = {name: tuple(value) if isinstance(value, list) else value for name, value in options.items()}
-    changed = {name: value for name, value in own.items() if value != usual[name]}
+    kept_options = {name: tuple(value) if isinstance(value, list) else value for name, value in options.items()}
+    changed = {name: value for name, value in kept_options.items() if value != usual[name]}
     for name, value in changed.items():
         if name in BY_NAME:
             yield f"--{name}={value}"
@@ -64,8 +64,8 @@ def import_words(options: Json) -> Iterator[str]:
             yield f"--{name}={','.join(value)}"
     yield from ("--turns=strict",) * ("strict_turns" in changed) + ("--sizes=off",) * ("sizes" in changed)
     yield from ("--ignore-route-errors",) * ("ignore_route_errors" in changed)
-    every = [str(own["permissive"])] if "permissive" in changed else []
-    shares, speeds = (pairs_told(own.get(name, ())) for name in ("shares", "speeds"))
+    every = [str(kept_options["permissive"])] if "permissive" in changed else []
+    shares, speeds = (pairs_told(kept_options.get(name, ())) for name in ("shares", "speeds"))
     for word, texts in (("permissive", every + shares), ("speed-factor", speeds)):
         if texts:
             yield f"--{word}={','.join(texts)}"

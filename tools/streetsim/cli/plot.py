@@ -67,7 +67,9 @@ def add_words_of_kind(kind_parser: argparse.ArgumentParser, kind: str) -> None:
     if kind == "fundamental":
         add_diagram(kind_parser)
     if kind == "map":
-        kind_parser.add_argument("--what", choices=picture_maps.WHAT, default="density", help="(default: %(default)s)")
+        kind_parser.add_argument(
+            "--what", choices=picture_maps.MEASURE_NAMES, default="density", help="(default: %(default)s)"
+        )
         add_clock(kind_parser, "--interval", "the interval shown, by its begin (default: the busiest; of density all)")
     if kind == "greens":
         kind_parser.add_argument(
@@ -114,7 +116,7 @@ def main(arguments: list[str]) -> int:
     picture_format(args.output)
     checked_output_path(args.output)
     figure = picture_of(load_pyplot(), args)
-    if args.folder and (notes := read_folders(args.folder).first.notes):
+    if args.folder and (notes := read_folders(args.folder).first_folder.notes):
         figure.text(1, 0, "\n".join(notes), ha="right", va="top", color="#a00")
     save_picture(figure, args.output)
     return 0

@@ -102,22 +102,22 @@ def main(arguments: list[str]) -> int:
     kept_words = given_words(tool_parser, args, ELSEWHERE)
     complete_outputs(args, output=f"{stem_of(args.runs[-1])}.report.html")
     refuse_clashing_words(args)
-    beside = {f"{COUNTS}{at}": path for at, path in enumerate(paths_in(args.counts), 1)}
-    beside |= {NAMES: args.names} if args.names else {}
-    refuse_unwritable(".", {"-o": args.output, "--csv": args.csv}, beside.values())
+    paths_beside = {f"{COUNTS}{at}": path for at, path in enumerate(paths_in(args.counts), 1)}
+    paths_beside |= {NAMES: args.names} if args.names else {}
+    refuse_unwritable(".", {"-o": args.output, "--csv": args.csv}, paths_beside.values())
     plans = read_plans(args)
-    shown = interval_of(plans, args)
+    interval = interval_of(plans, args)
     seal: Seal | None = None
     large: dict[str, bytes] = {}
     if args.sealed:
-        seal, large = seal_for(plans, kept_words, args.output, beside)
-    text = report_of(plans, shown, wishes_of(plans, args, seal))
+        seal, large = seal_for(plans, kept_words, args.output, paths_beside)
+    text = report_of(plans, interval, wishes_of(plans, args, seal))
     write_beside(args.output, large)
     with whole_file(args.output) as file:
         file.write(text)
     if args.csv:
-        write_table(args.csv, CHANGES, change_rows(plans, shown))
-    count = len(ranked_rows(plans, shown))
+        write_table(args.csv, CHANGES, change_rows(plans, interval))
+    count = len(ranked_rows(plans, interval))
     more = f", and {beside_of(args.output)} beside it" if large else ""
     print(f"{args.output}: {count} junctions, {len(text.encode()):,} bytes{more}")
     return 0
@@ -161,7 +161,7 @@ def read_plans(args: argparse.Namespace) -> list[Runs]:
         message = f"departures of {listed[1]!r} are as listed, those of {drawn[1]!r} drawn"
         raise Fault(f"{message}: other vehicles drive there")
     for runs in plans if args.names else ():
-        read_own(args.names, runs.first.mapping)
+        read_own(args.names, runs.first_folder.mapping)
     return plans
 
 
@@ -178,14 +178,15 @@ def wishes_of(plans: Sequence[Runs], args: argparse.Namespace, seal: Seal | None
         pictures.append(Section("sheets", "Signal timing sheets", sheets_html(plans, timings, args.sheets)))
     seal_html, doubts = seal.html() if seal else "", clashes(timings[-1], plans[-1])
     detail = DETAIL if args.detail is None else args.detail
-    return PageWishes(args.title, args.question, detail, args.short, doubts, pictures, last=seal_html)
+    return PageWishes(args.title, args.question, detail, args.short, doubts, pictures, check_html=seal_html)
 
 
 def counts_html(runs: Runs, args: argparse.Namespace) -> str:
     """How the first seed of a plan meets the counts of --counts, as HTML. Fault where these cannot be read, or as of
     passed_in."""
     counts = read_counts(paths_in(args.counts), args.attribute)
-    return counts_section(runs.name, judge_counts(counts, passed_in(runs.first, counts)), runs.first.mapping)
+    folder = runs.first_folder
+    return counts_section(runs.name, judge_counts(counts, passed_in(folder, counts)), folder.mapping)
 
 
 def sheets_html(plans: Sequence[Runs], timings: Sequence[Timings], light_names: str) -> str:
@@ -195,7 +196,7 @@ def sheets_html(plans: Sequence[Runs], timings: Sequence[Timings], light_names: 
     for runs, plan_timings in zip(plans, timings, strict=True):
         if not plan_timings:
             why = "the files of the import were gone or had changed when it was run"
-            raise Fault(f"{runs.first.path}: no program of its lights is kept, as {why}")
+            raise Fault(f"{runs.first_folder.path}: no program of its lights is kept, as {why}")
     lights = names_in(light_names)
     if light_names == ALL_LIGHTS:
         lights = changed(timings[0], timings[-1]) if len(plans) == 2 else sorted(timings[-1])
@@ -229,7 +230,7 @@ def interval_of(all_runs: Sequence[Runs], args: argparse.Namespace) -> tuple[int
 def corridor_html(runs: Runs, args: argparse.Namespace) -> str:
     """The corridor's picture of a plan's first seed, as HTML; in both directions where edges lead back. Fault where it
     cannot be drawn, as of corridor_picture."""
-    folder, paths = runs.first, path_and_way_back(runs.first, names_in(args.corridor))
+    folder, paths = runs.first_folder, path_and_way_back(runs.first_folder, names_in(args.corridor))
     clocks = ((getattr(args, name), usual) for name, usual in PICTURE_SECONDS.items())
     first, last = (usual if clock is None else clock for clock, usual in clocks)
     text = f"Ways of the vehicles along {args.corridor}{', and back' if len(paths) == 2 else ''}: {runs.name}"

@@ -167,22 +167,22 @@ def job_of(args: argparse.Namespace) -> Job:
     files = {"additional": paths_in(args.additional), "trips": paths_in(args.trips)}
     town = read_town(args.net, files["additional"], options_of(args), report)
     trips = read_trips(files["trips"], town.net, town.graph, town.types, town.options, report)
-    if back := sum(not trip.changes for trip in trips.all):
+    if back := sum(not trip.changes for trip in trips.trips):
         report.warn(f"{back:,} vehicles have a route back to the edge where it begins, which they keep")
     if args.anew:
-        for trip in (trip for trip in trips.all if trip.changes):
+        for trip in (trip for trip in trips.trips if trip.changes):
             trip.path = ()
-    trips.all = connected_trips(trips.all, town.net, town.graph, town.options.ignore_route_errors, report)
+    trips.trips = connected_trips(trips.trips, town.net, town.graph, town.options.ignore_route_errors, report)
     if args.before:
         before = read_trips([args.before], town.net, town.graph, town.types, town.options, Report())
-        give_ways_of_file(trips.all, before, town.graph, args.before)
+        give_ways_of_file(trips.trips, before, town.graph, args.before)
     print(*report.lines(), sep="\n", end="\n" if any(report.lines()) else "", file=sys.stderr)
-    last = int(trips.all[-1].depart)
+    last = int(trips.trips[-1].depart)
     until = min(limits.CLOCK, last + AFTER) if args.until is None else args.until
     if until <= last:
         raise Fault(f"--until {until}: the last trip departs at {last:,} s")
     closed = [works for text in args.close for works in names_in(text)]
-    check_works(closed, args.sign, trips.all, town, until)
+    check_works(closed, args.sign, trips.trips, town, until)
     return Job(
         town,
         trips,

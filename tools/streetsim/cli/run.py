@@ -21,7 +21,7 @@ ELSEWHERE = ("run", "map", "out", "force", "program", "workers", "jobs", "seeds"
 
 def parser() -> argparse.ArgumentParser:
     """The parser of the words that streetsim-run takes."""
-    made = Parser(
+    tool_parser = Parser(
         prog="streetsim-run",
         examples=(
             "streetsim-run zero.jsonl --map zero.map.json --out zero",
@@ -30,125 +30,125 @@ def parser() -> argparse.ArgumentParser:
         description="Runs a file that streetsim-import made, and writes counts, trips, queues, a summary "
         "and what stood on the lanes.",
     )
-    add_run(made)
-    add_looks(made)
-    made.add_argument(
+    add_run(tool_parser)
+    add_looks(tool_parser)
+    tool_parser.add_argument(
         "--seeds", metavar="SEEDS",
         help="seeds (1-5, or 1,4,7-9), each of which is run, side by side, into a folder of its own",
     )
-    add_departures(made, "default: drawn with --seeds, else listed")
-    add_jobs(made)
-    add_lanes(made)
-    add_outputs(made)
-    add_lights(made)
-    add_buses(made)
-    add_simulator(made)
-    return made
+    add_departures(tool_parser, "default: drawn with --seeds, else listed")
+    add_jobs(tool_parser)
+    add_lanes(tool_parser)
+    add_outputs(tool_parser)
+    add_lights(tool_parser)
+    add_buses(tool_parser)
+    add_simulator(tool_parser)
+    return tool_parser
 
 
-def add_looks(made: argparse.ArgumentParser) -> None:
+def add_looks(tool_parser: argparse.ArgumentParser) -> None:
     """Adds the words that say when a run ends, what is polled and counted on the way, and who is rescued."""
     add_clock(
-        made, "--until",
+        tool_parser, "--until",
         "the clock at the end (default: that of SUMO's configuration, else when all have arrived, or no vehicle has "
         "changed its cell for longer than the longest cycle)", least=1,
     )
-    add_clock(made, "--every", "seconds between polls of the lanes; 0: never (default: 10)")
-    made.add_argument(
+    add_clock(tool_parser, "--every", "seconds between polls of the lanes; 0: never (default: 10)")
+    tool_parser.add_argument(
         "--period", type=time_within(1, limits.PERIOD), default=900, metavar="S",
         help="seconds of a count (default %(default)s)",
     )
-    made.add_argument(
+    tool_parser.add_argument(
         "--edges", default="", help="edges, with spaces or commas between, whose lanes are polled (default: all)"
     )
-    add_rescue(made)
-    made.add_argument(
+    add_rescue(tool_parser)
+    tool_parser.add_argument(
         "--counted", choices=["all", "busiest"], default="all",
         help="of earlier versions, and without effect: every lane is counted",
     )
 
 
-def add_rescue(made: argparse.ArgumentParser) -> None:
+def add_rescue(tool_parser: argparse.ArgumentParser) -> None:
     """Adds the word that says after how many seconds at a stop line vehicles are rescued."""
     add_clock(
-        made, "--rescue",
+        tool_parser, "--rescue",
         "take out who stood so long at a stop line and enter it on the next link; 0: never (default %(default)s)",
         default=300,
     )
 
 
-def add_merge(made: argparse.ArgumentParser) -> None:
+def add_merge(tool_parser: argparse.ArgumentParser) -> None:
     """Adds the word that says how vehicles merge before road works."""
-    made.add_argument(
+    tool_parser.add_argument(
         "--merge", choices=["turns", "none"], default="turns",
         help="before road works on one lane of a joint link the lanes take turns; none: who stands there waits for a "
         "gap (default %(default)s)",
     )
 
 
-def add_lanes(made: argparse.ArgumentParser) -> None:
+def add_lanes(tool_parser: argparse.ArgumentParser) -> None:
     """Adds the words of road works: those that close lanes or make them joint, and say how vehicles merge there, what
     those do who lose their only lane, and which limit holds along the works."""
-    made.add_argument(
+    tool_parser.add_argument(
         "--close", action="append", default=[], metavar="LANE:METRES-METRES:S-S",
         help="road works: close a lane (edge_index) between two places (metres from the begin of the lane, as in "
         "SUMO), from one time to another (S or HH:MM(:SS)); several with commas between, or by the word again",
     )
-    add_merge(made)
-    add_lost(made)
-    made.add_argument(
+    add_merge(tool_parser)
+    add_lost(tool_parser)
+    tool_parser.add_argument(
         "--works-limit", type=integer_within(limits.KMH[0], limits.KMH[-1]), metavar="KMH",
         help="the limit along the works of --close, for the whole run; their edges are imported anew in parts",
     )
-    made.add_argument(
+    tool_parser.add_argument(
         "--joint", default="", metavar="NAMES",
         help="edges or lanes, with commas between, whose links are made joint as by road works, to compare with",
     )
 
 
-def add_buses(made: argparse.ArgumentParser) -> None:
+def add_buses(tool_parser: argparse.ArgumentParser) -> None:
     """Adds the words that say whether buses stop, and which lights wait for them."""
-    made.add_argument(
+    tool_parser.add_argument(
         "--stops", choices=["made", "none"], default="made",
         help="made: vehicles stop where and as long as SUMO's files say; none: they drive by (default %(default)s)",
     )
-    add_priority(made)
+    add_priority(tool_parser)
 
 
-def add_priority(made: argparse.ArgumentParser) -> None:
+def add_priority(tool_parser: argparse.ArgumentParser) -> None:
     """Adds the words that say which lights wait for whom."""
-    made.add_argument(
+    tool_parser.add_argument(
         "--priority", default="", metavar="NAMES",
         help="classes of vehicles or lines, with commas between, for which lights keep or fetch a green within bounds",
     )
-    made.add_argument(
+    tool_parser.add_argument(
         "--seen", type=integer_within(1, MOST_SEEN), metavar="S",
         help=f"seconds before the stop line from which on such a vehicle is seen (default {SEEN})",
     )
 
 
-def add_outputs(made: argparse.ArgumentParser) -> None:
+def add_outputs(tool_parser: argparse.ArgumentParser) -> None:
     """Adds the words that say what is written and where, and how many rounds find who gives way."""
-    made.add_argument(
+    tool_parser.add_argument(
         "--sumo-output", type=kinds_of, default=(), metavar="KINDS",
         help=f"also write SUMO's own output files into DIR/sumo: of {','.join(KINDS)}",
     )
-    add_rounds(made)
-    made.add_argument(
+    add_rounds(tool_parser)
+    tool_parser.add_argument(
         "--junctions", nargs="?", type=integer_within(60, limits.CLOCK), const=0, metavar="S",
         help="also write delay, level of service, queues and v/c of movements, approaches and junctions, "
         "by intervals of so many seconds (default: --period)",
     )
-    made.add_argument(
+    tool_parser.add_argument(
         "--polls", action="store_true", help=f"also write what stands on the lanes at polls as text, {POLLS}"
     )
-    made.add_argument(
+    tool_parser.add_argument(
         "--along", action="append", default=[], metavar="EDGES",
         help="also write seconds along a route of these edges, with blanks or commas between, from the stop line of "
         f"the first to that of the last, {ROUTES_FILE}; several routes by the word again",
     )
-    add_out(made, "the folder to write to (default: NAME-run of NAME.jsonl; with --seeds NAME-seeds)")
-    made.add_argument(
+    add_out(tool_parser, "the folder to write to (default: NAME-run of NAME.jsonl; with --seeds NAME-seeds)")
+    tool_parser.add_argument(
         "--keep", metavar="FILE",
         help="keep the session in this file; the same words go on there after the machine has ended",
     )
@@ -156,12 +156,13 @@ def add_outputs(made: argparse.ArgumentParser) -> None:
 
 def main(arguments: list[str]) -> int:
     """Runs streetsim-run, as `running.run_by` says; gives status 0."""
-    made = parser()
-    words = made.parse_args(arguments)
-    complete_run(words)
-    complete_outputs(words, out=f"{stem_of(words.run)}-{'seeds' if words.seeds else 'run'}")
-    if words.seeds and words.departures is None:
-        words.departures = DRAWN
+    tool_parser = parser()
+    args = tool_parser.parse_args(arguments)
+    complete_run(args)
+    complete_outputs(args, out=f"{stem_of(args.run)}-{'seeds' if args.seeds else 'run'}")
+    if args.seeds and args.departures is None:
+        args.departures = DRAWN
     from streetsim.cli.running import run_by
 
-    return run_by(words, given_words(made, words, ELSEWHERE), given_words(made, words, (*ELSEWHERE, *OF_WORKS)))
+    words = given_words(tool_parser, args, ELSEWHERE)
+    return run_by(args, words, given_words(tool_parser, args, (*ELSEWHERE, *OF_WORKS)))

@@ -207,8 +207,8 @@ def run_seeds(args: argparse.Namespace, run_options: RunOptions, run: Run, mappi
     (seeds.csv) what each gave, prints their mean trip with its 95 % interval, seeds in which nobody arrived left out,
     and which seeds are not to be trusted; gives status 0."""
     seeds = seeds_of(args.seeds, "--seeds")
-    shown = under_way(args, run, mapping, settings, len(seeds))
-    with whole_folder(args.out, NAME) as folder, shown:
+    progress_lines = under_way(args, run, mapping, settings, len(seeds))
+    with whole_folder(args.out, NAME) as folder, progress_lines:
         write_inputs(args, folder, run, mapping)
 
         def run_seed(seed: int, send_progress: Callable[[tuple[int, Census | None] | None], object]) -> Figures:
@@ -224,7 +224,7 @@ def run_seeds(args: argparse.Namespace, run_options: RunOptions, run: Run, mappi
 
         def show(index: int, progress: tuple[int, Census | None] | None) -> None:
             """Shows what the run of a seed, by its index among them, told."""
-            shown.show(*progress, index) if progress else shown.note_end()
+            progress_lines.show(*progress, index) if progress else progress_lines.note_end()
 
         figures = side_by_side(run_seed, seeds, args.jobs, show)
         values = ([getattr(seed_figures, name) for name in SEEDS[1:]] for seed_figures in figures)

@@ -103,7 +103,7 @@ def settled(node: LitNode, map_node: NodeOf, states: Sequence[str], limits_of: M
     if node.permissive is None and map_node.flows and map_node.yields:
         movements = movements_of(map_node.connections, states, map_node.yields, map_node.flows, limits_of)
         settle(list(movements.values()))
-    return replace(node, found=movements)
+    return replace(node, movements=movements)
 
 
 def lit_node(light: str, map_node: NodeOf, mapping: Map, offset: int, cycle: list[tuple[float, str]]) -> LitNode:

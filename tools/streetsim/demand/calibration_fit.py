@@ -12,7 +12,7 @@ from streetsim.base.arrays import numpy as np
 from streetsim.demand.calibration_field import FieldDay, pooled
 from streetsim.demand.calibration_model import FittedDrivers, MeasuredRun, pooled_runs
 from streetsim.demand.calibration_survey import surveyed_drivers
-from streetsim.sumo.driver_words import ALL
+from streetsim.sumo.driver_words import ALL_STREETS
 
 LEAST_SEEN = 20  # vehicles of a way that is fitted
 MODEL_ERROR = 0.07  # of the seconds of a way
@@ -36,7 +36,7 @@ class FittedValue:
     step: float
     least: float
     most: float
-    street: str = ALL  # class of street of a speed factor
+    street: str = ALL_STREETS  # class of street of a speed factor
 
 
 def values_of(day: FieldDay, classes: Sequence[str], free: Sequence[str]) -> list[FittedValue]:
@@ -58,11 +58,11 @@ def classes_of(day: FieldDay, class_of: Mapping[str, str]) -> list[str]:
     """The classes of street that get a factor of their own: with five ways seen often enough; and all others as one.
     class_of: by edge. A way is of the class of its last edge."""
     often = [key for key, (_, _, count) in pooled(day.times).items() if count >= LEAST_SEEN]
-    class_counts = Counter(class_of.get(key[-1], ALL) for key in often)
+    class_counts = Counter(class_of.get(key[-1], ALL_STREETS) for key in often)
     class_names = sorted(name for name, ways in class_counts.items() if ways >= LEAST_WAYS)
     unclassed = sum(class_counts.values()) - sum(class_counts[name] for name in class_names)
     several = class_names if len(class_names) > 1 else []
-    return several if several and not unclassed else [ALL, *several]
+    return several if several and not unclassed else [ALL_STREETS, *several]
 
 
 def start_of(day: FieldDay) -> FittedDrivers:

@@ -27,7 +27,7 @@ from streetsim.observe.queues import Queues
 from streetsim.observe.segments import SegmentEnds, Segments
 from streetsim.observe.trips import TripsTable
 from streetsim.sumo.converting import run_and_map
-from streetsim.sumo.driver_words import ALL
+from streetsim.sumo.driver_words import ALL_STREETS
 from streetsim.sumo.import_files import convert
 from streetsim.sumo.network import Options
 
@@ -42,7 +42,7 @@ class FittedDrivers:
 
     dawdle: float = 0.17  # chance of slowing down
     cut: float = 0.0  # seconds of each green
-    speeds: tuple[tuple[str, float], ...] = ((ALL, 1.0),)  # factors by class of street
+    speeds: tuple[tuple[str, float], ...] = ((ALL_STREETS, 1.0),)  # factors by class of street
 
     def options(self, options: Options) -> Options:
         """The options of an import with them; factors of 1 are left out."""

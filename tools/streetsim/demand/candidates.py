@@ -60,8 +60,8 @@ def entries_and_exits(graph: Graph) -> tuple[list[int], list[int]]:
     """(numbers of the edges that nothing leads to, numbers of those that lead nowhere), but by turning back."""
     back = graph.turns_back
     return (
-        [edge for edge, into in enumerate(graph.into) if all(back[movement] for _, movement in into)],
-        [edge for edge, out in enumerate(graph.out) if all(back[movement] for _, movement in out)],
+        [edge for edge, into in enumerate(graph.incoming) if all(back[movement] for _, movement in into)],
+        [edge for edge, out in enumerate(graph.outgoing) if all(back[movement] for _, movement in out)],
     )
 
 

@@ -103,8 +103,8 @@ def sides_of_edges(by_edges: CountByEdges, graph: Graph, begins: Set[int], ends:
     """Of each edge what should be equal: its count and all its turns, its count and all turns into it, or these two
     where it has no count; as far as all of a side are counted. begins, ends: as `contradictions` has them."""
     for edge, name in enumerate(graph.edges):
-        out = counts_of_all(by_edges, ((name, graph.edges[following]) for following, _ in graph.out[edge]))
-        into = counts_of_all(by_edges, ((graph.edges[before], name) for before, _ in graph.into[edge]))
+        out = counts_of_all(by_edges, ((name, graph.edges[following]) for following, _ in graph.outgoing[edge]))
+        into = counts_of_all(by_edges, ((graph.edges[before], name) for before, _ in graph.incoming[edge]))
         whole = [by_edges[(name,)]] if (name,) in by_edges else []
         if whole and out and edge not in ends:
             yield f"edge {name}", "{} counted on it, {} turn at its end", whole, out
@@ -120,9 +120,9 @@ def sides_of_junctions(by_edges: CountByEdges, graph: Graph, begins: Set[int], e
     known by the edges that lead to the same ones."""
     known = set()
     for edge in range(len(graph.edges)):
-        targets = {following for following, _ in graph.out[edge]}
-        sources = {before for target in targets for before, _ in graph.into[target]}
-        targets = {following for source in sources for following, _ in graph.out[source]}
+        targets = {following for following, _ in graph.outgoing[edge]}
+        sources = {before for target in targets for before, _ in graph.incoming[target]}
+        targets = {following for source in sources for following, _ in graph.outgoing[source]}
         key = frozenset(sources)
         if not targets or key in known or sources & ends or targets & begins:
             continue

@@ -115,7 +115,7 @@ def is_at_or_after_full(count: Count, full: dict[int, float], graph: Graph) -> b
     """Whether a count, by the first of its edges, is at the end of a full edge, or on an edge that a full one leads to;
     full: by edge number."""
     edge = graph.number[count.edges[0]]
-    return edge in full or any(before in full for before, _ in graph.into[edge])
+    return edge in full or any(before in full for before, _ in graph.incoming[edge])
 
 
 def misfit_lines(basis: Basis, attempt: Attempt) -> Iterator[str]:

@@ -20,7 +20,7 @@ def reached_from(graph: Graph, edge: int) -> list[int]:
     """The numbers of the edges to which an edge leads, itself left out, rising."""
     reached, queue = {edge}, [edge]
     while queue:
-        added = [following for following, _ in graph.out[queue.pop()] if following not in reached]
+        added = [following for following, _ in graph.outgoing[queue.pop()] if following not in reached]
         reached.update(added)
         queue += added
     return sorted(reached - {edge})

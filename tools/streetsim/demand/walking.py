@@ -54,7 +54,7 @@ class Turns:
         if held is not None:
             following, sums = held
             return following[bisect_right(sums, draws.random() * sums[-1])] if sums[-1] else None
-        targets = [target for target, movement in self.graph.out[edge] if not self.graph.turns_back[movement]]
+        targets = [target for target, movement in self.graph.outgoing[edge] if not self.graph.turns_back[movement]]
         if len(targets) > 1:
             raise Fault(
                 f"edge {self.graph.edges[edge]!r} leads to {len(targets)} others, and no turn ratio holds there at "

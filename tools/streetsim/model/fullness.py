@@ -22,7 +22,7 @@ class FullLane:
     demand: float  # in the worst quarter of an hour, as a share of what can pass here
     vehicles: int = 0  # of the demand, that pass it
 
-    def told(self) -> str:
+    def in_words(self) -> str:
         """Where it is, and how full."""
         where = f"{self.way} from {self.source} to {self.target} at {self.junction}"
         return f"{where}: demand {self.demand:.2f} of what passes here"

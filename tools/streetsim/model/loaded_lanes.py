@@ -10,7 +10,7 @@ from streetsim.model.mapping import Map
 
 LOADED = 0.85  # of what a lane passes whose lefts give way, above which they want a survey
 NEARLY_FULL = 0.9  # the same of any lane, above which growth is doubted
-MORE = 1.02  # times as many vehicles are growth
+GROWTH = 1.02  # times as many vehicles are growth
 
 
 def loaded_lanes(mapping: Map, at_lights: Sequence[FullLane] | None = None) -> dict[str, FullLane]:
@@ -22,17 +22,19 @@ def loaded_lanes(mapping: Map, at_lights: Sequence[FullLane] | None = None) -> d
     return {one.lane: one for one in lanes if one.source not in surveyed}
 
 
-def forecast_doubts(own: Mapping[str, FullLane], base: Mapping[str, FullLane], growth: float) -> Iterator[str]:
+def forecast_doubts(
+    variant_lanes: Mapping[str, FullLane], base_lanes: Mapping[str, FullLane], growth: float
+) -> Iterator[str]:
     """What speaks against a variant by its nearly full lanes and those of the base: lefts that it loads above LOADED
     and the base does not, and growth (times the vehicles of the base) where lanes are above NEARLY_FULL."""
     lefts = [
-        one for lane, one in own.items()
-        if one.way == LEFT and one.demand > LOADED and (lane not in base or base[lane].demand <= LOADED)
+        one for lane, one in variant_lanes.items()
+        if one.way == LEFT and one.demand > LOADED and (lane not in base_lanes or base_lanes[lane].demand <= LOADED)
     ]
     if lefts:
-        told = first_few([one.told() for one in lefts], 3)
+        told = first_few([one.in_words() for one in lefts], 3)
         yield f"lefts that give way, which no survey told (streetsim-import --permissive EDGE=SHARE): {told}"
-    full = [one for one in own.values() if one.demand > NEARLY_FULL]
-    if growth > MORE and full:
-        told = first_few([one.told() for one in full], 3)
+    full = [one for one in variant_lanes.values() if one.demand > NEARLY_FULL]
+    if growth > GROWTH and full:
+        told = first_few([one.in_words() for one in full], 3)
         yield f"growth above 0.9 of what passes, where forecasts came out too small: {told}"

@@ -11,7 +11,7 @@ class ReservedLanes:
     vehicles: int
     of: int  # vehicles of the demand
 
-    def told(self) -> str:
+    def in_words(self) -> str:
         """How many there are, and where most of all."""
         return (
             f"{self.vehicles:,} of {self.of:,} vehicles ({self.classes}) drive on lanes of their own, most of all on "

@@ -13,7 +13,7 @@ class SlowStarts:
     vehicles: int
     of: int  # vehicles of the demand
 
-    def told(self) -> str:
+    def in_words(self) -> str:
         """How many there are, what they lose, and where most of all."""
         return (
             f"{self.vehicles:,} of {self.of:,} vehicles start so slowly at lights that each start takes "

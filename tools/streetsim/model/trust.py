@@ -19,7 +19,7 @@ from streetsim.model.runs import Run
 MOST_RESCUES = 0.01  # of the vehicles; one alone is none too many
 MOST_LATE = 0.1  # of those that would have arrived, were nobody in their way
 MOST_WAITING = 0.05  # of the vehicles that wait to enter, at the worst minute
-STILL = 600  # seconds without an arrival
+STANDSTILL_SECONDS = 600  # seconds without an arrival
 OTHER_LENGTH = 0.1  # of the metres that are driven
 MOST_ACTUATED = 0.1  # of the vehicles, that pass lights which SUMO times by detectors
 MOST_FULL = 0.2  # of the vehicles, that pass lanes which are nearly full by the demand
@@ -43,14 +43,14 @@ class TripsAtEnd:
     to_date: list[int]  # of those that wished to depart and have not arrived
     due: int  # those that would have arrived, were nobody in their way
     late: int  # those of them that have not
-    long_due: int  # those that would have arrived for STILL seconds and have not
-    last: int  # clock of the last arrival, or of the start where nobody arrived
+    long_due: int  # those that would have arrived for STANDSTILL_SECONDS and have not
+    last_arrival: int  # clock of the last arrival, or of the start where nobody arrived
 
     def all_arrived(self) -> int | None:
         """The clock at which all who wished to depart had arrived; none where some have not."""
-        return None if self.to_date else self.last
+        return None if self.to_date else self.last_arrival
 
-    def told(self) -> str:
+    def in_words(self) -> str:
         """How many vehicles there are and have arrived, and the mean trip, as the last line of a run says it."""
         told = f"{self.vehicles:,} vehicles, {len(self.durations):,} arrived, "
         told += f"mean trip {fmean(self.durations):.1f} s" if self.durations else "no trip"
@@ -74,8 +74,8 @@ def trips_at(clock: int, start: int, rows: Sequence[tuple]) -> TripsAtEnd:
         to_date=[clock - row[1] for row in under_way],
         due=late + len(arrived),
         late=late,
-        long_due=sum(end + STILL <= clock for end in ends),
-        last=max((row[2] for row in arrived), default=start),
+        long_due=sum(end + STANDSTILL_SECONDS <= clock for end in ends),
+        last_arrival=max((row[2] for row in arrived), default=start),
     )
 
 
@@ -115,9 +115,9 @@ def rescue_doubts(trips: TripsAtEnd, rescues: int) -> Iterator[str]:
 def arrival_doubts(trips: TripsAtEnd) -> Iterator[str]:
     """A doubt where the network is locked (nobody has arrived for 600 s who should have), or more than a tenth of those
     that had the time to arrive has not."""
-    if trips.long_due and trips.clock - trips.last >= STILL:
+    if trips.long_due and trips.clock - trips.last_arrival >= STANDSTILL_SECONDS:
         yield (
-            f"the network is locked: nobody has arrived for {trips.clock - trips.last:,} s, "
+            f"the network is locked: nobody has arrived for {trips.clock - trips.last_arrival:,} s, "
             f"and {trips.long_due:,} should have"
         )
     elif trips.late > MOST_LATE * trips.due:
@@ -186,13 +186,13 @@ def crowding_doubts(vehicles: int, crowded: Mapping[str, int]) -> Iterator[str]:
     """A doubt where streets that give way without a light were nearly full, and were passed then more than a tenth as
     often as there are vehicles. vehicles: how many there are; crowded: {edge: how many pass it then}."""
     if (count := sum(crowded.values())) > MOST_CROWDED * vehicles:
-        most = ", ".join(sorted(crowded, key=lambda edge: (-crowded[edge], edge))[:NAMED])
+        most_passed = ", ".join(sorted(crowded, key=lambda edge: (-crowded[edge], edge))[:NAMED])
         is_one = len(crowded) == 1
         give = "gives way without a light is" if is_one else "give way without a light are"
         yield (
             f"{count_told(len(crowded), 'street')} that {give} nearly full, for {count_told(count, 'passage')} of "
             f"{count_told(vehicles, 'vehicle')}, and {'its queue' if is_one else 'their queues'} may be other than in "
-            f"SUMO: most of all {most}"
+            f"SUMO: most of all {most_passed}"
         )
 
 
@@ -201,7 +201,7 @@ def full_doubts(mapping: Map) -> Iterator[str]:
     whose queue grows all the time."""
     full = mapping.full
     if full.share > MOST_FULL or full.overfull_share > MOST_OVERFULL:
-        first = "; ".join(one.told() for one in full.lanes[:NAMED])
+        first = "; ".join(one.in_words() for one in full.lanes[:NAMED])
         most = f", most of all {first}" if len(full.lanes) > NAMED else f": {first}"
         yield (
             f"{full.vehicles:,} of {count_told(full.of, 'vehicle')} pass lanes that are nearly full by the demand, and "
@@ -213,44 +213,44 @@ def start_doubts(mapping: Map) -> Iterator[str]:
     """A doubt where more than 0.15 of the vehicles start slowly at lights."""
     starts = mapping.starts
     if starts and starts.vehicles > MOST_SLOW * starts.of:
-        yield f"{starts.told()}; mean trips of such drawn rows were {SLOW_OFF} too short"
+        yield f"{starts.in_words()}; mean trips of such drawn rows were {SLOW_OFF} too short"
 
 
 def reserved_doubts(mapping: Map) -> Iterator[str]:
     """A doubt where more than 0.05 of the vehicles drive on lanes of their own class."""
     own = mapping.reserved
     if own and own.vehicles > MOST_RESERVED * own.of:
-        yield f"{own.told()}; trips of such buses were {RESERVED_OFF} too short"
+        yield f"{own.in_words()}; trips of such buses were {RESERVED_OFF} too short"
 
 
 def length_doubts(clock: int, run: Run, mapping: Map) -> Iterator[str]:
     """A doubt where the routes of those that wish to depart before a clock are, together, by more than a tenth longer
     or shorter than in SUMO, as edges are whole cells."""
-    here = [link.cells * link.cell_metres for link in mapping.links]
-    there = [link.metres for link in mapping.links]
+    cell_metres = [link.cells * link.cell_metres for link in mapping.links]
+    sumo_metres = [link.metres for link in mapping.links]
     plans = plans_before(clock, run)
-    metres = [sum(sum(map(lengths.__getitem__, plan)) for plan in plans) for lengths in (here, there)]
+    metres = [sum(sum(map(lengths.__getitem__, plan)) for plan in plans) for lengths in (cell_metres, sumo_metres)]
     if abs(metres[0] - metres[1]) > OTHER_LENGTH * metres[1]:
-        used = {link for plan in plans for link in plan if here[link] != there[link]}
-        order = sorted(used, key=lambda link: (-abs(here[link] - there[link]), link))
+        used = {link for plan in plans for link in plan if cell_metres[link] != sumo_metres[link]}
+        order = sorted(used, key=lambda link: (-abs(cell_metres[link] - sumo_metres[link]), link))
         edges = ", ".join(dict.fromkeys(mapping.links[link].edge for link in order[:NAMED]))
         share = 100 * (metres[0] / metres[1] - 1)
         how = f"{abs(share):.0f} % {'longer' if share > 0 else 'shorter'} here than in SUMO"
         yield f"routes are {how}, as edges are whole cells: most of all {edges}"
 
 
-def count_told(count: int, thing: str) -> str:
-    """How many of a thing there are, in words: '1 vehicle', '2 vehicles'; thing: its name in the singular."""
-    return f"{count:,} {thing}{'' if count == 1 else 's'}"
+def count_told(count: int, noun: str) -> str:
+    """How many of a thing there are, in words: '1 vehicle', '2 vehicles'; noun: its name in the singular."""
+    return f"{count:,} {noun}{'' if count == 1 else 's'}"
 
 
-def write_doubts(folder: str, found: Sequence[str], program: str) -> None:
-    """Writes to a folder why a study or a search is not to be trusted (found, empty where it is), in a setting.json
+def write_doubts(folder: str, doubts: Sequence[str], program: str) -> None:
+    """Writes to a folder why a study or a search is not to be trusted (doubts, empty where it is), in a setting.json
     with nothing else but that its program is without proofs. program: its path. Fault where it cannot be written."""
     with whole_file(f"{folder}/{NAME}") as file:
-        json.dump({"not_trusted": list(found), **proof_note(program)}, file, separators=(",", ":"))
+        json.dump({"not_trusted": list(doubts), **proof_note(program)}, file, separators=(",", ":"))
 
 
-def verdict(found: Sequence[str]) -> str:
-    """The line that says that a run is not to be trusted, and why; found: the reasons, one at least."""
-    return f"not to be trusted: {'; '.join(found)}"
+def verdict(doubts: Sequence[str]) -> str:
+    """The line that says that a run is not to be trusted, and why; doubts: the reasons, one at least."""
+    return f"not to be trusted: {'; '.join(doubts)}"

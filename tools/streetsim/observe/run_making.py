@@ -202,7 +202,7 @@ def figures_of(
     ]
     given_run = with_lines(given_run, list(lit_lines(kernel.sent, mapping)))
     write_setting(options, given_run, run_tables, yielding, doubts, folder, clock)
-    parts = driven.told(), f"{rescues:,} rescues", yielding.summary(), steering.ending.ended
+    parts = driven.in_words(), f"{rescues:,} rescues", yielding.summary(), steering.ending.ended
     return Figures(
         vehicles=driven.vehicles,
         arrived=len(driven.durations),

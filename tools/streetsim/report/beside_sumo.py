@@ -66,74 +66,75 @@ def edge_counts_of(folder: Folder) -> dict[EdgeKey, int]:
     return {key: vehicles for key, (vehicles, _) in edge_values_of(folder).items()}
 
 
-def geh(here: float, there: float) -> float:
+def geh(volume: float, other_volume: float) -> float:
     """The GEH of two volumes, vehicles an hour: below 5 is the usual mark of a good fit. 0 where both are 0."""
-    return (2 * (here - there) ** 2 / (here + there)) ** 0.5 if here + there else 0.0
+    return (2 * (volume - other_volume) ** 2 / (volume + other_volume)) ** 0.5 if volume + other_volume else 0.0
 
 
-def correlation(first: Sequence[float], second: Sequence[float]) -> float | None:
+def correlation(first_values: Sequence[float], second_values: Sequence[float]) -> float | None:
     """Pearson's r of two lists of equal length, one value at least; none where one of them does not vary."""
-    means = fmean(first), fmean(second)
-    spread = [sum((value - mean) ** 2 for value in values) for values, mean in zip((first, second), means, strict=True)]
+    sides = first_values, second_values
+    means = fmean(first_values), fmean(second_values)
+    spread = [sum((value - mean) ** 2 for value in values) for values, mean in zip(sides, means, strict=True)]
     if not all(spread):
         return None
-    together = sum((one - means[0]) * (other - means[1]) for one, other in zip(first, second, strict=True))
+    together = sum((one - means[0]) * (other - means[1]) for one, other in zip(*sides, strict=True))
     return together / (spread[0] * spread[1]) ** 0.5
 
 
-def greatest_gap(here: Iterable[float], there: Iterable[float], vehicles: int) -> float:
+def greatest_gap(clocks: Iterable[float], other_clocks: Iterable[float], vehicles: int) -> float:
     """The greatest distance between two curves of arrivals, given as clocks in any order, as a share (0 to 1) of so
     many vehicles (less than 1 counts as 1); 0 where nobody arrives."""
-    here, there = sorted(here), sorted(there)
-    gaps = (abs(bisect_right(here, time) - bisect_right(there, time)) for time in {*here, *there})
+    clocks, other_clocks = sorted(clocks), sorted(other_clocks)
+    gaps = (abs(bisect_right(clocks, time) - bisect_right(other_clocks, time)) for time in {*clocks, *other_clocks})
     return max(gaps, default=0) / max(1, vehicles)
 
 
-def compare_trips(here: Mapping[str, Trip], there: Mapping[str, Trip], names: Sequence[str]) -> Iterator[str]:
-    """Lines on how close trips are; here: of the run, there: of SUMO, names: all vehicles of the run. SUMO's vehicles
-    that are not among these are counted in a line and left out of the others."""
+def compare_trips(run_trips: Mapping[str, Trip], sumo_trips: Mapping[str, Trip], names: Sequence[str]) -> Iterator[str]:
+    """Lines on how close trips are; run_trips: of the run, sumo_trips: of SUMO, names: all vehicles of the run. SUMO's
+    vehicles that are not among these are counted in a line and left out of the others."""
     known, vehicles = set(names), len(names)
-    skipped = [name for name in there if name not in known]
-    there = {name: trip for name, trip in there.items() if name in known}
+    skipped = [name for name in sumo_trips if name not in known]
+    sumo_trips = {name: trip for name, trip in sumo_trips.items() if name in known}
     if skipped:
         yield f"left out: {len(skipped):,} vehicles of SUMO that the run does not have ({first_few(skipped, 3)})"
-    both = sorted(here.keys() & there.keys())
-    yield f"arrived: {len(here):,} here, {len(there):,} in SUMO, {len(both):,} in both"
+    both = sorted(run_trips.keys() & sumo_trips.keys())
+    yield f"arrived: {len(run_trips):,} here, {len(sumo_trips):,} in SUMO, {len(both):,} in both"
     if both:
-        durations = [[trips[name][1] - trips[name][0] for name in both] for trips in (here, there)]
+        durations = [[trips[name][1] - trips[name][0] for name in both] for trips in (run_trips, sumo_trips)]
         means = [fmean(values) for values in durations]
         more = (means[0] / means[1] - 1) * 100
         yield f"mean trip of these: {means[0]:.1f} s here, {means[1]:.1f} s in SUMO ({more:+.1f} %)"
         r = correlation(*durations)
         yield "trip by trip: " + (f"r = {r:.2f}" if r is not None else "no r, as one side does not vary")
-        arrivals = [[arrival for _, arrival in trips.values()] for trips in (here, there)]
+        arrivals = [[arrival for _, arrival in trips.values()] for trips in (run_trips, sumo_trips)]
         gap = greatest_gap(arrivals[0], arrivals[1], vehicles)
         yield f"arrival curves: greatest gap {gap * 100:.1f} % of {vehicles:,} vehicles"
 
 
 def compare_edges(
-    here: Mapping[EdgeKey, tuple[int, float | None]],
-    there: Mapping[EdgeKey, tuple[int, float]],
+    run_edges: Mapping[EdgeKey, tuple[int, float | None]],
+    sumo_edges: Mapping[EdgeKey, tuple[int, float]],
     period: int,
     network: int,
 ) -> Iterator[str]:
-    """Lines on how close counts and times on edges are, for the edges and periods that both have; here: of the run,
-    {(begin, end, edge): (vehicles, seconds on it by all, None: not known)}; there: the same of SUMO, where an edge that
-    a period leaves out had nobody on it. period: seconds; network: how many edges the run's network has."""
-    periods = {key[:2] for key in here} & {key[:2] for key in there}
-    edges = {key[2] for key in there} & {key[2] for key in here}
-    keys = [key for key in here if key[:2] in periods and key[2] in edges]
+    """Lines on how close counts and times on edges are, for the edges and periods that both have; run_edges: of the
+    run, {(begin, end, edge): (vehicles, seconds on it by all, None: not known)}; sumo_edges: the same of SUMO, where an
+    edge that a period leaves out had nobody on it. period: seconds; network: how many edges the run's network has."""
+    periods = {key[:2] for key in run_edges} & {key[:2] for key in sumo_edges}
+    edges = {key[2] for key in sumo_edges} & {key[2] for key in run_edges}
+    keys = [key for key in run_edges if key[:2] in periods and key[2] in edges]
     if not keys:
         yield f"counts: no period of {period} s and edge in common"
         return
-    pairs = [(here[key][0], there.get(key, (0, 0))[0]) for key in keys]
+    pairs = [(run_edges[key][0], sumo_edges.get(key, (0, 0))[0]) for key in keys]
     hourly = 3600 / period
     good = sum(geh(one * hourly, other * hourly) < 5 for one, other in pairs)
     r = correlation(*zip(*pairs, strict=True))
     yield f"edges: {len(edges):,} of {network:,} judged, in {len(periods):,} periods of {period} s"
     told = f"counts: GEH below 5 for {good / len(pairs) * 100:.1f} % of {len(pairs):,} counts of {period} s"
     yield told + (f", r = {r:.3f}" if r is not None else "")
-    times = [(here[key][1], there.get(key, (0, 0))[1]) for key in keys if here[key][1] is not None]
+    times = [(run_edges[key][1], sumo_edges.get(key, (0, 0))[1]) for key in keys if run_edges[key][1] is not None]
     if times:
         hours = [sum(values) / 3600 for values in zip(*times, strict=True)]
         more = f" ({(hours[0] / hours[1] - 1) * 100:+.1f} %)" if hours[1] else ""

@@ -34,20 +34,21 @@ def files_in(folder: str) -> list[str]:
     )
 
 
-def folder_differences(said: str, found: str, counts: ComparedNumbers) -> Iterator[Difference]:
-    """Where the files of the folder `said` differ from those of `found`, made anew: (file and place in it, said,
-    found). Files that only `said` has, and made.json and lights.json right in the folder (not below), are passed over.
-    Adds to `counts`. Fault where a file cannot be read."""
-    for name in (one for one in files_in(found) if one not in PATHS):
+def folder_differences(stated_folder: str, remade_folder: str, counts: ComparedNumbers) -> Iterator[Difference]:
+    """Where the files of stated_folder differ from those of remade_folder: (file and place in it, said, found). Files
+    that stated_folder alone has, and made.json and lights.json right in the folder (not below), are passed over. Adds
+    to `counts`. Fault where a file cannot be read."""
+    for name in (one for one in files_in(remade_folder) if one not in PATHS):
         counts.files += 1
-        if not os.path.exists(f"{said}/{name}"):
+        if not os.path.exists(f"{stated_folder}/{name}"):
             yield name, "no file", "a file"
         elif os.path.basename(name) == NAME:
-            yield from value_differences(name, settings(f"{said}/{name}"), settings(f"{found}/{name}"), counts)
+            stated, remade = settings(f"{stated_folder}/{name}"), settings(f"{remade_folder}/{name}")
+            yield from value_differences(name, stated, remade, counts)
         elif name.endswith(".csv"):
-            yield from table_differences(name, f"{said}/{name}", f"{found}/{name}", counts)
+            yield from table_differences(name, f"{stated_folder}/{name}", f"{remade_folder}/{name}", counts)
         else:
-            first, second = (file_lines(f"{folder}/{name}") for folder in (said, found))
+            first, second = (file_lines(f"{folder}/{name}") for folder in (stated_folder, remade_folder))
             yield from line_differences(name, first, second, counts)
 
 
@@ -68,22 +69,21 @@ def file_lines(path: str) -> list[bytes]:
 
 
 def line_differences(
-    name: str, first: list[bytes], second: list[bytes], counts: ComparedNumbers
+    name: str, stated_lines: list[bytes], remade_lines: list[bytes], counts: ComparedNumbers
 ) -> Iterator[Difference]:
     """The lines of two files that differ, absent ones as empty, with bytes that are no UTF-8 as \\x and two digits;
-    name: the file; first: said, second: found. Adds to `counts` the numbers of the second, of digits alone between
-    commas or brackets."""
-    for number, sides in enumerate(zip_longest(first, second, fillvalue=b""), 1):
+    name: the file. Adds to `counts` the numbers of remade_lines, of digits alone between commas or brackets."""
+    for number, sides in enumerate(zip_longest(stated_lines, remade_lines, fillvalue=b""), 1):
         said, found = (side.decode(errors="backslashreplace") for side in sides)
         counts.numbers += sum(part.isdecimal() for part in found.replace("]", ",").replace("[", ",").split(","))
         if sides[0] != sides[1]:
             yield f"{name}, line {number}", said, found
 
 
-def table_differences(name: str, first: str, second: str, counts: ComparedNumbers) -> Iterator[Difference]:
-    """The cells of two CSV files that differ, absent ones as empty; name: the file; first, second: paths of what is
-    said and what was found. Of equal cells in other bytes one difference says so. Adds to `counts`."""
-    rows = csv_rows(first), csv_rows(second)
+def table_differences(name: str, stated_path: str, remade_path: str, counts: ComparedNumbers) -> Iterator[Difference]:
+    """The cells of two CSV files that differ, absent ones as empty; name: the file. Of equal cells in other bytes one
+    difference says so. Adds to `counts`."""
+    rows = csv_rows(stated_path), csv_rows(remade_path)
     head = rows[1][0] if rows[1] else []
     no_cells: list[str] = []
     for number, sides in enumerate(zip_longest(*rows, fillvalue=no_cells), 1):
@@ -92,7 +92,7 @@ def table_differences(name: str, first: str, second: str, counts: ComparedNumber
             if said != found:
                 column = head[place] if place < len(head) else f"column {place + 1}"
                 yield f"{name}, line {number}, {column}", said, found
-    if rows[0] == rows[1] and Path(first).read_bytes() != Path(second).read_bytes():
+    if rows[0] == rows[1] and Path(stated_path).read_bytes() != Path(remade_path).read_bytes():
         yield name, "other signs between the cells", "none"
 
 
@@ -102,16 +102,16 @@ def csv_rows(path: str) -> list[list[str]]:
         return list(csv.reader(lines_of(file)))
 
 
-def value_differences(name: str, said: Any, found: Any, counts: ComparedNumbers) -> Iterator[Difference]:
+def value_differences(name: str, stated_value: Any, remade_value: Any, counts: ComparedNumbers) -> Iterator[Difference]:
     """The values of two settings that differ, JSON of 80 letters at most; name: the file and the keys so far. A key
     that is absent counts as null. Adds to `counts`."""
-    if isinstance(said, dict) and isinstance(found, dict):
-        for key in {**said, **found}:
-            yield from value_differences(f"{name}, {key}", said.get(key), found.get(key), counts)
-    elif isinstance(said, list) and isinstance(found, list) and len(said) == len(found):
-        for place, (one, other) in enumerate(zip(said, found, strict=True)):
+    if isinstance(stated_value, dict) and isinstance(remade_value, dict):
+        for key in {**stated_value, **remade_value}:
+            yield from value_differences(f"{name}, {key}", stated_value.get(key), remade_value.get(key), counts)
+    elif isinstance(stated_value, list) and isinstance(remade_value, list) and len(stated_value) == len(remade_value):
+        for place, (one, other) in enumerate(zip(stated_value, remade_value, strict=True)):
             yield from value_differences(f"{name}[{place}]" if place else name, one, other, counts)
     else:
-        counts.numbers += isinstance(found, (int, float))
-        if said != found:
-            yield name, json.dumps(said)[:80], json.dumps(found)[:80]
+        counts.numbers += isinstance(remade_value, (int, float))
+        if stated_value != remade_value:
+            yield name, json.dumps(stated_value)[:80], json.dumps(remade_value)[:80]

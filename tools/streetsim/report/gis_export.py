@@ -19,15 +19,15 @@ MEASURES = ("control_delay_s", "stops_per_vehicle", "queue_50_m", "queue_95_m", 
 FIXED = {"OGR_CURRENT_DATE": "2000-01-01T00:00:00.000Z"}  # so that equal runs give equal bytes
 
 
-def export_told(path: str, runs: Runs, found: Sequence[Json]) -> str:
+def export_told(path: str, runs: Runs, feature_list: Sequence[Json]) -> str:
     """What was written to a path, and what is missing or, by the first doubt of its runs, not to be trusted in it, in
-    one line; found: the features."""
-    count = len({one["properties"]["begin"] for one in found})
-    text = f"{path}: {len(found):,} rows of edges and junctions in {count} interval{'s' if count > 1 else ''}"
+    one line; feature_list: the features."""
+    count = len({one["properties"]["begin"] for one in feature_list})
+    text = f"{path}: {len(feature_list):,} rows of edges and junctions in {count} interval{'s' if count > 1 else ''}"
     doubts = [doubt for folder in runs.folders.values() for doubt in folder.doubts]
     more = [] if runs.rows else ["no junctions, delays, letters, v/c and queues, as the run had no --junctions"]
     more += [f"not to be trusted: {doubts[0]}"] if doubts else []
-    more += [runs.first.unproved] if runs.first.unproved else []
+    more += [runs.first_folder.unproved] if runs.first_folder.unproved else []
     return "; ".join([text, *more])
 
 
@@ -35,20 +35,21 @@ def features(runs: Runs, converter: Converter) -> Iterator[Json]:
     """Each edge and junction in each interval, as GeoJSON's features. Of edges that nobody counted the numbers are
     None; junctions are there only where the run has junction tables. Fault where converter raises one, or edges.csv
     cannot be read."""
-    mapping, names = runs.first.mapping, Names(runs.first.mapping)
+    mapping, names = runs.first_folder.mapping, Names(runs.first_folder.mapping)
     lines = {edge: converter(mapping.links[links[len(links) // 2]].shape) for edge, links in mapping.links_of.items()}
     points = {name: converter([(x, y)])[0] for name, x, y, _ in mapping.nodes}
     for begin, end in intervals_of(runs):
-        times: Json = {"begin": begin, "end": end}
+        interval: Json = {"begin": begin, "end": end}
         for edge, values in values_of(runs, begin, end).items():
-            own = {**times, **edge_properties(mapping, edge), **name_property("street", names.street(edge), names)}
-            own |= traffic_properties(values.traffic) | row_properties(values.row)
-            yield feature(EDGE, "LineString", lines[edge], own)
+            properties = {**interval, **edge_properties(mapping, edge)}
+            properties |= name_property("street", names.street(edge), names)
+            properties |= traffic_properties(values.traffic) | row_properties(values.row)
+            yield feature(EDGE, "LineString", lines[edge], properties)
         for (name,), row in sorted(runs.rows.get(("junctions", begin, end), {}).items()):
-            own = {**times, "name": name, **name_property("called", names.junction(name), names)}
+            properties = {**interval, "name": name, **name_property("called", names.junction(name), names)}
             hourly = round(row.values["vehicles_per_hour"], 1)
-            own |= {"control": row.control, "vehicles_per_hour": hourly, **row_properties(row)}
-            yield feature(JUNCTION, "Point", points[name], own)
+            properties |= {"control": row.control, "vehicles_per_hour": hourly, **row_properties(row)}
+            yield feature(JUNCTION, "Point", points[name], properties)
 
 
 def feature(kind: str, shape: str, coordinates: Sequence[object], content: Json) -> Json:
@@ -73,9 +74,9 @@ def name_property(property_: str, name: str, names: Names) -> Json:
     return {property_: name or None} if names else {}
 
 
-def traffic_properties(seen: Traffic | None) -> Json:
+def traffic_properties(traffic: Traffic | None) -> Json:
     """vehicles_per_hour, mean_speed_kmh and density_per_km by these names, with one decimal, or None."""
-    numbers = (None, None, None) if seen is None else (seen.flow, seen.speed, seen.density)
+    numbers = (None, None, None) if traffic is None else (traffic.flow, traffic.speed, traffic.density)
     names = "vehicles_per_hour", "mean_speed_kmh", "density_per_km"
     return {name: None if number is None else round(number, 1) for name, number in zip(names, numbers, strict=True)}
 
@@ -87,10 +88,10 @@ def row_properties(row: ResultRow | None) -> Json:
     return {**rounded, "los": row.letter() if row else None}
 
 
-def write_geojson(path: str, found: Sequence[Json]) -> None:
+def write_geojson(path: str, feature_list: Sequence[Json]) -> None:
     """Writes features as GeoJSON, whole or not at all; Fault where it cannot be written."""
     with whole_file(path) as file:
-        json.dump({"type": "FeatureCollection", "features": found}, file, separators=(",", ":"))
+        json.dump({"type": "FeatureCollection", "features": feature_list}, file, separators=(",", ":"))
         file.write("\n")
 
 
@@ -101,19 +102,20 @@ def find_ogr2ogr() -> str:
     return found
 
 
-def write_package(path: str, found: Sequence[Json]) -> None:
+def write_package(path: str, feature_list: Sequence[Json]) -> None:
     """Writes features, one at least, as a GeoPackage by ogr2ogr, whole or not at all: a layer for edges and one for
     junctions, those of them that there are. Fault where ogr2ogr is not installed or fails."""
-    program, kinds = find_ogr2ogr(), {one["properties"]["kind"] for one in found}
+    program, kinds = find_ogr2ogr(), {one["properties"]["kind"] for one in feature_list}
     with tempfile.TemporaryDirectory() as folder:
-        source, made = f"{folder}/all.geojson", f"{folder}/all.gpkg"
-        write_geojson(source, found)
+        source, package_path = f"{folder}/all.geojson", f"{folder}/all.gpkg"
+        write_geojson(source, feature_list)
         for kind, layer in LAYERS.items():
             if kind in kinds:
-                update = ["-update"] if os.path.exists(made) else []
-                words = [program, "-f", "GPKG", *update, made, source, "-nln", layer, "-where", f"kind = '{kind}'"]
+                update = ["-update"] if os.path.exists(package_path) else []
+                words = [program, "-f", "GPKG", *update, package_path, source, "-nln", layer]
+                words += ["-where", f"kind = '{kind}'"]
                 done = subprocess.run(words, capture_output=True, text=True, check=False, env={**os.environ, **FIXED})
                 if done.returncode:
                     raise Fault(f"{path}: ogr2ogr: {(done.stderr.strip().splitlines() or ['ended'])[-1]}")
         with whole_path(path) as half:
-            shutil.copyfile(made, half)
+            shutil.copyfile(package_path, half)

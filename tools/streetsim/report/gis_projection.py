@@ -16,16 +16,16 @@ def converter_of(location: Json, projection: str | None, path: str) -> Converter
         from pyproj.exceptions import ProjError
     except ImportError:
         raise Fault("an export needs pyproj (Debian: apt install python3-pyproj)") from None
-    told: str = projection if projection else location.get("projection", NONE)
-    if told == NONE:
+    source_projection: str = projection if projection else location.get("projection", NONE)
+    if source_projection == NONE:
         older = "the map was made by another streetsim-import: import again, or"
         what = "the network has no projection" if location else older
         how = "say where it lies by --projection, for example EPSG:25832 or '+proj=utm +zone=32'"
         raise Fault(f"{path}: {what}: {how}")
     try:
-        to_earth = Transformer.from_crs(told, "EPSG:4326", always_xy=True)
+        to_earth = Transformer.from_crs(source_projection, "EPSG:4326", always_xy=True)
     except ProjError:
-        raise Fault(f"{path}: {told!r} is no projection of points that pyproj knows") from None
+        raise Fault(f"{path}: {source_projection!r} is no projection of points that pyproj knows") from None
     x, y = location.get("offset", (0.0, 0.0))
 
     def converted(points: Iterable[Sequence[float]]) -> list[list[float]]:
@@ -35,7 +35,7 @@ def converter_of(location: Json, projection: str | None, path: str) -> Converter
         found = zip(*to_earth.transform([value - x for value in xs], [value - y for value in ys]), strict=True)
         degrees = [[round(value, 7) for value in point] for point in found]
         if not all(abs(longitude) <= 180 and abs(latitude) <= 90 for longitude, latitude in degrees):
-            raise Fault(f"{path}: {told!r} does not fit the network: it lies nowhere on Earth by it")
+            raise Fault(f"{path}: {source_projection!r} does not fit the network: it lies nowhere on Earth by it")
         return degrees
 
     return converted

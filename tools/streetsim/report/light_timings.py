@@ -14,7 +14,7 @@ MAY_GO = OPEN + "sOo"  # signs under which somebody may go, after a stop or by a
 
 def lights_path(runs: Runs) -> str | None:
     """The path of lights.json in the folder of the first seed's run, else above it; none where there is none."""
-    folder = os.path.normpath(runs.first.path)
+    folder = os.path.normpath(runs.first_folder.path)
     places = (f"{folder}/{LIGHTS}", f"{os.path.dirname(folder)}/{LIGHTS}")
     return next((path for path in places if os.path.exists(path)), None)
 
@@ -27,7 +27,7 @@ def timings_of(runs: Runs) -> dict[str, Timing]:
         return {}
     with reading(path):
         kept = [*map(timing_of, read_json_list(path))]
-    return {timing.light: timing for timing in kept if fits_run(timing, runs.first)}
+    return {timing.light: timing for timing in kept if fits_run(timing, runs.first_folder)}
 
 
 def fits_run(timing: Timing, folder: Folder) -> bool:

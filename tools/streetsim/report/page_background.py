@@ -32,21 +32,21 @@ def what_was_run(all_runs: Sequence[Runs]) -> str:
     """A table, as HTML, of each plan's run: its files, network, demand, time, seeds, SHA-256 of the program."""
     rows: list[tuple[str, str]] = []
     for runs in all_runs:
-        mapping, made = runs.first.mapping, runs.first.made
+        mapping, setting = runs.first_folder.mapping, runs.first_folder.made
         sources = mapping.sources or {}
         files = [sources["net"], *sources.get("routes", ()), *sources.get("additional", ())] if sources else []
-        places = f"{len(mapping.links_of):,} edges, {len(mapping.nodes):,} junctions"
-        times = f"{time_of_day(made.get('start', 0))} to {time_of_day(made.get('until', 0))}"
+        size = f"{len(mapping.links_of):,} edges, {len(mapping.nodes):,} junctions"
+        span = f"{time_of_day(setting.get('start', 0))} to {time_of_day(setting.get('until', 0))}"
         seeds = ", ".join(map(str, runs.folders))
-        departs, dawdle = "drawn by each seed" if runs.is_drawn else "as listed", runs.first.dawdle
+        departs, dawdle = "drawn by each seed" if runs.is_drawn else "as listed", runs.first_folder.dawdle
         slow = f"dawdle {dawdle} (in each second {dawdle / 10:g} % of drivers slow down by chance)"
         rows += [
-            (f"<b>{escape(runs.name)}</b>", escape(made.get("run", ""))),
+            (f"<b>{escape(runs.name)}</b>", escape(setting.get("run", ""))),
             ("files of the import", escape(", ".join(files)) or "not told by the map"),
-            ("network", f"{places}, {len(mapping.signals):,} with signals"),
+            ("network", f"{size}, {len(mapping.signals):,} with signals"),
             ("demand", f"{runs.vehicles:,.0f} vehicles, departures {departs}"),
-            ("time", f"{times}, seeds {seeds}, {slow}"),
-            ("program", f"SHA-256 {escape(made.get('program') or 'not told')}"),
+            ("time", f"{span}, seeds {seeds}, {slow}"),
+            ("program", f"SHA-256 {escape(setting.get('program') or 'not told')}"),
         ]
     return facts(rows)
 
@@ -54,14 +54,14 @@ def what_was_run(all_runs: Sequence[Runs]) -> str:
 def warnings(all_runs: Sequence[Runs]) -> str:
     """What the imports of all plans had to say, as HTML: what is left out, what is otherwise than in SUMO, what has no
     effect, and notes; at most eight lines of each, equal ones once. A sentence where they said nothing."""
-    lines = list(dict.fromkeys(line for runs in all_runs for line in runs.first.mapping.warnings))
+    lines = list(dict.fromkeys(line for runs in all_runs for line in runs.first_folder.mapping.warnings))
     marks = tuple(mark for mark, _ in WEIGHTS if mark)
-    parts = []
+    sections = []
     for mark, title in WEIGHTS:
         those = [line for line in lines if (line.startswith(mark) if mark else not line.startswith(marks))]
         if those:
             told = [line.removeprefix(mark).strip() for line in those[:MOST_LINES]]
             if left := len(those) - len(told):
                 told.append(f"{left:,} more: warnings.csv")
-            parts.append(f"<h3>{title}</h3>{bullets(told)}")
-    return "".join(parts) or "<p>The import had nothing to warn of.</p>"
+            sections.append(f"<h3>{title}</h3>{bullets(told)}")
+    return "".join(sections) or "<p>The import had nothing to warn of.</p>"

@@ -6,7 +6,7 @@ from streetsim.report.plan_differences import PlanDifference, difference_of, val
 from streetsim.report.run_tables import ResultRow, Rows
 
 BAD = "EF"  # worse than D
-LEAST = 5.0  # seconds of control delay, from which on a change is noticed
+NOTICED_SECONDS = 5.0  # seconds of control delay, from which on a change is noticed
 
 
 @dataclass(frozen=True, slots=True)
@@ -31,7 +31,7 @@ class RowChange:
         if self.change is None or self.before is None:
             return False
         other = self.before.letter() != self.row.letter()
-        return self.change.stands_out() and (abs(self.change.change) >= LEAST or other)
+        return self.change.stands_out() and (abs(self.change.change) >= NOTICED_SECONDS or other)
 
     @property
     def weight(self) -> float:
@@ -51,10 +51,10 @@ def ranked_changes(after: Rows, before: Rows | None, drawn: bool) -> list[RowCha
     """What is told of each row of the last plan (after), with the row of the same key of the plan before (None: there
     is none): first those that change noticeably or are worse than D; in each part the greatest weight first. drawn:
     whether departures were."""
-    found = []
+    changes = []
     for key, row in after.items():
         first = before.get(key) if before is not None else None
         delays = [values_by_seed(one, "control_delay_s") for one in (first, row) if one]
         change = difference_of(*delays, drawn=drawn) if first else None
-        found.append(RowChange(key, row, first, change))
-    return sorted(found, key=lambda one: (not (one.changes_noticeably or one.is_bad), -one.weight, one.key))
+        changes.append(RowChange(key, row, first, change))
+    return sorted(changes, key=lambda one: (not (one.changes_noticeably or one.is_bad), -one.weight, one.key))

@@ -7,59 +7,64 @@ from streetsim.model.folder import Folder
 from streetsim.model.names import Names
 from streetsim.report import run_series
 from streetsim.report.picture_plots import SPEEDS, refuse_undrawn
-from streetsim.report.run_series import Piece, Spot
+from streetsim.report.run_series import TrackPiece, Spot
 
-WIDE, LEFT, RIGHT = 900, 64, 150  # pixels: of the picture, and beside its panels
-TOP, HIGH, BELOW = 26, 300, 46  # of a panel: above it, it, below it
+WIDE, LEFT_MARGIN, RIGHT_MARGIN = 900, 64, 150  # pixels: of the picture, and beside its panels
+TOP_MARGIN, HIGH, BOTTOM_MARGIN = 26, 300, 46  # of a panel: above it, it, below it
 At = Callable[[float, float], str]  # of a second and metres, where they are: "across,down", pixels
 
 
-def corridor_picture(folder: Folder, ways: Sequence[Sequence[str]], first: int, last: int, told: str) -> str:
+def corridor_picture(
+    folder: Folder, ways: Sequence[Sequence[str]], first_second: int, last_second: int, label: str
+) -> str:
     """Where each vehicle is along paths (metres) over time (seconds), one panel a path, as SVG. ways: of each path its
-    edges; told: what the picture shows. Fault as of refuse_undrawn."""
+    edges; label: what the picture shows. Fault as of refuse_undrawn."""
     for way in ways:
-        refuse_undrawn(folder, way, first, last)
-    tall = len(ways) * (TOP + HIGH + BELOW) + 26
-    parts = [f'<svg class="corridor" viewBox="0 0 {WIDE} {tall}" role="img" aria-label="{escape(told)}">']
+        refuse_undrawn(folder, way, first_second, last_second)
+    tall = len(ways) * (TOP_MARGIN + HIGH + BOTTOM_MARGIN) + 26
+    svg_parts = [f'<svg class="corridor" viewBox="0 0 {WIDE} {tall}" role="img" aria-label="{escape(label)}">']
     classes = {0}
     for at, way in enumerate(ways):
-        pieces = run_series.trajectories(folder, way, first, last)
-        classes |= {class_of(piece) for piece in pieces}
-        parts.append(panel(folder, way, (first, last), pieces, at * (TOP + HIGH + BELOW) + TOP))
-    return "".join([*parts, legend(sorted(classes), tall - 12), "</svg>"])
+        track_pieces = run_series.trajectories(folder, way, first_second, last_second)
+        classes |= {class_of(piece) for piece in track_pieces}
+        top = at * (TOP_MARGIN + HIGH + BOTTOM_MARGIN) + TOP_MARGIN
+        svg_parts.append(panel(folder, way, (first_second, last_second), track_pieces, top))
+    return "".join([*svg_parts, legend(sorted(classes), tall - 12), "</svg>"])
 
 
-def class_of(piece: Piece) -> int:
+def class_of(track_piece: TrackPiece) -> int:
     """The place in SPEEDS of a piece's speed."""
-    return min(piece[2], len(SPEEDS) - 1)
+    return min(track_piece[2], len(SPEEDS) - 1)
 
 
-def panel(folder: Folder, way: Sequence[str], span: Spot, pieces: Sequence[Piece], top: int) -> str:
+def panel(folder: Folder, way: Sequence[str], span: Spot, track_pieces: Sequence[TrackPiece], top: int) -> str:
     """One direction of a path, as SVG: its vehicles, red signals, green band (in the title) and the names of junctions
     beside it. span: first and last second; top: pixels from the picture's top."""
-    (first, last), length = span, run_series.links_and_length(folder, way)[1]
-    across, down = (WIDE - LEFT - RIGHT) / (last - first), HIGH / (length * 1.01)
+    (first_second, last_second), length = span, run_series.links_and_length(folder, way)[1]
+    across, down = (WIDE - LEFT_MARGIN - RIGHT_MARGIN) / (last_second - first_second), HIGH / (length * 1.01)
 
     def at(second: float, metres: float) -> str:
         """Where a second and metres are, in pixels."""
-        return f"{LEFT + (second - first) * across:.1f},{top + HIGH - metres * down:.1f}"
+        return f"{LEFT_MARGIN + (second - first_second) * across:.1f},{top + HIGH - metres * down:.1f}"
 
-    frame = f'<rect x="{LEFT}" y="{top}" width="{WIDE - LEFT - RIGHT}" height="{HIGH}" fill="none" stroke="#555"/>'
-    parts = [*grid(at, span, length), frame]
+    width = WIDE - LEFT_MARGIN - RIGHT_MARGIN
+    frame = f'<rect x="{LEFT_MARGIN}" y="{top}" width="{width}" height="{HIGH}" fill="none" stroke="#555"/>'
+    svg_parts = [*grid(at, span, length), frame]
     for place in range(len(SPEEDS) - 1, -1, -1):
-        parts += vehicles(at, [piece for piece in pieces if class_of(piece) == place], place)
-    for metres, begin, end in run_series.red_times(folder, way, int(first), int(last)):
-        parts.append(f'<path d="M{at(begin, metres)}L{at(end, metres)}" stroke="#000" stroke-width="4"/>')
+        svg_parts += vehicles(at, [piece for piece in track_pieces if class_of(piece) == place], place)
+    for metres, begin, end in run_series.red_times(folder, way, int(first_second), int(last_second)):
+        svg_parts.append(f'<path d="M{at(begin, metres)}L{at(end, metres)}" stroke="#000" stroke-width="4"/>')
     for metres, name in run_series.junctions_along(folder, way):
-        level = at(last, metres).split(",")[1]
-        parts.append(f'<text x="{WIDE - RIGHT + 6}" y="{level}" dy="4">{escape(name)}</text>')
-    title = f'<text x="{LEFT}" y="{top - 8}" font-weight="bold">{escape(title_of(folder, way, int(first)))}</text>'
-    return f"<g>{title}{''.join(parts)}</g>"
+        level = at(last_second, metres).split(",")[1]
+        svg_parts.append(f'<text x="{WIDE - RIGHT_MARGIN + 6}" y="{level}" dy="4">{escape(name)}</text>')
+    title = escape(title_of(folder, way, int(first_second)))
+    title = f'<text x="{LEFT_MARGIN}" y="{top - 8}" font-weight="bold">{title}</text>'
+    return f"<g>{title}{''.join(svg_parts)}</g>"
 
 
-def title_of(folder: Folder, way: Sequence[str], first: int) -> str:
+def title_of(folder: Folder, way: Sequence[str], first_second: int) -> str:
     """What a panel shows: the streets of a path and its green band from a second on."""
-    streets, band = Names(folder.mapping), run_series.green_band(folder, way, first)
+    streets, band = Names(folder.mapping), run_series.green_band(folder, way, first_second)
     begin, end = (streets.street(edge) or edge for edge in (way[0], way[-1]))
     where = f"Along {begin}" if begin == end else f"From {begin} to {end}"
     return f"{where}: each line is a vehicle" + (f"; green band {band[0]} of {band[1]} s" if band else "")
@@ -67,41 +72,41 @@ def title_of(folder: Folder, way: Sequence[str], first: int) -> str:
 
 def grid(at: At, span: Spot, length: float) -> Iterator[str]:
     """Lines and numbers of the axes of a panel, as SVG. span: first and last second; length: metres."""
-    (first, last), places = span, steps(0, length)
-    for second in steps(first, last):
+    (first_second, last_second), places = span, steps(0, length)
+    for second in steps(first_second, last_second):
         x, y = at(second, 0).split(",")
         yield f'<path d="M{at(second, 0)}L{at(second, length)}" stroke="#ddd"/>'
         yield f'<text x="{x}" y="{y}" dy="16" text-anchor="middle">{time_of_day(int(second))}</text>'
     for metres in places:
-        x, y = at(first, metres).split(",")
-        yield f'<path d="M{at(first, metres)}L{at(last, metres)}" stroke="#ddd"/>'
+        x, y = at(first_second, metres).split(",")
+        yield f'<path d="M{at(first_second, metres)}L{at(last_second, metres)}" stroke="#ddd"/>'
         yield f'<text x="{x}" y="{y}" dx="-6" dy="4" text-anchor="end">{metres:g} m</text>'
 
 
-def steps(first: float, last: float) -> list[float]:
-    """Round numbers from a first to a last one, some six of them."""
-    step = run_series.round_length(max(1.0, (last - first) / 5))
-    begin = -(-first // step) * step
-    return [begin + step * at for at in range(int((last - begin) // step) + 1)]
+def steps(low: float, high: float) -> list[float]:
+    """Round numbers from low to high, some six of them."""
+    step = run_series.round_length(max(1.0, (high - low) / 5))
+    begin = -(-low // step) * step
+    return [begin + step * at for at in range(int((high - begin) // step) + 1)]
 
 
-def vehicles(at: At, pieces: Iterable[Piece], place: int) -> Iterator[str]:
+def vehicles(at: At, track_pieces: Iterable[TrackPiece], speed_class: int) -> Iterator[str]:
     """The ways of vehicles of one class of speed, by its place in SPEEDS, as SVG; nothing where there are none."""
-    pieces, (_, label, colour, width) = list(pieces), SPEEDS[place]
-    long = run_series.long_vehicle_strips(pieces)
+    track_pieces, (_, label, colour, width) = list(track_pieces), SPEEDS[speed_class]
+    long = run_series.long_vehicle_strips(track_pieces)
     if strips := "".join(f"M{'L'.join(at(*corner) for corner in one)}Z" for one in long):
         yield f'<path d="{strips}" fill="{colour}" fill-opacity="0.6"/>'
-    if lines := "".join(f"M{'L'.join(at(*spot) for spot in one)}" for one in joined(pieces)):
+    if lines := "".join(f"M{'L'.join(at(*spot) for spot in one)}" for one in joined(track_pieces)):
         line = f'<path d="{lines}" fill="none" stroke="{colour}" stroke-width="{width}">'
         yield f"{line}<title>{label}</title></path>"
 
 
-def joined(pieces: Iterable[Piece]) -> list[list[Spot]]:
+def joined(track_pieces: Iterable[TrackPiece]) -> list[list[Spot]]:
     """Pieces of ways as lines through as many points as they need: those that go on where another ends are joined, and
     are one straight line where they are equally steep."""
     lines: list[list[Spot]] = []
     ends: dict[Spot, list[Spot]] = {}
-    for begin, end, _, _ in pieces:
+    for begin, end, _, _ in track_pieces:
         line = ends.pop(begin, None)
         if line is None:
             lines.append(line := [begin])
@@ -112,9 +117,9 @@ def joined(pieces: Iterable[Piece]) -> list[list[Spot]]:
     return lines
 
 
-def is_straight(one: Spot, middle: Spot, other: Spot) -> bool:
+def is_straight(begin: Spot, middle: Spot, end: Spot) -> bool:
     """Whether three places are on a line."""
-    return (middle[1] - one[1]) * (other[0] - middle[0]) == (other[1] - middle[1]) * (middle[0] - one[0])
+    return (middle[1] - begin[1]) * (end[0] - middle[0]) == (end[1] - middle[1]) * (middle[0] - begin[0])
 
 
 def legend(classes: Sequence[int], down: int) -> str:
@@ -122,7 +127,7 @@ def legend(classes: Sequence[int], down: int) -> str:
     entries = [(label, colour, width + 1) for _, label, colour, width in (SPEEDS[one] for one in classes)]
     parts = []
     for at, (label, colour, width) in enumerate([*entries, ("red signal", "#000", 4)]):
-        x = LEFT + 160 * at
+        x = LEFT_MARGIN + 160 * at
         parts.append(f'<path d="M{x},{down - 4}h28" stroke="{colour}" stroke-width="{width}"/>')
         parts.append(f'<text x="{x + 34}" y="{down}">{label}</text>')
     return "".join(parts)

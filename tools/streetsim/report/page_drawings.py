@@ -5,7 +5,7 @@ from html import escape
 from streetsim.base.colours import LESS, MORE, STREET
 from streetsim.model.mapping import Map, Shape
 from streetsim.model.service import COLOURS, WHITE_LETTERS, fills
-from streetsim.report.page_choice import LEAST
+from streetsim.report.page_choice import NOTICED_SECONDS
 from streetsim.report.page_labels import text_width
 from streetsim.report.page_map import WIDE, Stroke, line_key, street_map, works_key
 
@@ -64,13 +64,13 @@ def difference_map(mapping: Map, values: Mapping[str, float]) -> str:
     return street_map(mapping, strokes, "Map of differences")
 
 
-def difference_stroke(value: float | None, most: float, text: str) -> Stroke:
-    """How an edge with a value is drawn, none where it has none; most: the greatest value that there is, up or down;
-    text: what it says when pointed at."""
+def difference_stroke(value: float | None, greatest: float, text: str) -> Stroke:
+    """How an edge with a value is drawn, none where it has none; greatest: value that there is, up or down; text: what
+    it says when pointed at."""
     if value is None:
         return Stroke(STREET, 1.5, text)
     colour = "#777" if abs(value) < 0.5 else MORE if value > 0 else LESS
-    return Stroke(colour, 2 + 6 * abs(value) / most, text, gaps=value <= -0.5)
+    return Stroke(colour, 2 + 6 * abs(value) / greatest, text, gaps=value <= -0.5)
 
 
 def junction_mark(letter: str, text: str) -> str:
@@ -84,7 +84,7 @@ def junction_mark(letter: str, text: str) -> str:
 def change_mark(change: float) -> str:
     """A triangle (SVG) to the right of a junction at 0, 0, up where it waits more and down where less, small below 5 s;
     change: of its delay, seconds."""
-    half = 5.5 if abs(change) >= LEAST else 4.0
+    half = 5.5 if abs(change) >= NOTICED_SECONDS else 4.0
     tall = half if change < 0 else -half
     points = f"14,{-tall:.1f} {14 + 2 * half:.1f},{-tall:.1f} {14 + half:.1f},{tall:.1f}"
     fill = "#b00" if change > 0 else "#06c"
@@ -100,20 +100,21 @@ def queue_picture(rows: Sequence[tuple[str, float, float, float, float]]) -> str
     """A bar (SVG) for each approach: the room of the edge, the 95 % queue in it, the 50 % queue, and a line at the
     greatest. rows: (name, 50 %, 95 %, greatest, room), in metres."""
     most = max((max(greatest, room) for _, _, _, greatest, room in rows), default=0.0) or 1.0
-    left = max(150.0, *(text_width(row[0]) for row in rows), 0.0)  # of the bars; names stand before them
-    scale, parts = (630 - left) / most, []
+    bars_left = max(150.0, *(text_width(row[0]) for row in rows), 0.0)  # of the bars; names stand before them
+    scale, svg_parts = (630 - bars_left) / most, []
     for place, (name, half, usual, greatest, room) in enumerate(rows):
         y = 8 + 26 * place
         title = f"{name}: 50 % {half:.0f} m, 95 % {usual:.0f} m, greatest {greatest:.0f} m of {room:.0f} m"
-        over = ", fills the edge" if greatest > 0 and fills(greatest, room) else ""
-        parts.append(
-            f'<g><title>{escape(title)}</title><text x="{left:g}" y="{y + 13}" text-anchor="end">{escape(name)}</text>'
-            f'<g transform="translate({left + 6:g} {y})">'
+        note = ", fills the edge" if greatest > 0 and fills(greatest, room) else ""
+        svg_parts.append(
+            f'<g><title>{escape(title)}</title>'
+            f'<text x="{bars_left:g}" y="{y + 13}" text-anchor="end">{escape(name)}</text>'
+            f'<g transform="translate({bars_left + 6:g} {y})">'
             f'<rect width="{room * scale:.1f}" height="18" fill="#fff" stroke="#666"/>'
             f'<rect y="3" width="{usual * scale:.1f}" height="12" fill="#9ecae1"/>'
             f'<rect y="3" width="{half * scale:.1f}" height="12" fill="#3182bd"/>'
             f'<line x1="{greatest * scale:.1f}" x2="{greatest * scale:.1f}" y2="18" class="greatest"/></g>'
-            f'<text x="646" y="{y + 13}">{half:.0f}, {usual:.0f}, {greatest:.0f} of {room:.0f} m{over}</text></g>'
+            f'<text x="646" y="{y + 13}">{half:.0f}, {usual:.0f}, {greatest:.0f} of {room:.0f} m{note}</text></g>'
         )
     shape = f'viewBox="0 0 {WIDE} {12 + 26 * len(rows)}" role="img" aria-label="Queues"'
-    return f'<svg class="queues" {shape}>{"".join(parts)}</svg>'
+    return f'<svg class="queues" {shape}>{"".join(svg_parts)}</svg>'

@@ -6,7 +6,7 @@ from difflib import SequenceMatcher
 from html import unescape
 
 NUMBER = re.compile(r"\d+(?:[.,]\d+)*")
-PIECE = re.compile(r"<[^<>]*>|<|[^<]+")  # a tag, or the text between two; each letter is in one, whatever it is
+PAGE_PIECE = re.compile(r"<[^<>]*>|<|[^<]+")  # a tag, or the text between two; each letter is in one, whatever it is
 TAG = re.compile(r"<(/?)([a-zA-Z][a-zA-Z0-9]*)")
 LONG = 60  # letters of what is said of a difference
 MOST_PARTS = 20_000  # pieces in which those are sought that were put in or taken out
@@ -17,32 +17,33 @@ HEADS = ("h1", "h2", "h3")
 class Mismatch:
     """What a page says somewhere, and what was found there anew."""
 
-    where: str
-    said: str
-    found: str
+    place_in_words: str
+    stated_text: str
+    remade_text: str
 
-    def told(self) -> str:
+    def in_words(self) -> str:
         """The difference in words; long texts cut to what is around it."""
-        said, found = around_difference(self.said, self.found)
-        return f"{self.where}: said {said!r}, found {found!r}"
+        said, found = around_difference(self.stated_text, self.remade_text)
+        return f"{self.place_in_words}: said {said!r}, found {found!r}"
 
 
-def around_difference(said: str, found: str) -> tuple[str, str]:
-    """(said, found): two texts; where one is longer than 60 letters, of both the 60 or so around their first
+def around_difference(stated_text: str, remade_text: str) -> tuple[str, str]:
+    """(stated_text, remade_text); where one is longer than 60 letters, of both the 60 or so around their first
     difference."""
-    if len(said) <= LONG and len(found) <= LONG:
-        return said, found
-    at = first_difference(said, found)
+    if len(stated_text) <= LONG and len(remade_text) <= LONG:
+        return stated_text, remade_text
+    at = first_difference(stated_text, remade_text)
     begin = max(0, at - LONG // 3)
-    return said[begin : begin + LONG], found[begin : begin + LONG]
+    return stated_text[begin : begin + LONG], remade_text[begin : begin + LONG]
 
 
-def first_difference(one: Sequence[object], other: Sequence[object]) -> int:
+def first_difference(values: Sequence[object], other_values: Sequence[object]) -> int:
     """The first place at which two sequences differ; the length of the shorter one where that is the other's begin."""
-    return next((at for at, (a, b) in enumerate(zip(one, other)) if a != b), min(len(one), len(other)))
+    shorter = min(len(values), len(other_values))
+    return next((at for at, (a, b) in enumerate(zip(values, other_values)) if a != b), shorter)
 
 
-class Places:
+class PiecePlaces:
     """Where the pieces of a page are: goes over them, and knows the section, row and column."""
 
     def __init__(self) -> None:
@@ -52,20 +53,20 @@ class Places:
         self.columns: list[str] = []
         self.column, self.row = -1, ""
 
-    def where(self) -> str:
+    def place_in_words(self) -> str:
         """Where that is, in words: headings, row and column; 'the page's head' before any of these."""
         heads = [self.heads["h2"] or self.heads["h1"], self.heads["h3"]]
         column = self.columns[self.column] if 0 <= self.column < len(self.columns) else ""
         return ", ".join(filter(None, [*heads, self.row, column])) or "the page's head"
 
-    def pass_piece(self, piece: str) -> None:
+    def pass_piece(self, page_piece: str) -> None:
         """Goes over a piece, a tag or a text."""
-        if not (tag := TAG.match(piece)):
-            self.note_text(unescape(piece))
+        if not (tag := TAG.match(page_piece)):
+            self.note_text(unescape(page_piece))
         elif tag[1]:
             self.note_end(tag[2])
         else:
-            self.note_begin("row" if tag[2] == "th" and 'scope="row"' in piece else tag[2])
+            self.note_begin("row" if tag[2] == "th" and 'scope="row"' in page_piece else tag[2])
 
     def note_begin(self, tag: str) -> None:
         """Notes by its tag that a heading, table, row, cell or other block begins; 'row': the cell that heads a row."""
@@ -103,12 +104,12 @@ class Places:
             self.row += text
 
 
-def places_of(pieces: Sequence[str]) -> list[str]:
+def places_of(page_pieces: Sequence[str]) -> list[str]:
     """Where each piece of a page is."""
-    places, found = Places(), []
-    for piece in pieces:
-        places.pass_piece(piece)
-        found.append(places.where())
+    piece_places, found = PiecePlaces(), []
+    for piece in page_pieces:
+        piece_places.pass_piece(piece)
+        found.append(piece_places.place_in_words())
     return found
 
 
@@ -119,29 +120,31 @@ def numbers_in(text: str) -> int:
     return len(NUMBER.findall(re.sub(hidden, "", text, flags=re.DOTALL)))
 
 
-def page_mismatches(said: str, found: str) -> list[Mismatch]:
-    """The mismatches of two pages (HTML), the one that is checked (said) and the one made anew (found): one at least
-    where they differ, none where they are equal to the byte."""
-    return [] if said == found else list(mismatches(PIECE.findall(said), PIECE.findall(found)))
+def page_mismatches(stated_page: str, remade_page: str) -> list[Mismatch]:
+    """The mismatches of two pages (HTML), the one that is checked (stated_page) and the one made anew (remade_page):
+    one at least where they differ, none where they are equal to the byte."""
+    if stated_page == remade_page:
+        return []
+    return list(mismatches(PAGE_PIECE.findall(stated_page), PAGE_PIECE.findall(remade_page)))
 
 
-def mismatches(said: Sequence[str], found: Sequence[str]) -> Iterator[Mismatch]:
+def mismatches(stated_pieces: Sequence[str], remade_pieces: Sequence[str]) -> Iterator[Mismatch]:
     """What differs of the pieces of two pages, as of page_mismatches: one by one where they have equally many, else the
     parts that were put in, taken out or changed, and as one where these are long."""
-    where = places_of(found) or [""]
-    if len(said) == len(found):
-        for one, other, place in zip(said, found, where, strict=True):
+    piece_places = places_of(remade_pieces) or [""]
+    if len(stated_pieces) == len(remade_pieces):
+        for one, other, piece_place in zip(stated_pieces, remade_pieces, piece_places, strict=True):
             if one != other:
-                yield Mismatch(place, one.strip() or one, other.strip() or other)
+                yield Mismatch(piece_place, one.strip() or one, other.strip() or other)
         return
-    begin = first_difference(said, found)
-    rest = min(len(said), len(found)) - begin
-    end = min(first_difference(said[::-1], found[::-1]), rest)
-    parts = said[begin : len(said) - end], found[begin : len(found) - end]
-    spans = [("replace", 0, len(parts[0]), 0, len(parts[1]))]
-    if max(map(len, parts)) <= MOST_PARTS:
-        spans = SequenceMatcher(None, *parts).get_opcodes()
+    begin = first_difference(stated_pieces, remade_pieces)
+    rest = min(len(stated_pieces), len(remade_pieces)) - begin
+    end = min(first_difference(stated_pieces[::-1], remade_pieces[::-1]), rest)
+    changed_pieces = stated_pieces[begin : len(stated_pieces) - end], remade_pieces[begin : len(remade_pieces) - end]
+    spans = [("replace", 0, len(changed_pieces[0]), 0, len(changed_pieces[1]))]
+    if max(map(len, changed_pieces)) <= MOST_PARTS:
+        spans = SequenceMatcher(None, *changed_pieces).get_opcodes()
     for kind, first, last, start, stop in spans:
         if kind != "equal":
-            place = where[min(begin + start, len(where) - 1)]
-            yield Mismatch(place, "".join(parts[0][first:last]), "".join(parts[1][start:stop]))
+            piece_place = piece_places[min(begin + start, len(piece_places) - 1)]
+            yield Mismatch(piece_place, "".join(changed_pieces[0][first:last]), "".join(changed_pieces[1][start:stop]))

@@ -5,7 +5,7 @@ from operator import itemgetter
 
 from streetsim.base.words import time_of_day
 from streetsim.model.names import Names
-from streetsim.report.page_choice import LEAST, RowChange
+from streetsim.report.page_choice import NOTICED_SECONDS, RowChange
 from streetsim.report.page_drawings import anchor, letter_mark, queue_picture
 from streetsim.report.page_markup import change_told, table
 from streetsim.report.page_words import how_sure, interval_name
@@ -28,23 +28,24 @@ def title_of(name: str, names: Names) -> str:
 def junction_table(rows: Sequence[RowChange], names: Names, detailed: int) -> str:
     """A table with one line for each junction, as HTML; the first `detailed` of them are links to their sections. Where
     one has a row before, it is of two plans, with empty cells where nothing can be paired."""
-    two = any(one.before for one in rows)
-    made = []
-    for place, one in enumerate(rows):
-        title = escape(title_of(one.key[0], names))
-        cells = [(f'<a href="#{anchor(one.key[0])}">{title}</a>' if place < detailed else title) + full_mark(one.row)]
-        cells.append(f"{one.row.values['vehicles_per_hour']:,.0f}")
-        level = letter_mark(one.row.letter())
+    two = any(ranked.before for ranked in rows)
+    table_rows = []
+    for place, ranked in enumerate(rows):
+        title = escape(title_of(ranked.key[0], names))
+        linked = f'<a href="#{anchor(ranked.key[0])}">{title}</a>' if place < detailed else title
+        cells = [linked + full_mark(ranked.row)]
+        cells.append(f"{ranked.row.values['vehicles_per_hour']:,.0f}")
+        level = letter_mark(ranked.row.letter())
         if not two:
-            made.append([*cells, f"{one.row.delay:.1f}", level, f"{one.row.values['v_c']:.2f}"])
-        elif one.before and one.change:
-            numbers = f"{one.change.before:.1f}", f"{one.change.after:.1f}", change_told(one.change)
-            made.append([*cells, *numbers, f"{letter_mark(one.before.letter())} to {level}"])
+            table_rows.append([*cells, f"{ranked.row.delay:.1f}", level, f"{ranked.row.values['v_c']:.2f}"])
+        elif ranked.before and ranked.change:
+            numbers = f"{ranked.change.before:.1f}", f"{ranked.change.after:.1f}", change_told(ranked.change)
+            table_rows.append([*cells, *numbers, f"{letter_mark(ranked.before.letter())} to {level}"])
         else:
-            made.append([*cells, "", f"{one.row.delay:.1f}", "", level])
+            table_rows.append([*cells, "", f"{ranked.row.delay:.1f}", "", level])
     if two:
-        return table(["junction", "vehicles/h", "before, s", "after, s", "change, s", "level of service"], made)
-    return table(["junction", "vehicles/h", "delay, s", "level of service", "greatest v/c"], made)
+        return table(["junction", "vehicles/h", "before, s", "after, s", "change, s", "level of service"], table_rows)
+    return table(["junction", "vehicles/h", "delay, s", "level of service", "greatest v/c"], table_rows)
 
 
 def full_mark(row: ResultRow) -> str:
@@ -55,7 +56,7 @@ def full_mark(row: ResultRow) -> str:
 
 def full_lanes(runs: Runs, name: str) -> str:
     """A sentence on the lanes of a junction that are nearly full by the demand, as HTML; empty where there are none."""
-    told = "; ".join(one.told() for one in runs.first.mapping.full.lanes if one.junction == name)
+    told = "; ".join(one.in_words() for one in runs.first_folder.mapping.full.lanes if one.junction == name)
     return f'<p class="small">Nearly full by the demand: {escape(told)}. {FULL}</p>' if told else ""
 
 
@@ -63,22 +64,23 @@ def movement_changes(rows: Sequence[RowChange], names: Names, drawn: bool) -> st
     """A table of the movements with both plans that change noticeably or are worse than D, as HTML, at most 25; a
     sentence where there are none. rows: movements as ranked_rows of council gives them, whose order stays; drawn:
     whether departures were."""
-    those = [one for one in rows if one.change and one.before and (one.changes_noticeably or one.is_bad)]
-    made = []
-    for one in those[:MOST_MOVEMENTS]:
-        assert one.change and one.before
-        ids = f"{one.key[0]}: {' to '.join(one.key[1:])}"
-        levels = f"{letter_mark(one.before.letter())} to {letter_mark(one.row.letter())}"
-        numbers = f"{one.change.before:.1f}", f"{one.change.after:.1f}", change_told(one.change)
+    paired = (ranked for ranked in rows if ranked.change and ranked.before)
+    those = [ranked for ranked in paired if ranked.changes_noticeably or ranked.is_bad]
+    table_rows = []
+    for ranked in those[:MOST_MOVEMENTS]:
+        assert ranked.change and ranked.before
+        ids = f"{ranked.key[0]}: {' to '.join(ranked.key[1:])}"
+        levels = f"{letter_mark(ranked.before.letter())} to {letter_mark(ranked.row.letter())}"
+        numbers = f"{ranked.change.before:.1f}", f"{ranked.change.after:.1f}", change_told(ranked.change)
         shown = f'<span class="ids">{escape(ids)}</span>'
-        made.append([escape(names.movement(*one.key[1:])), shown, *numbers, levels])
-    if not made:
+        table_rows.append([escape(names.movement(*ranked.key[1:])), shown, *numbers, levels])
+    if not table_rows:
         said = f"No movement changes {how_sure(drawn)} by so much that one notices"
         return f"<p>{said}, and none is worse than D.</p>"
     head = ["movement", "junction: edges", "before, s", "after, s", "change, s", "level of service"]
-    left = len(rows) - len(made)
+    left = len(rows) - len(table_rows)
     more = f'<p class="small">{left:,} other movements: movements.csv of the runs.</p>' if left else ""
-    return table(head, made, names=2) + more
+    return table(head, table_rows, names=2) + more
 
 
 def said_of_changes(seeds: int, drawn: bool) -> str:
@@ -89,16 +91,16 @@ def said_of_changes(seeds: int, drawn: bool) -> str:
         said = f"Differences are of the same seeds, ± is the {interval_name(drawn)}, and changes beyond it are bold"
     return (
         f'<p class="small">{said}. Control delay, seconds. First those that '
-        f"change by {LEAST:.0f} s or in their level of service {how_sure(drawn)}, or are worse than D.</p>"
+        f"change by {NOTICED_SECONDS:.0f} s or in their level of service {how_sure(drawn)}, or are worse than D.</p>"
     )
 
 
-def detail(runs: Runs, name: str, shown: tuple[int, int]) -> str:
+def detail(runs: Runs, name: str, interval: tuple[int, int]) -> str:
     """The section of a junction, as HTML: its movements and the queues of its approaches in an interval (begin, end),
     in which it must have a row, by_time and full_lanes."""
-    junction, called = runs.rows["junctions", *shown][name,], runs.names
-    movements = [row for row in runs.rows["movements", *shown].values() if row.key[0] == name]
-    approaches = [row for row in runs.rows["approaches", *shown].values() if row.key[0] == name]
+    junction, called = runs.rows["junctions", *interval][name,], runs.names
+    movements = [row for row in runs.rows["movements", *interval].values() if row.key[0] == name]
+    approaches = [row for row in runs.rows["approaches", *interval].values() if row.key[0] == name]
     head = ["movement", "from and to edge", "", "vehicles/h", "delay, s", "level of service", "v/c", "stopped, s"]
     head += ["stops", "queues, m"]
     rows = [movement_row(row, called) for row in sorted(movements, key=lambda row: row.key)]

@@ -9,7 +9,7 @@ from streetsim.base.shapes import Point, distance, point_along
 
 SQUARE = 3  # of what is taken
 LETTER, WIDE_LETTER, HALF = 7, 13, 6  # the width of a letter, of a Chinese one, and half the height of a text
-AWAY = 4  # from the border of a line to the text
+LABEL_GAP = 4  # from the border of a line to the text
 BENT = 3.0  # by which a street may leave the straight line along its name
 SHARES = (0.5, 0.3, 0.7)  # of a street, at which its name may be
 Line = Sequence[Point]
@@ -21,20 +21,20 @@ class Room:
     def __init__(self, wide: float, high: float) -> None:
         """Nothing is taken of a picture of a width and a height."""
         self.wide, self.high = wide, high
-        self.taken: set[tuple[int, int]] = set()
+        self.taken_squares: set[tuple[int, int]] = set()
 
-    def take(self, line: Line, half: float) -> None:
+    def take_around(self, line: Line, half: float) -> None:
         """Takes all that is up to `half` from a line."""
-        self.taken.update(squares(line, half))
+        self.taken_squares.update(squares(line, half))
 
     def took(self, line: Line, half: float) -> bool:
         """Takes it where all of it is free and in the picture; gives whether that is so."""
         if not all(half <= x <= self.wide - half and half <= y <= self.high - half for x, y in line):
             return False
         own = set(squares(line, half))
-        if self.taken & own:
+        if self.taken_squares & own:
             return False
-        self.taken |= own
+        self.taken_squares |= own
         return True
 
 
@@ -80,22 +80,22 @@ def street_labels(edges: Mapping[str, tuple[str, Line, float]], room: Room) -> I
     for name, lines in ranked:
         need = text_width(name)
         long = sorted((one for one in lines if one[0] >= need), key=lambda one: -round(one[0]))
-        bases = (base for _, line, width in long for base in bases_beside(line, need, width / 2 + AWAY + HALF))
+        bases = (base for _, line, width in long for base in bases_beside(line, need, width / 2 + LABEL_GAP + HALF))
         if (base := next((one for one in bases if room.took(one, HALF)), None)) is not None:
             yield label_along(name, base)
 
 
-def bases_beside(line: Line, need: float, away: float) -> Iterator[Line]:
+def bases_beside(line: Line, text_length: float, offset: float) -> Iterator[Line]:
     """Straight lines of a length beside one that is longer, at a distance from it, where that is about straight: to its
     right and to its left."""
-    half = need / 2 / length(line)
+    half = text_length / 2 / length(line)
     for share in SHARES:
         if half <= share <= 1 - half:
             begin, end = (point_along(line, share + sign * half) for sign in (-1, 1))
             between = (point_along(line, share + part * half) for part in (-0.5, 0, 0.5))
             size = hypot(end[0] - begin[0], end[1] - begin[1])
-            if size > 0.9 * need and all(distance(one, (begin, end)) <= BENT for one in between):
-                across, down = -(end[1] - begin[1]) / size * away, (end[0] - begin[0]) / size * away
+            if size > 0.9 * text_length and all(distance(one, (begin, end)) <= BENT for one in between):
+                across, down = -(end[1] - begin[1]) / size * offset, (end[0] - begin[0]) / size * offset
                 for sign in (1, -1):
                     yield [(x + sign * across, y + sign * down) for x, y in (begin, end)]
 

@@ -21,48 +21,51 @@ class PageWishes:
     is_short: bool = False  # the first page alone
     doubts: Sequence[str] = ()  # what speaks against the runs, beside what they say
     pictures: Sequence[Section] = field(default_factory=list)  # further sections of the appendix
-    first: Sequence[Section] = ()  # further sections of the first page
-    last: str = ""  # how to check the page, at its end, as HTML
+    first_sections: Sequence[Section] = ()  # further sections of the first page
+    check_html: str = ""  # how to check the page, at its end, as HTML
 
 
-def report_of(plans: Sequence[Runs], shown: Interval, wishes: PageWishes) -> str:
-    """The whole page, as HTML, of one plan, or of two, before and after, in the interval that is shown, one of those of
-    the junction tables (KeyError for another one)."""
-    rows = page_summary.ranked_rows(plans, shown)
+def report_of(plans: Sequence[Runs], interval: Interval, wishes: PageWishes) -> str:
+    """The whole page, as HTML, of one plan, or of two, before and after, in an interval, one of those of the junction
+    tables (KeyError for another one)."""
+    rows = page_summary.ranked_rows(plans, interval)
     detailed = 0 if wishes.is_short else wishes.detailed
-    first = [
-        Section("verdict", "Verdict", page_summary.verdict(plans, shown)),
-        Section("map", "Where", page_summary.service_and_works_map(plans[-1], shown, rows, detailed)),
+    first_sections = [
+        Section("verdict", "Verdict", page_summary.verdict(plans, interval)),
+        Section("map", "Where", page_summary.service_and_works_map(plans[-1], interval, rows, detailed)),
         Section(
-            "costs", "What it costs whom" if len(plans) == 2 else "Who waits longest", page_summary.costs(plans, shown)
+            "costs", "What it costs whom" if len(plans) == 2 else "Who waits longest",
+            page_summary.costs(plans, interval),
         ),
         Section("doubts", "What is doubted", page_summary.doubted(plans, wishes.doubts)),
-        *wishes.first,
+        *wishes.first_sections,
     ]
-    lead = page_summary.question_html(wishes.question, plans, shown)
-    appendix = [] if wishes.is_short else list(appendix_of(plans, shown, rows, wishes))
-    return page(wishes.title, lead, first, appendix, wishes.last)
+    lead = page_summary.question_html(wishes.question, plans, interval)
+    appendix = [] if wishes.is_short else list(appendix_of(plans, interval, rows, wishes))
+    return page(wishes.title, lead, first_sections, appendix, wishes.check_html)
 
 
 def appendix_of(
-    plans: Sequence[Runs], shown: Interval, rows: Sequence[RowChange], wishes: PageWishes
+    plans: Sequence[Runs], interval: Interval, rows: Sequence[RowChange], wishes: PageWishes
 ) -> Iterator[Section]:
     """The sections behind the first page, those without content left out; rows: of all junctions, those first that are
     told with all their movements."""
-    last, times, detailed = plans[-1], f"{time_of_day(shown[0])} to {time_of_day(shown[1])}", rows[: wishes.detailed]
+    last_plan, detailed = plans[-1], rows[: wishes.detailed]
+    interval_text = f"{time_of_day(interval[0])} to {time_of_day(interval[1])}"
     drawn = page_summary.are_drawn(plans)
     note = page_junctions.said_of_changes(page_summary.common_seeds(plans), drawn) if len(plans) == 2 else ""
-    table = note + page_junctions.junction_table(rows, last.names, len(detailed))
-    yield Section("junctions", f"Junctions, {times}", table)
+    table = note + page_junctions.junction_table(rows, last_plan.names, len(detailed))
+    yield Section("junctions", f"Junctions, {interval_text}", table)
     if len(plans) == 2:
-        rows_ = page_summary.ranked_rows(plans, shown, "movements")
-        changes = page_junctions.movement_changes(rows_, last.names, drawn)
-        yield Section("movements", f"Movements that change, {times}", changes)
-        yield Section("map-before", f"Map before: {plans[0].name}", page_summary.service_and_works_map(plans[0], shown))
+        rows_ = page_summary.ranked_rows(plans, interval, "movements")
+        changes = page_junctions.movement_changes(rows_, last_plan.names, drawn)
+        yield Section("movements", f"Movements that change, {interval_text}", changes)
+        map_before = page_summary.service_and_works_map(plans[0], interval)
+        yield Section("map-before", f"Map before: {plans[0].name}", map_before)
     if detailed:
-        title = f"Junctions in detail: {last.name}, {times}"
-        yield Section("details", title, details(last, shown, rows, len(detailed)))
-    if told := page_works.section(plans, shown):
+        title = f"Junctions in detail: {last_plan.name}, {interval_text}"
+        yield Section("details", title, details(last_plan, interval, rows, len(detailed)))
+    if told := page_works.section(plans, interval):
         yield Section("works", "Road works", told)
     yield from wishes.pictures
     yield Section("run", "What was run", page_background.what_was_run(plans))
@@ -70,9 +73,9 @@ def appendix_of(
     yield Section("assumptions", "Assumptions", bullets(page_background.ASSUMPTIONS))
 
 
-def details(runs: Runs, shown: Interval, rows: Sequence[RowChange], count: int) -> str:
+def details(runs: Runs, interval: Interval, rows: Sequence[RowChange], count: int) -> str:
     """The key, and the sections of the junctions told with all their movements, as HTML: of the first `count` rows."""
     left = len(rows) - count
     more = f" {left:,} other junctions: movements.csv of the runs, or --detail." if left else ""
-    tables = "".join(page_junctions.detail(runs, one.key[0], shown) for one in rows[:count])
+    tables = "".join(page_junctions.detail(runs, one.key[0], interval) for one in rows[:count])
     return f'<p class="small">{escape(page_junctions.KEY + more)}</p>{tables}'

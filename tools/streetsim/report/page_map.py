@@ -12,7 +12,7 @@ from streetsim.report.page_labels import Room, junction_labels, street_labels
 from streetsim.report.run_series import length_told, round_length
 
 WIDE, MOST_HIGH, MARGIN, STRIP = 900, 640, 36, 34  # pixels; the last are of the strip below the streets
-BETWEEN = 1.5  # pixels between the lines of two directions
+LINE_GAP = 1.5  # pixels between the lines of two directions
 MARK = 13  # pixels from the middle of a junction's mark to where names may be
 Way = list[Point]  # of pixels across and down
 
@@ -35,15 +35,15 @@ class Plane:
     def __init__(self, mapping: Map) -> None:
         """All streets of a map fit into the picture, which is as high as they need."""
         points = [point for link in mapping.links for point in link.shape]
-        (self.left, right), (low, self.high) = ((min(one), max(one)) for one in zip(*points, strict=True))
-        wide, high = max(1.0, right - self.left), max(1.0, self.high - low)
+        (self.min_x, right), (low, self.max_y) = ((min(one), max(one)) for one in zip(*points, strict=True))
+        wide, high = max(1.0, right - self.min_x), max(1.0, self.max_y - low)
         self.scale = min((WIDE - 2 * MARGIN) / wide, (MOST_HIGH - 2 * MARGIN) / high)  # pixels a metre
         self.aside = (WIDE - wide * self.scale) / 2
-        self.tall = (self.high - low) * self.scale + 2 * MARGIN
+        self.tall = (self.max_y - low) * self.scale + 2 * MARGIN
 
     def at(self, point: Sequence[float]) -> Point:
         """The pixels across and down of a point (x, y)."""
-        return (point[0] - self.left) * self.scale + self.aside, (self.high - point[1]) * self.scale + MARGIN
+        return (point[0] - self.min_x) * self.scale + self.aside, (self.max_y - point[1]) * self.scale + MARGIN
 
     def way(self, shape: Shape) -> Way:
         """A shape in pixels, without points that lie on one another."""
@@ -68,21 +68,22 @@ def street_map(
     shapes = {edge: plane.way(middle_shape(mapping, edge)) for edge in mapping.links_of}
     shifts = shifts_of(mapping, shapes, strokes)
     ways = {edge: moved(way, shifts[edge]) for edge, way in shapes.items()}
-    parts = [stroke_drawn(ways[edge], strokes[edge]) for edge in shapes]
+    svg_parts = [stroke_drawn(ways[edge], strokes[edge]) for edge in shapes]
     for edge, shape in works:
         way = moved(plane.way(shape), shifts[edge])
-        parts.append(f'<polyline points="{points_told(way)}" class="works"><title>road works</title></polyline>')
+        svg_parts.append(f'<polyline points="{points_told(way)}" class="works"><title>road works</title></polyline>')
     lit = {node for _, node in mapping.signals}
-    places = {
+    point_of_junction = {
         name: plane.at((x, y)) for at, (name, x, y, _) in enumerate(mapping.nodes) if name in marks or at in lit
     }
     for name, own in marks.items():
-        x, y = places[name]
-        parts.append(f'<g transform="translate({x:.1f} {y:.1f})">{"".join(own)}</g>')
-    parts += labels_drawn(Names(mapping), ways, strokes, {n: at for n, at in places.items() if n in marks or not marks})
+        x, y = point_of_junction[name]
+        svg_parts.append(f'<g transform="translate({x:.1f} {y:.1f})">{"".join(own)}</g>')
+    labelled = {name: at for name, at in point_of_junction.items() if name in marks or not marks}
+    svg_parts += labels_drawn(Names(mapping), ways, strokes, labelled)
     tall = plane.tall + STRIP
     head = f'<svg class="map" viewBox="0 0 {WIDE} {tall:.0f}" role="img" aria-label="{escape(label)}">'
-    return "".join([head, *parts, bar_drawn(plane), "</svg>"])
+    return "".join([head, *svg_parts, bar_drawn(plane), "</svg>"])
 
 
 def middle_shape(mapping: Map, edge: str) -> Shape:
@@ -116,7 +117,7 @@ def shift_from(way: Way, width: float, backs: Sequence[tuple[Way, float]]) -> fl
     total = sum(hypot(bx - ax, by - ay) for (ax, ay), (bx, by) in pairwise(back)) or 1.0
     x, y = point_along(back, min(1.0, along / total))
     side = -1 if right * (x - middle[0]) + down * (y - middle[1]) > 0.5 else 1  # where one drives on the left
-    return side * max(0.0, (width + other) / 2 + BETWEEN - apart) / 2
+    return side * max(0.0, (width + other) / 2 + LINE_GAP - apart) / 2
 
 
 def right_of(begin: Point, end: Point) -> Point:
@@ -131,14 +132,14 @@ def moved(way: Way, shift: float) -> Way:
     if len(way) < 2 or not shift:
         return way
     sides = [right_of(*pair) for pair in pairwise(way)]
-    found = []
+    points = []
     for (x, y), (ax, ay), (bx, by) in zip(way, [sides[0], *sides], [*sides, sides[-1]]):
         across, down = ax + bx, ay + by
         size = (across**2 + down**2) / 2
         if size < 0.5:
             across, down, size = bx, by, 1.0
-        found.append((x + shift * across / size, y + shift * down / size))
-    return found
+        points.append((x + shift * across / size, y + shift * down / size))
+    return points
 
 
 def points_told(way: Way) -> str:
@@ -158,18 +159,18 @@ def stroke_drawn(way: Way, stroke: Stroke) -> str:
 
 
 def labels_drawn(
-    names: Names, ways: Mapping[str, Way], strokes: Mapping[str, Stroke], places: Mapping[str, Point]
+    names: Names, ways: Mapping[str, Way], strokes: Mapping[str, Stroke], point_of_junction: Mapping[str, Point]
 ) -> Iterator[str]:
-    """The names of streets, and of the junctions at places, where there is room, as SVG. Where streets have names,
+    """The names of streets, and of the junctions at points, where there is room, as SVG. Where streets have names,
     junctions have those that are their own; elsewhere they have their ids."""
     room = Room(WIDE, MOST_HIGH)
     for edge, way in ways.items():
-        room.take(way, strokes[edge].width / 2)
-    for place in places.values():
-        room.take([place], MARK)
+        room.take_around(way, strokes[edge].width / 2)
+    for place in point_of_junction.values():
+        room.take_around([place], MARK)
     yield from street_labels({edge: (names.street(edge), way, strokes[edge].width) for edge, way in ways.items()}, room)
-    own = {name: names.junctions.get(name, "" if names.edges else name) for name in places}
-    yield from junction_labels([(own[name], place) for name, place in places.items()], room)
+    own = {name: names.junctions.get(name, "" if names.edges else name) for name in point_of_junction}
+    yield from junction_labels([(own[name], place) for name, place in point_of_junction.items()], room)
 
 
 def bar_drawn(plane: Plane) -> str:
@@ -183,15 +184,15 @@ def bar_drawn(plane: Plane) -> str:
     return f'<g class="bar">{line}/>{told}{arrow}<text x="{x + 10:.1f}" y="{y - 6:.1f}">N</text></g>'
 
 
-def key(drawn: str, words: str) -> str:
+def key(drawn: str, text: str) -> str:
     """What something of a map means, as HTML: how it is drawn (SVG), and its words in plain text."""
     picture = f'<svg class="key" viewBox="0 0 34 14" aria-hidden="true">{drawn}</svg>'
-    return f'<span class="ids">{picture} {escape(words)}</span>'
+    return f'<span class="ids">{picture} {escape(text)}</span>'
 
 
-def line_key(stroke: Stroke, words: str) -> str:
+def line_key(stroke: Stroke, text: str) -> str:
     """What a line of a map means, as HTML, with its words in plain text."""
-    return key(stroke_drawn([(4, 7), (30, 7)], stroke), words)
+    return key(stroke_drawn([(4, 7), (30, 7)], stroke), text)
 
 
 def works_key() -> str:

@@ -56,9 +56,9 @@ def mean_told(values: Iterable[float], drawn: bool) -> str:
     return f"{mean:.1f}" + (f" ± {half:.1f}" if half is not None else "")
 
 
-def change_told(one: PlanDifference) -> str:
+def change_told(difference: PlanDifference) -> str:
     """A change as text, bold (HTML) where it stands out."""
-    return f'<span class="bold">{one.told()}</span>' if one.stands_out() else one.told()
+    return f'<span class="bold">{difference.in_words()}</span>' if difference.stands_out() else difference.in_words()
 
 
 def level_styles() -> str:
@@ -75,17 +75,19 @@ def section_html(section: Section) -> str:
     return f'<section aria-labelledby="{section.name}">{head}{section.content}</section>'
 
 
-def page(title: str, lead: str, first: Sequence[Section], appendix: Sequence[Section], last: str = "") -> str:
+def page(
+    title: str, lead: str, first_sections: Sequence[Section], appendix: Sequence[Section], check_html: str = ""
+) -> str:
     """The whole page, as HTML, of page.html: title (plain text), lead (HTML) at its head, the sections of the first
-    page, those of the appendix after their contents, and `last` (HTML) at the end: how to check it, with a link."""
+    page, those of the appendix after their contents, and check_html at the end: how to check it, with a link."""
     text = (Path(__file__).parent / "page.html").read_text(encoding="utf-8")
     links = "".join(f'<li><a href="#{one.name}">{escape(one.title)}</a></li>' for one in appendix)
     contents = f'<nav aria-label="Appendix"><h2>Appendix</h2><ol>{links}</ol></nav>'
     after = "\n".join(map(section_html, appendix))
     filled = {
-        "TITLE": escape(title), "LEAD": lead, "LEVELS": level_styles(), "LAST": last,
+        "TITLE": escape(title), "LEAD": lead, "LEVELS": level_styles(), "LAST": check_html,
         "CONTENTS": contents if appendix else "",
-        "FIRST": "\n".join(map(section_html, first)) + (CHECK if last else ""),
+        "FIRST": "\n".join(map(section_html, first_sections)) + (CHECK if check_html else ""),
         "APPENDIX": f'<div class="appendix">\n{after}\n</div>' if appendix else "",
     }
     return re.sub("@([A-Z]+)@", lambda mark: filled[mark[1]], text)

@@ -19,8 +19,8 @@ from streetsim.model.folder import LIGHTS
 from streetsim.report.page_markup import facts
 
 LARGEST = 5_000_000  # bytes of a packed file in the page; larger ones are in the file beside it
-MOST = 1 << 28  # bytes to which all sealed files unpack
-BESIDE = ".sealed.zip"  # after the page's name
+MOST_BYTES = 1 << 28  # bytes to which all sealed files unpack
+BESIDE_SUFFIX = ".sealed.zip"  # after the page's name
 FORM = 2  # of the seal; that of streetsim 1.0.0 says nothing of it
 SUM = re.compile("[0-9a-f]{64}")
 # What a seal says, by name with its type; and of each of "plans".
@@ -32,11 +32,11 @@ BEGIN, END = '<script type="application/json" id="sealed">', "</script>"
 PACK = re.compile(r'<script type="text/plain" class="sealed" title="([^"]*)">([^<]*)</script>')
 NAMES = "names.csv"  # the sealed file of names of one's own
 COUNTS = "counts-"  # the begin of the names of sealed files of counts, before their number
-HOW = (
+HOW_TO_CHECK = (
     "To check this page, save it, open a terminal on a computer with streetsim in the folder where it lies, and type "
     "streetsim-check and the file's name: one line says whether all numbers are those of the simulation."
 )
-SHOWS = (
+WHAT_IT_SHOWS = (
     "The check runs the simulation again from what is sealed in here, makes the page anew and wants the same page, "
     "byte by byte. It shows that its numbers, words and pictures are the simulation's. It does not show that the "
     "street will do so, nor that the sealed files describe it well. Title, question, names of plans, files and road "
@@ -51,23 +51,23 @@ class Seal:
 
     content: Json
     texts: dict[str, str] = field(default_factory=dict)  # by name, as `packed` makes them
-    beside: str = ""  # the name of the file beside the page, where some are too large
+    beside_name: str = ""  # the name of the file beside the page, where some are too large
 
     def html(self) -> str:
         """The section at the page's end, with the packed files, as HTML."""
-        told = canonical(self.content)
-        rows = [("how to check", escape(HOW)), ("what that shows", escape(SHOWS))]
+        content_text = canonical(self.content)
+        rows = [("how to check", escape(HOW_TO_CHECK)), ("what that shows", escape(WHAT_IT_SHOWS))]
         for plan in self.content["plans"]:
             words = " ".join(plan["words"]) or "none"
             seeds = f"seeds {', '.join(map(str, plan['seeds']))}; words of streetsim-run: {words}"
             rows.append((escape(plan["name"]), escape(seeds)))
         rows.append(("words of the page", escape(" ".join(self.content["words"]) or "none")))
         for name, known in sorted(self.content["files"].items()):
-            place = f" (in {self.beside})" if name in self.content["beside"] else ""
+            place = f" (in {self.beside_name})" if name in self.content["beside"] else ""
             rows.append((escape(name), f"SHA-256 {known}{escape(place)}"))
         rows.append(("tools", f"SHA-256 {self.content['tools']}"))
-        rows.append(("all of this", f"SHA-256 {sum_of(told.encode())}"))
-        inert = told.replace("<", "\\u003c")
+        rows.append(("all of this", f"SHA-256 {sum_of(content_text.encode())}"))
+        inert = content_text.replace("<", "\\u003c")
         packs = "\n".join(
             f'<script type="text/plain" class="sealed" title="{escape(name)}">{text}</script>'
             for name, text in sorted(self.texts.items())
@@ -91,10 +91,10 @@ def packed(content: bytes) -> str:
     return base64.b64encode(zlib.compress(content, 9)).decode()
 
 
-def unpacked(text: str, most: int = MOST) -> bytes:
+def unpacked(text: str, most_bytes: int = MOST_BYTES) -> bytes:
     """The bytes of a text that `packed` made; ValueError or zlib.error where it is none, or more than so many bytes."""
     data = base64.b64decode(text, validate=True)
-    return inflate(data, most if lifted() else min(most, most_unpacked(len(data))))
+    return inflate(data, most_bytes if lifted() else min(most_bytes, most_unpacked(len(data))))
 
 
 def sealed(content: Json, files: Mapping[str, bytes], page: str) -> tuple[Seal, dict[str, bytes]]:
@@ -110,7 +110,7 @@ def sealed(content: Json, files: Mapping[str, bytes], page: str) -> tuple[Seal, 
 
 def beside_of(page: str) -> str:
     """The name, without folder, of the file beside a page."""
-    return Path(page).stem + BESIDE
+    return Path(page).stem + BESIDE_SUFFIX
 
 
 def write_beside(page: str, large: Mapping[str, bytes]) -> None:
@@ -148,7 +148,7 @@ def check_content(content: Json) -> None:
     check_types(content, CONTENT)
     if content["form"] != FORM:
         raise ValueError(f"it has the form {content['form']}, and these tools know {FORM}")
-    places = {NAMES, *(f"{COUNTS}{at}" for at in range(1, 1 + len(content["files"])))}
+    known_names = {NAMES, *(f"{COUNTS}{at}" for at in range(1, 1 + len(content["files"])))}
     for at, plan in enumerate(content["plans"], 1):
         check_types(plan, PLAN)
         check_all([*plan["words"], *plan["again"]], str)
@@ -161,11 +161,11 @@ def check_content(content: Json) -> None:
             raise ValueError(f"{run!r} or its map is not sealed in it, or has no seeds")
         if plan["program"] and not SUM.fullmatch(plan["program"]):
             raise ValueError("the sum of a program is none")
-        places |= {run, mapped, f"plan-{at}/{LIGHTS}"}
+        known_names |= {run, mapped, f"plan-{at}/{LIGHTS}"}
     check_all([*content["words"], *content["beside"], *content["files"].values()], str)
     if not all(map(SUM.fullmatch, (content["tools"], *content["files"].values()))):
         raise ValueError("a sum is none")
-    if strange := [name for name in (*content["files"], *content["beside"]) if name not in places]:
+    if strange := [name for name in (*content["files"], *content["beside"]) if name not in known_names]:
         raise ValueError(f"a sealed file is called {strange[0]!r}")
 
 
@@ -183,17 +183,17 @@ def check_all(values: Iterable[object], kind: type) -> None:
 
 def sealed_files(seal: Seal, page: str) -> Iterator[tuple[str, bytes]]:
     """Each sealed file, (name, content), of a page at a path; Fault where one is missing, or is not what the seal says,
-    or together they have more than MOST bytes."""
+    or together they have more than MOST_BYTES."""
     large = read_beside(seal, page)
-    left = sys.maxsize if lifted() else MOST
+    bytes_left = sys.maxsize if lifted() else MOST_BYTES
     for name, known in seal.content["files"].items():
         try:
-            content = large[name] if name in seal.content["beside"] else unpacked(seal.texts[name], left)
+            content = large[name] if name in seal.content["beside"] else unpacked(seal.texts[name], bytes_left)
         except TooMuch as fault:
             raise Fault(f"{page}: the sealed file {name}: {fault}") from None
         except (KeyError, ValueError, zlib.error):
             raise Fault(f"{page}: the sealed file {name} cannot be read: it was changed") from None
-        left -= len(content)
+        bytes_left -= len(content)
         if (found := sum_of(content)) != known:
             raise Fault(f"{page}: the sealed file {name} was changed: SHA-256 said to be {known}, found {found}")
         yield name, content
@@ -201,19 +201,19 @@ def sealed_files(seal: Seal, page: str) -> Iterator[tuple[str, bytes]]:
 
 def read_beside(seal: Seal, page: str) -> dict[str, bytes]:
     """The files in the file beside a page, by name; empty where the seal needs none. Fault where it cannot be read, has
-    other files than the seal says, or what unpacks to more than MOST bytes."""
-    if not seal.beside:
+    other files than the seal says, or what unpacks to more than MOST_BYTES."""
+    if not seal.beside_name:
         return {}
-    path = Path(page).parent / seal.beside
+    path = Path(page).parent / seal.beside_name
     try:
-        with zipfile.ZipFile(path) as made:
-            names, entries = sorted(seal.content["beside"]), made.infolist()
+        with zipfile.ZipFile(path) as archive:
+            names, entries = sorted(seal.content["beside"]), archive.infolist()
             kinds = {one.compress_type for one in entries} - {zipfile.ZIP_STORED, zipfile.ZIP_DEFLATED}
-            if [one.filename for one in entries] != names or made.comment or entries[0].header_offset or kinds:
+            if [one.filename for one in entries] != names or archive.comment or entries[0].header_offset or kinds:
                 raise ValueError("it has other files than the page says")
             size = sum(one.file_size for one in entries)
-            if size > min(MOST, most_unpacked(path.stat().st_size)) and not lifted():
+            if size > min(MOST_BYTES, most_unpacked(path.stat().st_size)) and not lifted():
                 raise TooMuch(f"unpacks to {size:,} bytes")
-            return {name: made.read(name) for name in names}
+            return {name: archive.read(name) for name in names}
     except (OSError, EOFError, RuntimeError, ValueError, NotImplementedError, zipfile.BadZipFile, zlib.error) as fault:
         raise Fault(f"{path}: the file beside {page} cannot be read: {fault}") from None

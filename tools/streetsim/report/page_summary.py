@@ -14,7 +14,7 @@ from streetsim.report.forecast_errors import (
     GROWTH, LANE, SPLIT, WAVE, ForecastError, error_told, errors_told, is_calibrated,
 )
 from streetsim.report.light_timings import timings_of
-from streetsim.report.page_choice import LEAST, RowChange, changes_that_stand_out, ranked_changes
+from streetsim.report.page_choice import NOTICED_SECONDS, RowChange, changes_that_stand_out, ranked_changes
 from streetsim.report.page_drawings import letter_mark, service_keys, service_map
 from streetsim.report.page_map import map_figure
 from streetsim.report.page_markup import bullets, change_told, mean_told, table
@@ -32,10 +32,10 @@ GROWN = 1.05  # times as many vehicles: from there on a forecast is one of growt
 LEAST_HOURLY = 20  # vehicles an hour of a movement that is called the worst
 
 
-def ranked_rows(plans: Sequence[Runs], shown: Interval, table_: str = "junctions") -> list[RowChange]:
-    """What is told of each row of one table in the interval that is shown: of the last plan, beside the first where
+def ranked_rows(plans: Sequence[Runs], interval: Interval, table_: str = "junctions") -> list[RowChange]:
+    """What is told of each row of one table in the interval that is interval: of the last plan, beside the first where
     there are two; in the order of ranked_changes. table_: junctions, approaches or movements."""
-    rows = [runs.rows.get((table_, *shown), {}) for runs in plans]
+    rows = [runs.rows.get((table_, *interval), {}) for runs in plans]
     return ranked_changes(rows[-1], rows[0] if len(plans) == 2 else None, are_drawn(plans))
 
 
@@ -56,18 +56,18 @@ def departures_told(plans: Sequence[Runs]) -> str:
     return "; ".join(told_of_days(drawn, seeds)) if seeds > 1 else usual
 
 
-def question_html(question: str, plans: Sequence[Runs], shown: Interval) -> str:
+def question_html(question: str, plans: Sequence[Runs], interval: Interval) -> str:
     """What was asked (a usual question where it is empty), and of which runs, as HTML."""
-    last, made = plans[-1], plans[-1].first.made
+    last_plan, setting = plans[-1], plans[-1].first_folder.made
     names = [runs.name for runs in plans]
     two = len(names) == 2
     usual = f"What changes if '{names[1]}' takes the place of '{names[0]}'?" if two else f"How does '{names[0]}' flow?"
     of = (
-        f"{last.vehicles:,.0f} vehicles from {time_of_day(made.get('start', 0))} "
-        f"to {time_of_day(made.get('until', 0))}; "
-        f"{counted_noun(len(last.rows['junctions', *shown]), 'junction')}, "
-        f"shown from {time_of_day(shown[0])} to {time_of_day(shown[1])}; "
-        f"{counted_noun(len(last.folders), 'run')} of {'each' if two else 'the'} plan, simulated by streetsim; "
+        f"{last_plan.vehicles:,.0f} vehicles from {time_of_day(setting.get('start', 0))} "
+        f"to {time_of_day(setting.get('until', 0))}; "
+        f"{counted_noun(len(last_plan.rows['junctions', *interval]), 'junction')}, "
+        f"shown from {time_of_day(interval[0])} to {time_of_day(interval[1])}; "
+        f"{counted_noun(len(last_plan.folders), 'run')} of {'each' if two else 'the'} plan, simulated by streetsim; "
         f"{departures_told(plans)}."
     )
     notes = dict.fromkeys(text for runs in plans for folder in runs.folders.values() for text in folder.notes)
@@ -76,9 +76,9 @@ def question_html(question: str, plans: Sequence[Runs], shown: Interval) -> str:
     return f'{told}{asked}<p class="small">{escape(of)}</p>'
 
 
-def verdict(plans: Sequence[Runs], shown: Interval) -> str:
+def verdict(plans: Sequence[Runs], interval: Interval) -> str:
     """The verdict in a few sentences, as HTML, with a mark where runs are not to be trusted."""
-    said = change_verdict(plans, shown) if len(plans) == 2 else state_verdict(plans[0], shown)
+    said = change_verdict(plans, interval) if len(plans) == 2 else state_verdict(plans[0], interval)
     untrusted = [runs.name for runs in plans if doubts_of(runs)]
     told = f"Not to be trusted: {' and '.join(untrusted)} (why: below)."
     mark = f'<p class="doubt">{escape(told)}</p>' if untrusted else ""
@@ -90,63 +90,64 @@ def doubts_of(runs: Runs) -> list[str]:
     return [f"seed {seed}: {doubt}" for seed, folder in runs.folders.items() for doubt in folder.doubts]
 
 
-def change_verdict(plans: Sequence[Runs], shown: Interval) -> str:
+def change_verdict(plans: Sequence[Runs], interval: Interval) -> str:
     """What the second of two plans changes for trips and delays, as plain text."""
     drawn = are_drawn(plans)
     trip = difference_of(*(runs.mean_trips() for runs in plans), drawn=drawn)
-    delay = difference_of(*(mean_delays(runs.rows["junctions", *shown].values()) for runs in plans), drawn=drawn)
-    first, name = "Nothing can be said of trips, as nobody arrived.", plans[1].name
+    delay = difference_of(*(mean_delays(runs.rows["junctions", *interval].values()) for runs in plans), drawn=drawn)
+    trip_text, name = "Nothing can be said of trips, as nobody arrived.", plans[1].name
     if trip:
         means = f"{trip.after:.1f} s on average, and {trip.before:.1f} s with '{plans[0].name}'"
-        first = f"With '{name}' a trip takes {means}: {change_in_words(trip)}."
+        trip_text = f"With '{name}' a trip takes {means}: {change_in_words(trip)}."
     if not delay:
-        return f"{first} No junction has vehicles with both plans."
+        return f"{trip_text} No junction has vehicles with both plans."
     means = f"{delay.after:.1f} s, and {delay.before:.1f} s before"
-    told = f"{first} A vehicle's mean delay at a junction is {means}: {change_in_words(delay)}"
+    delay_text = f"{trip_text} A vehicle's mean delay at a junction is {means}: {change_in_words(delay)}"
     if delay.half is None:
-        return f"{told}."
-    rows = ranked_rows(plans, shown)
+        return f"{delay_text}."
+    rows = ranked_rows(plans, interval)
     changed = [change > 0 for change in changes_that_stand_out(rows).values()]
     less, more = (count_in_words(changed.count(up)) if up in changed else "none" for up in (False, True))
-    return f"{told}; at {less} of {counted_noun(len(rows), 'junction')} it is less {how_sure(drawn)}, at {more} more."
+    junctions = counted_noun(len(rows), "junction")
+    return f"{delay_text}; at {less} of {junctions} it is less {how_sure(drawn)}, at {more} more."
 
 
-def state_verdict(runs: Runs, shown: Interval) -> str:
+def state_verdict(runs: Runs, interval: Interval) -> str:
     """How long trips and delays are with one plan, how many junctions are worse than D, and the worst, plain text."""
-    delays = mean_delays(runs.rows["junctions", *shown].values())
-    rows = ranked_rows([runs], shown)
+    delays = mean_delays(runs.rows["junctions", *interval].values())
+    rows = ranked_rows([runs], interval)
     bad, worst = sum(one.is_bad for one in rows), max(rows, key=lambda one: (one.row.letter(), one.row.delay))
     trip = f"A trip takes {mean_told(runs.mean_trips().values(), runs.is_drawn)} s on average"
-    first = f"{trip}, and a vehicle's delay at a junction is {mean_told(delays.values(), runs.is_drawn)} s"
-    first += f" (±: {interval_name(runs.is_drawn)})." if len(runs.folders) > 1 else "."
+    summary = f"{trip}, and a vehicle's delay at a junction is {mean_told(delays.values(), runs.is_drawn)} s"
+    summary += f" (±: {interval_name(runs.is_drawn)})." if len(runs.folders) > 1 else "."
     letter, name = worst.row.letter(), runs.names.junction_told(worst.key[0])
     if len(rows) == 1:
-        return f"{first} {name} has level of service {letter}."
+        return f"{summary} {name} has level of service {letter}."
     if not bad:
-        return f"{first} Every junction has level of service {letter} or better; the worst is {name}."
+        return f"{summary} Every junction has level of service {letter} or better; the worst is {name}."
     have = f"{'has' if bad == 1 else 'have'} a level of service worse than D; the worst is {letter}, at {name}"
-    return f"{first} {count_in_words(bad).capitalize()} of {counted_noun(len(rows), 'junction')} {have}."
+    return f"{summary} {count_in_words(bad).capitalize()} of {counted_noun(len(rows), 'junction')} {have}."
 
 
-def service_and_works_map(runs: Runs, shown: Interval, rows: Sequence[RowChange] = (), detailed: int = 0) -> str:
+def service_and_works_map(runs: Runs, interval: Interval, rows: Sequence[RowChange] = (), detailed: int = 0) -> str:
     """The map of a plan in an interval by level of service, and its road works, with a legend, as HTML. rows: of
     junctions, which are marked where they change noticeably; the first `detailed` of them are links to their
     sections."""
-    names, told = runs.names, runs.names.junction_told
+    names, called = runs.names, runs.names.junction_told
     approaches = {
         row.key[1]: (row.letter(), f"{row.key[1]} {names.approach(row.key[1])}: {row.delay:.1f} s, {row.letter()}")
-        for row in runs.rows["approaches", *shown].values()
+        for row in runs.rows["approaches", *interval].values()
     }
     linked = {one.key[0] for one in rows[:detailed]}
     junctions = {
-        row.key[0]: (row.letter(), f"{told(row.key[0])}: {row.delay:.1f} s, {row.letter()}", row.key[0] in linked)
-        for row in runs.rows["junctions", *shown].values()
+        row.key[0]: (row.letter(), f"{called(row.key[0])}: {row.delay:.1f} s, {row.letter()}", row.key[0] in linked)
+        for row in runs.rows["junctions", *interval].values()
     }
     signs = changes_that_stand_out(rows)
     closed = page_works.closed_shapes(runs)
-    picture = service_map(runs.first.mapping, approaches, junctions, signs, closed)
+    picture = service_map(runs.first_folder.mapping, approaches, junctions, signs, closed)
     marks = f"; &#9650; waits more and &#9660; less than before, {how_sure(runs.is_drawn)}"
-    marks += f"; small: by less than {LEAST:g} s"
+    marks += f"; small: by less than {NOTICED_SECONDS:g} s"
     caption = f"{escape(runs.name)}: approaches and junctions by level of service{marks if signs else ''}"
     keys = service_keys({letter for letter, _ in approaches.values()}, bool(closed))
     return map_figure(picture, caption + levels_told(), keys)
@@ -163,14 +164,14 @@ def levels_told() -> str:
     return f'<br><span class="small">{told}</span>'
 
 
-def costs(plans: Sequence[Runs], shown: Interval) -> str:
+def costs(plans: Sequence[Runs], interval: Interval) -> str:
     """What a plan costs whom, as HTML: the worst movements, trips by class, and with two plans how trips of the same
     vehicles change, in all and by flow."""
-    texts = worst_movements(ranked_rows(plans, shown, "movements"), plans[-1])
+    texts = worst_movements(ranked_rows(plans, interval, "movements"), plans[-1])
     if len(plans) < 2:
         return bullets(texts) + classes_table(plans)
-    found = costs_of(*plans)
-    return bullets([*trips_told(found), *texts]) + classes_table(plans) + groups_table(found)
+    plan_costs = costs_of(*plans)
+    return bullets([*trips_told(plan_costs), *texts]) + classes_table(plans) + groups_table(plan_costs)
 
 
 def classes_table(plans: Sequence[Runs]) -> str:
@@ -203,36 +204,36 @@ def class_row(sides: Sequence[Mapping[int, Means]], drawn: bool) -> list[str]:
     return cells
 
 
-def trips_told(found: PlanCosts) -> list[str]:
+def trips_told(plan_costs: PlanCosts) -> list[str]:
     """Sentences, plain text, on how many trips become slower or quicker, and how many arrive with one plan alone; one
     that says so where no trip arrived with both."""
-    told = f"{found.lost:,} trips arrived before and do not now, {found.won:,} the other way round."
-    alone = [told] if found.lost or found.won else []
-    if not (count := len(found.changes)):
+    text = f"{plan_costs.lost:,} trips arrived before and do not now, {plan_costs.won:,} the other way round."
+    alone = [text] if plan_costs.lost or plan_costs.won else []
+    if not (count := len(plan_costs.changes)):
         return ["No trip arrived with both plans.", *alone]
-    quicker, slower = (fmean(sign * change > NOTICED for change in found.changes) for sign in (-1, 1))
-    told = (
+    quicker, slower = (fmean(sign * change > NOTICED for change in plan_costs.changes) for sign in (-1, 1))
+    text = (
         f"Of {count:,} trips of the same vehicles {100 * quicker:.0f} % become quicker by more than {NOTICED} s, "
         f"{100 * slower:.0f} % slower by more than {NOTICED} s"
     )
-    tenth = found.changes[count * 9 // 10]
-    told += f"; one in ten takes {tenth} s longer or more." if tenth > 0 else "."
-    return [told, *alone]
+    tenth = plan_costs.changes[count * 9 // 10]
+    text += f"; one in ten takes {tenth} s longer or more." if tenth > 0 else "."
+    return [text, *alone]
 
 
-def groups_table(found: PlanCosts) -> str:
+def groups_table(plan_costs: PlanCosts) -> str:
     """A table of trips by flow, as HTML, those that lose most first; where there are more than six flows the first and
     the last three. Empty where there are none."""
-    ranked = sorted(found.groups, key=lambda group: (-found.groups[group][1].change, group))
+    ranked = sorted(plan_costs.groups, key=lambda group: (-plan_costs.groups[group][1].change, group))
     half = MOST_GROUPS // 2
-    told = ranked if len(ranked) <= MOST_GROUPS else [*ranked[:half], *ranked[-half:]]
-    if not told:
+    shown_groups = ranked if len(ranked) <= MOST_GROUPS else [*ranked[:half], *ranked[-half:]]
+    if not shown_groups:
         return ""
     rows = [
         [escape(group), f"{count:,}", f"{one.before:.1f}", f"{one.after:.1f}", change_told(one)]
-        for group, (count, one) in ((group, found.groups[group]) for group in told)
+        for group, (count, one) in ((group, plan_costs.groups[group]) for group in shown_groups)
     ]
-    left = f" ({len(told)} of {len(ranked):,}: most lost, most won)" if len(told) < len(ranked) else ""
+    left = f" ({len(shown_groups)} of {len(ranked):,}: most lost, most won)" if len(shown_groups) < len(ranked) else ""
     return table([f"trips by flow{left}", "trips", "before, s", "after, s", "change, s"], rows)
 
 
@@ -255,29 +256,29 @@ def worst_movements(movements: Sequence[RowChange], runs: Runs) -> list[str]:
     losing = [(one.change, one) for one in busy if one.change and one.change.stands_out() and one.change.change > 0]
     if losing:
         change, most = max(losing, key=lambda pair: pair[0].change)
-        told = f"{change.after:.0f} s instead of {change.before:.0f} s ({change.told()} s)"
+        told = f"{change.after:.0f} s instead of {change.before:.0f} s ({change.in_words()} s)"
         texts.append(f"Loses most: {called(most)}, {told}.")
     elif any(one.change and one.change.half is not None for one in busy):
         texts.append(f"No movement loses {how_sure(runs.is_drawn)}.")
     return texts
 
 
-def doubted(plans: Sequence[Runs], more: Sequence[str] = ()) -> str:
-    """What is doubted, as an HTML list; more: what else speaks against the runs, each as plain text."""
+def doubted(plans: Sequence[Runs], further_doubts: Sequence[str] = ()) -> str:
+    """What is doubted, as an HTML list; further_doubts: what else speaks against the runs, each as plain text."""
     texts = []
     for runs in plans:
         doubts = doubts_of(runs)
         texts += [f"{runs.name} is not to be trusted: {doubt}" for doubt in doubts]
         if not doubts:
             texts.append(f"{runs.name}: nothing that a run checks of itself speaks against it.")
-    texts += [*more, *growth_doubts(plans)]
+    texts += [*further_doubts, *growth_doubts(plans)]
     if len(plans) == 2 and (kind := kind_of_change(plans[0], plans[1])):
-        texts.append(error_told(kind, is_calibrated(plans[0].first.mapping)))
+        texts.append(error_told(kind, is_calibrated(plans[0].first_folder.mapping)))
     if (seeds := common_seeds(plans)) < 2:
         texts.append("One run says nothing of chance: streetsim-run --seeds 1-5 makes several.")
     elif not are_drawn(plans):
         texts += [f"{text.capitalize()}." for text in told_of_days(False, seeds)]
-    if heavy := [*dict.fromkeys(row[1] for runs in plans for row in runs.first.mapping.told if row[0] == HEAVY)]:
+    if heavy := [*dict.fromkeys(row[1] for runs in plans for row in runs.first_folder.mapping.told if row[0] == HEAVY)]:
         first = heavy[0] if len(heavy[0]) < LONG else heavy[0][: LONG - 3] + ".."
         told = f"The import told {counted_noun(len(heavy), 'thing')} that may change results"
         texts.append(f"{told} (appendix){'; the first' if len(heavy) > 1 else ''}: {first}.")
@@ -288,7 +289,7 @@ def doubted(plans: Sequence[Runs], more: Sequence[str] = ()) -> str:
 def kind_of_change(before: Runs, after: Runs) -> ForecastError | None:
     """Of which kind a forecast is: works, more vehicles, other greens or other offsets, the first that there is; None
     where none of them is."""
-    if page_works.works_rows(after.first) and not page_works.works_rows(before.first):
+    if page_works.works_rows(after.first_folder) and not page_works.works_rows(before.first_folder):
         return LANE
     if after.vehicles > GROWN * before.vehicles:
         return GROWTH
@@ -304,6 +305,6 @@ def growth_doubts(plans: Sequence[Runs]) -> list[str]:
     plan."""
     if len(plans) < 2:
         return []
-    lanes = [loaded_lanes(runs.first.mapping) for runs in plans]
+    lanes = [loaded_lanes(runs.first_folder.mapping) for runs in plans]
     growth = plans[1].vehicles / max(1, plans[0].vehicles)
     return [f"{plans[1].name}: {text}" for text in forecast_doubts(lanes[1], lanes[0], growth)]

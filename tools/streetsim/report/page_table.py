@@ -11,20 +11,20 @@ CHANGES = (
 )
 
 
-def change_rows(plans: Sequence[Runs], shown: Interval) -> Iterator[Entry]:
+def change_rows(plans: Sequence[Runs], interval: Interval) -> Iterator[Entry]:
     """The rows of --csv, as CHANGES has the columns: each junction and movement of the last plan, beside the first
     where there are two, delays over the seeds of both, else over all; empty texts where a value is not known."""
     names = plans[-1].names
     for kind in ("junctions", "movements"):
-        for one in ranked_rows(plans, shown, kind):
-            edges = one.key[1:] or ("", "")
+        for ranked in ranked_rows(plans, interval, kind):
+            edges = ranked.key[1:] or ("", "")
             called = names.movement(*edges) if edges[0] else ""
-            change, before = one.change, one.before
+            change, before = ranked.change, ranked.before
             yield (
-                *shown, kind.removesuffix("s"), one.key[0], names.junction(one.key[0]), *edges, called,
-                f"{one.row.values['vehicles_per_hour']:.1f}",
-                f"{change.before:.2f}" if change else "", f"{change.after if change else one.row.delay:.2f}",
+                *interval, kind.removesuffix("s"), ranked.key[0], names.junction(ranked.key[0]), *edges, called,
+                f"{ranked.row.values['vehicles_per_hour']:.1f}",
+                f"{change.before:.2f}" if change else "", f"{change.after if change else ranked.row.delay:.2f}",
                 f"{change.change:.2f}" if change else "",
                 f"{change.half:.2f}" if change and change.half is not None else "",
-                before.letter() if before else "", one.row.letter(), f"{one.row.values['v_c']:.2f}",
+                before.letter() if before else "", ranked.row.letter(), f"{ranked.row.values['v_c']:.2f}",
             )

@@ -9,9 +9,9 @@ def count_in_words(count: int) -> str:
     return NUMBERS[count] if count < len(NUMBERS) else f"{count:,}"
 
 
-def counted_noun(count: int, one: str) -> str:
+def counted_noun(count: int, noun: str) -> str:
     """A count with its noun: 'one run', 'five runs'."""
-    return f"{count_in_words(count)} {one}{'' if count == 1 else 's'}"
+    return f"{count_in_words(count)} {noun}{'' if count == 1 else 's'}"
 
 
 def less_or_more(change: float) -> str:
@@ -30,12 +30,12 @@ def interval_name(drawn: bool) -> str:
     return f"95 % interval of {'a day' if drawn else 'dawdling alone'}"
 
 
-def interval_in_words(one: PlanDifference) -> str:
+def interval_in_words(difference: PlanDifference) -> str:
     """The 95 % interval of a change in seconds: '17.7 to 18.1 s less', or 'from 0.3 s less to 0.5 s more' where 0 is in
     it; empty for one seed."""
-    if one.half is None:
+    if difference.half is None:
         return ""
-    low, high = one.change - one.half, one.change + one.half
+    low, high = difference.change - difference.half, difference.change + difference.half
     if high < 0:
         return f"{-high:.1f} to {-low:.1f} s less"
     if low > 0:
@@ -43,10 +43,11 @@ def interval_in_words(one: PlanDifference) -> str:
     return f"from {abs(low):.1f} s less to {high:.1f} s more"
 
 
-def change_in_words(one: PlanDifference) -> str:
+def change_in_words(difference: PlanDifference) -> str:
     """How great a change in seconds is and how sure, or that it is not shown to differ."""
-    if one.half is None:
-        return f"{less_or_more(one.change)} (of one run, which says nothing of chance)"
-    if one.stands_out():
-        return f"{less_or_more(one.change)} ({interval_name(one.of_days)}: {interval_in_words(one)})"
-    return f"not shown to differ ({interval_name(one.of_days)}: {interval_in_words(one)})"
+    if difference.half is None:
+        return f"{less_or_more(difference.change)} (of one run, which says nothing of chance)"
+    if difference.stands_out():
+        change = less_or_more(difference.change)
+        return f"{change} ({interval_name(difference.of_days)}: {interval_in_words(difference)})"
+    return f"not shown to differ ({interval_name(difference.of_days)}: {interval_in_words(difference)})"

@@ -19,14 +19,14 @@ from streetsim.report.page_words import how_sure
 from streetsim.report.plan_differences import PlanDifference, difference_of
 from streetsim.report.run_tables import Runs
 
-LEFT, WIDE, HIGH = 50, 900, 200  # pixels of a picture of queues
-LEAST = 20.0  # vehicles an hour that an edge wins or loses, to be told
-MOST = 6  # edges told that win, and that lose
+LEFT_MARGIN, WIDE, HIGH = 50, 900, 200  # pixels of a picture of queues
+LEAST_FLOW_CHANGE = 20.0  # vehicles an hour that an edge wins or loses, to be told
+MOST_EDGES = 6  # edges told that win, and that lose
 # Of works.csv, what stands on the page.
 CAPACITY = "capacity_per_hour"
 MEANS = ("vehicles", CAPACITY, "mean_delay_s", "queue_50_m", "queue_95_m")
 GREATEST = ("greatest_delay_s", "queue_max_m", "longest_stand_s")
-Place = tuple[str, str, str, str]  # edge, lane, from and to in metres, as works.csv has them
+PlaceKey = tuple[str, str, str, str]  # edge, lane, from and to in metres, as works.csv has them
 
 
 @dataclass(frozen=True, slots=True)
@@ -34,7 +34,7 @@ class SeenWorks:
     """Works at one place, over all seeds of a plan: rows of works.csv by (begin, end), and metres of queues by
     clock."""
 
-    place: Place
+    place_key: PlaceKey
     rows: dict[tuple[int, int], list[dict[str, str]]]
     queues: dict[int, list[float]]  # metres
 
@@ -51,16 +51,16 @@ class SeenWorks:
 
 def seen_in(runs: Runs) -> list[SeenWorks]:
     """The works of a plan, in the order of works.csv; empty where it had none."""
-    found: dict[Place, SeenWorks] = {}
+    works_of_place: dict[PlaceKey, SeenWorks] = {}
     for folder in runs.folders.values():
         rows = works_rows(folder)
         for row in rows:
             place = row["edge"], row["lane"], row["from_m"], row["to_m"]
-            seen = found.setdefault(place, SeenWorks(place, defaultdict(list), defaultdict(list)))
+            seen = works_of_place.setdefault(place, SeenWorks(place, defaultdict(list), defaultdict(list)))
             seen.rows[int(row["begin"]), int(row["end"])].append(row)
         if rows:
-            note_queues(folder, list(found.values()))
-    return list(found.values())
+            note_queues(folder, list(works_of_place.values()))
+    return list(works_of_place.values())
 
 
 def works_rows(folder: Folder) -> list[dict[str, str]]:
@@ -68,50 +68,50 @@ def works_rows(folder: Folder) -> list[dict[str, str]]:
     return folder.works() if os.path.exists(f"{folder.path}/{tables.WORKS_FILE}") else []
 
 
-def note_queues(folder: Folder, places: Sequence[SeenWorks]) -> None:
+def note_queues(folder: Folder, seen_works: Sequence[SeenWorks]) -> None:
     """Adds to `queues` of each place of works the metres of the queue before it at each poll of a run while they last;
     0 where none is listed."""
     rows = (row for row in folder.queues() if row["before"] == tables.BEFORE_WORKS)
     queues = {(row["edge"], row["lane"], row["from_m"], int(row["time"])): float(row["metres"]) for row in rows}
-    for seen in places:
-        edge, lane, begin, _ = seen.place
-        for time in poll_clocks(folder, *seen.span()):
-            seen.queues[time].append(queues.get((edge, lane, begin, time), 0.0))
+    for works in seen_works:
+        edge, lane, begin, _ = works.place_key
+        for time in poll_clocks(folder, *works.span()):
+            works.queues[time].append(queues.get((edge, lane, begin, time), 0.0))
 
 
-def poll_clocks(folder: Folder, first: int, last: int) -> range:
+def poll_clocks(folder: Folder, first_second: int, last_second: int) -> range:
     """The clocks of polls after a first second and up to a last one, included; empty where nothing was polled."""
     every = folder.every
-    return range((first // every + 1) * every, last + 1, every) if every else range(0)
+    return range((first_second // every + 1) * every, last_second + 1, every) if every else range(0)
 
 
 def closed_shapes(runs: Runs) -> list[tuple[str, Shape]]:
     """(edge, shape) of what is closed in a plan, for a map."""
-    return [(seen.place[0], closed_shape(runs.first.mapping, seen.place)) for seen in seen_in(runs)]
+    return [(seen.place_key[0], closed_shape(runs.first_folder.mapping, seen.place_key)) for seen in seen_in(runs)]
 
 
-def closed_shape(mapping: Map, place: Place) -> Shape:
+def closed_shape(mapping: Map, place_key: PlaceKey) -> Shape:
     """The closed piece of an edge's line as three points: begin, middle and end of a place."""
-    edge, lane, begin, end = place
+    edge, lane, begin, end = place_key
     links = mapping.links_of[edge]
     link = mapping.links[next((one for one in links if int(lane) in mapping.links[one].lanes), links[0])]
     shares = float(begin) / link.metres, float(end) / link.metres
     return [point_along(link.shape, share) for share in (shares[0], sum(shares) / 2, shares[1])]
 
 
-def section(plans: Sequence[Runs], shown: tuple[int, int]) -> str:
+def section(plans: Sequence[Runs], interval: tuple[int, int]) -> str:
     """The road works of one plan or two, as HTML, with two also the streets that more or fewer vehicles use; empty
     where none had any."""
     parts = [place_told(runs, seen) for runs in plans for seen in seen_in(runs)]
     if parts and len(plans) == 2:
-        parts.append(other_ways(plans, shown))
+        parts.append(other_ways(plans, interval))
     return "".join(parts)
 
 
-def place_told(runs: Runs, seen: SeenWorks) -> str:
+def place_told(runs: Runs, works: SeenWorks) -> str:
     """Works at one place, as HTML: where, when, a table by period, and the queue over time."""
-    edge, lane, begin, end = seen.place
-    first, last = seen.span()
+    edge, lane, begin, end = works.place_key
+    first, last = works.span()
     street = f"{runs.names.street(edge)} ({edge})" if runs.names.street(edge) else edge
     where = f"{street}, {runs.names.coming_from(edge)}, lane {lane}, {float(begin):.0f} to {float(end):.0f} m"
     title = f"{runs.name}: {where}, from {time_of_day(first)} to {time_of_day(last)}"
@@ -121,12 +121,12 @@ def place_told(runs: Runs, seen: SeenWorks) -> str:
         [f'<span class="ids">{time_of_day(start)} to {time_of_day(stop)}</span>']
         + [mean_of(own, name) or ("-" if name == CAPACITY else "") for name in MEANS]
         + [most_of(own, name) for name in GREATEST]
-        for (start, stop), own in sorted(seen.rows.items())
+        for (start, stop), own in sorted(works.rows.items())
     ]
-    picture = f'<div class="picture">{queues_picture(seen)}</div>' if seen.queues else ""
-    unseen = any(not row[CAPACITY] for own in seen.rows.values() for row in own)
+    picture = f'<div class="picture">{queues_picture(works)}</div>' if works.queues else ""
+    unseen = any(not row[CAPACITY] for own in works.rows.values() for row in own)
     none = " Capacity -: no queue stood for a quarter of an hour, so none was seen." if unseen else ""
-    total = f'<p class="small">{seen.lost_told(len(runs.folders))}{none}</p>'
+    total = f'<p class="small">{works.lost_told(len(runs.folders))}{none}</p>'
     return f'<section class="whole"><h3>{escape(title)}</h3>{table(head, rows)}{total}{picture}</section>'
 
 
@@ -142,28 +142,28 @@ def most_of(rows: Iterable[dict[str, str]], name: str) -> str:
     return f"{max(values):.0f}" if values else ""
 
 
-def queues_picture(seen: SeenWorks) -> str:
+def queues_picture(works: SeenWorks) -> str:
     """A picture (SVG) of the queue before works over time: the mean over seeds, and the greatest. There must be
     queues."""
-    times = sorted(seen.queues)
-    most = max(1.0, *(max(own) for own in seen.queues.values()))
-    across, down = (WIDE - LEFT - 10) / max(1, times[-1] - times[0]), (HIGH - 40) / most
+    clocks = sorted(works.queues)
+    greatest_metres = max(1.0, *(max(own) for own in works.queues.values()))
+    across, down = (WIDE - LEFT_MARGIN - 10) / max(1, clocks[-1] - clocks[0]), (HIGH - 40) / greatest_metres
 
     def line(values: Sequence[float], style: str) -> str:
         """A line (SVG) through one value of metres for each clock; style: its attributes."""
         points = " ".join(
-            f"{LEFT + (time - times[0]) * across:.1f},{HIGH - 25 - value * down:.1f}"
-            for time, value in zip(times, values, strict=True)
+            f"{LEFT_MARGIN + (time - clocks[0]) * across:.1f},{HIGH - 25 - value * down:.1f}"
+            for time, value in zip(clocks, values, strict=True)
         )
         return f'<polyline points="{points}" fill="none" {style}/>'
 
-    means = line([fmean(seen.queues[time]) for time in times], f'stroke="{LINE}" stroke-width="2"')
-    greatest = line([max(seen.queues[time]) for time in times], f'stroke="{OTHER_LINE}" stroke-dasharray="4 3"')
+    means = line([fmean(works.queues[time]) for time in clocks], f'stroke="{LINE}" stroke-width="2"')
+    greatest = line([max(works.queues[time]) for time in clocks], f'stroke="{OTHER_LINE}" stroke-dasharray="4 3"')
     marks = [
-        f'<text x="{LEFT - 6}" y="15" text-anchor="end">{most:.0f} m</text>',
-        f'<text x="{LEFT}" y="{HIGH - 8}">{time_of_day(times[0])}</text>',
-        f'<text x="{WIDE - 10}" y="{HIGH - 8}" text-anchor="end">{time_of_day(times[-1])}</text>',
-        f'<line x1="{LEFT}" x2="{WIDE - 10}" y1="{HIGH - 25}" y2="{HIGH - 25}" stroke="#666"/>',
+        f'<text x="{LEFT_MARGIN - 6}" y="15" text-anchor="end">{greatest_metres:.0f} m</text>',
+        f'<text x="{LEFT_MARGIN}" y="{HIGH - 8}">{time_of_day(clocks[0])}</text>',
+        f'<text x="{WIDE - 10}" y="{HIGH - 8}" text-anchor="end">{time_of_day(clocks[-1])}</text>',
+        f'<line x1="{LEFT_MARGIN}" x2="{WIDE - 10}" y1="{HIGH - 25}" y2="{HIGH - 25}" stroke="#666"/>',
         f'<text x="{WIDE / 2:.0f}" y="{HIGH - 8}" text-anchor="middle">queue before the works: mean of the runs, '
         "and with gaps the greatest</text>",
     ]
@@ -171,35 +171,35 @@ def queues_picture(seen: SeenWorks) -> str:
     return f'<svg class="bars" {shape}>{greatest}{means}{"".join(marks)}</svg>'
 
 
-def other_ways(plans: Sequence[Runs], shown: tuple[int, int]) -> str:
+def other_ways(plans: Sequence[Runs], interval: tuple[int, int]) -> str:
     """A table, as HTML, of the edges that win or lose 20 vehicles an hour or more with the second of two plans, by a
     change that stands out or, with one seed, by any, those that win most first; where they are more than twelve, the
     first and the last six, these in the other order. A sentence where there are none."""
-    names, found = plans[1].names, flow_changes(plans, shown)
+    names, changes = plans[1].names, flow_changes(plans, interval)
     ranked = sorted(
         (one.change, edge)
-        for edge, one in found.items()
-        if abs(one.change) >= LEAST and (one.stands_out() or one.half is None)
+        for edge, one in changes.items()
+        if abs(one.change) >= LEAST_FLOW_CHANGE and (one.stands_out() or one.half is None)
     )[::-1]
     if not ranked:
         return f"<p>No street has 20 vehicles an hour more or fewer {how_sure(plans[1].is_drawn)}.</p>"
-    told = [*ranked[:MOST], *ranked[-MOST:][::-1]] if len(ranked) > 2 * MOST else ranked
+    told = [*ranked[:MOST_EDGES], *ranked[-MOST_EDGES:][::-1]] if len(ranked) > 2 * MOST_EDGES else ranked
     rows = [
         [escape(names.approach(edge)), escape(edge), f"{one.before:.0f}", f"{one.after:.0f}", change_told(one)]
-        for edge, one in ((edge, found[edge]) for _, edge in told)
+        for edge, one in ((edge, changes[edge]) for _, edge in told)
     ]
     head = ["streets with more and fewer vehicles", "edge", "vehicles/h before", "after", "change"]
     return table(head, rows, names=2)
 
 
-def flow_changes(plans: Sequence[Runs], shown: tuple[int, int]) -> dict[str, PlanDifference]:
+def flow_changes(plans: Sequence[Runs], interval: tuple[int, int]) -> dict[str, PlanDifference]:
     """By edge the change of vehicles an hour from the first of two plans to the second, in the interval (begin, end)
     that is shown, paired by seed; edges that one plan has no counts of are left out."""
     sides = []
     for runs in plans:
         flows: defaultdict[str, dict[int, float]] = defaultdict(dict)
         for seed, folder in runs.folders.items():
-            for edge, one in traffic_of(folder.edges(), *shown).items():
+            for edge, one in traffic_of(folder.edges(), *interval).items():
                 flows[edge][seed] = one.flow
         sides.append(flows)
     drawn = all(runs.is_drawn for runs in plans)

@@ -67,13 +67,13 @@ def with_few_colours(image: Image) -> Image:
     """A picture with few colours: those that most of its pixels have, as they are, and as many means, of which all
     others take the nearest. So what is drawn in one colour keeps it, however little of it there is."""
     pixels = np.asarray(image).reshape(-1, 3).astype(np.int64)
-    found, where, counts = np.unique(pixels @ (1 << 16, 1 << 8, 1), return_inverse=True, return_counts=True)
+    found, inverse, counts = np.unique(pixels @ (1 << 16, 1 << 8, 1), return_inverse=True, return_counts=True)
     known = np.stack([found >> 16, found >> 8 & 255, found & 255], axis=1)
     most = known[np.argsort(-counts, kind="stable")[:COLOURS]]
     means = np.array(image.quantize(COLOURS).getpalette()[: 3 * COLOURS]).reshape(-1, 3)
     kept = np.concatenate([most, means])
     nearest = ((known[:, None] - kept) ** 2).sum(axis=2).argmin(axis=1).astype(np.uint8)
     made = image.convert("P")
-    made.putdata(nearest[where].ravel())
+    made.putdata(nearest[inverse].ravel())
     made.putpalette(kept.astype(np.uint8).tobytes())
     return made

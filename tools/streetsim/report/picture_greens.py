@@ -9,7 +9,7 @@ from streetsim.model.folder import Folder
 from streetsim.model.names import Names
 from streetsim.report.picture_files import Axes, Figure, Pyplot
 
-MOST = 6  # lights in one picture
+MOST_LIGHTS = 6  # lights in one picture
 COLOURS = (LINE, OTHER_LINE, "#3a8040", "#7a4a9a", "#806010", "#404040")
 MARKERS = "os^Dv*"
 Row = Mapping[str, str]
@@ -34,17 +34,18 @@ def ended_greens(folder: Folder, lights: Sequence[str]) -> dict[str, list[Row]]:
     """{light: the rows of phases.csv of its greens that have ended, one at least, without those in which yellow is
     shown}; of the first six lights by name that have some where none is named. Fault where detectors drive no light, or
     none of that name, or no green of it, or of any, has ended."""
-    found: defaultdict[str, list[Row]] = defaultdict(list)
+    greens_of_light: defaultdict[str, list[Row]] = defaultdict(list)
     rows = folder.phases()
     for row in rows:
         if set(row["state"]) & set("Gg") and not set(row["state"]) & set("yY") and row["ended"]:
-            found[row["light"]].append(row)
+            greens_of_light[row["light"]].append(row)
     for light in lights:
         if not any(row["light"] == light for row in rows):
             raise Fault(f"{folder.path}: detectors drive no light {light!r} in this run")
-    if not found or (late := [light for light in lights if light not in found]):
-        raise Fault(f"{folder.path}: no green{f' of light {late[0]!r}' if found else ''} had ended when the run did")
-    return {light: found[light] for light in lights or sorted(found)[:MOST]}
+    if not greens_of_light or (late := [light for light in lights if light not in greens_of_light]):
+        which = f" of light {late[0]!r}" if greens_of_light else ""
+        raise Fault(f"{folder.path}: no green{which} had ended when the run did")
+    return {light: greens_of_light[light] for light in lights or sorted(greens_of_light)[:MOST_LIGHTS]}
 
 
 def draw_light(axes: Axes, light: str, rows: Sequence[Row]) -> None:

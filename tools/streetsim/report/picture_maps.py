@@ -15,7 +15,7 @@ from streetsim.report.page_map import middle_shape, moved
 from streetsim.report.picture_files import Axes, Figure, Lines, Pyplot
 from streetsim.report.run_tables import Runs, read_with_any_tables
 
-WHAT = ("density", "delay", "los", "vc", "flow", "queue")
+MEASURE_NAMES = ("density", "delay", "los", "vc", "flow", "queue")
 MEASURES = {"delay": "control_delay_s", "vc": "v_c", "queue": "queue_95_m"}  # of the junction tables
 LABELS = {
     "delay": ("Control delay of approaches", "seconds"),
@@ -36,54 +36,55 @@ class Street:
     value: Any
 
 
-def draw_measure(pyplot: Pyplot, path: str, what: str, second: int | None) -> Figure:
-    """The streets of a folder's run, or of its seeds, by one of WHAT but the density, in the interval of interval_of
-    (as a rule the busiest where `second` is None). Fault as of that, and where nothing is known of it then."""
+def draw_measure(pyplot: Pyplot, path: str, measure: str, second: int | None) -> Figure:
+    """The streets of a folder's run, or of its seeds, by one of MEASURE_NAMES but the density, in the interval of
+    interval_of (as a rule the busiest where `second` is None). Fault as of that, and where nothing is known of it
+    then."""
     runs = read_with_any_tables(path)
-    begin, end = interval_of(runs, what, second)
-    values, mapping = values_of(runs, begin, end), runs.first.mapping
-    shown = apart(
-        Street(middle_shape(mapping, edge), measure_of(values[edge], what)) for edge in mapping.links_of
+    begin, end = interval_of(runs, measure, second)
+    values, mapping = values_of(runs, begin, end), runs.first_folder.mapping
+    streets = moved_apart(
+        Street(middle_shape(mapping, edge), measure_of(values[edge], measure)) for edge in mapping.links_of
     )
-    if all(one.value is None for one in shown):
-        raise Fault(f"{path}: nothing is known of {what} from {begin} to {end} s")
-    figure, axes, beside = canvas(pyplot, [one.shape for one in shown])
-    title, label = LABELS[what]
+    if all(one.value is None for one in streets):
+        raise Fault(f"{path}: nothing is known of {measure} from {begin} to {end} s")
+    figure, axes, bar_options = canvas(pyplot, [one.shape for one in streets])
+    title, label = LABELS[measure]
     axes.set(title=f"{title}, {time_of_day(begin)} to {time_of_day(end)}")
-    if what == "los":
-        draw_letters(axes, shown, runs, (begin, end))
+    if measure == "los":
+        draw_letters(axes, streets, runs, (begin, end))
     else:
-        figure.colorbar(draw_lines(axes, shown), ax=axes, label=label, extend="max", shrink=0.7, **beside)
+        figure.colorbar(draw_lines(axes, streets), ax=axes, label=label, extend="max", shrink=0.7, **bar_options)
     scale_bar(axes)
     return figure
 
 
-def interval_of(runs: Runs, what: str, second: int | None) -> tuple[int, int]:
+def interval_of(runs: Runs, measure: str, second: int | None) -> tuple[int, int]:
     """The interval (begin, end), in seconds, that begins at `second`; where that is None the busiest by the junction
-    tables, or without these the first. Fault where none begins then, or `what` needs junction tables and there are
+    tables, or without these the first. Fault where none begins then, or the measure needs junction tables and there are
     none."""
-    if what != "flow" and not runs.rows:
-        raise Fault(f"{runs.first.path}: a map of {what} needs streetsim-run --junctions")
-    found = dict(intervals_of(runs))
-    if not found:
-        raise Fault(f"{runs.first.path}: nothing is known of any interval")
+    if measure != "flow" and not runs.rows:
+        raise Fault(f"{runs.first_folder.path}: a map of {measure} needs streetsim-run --junctions")
+    end_of_begin = dict(intervals_of(runs))
+    if not end_of_begin:
+        raise Fault(f"{runs.first_folder.path}: nothing is known of any interval")
     if second is None:
-        return runs.busiest() if runs.rows else min(found.items())
-    if second not in found:
-        raise Fault(f"--interval {second}: no interval begins there, of {', '.join(map(str, found))}")
-    return second, found[second]
+        return runs.busiest() if runs.rows else min(end_of_begin.items())
+    if second not in end_of_begin:
+        raise Fault(f"--interval {second}: no interval begins there, of {', '.join(map(str, end_of_begin))}")
+    return second, end_of_begin[second]
 
 
-def measure_of(values: Values, what: str) -> float | str | None:
-    """The value of an edge by one of WHAT but the density: a number or a letter; none where it is not known."""
-    if what == "flow":
+def measure_of(values: Values, measure: str) -> float | str | None:
+    """The value of an edge by a measure but the density: a number or a letter; none where it is not known."""
+    if measure == "flow":
         return values.traffic.flow if values.traffic else None
     if values.row is None:
         return None
-    return values.row.letter() if what == "los" else values.row.values.get(MEASURES[what])
+    return values.row.letter() if measure == "los" else values.row.values.get(MEASURES[measure])
 
 
-def apart(streets: Iterable[Street]) -> list[Street]:
+def moved_apart(streets: Iterable[Street]) -> list[Street]:
     """Streets moved to their right, by some points of the picture, so that both directions are seen."""
     found = list(streets)
     width, height = spans([one.shape for one in found])
@@ -113,12 +114,12 @@ def canvas(pyplot: Pyplot, shapes: Sequence[Shape]) -> tuple[Figure, Axes, dict[
     return figure, axes, {"orientation": "horizontal", "pad": 0.18} if wide else {}
 
 
-def draw_lines(axes: Axes, shown: Iterable[Street], colours: str = "YlOrRd") -> Lines:
+def draw_lines(axes: Axes, streets: Iterable[Street], colours: str = "YlOrRd") -> Lines:
     """Draws edges by their numbers, wider where they are higher, those with none left out; gives the lines, for a bar
     of colours. One at least has a number."""
     from matplotlib.collections import LineCollection
 
-    known = sorted((one for one in shown if one.value is not None), key=lambda one: one.value)
+    known = sorted((one for one in streets if one.value is not None), key=lambda one: one.value)
     most = next((most for most in ROUND if known[-1].value <= most), known[-1].value)
     values, widths = [one.value for one in known], [1.5 + 5 * one.value / most for one in known]
     shapes = [one.shape for one in known]
@@ -127,17 +128,17 @@ def draw_lines(axes: Axes, shown: Iterable[Street], colours: str = "YlOrRd") -> 
     return lines
 
 
-def draw_letters(axes: Axes, shown: Sequence[Street], runs: Runs, interval: tuple[int, int]) -> None:
+def draw_letters(axes: Axes, streets: Sequence[Street], runs: Runs, interval: tuple[int, int]) -> None:
     """Draws edges and junctions by letter, darker and wider where it is worse, in an interval (begin, end), with the
     legend; those without a letter stay grey."""
     from matplotlib.collections import LineCollection
     from matplotlib.lines import Line2D
 
     for place, letter in enumerate(LETTERS):
-        shapes = [one.shape for one in shown if one.value == letter]
+        shapes = [one.shape for one in streets if one.value == letter]
         axes.add_collection(LineCollection(shapes, colors="#666666", linewidths=3.5 + place))
         axes.add_collection(LineCollection(shapes, colors=COLOURS[letter], linewidths=2.5 + place))
-    places = {name: (x, y) for name, x, y, _ in runs.first.mapping.nodes}
+    places = {name: (x, y) for name, x, y, _ in runs.first_folder.mapping.nodes}
     for (name,), row in runs.rows["junctions", *interval].items():
         letter = row.letter()
         axes.plot(*places[name], "o", color=COLOURS[letter], markeredgecolor="black", markersize=12)
@@ -152,7 +153,7 @@ def draw_density(pyplot: Pyplot, folder: Folder) -> Figure:
     """The streets by mean density over all polls, vehicles a kilometre and lane, of each link, above 100 as 100; Fault
     where nothing was polled."""
     densities = run_series.densities(folder)
-    shown = apart(Street(link.shape, value) for value, link in zip(densities, folder.mapping.links, strict=True))
+    shown = moved_apart(Street(link.shape, value) for value, link in zip(densities, folder.mapping.links, strict=True))
     figure, axes, beside = canvas(pyplot, [one.shape for one in shown])
     axes.set(title="Mean density: wider and darker is denser")
     most = next((most for most in (25, 50) if max(densities) <= most), 100)
@@ -167,17 +168,17 @@ def scale_bar(axes: Axes) -> None:
     """Draws a bar of a round number of metres, about a fifth of the picture's width, and behind it an arrow to the
     north, below the streets; the axes' lower limit goes down for it. Called when all else is drawn, as it is placed by
     the limits."""
-    left, right = axes.get_xlim()
-    width = max(right - left, 1)
+    x_low, x_high = axes.get_xlim()
+    width = max(x_high - x_low, 1)
     metres = run_series.round_length(width / 5.5)
     low, high = axes.get_ylim()
     low -= 0.06 * (high - low)
     axes.set_ylim(low, high)
-    begin, place = left + 0.03 * width, low + 0.03 * (high - low)
-    axes.plot((begin, begin + metres), (place, place), color="black", linewidth=4, solid_capstyle="butt")
+    begin, bar_y = x_low + 0.03 * width, low + 0.03 * (high - low)
+    axes.plot((begin, begin + metres), (bar_y, bar_y), color="black", linewidth=4, solid_capstyle="butt")
     text = run_series.length_told(metres)
-    axes.text(begin + metres / 2, place + 0.015 * (high - low), text, ha="center", va="bottom")
+    axes.text(begin + metres / 2, bar_y + 0.015 * (high - low), text, ha="center", va="bottom")
     north = begin + metres + 0.04 * width
-    axes.plot(north, place, "^", color="black", markersize=9)
-    axes.annotate("N", (north, place), (8, 0), textcoords="offset points", va="center")
-    axes.set_xlim(left, right)
+    axes.plot(north, bar_y, "^", color="black", markersize=9)
+    axes.annotate("N", (north, bar_y), (8, 0), textcoords="offset points", va="center")
+    axes.set_xlim(x_low, x_high)

@@ -34,32 +34,32 @@ def refuse_broken(folder: Folder, edges: Sequence[str]) -> None:
 
 @dataclass(frozen=True, slots=True)
 class Corridor:
-    """What a picture of ways along a path shows: its edges, from one second to another; both: also the way back."""
+    """What a picture of ways along a path shows: its edges, its seconds, and whether also the way back."""
 
     edges: Sequence[str]
-    first: int  # seconds
-    last: int
-    both: bool = False
+    first_second: int  # seconds
+    last_second: int
+    both_ways: bool = False
 
 
-def refuse_undrawn(folder: Folder, edges: Sequence[str], first: int, last: int) -> None:
+def refuse_undrawn(folder: Folder, edges: Sequence[str], first_second: int, last_second: int) -> None:
     """Fault where the ways along some edges cannot be drawn from a first to a last second (both included), as
     draw_corridor tells."""
     refuse_broken(folder, edges)
-    if first >= last:
-        raise Fault(f"--first {first} is not before --last {last}")
+    if first_second >= last_second:
+        raise Fault(f"--first {first_second} is not before --last {last_second}")
     if folder.every > 5:
         raise Fault(f"{folder.path} was polled every {folder.every} s: a corridor needs streetsim-run --every 1 (to 5)")
-    if not any(first <= poll["clock"] <= last for poll in folder.polls()):
-        raise Fault(f"{folder.path}: nothing was polled from {first} to {last} s")
+    if not any(first_second <= poll["clock"] <= last_second for poll in folder.polls()):
+        raise Fault(f"{folder.path}: nothing was polled from {first_second} to {last_second} s")
 
 
 def draw_corridor(pyplot: Pyplot, folder: Folder, corridor: Corridor) -> Figure:
     """Where each vehicle is along a path (metres) over time (seconds), the way back below. Fault where the edges make
     no path, first is not before last, lanes were not polled every 5 s or oftener, nothing was polled from first to last
     (both included), or (both) there is no way back."""
-    refuse_undrawn(folder, corridor.edges, corridor.first, corridor.last)
-    ways = [corridor.edges, *([run_series.way_back(folder, corridor.edges)] if corridor.both else [])]
+    refuse_undrawn(folder, corridor.edges, corridor.first_second, corridor.last_second)
+    ways = [corridor.edges, *([run_series.way_back(folder, corridor.edges)] if corridor.both_ways else [])]
     figure, panels = pyplot.subplots(len(ways), figsize=(10, 6 if len(ways) == 1 else 9.5), squeeze=False)
     for way, (axes,) in zip(ways, panels, strict=True):
         draw_way(axes, folder, replace(corridor, edges=way))
@@ -74,8 +74,8 @@ def draw_way(axes: Axes, folder: Folder, way: Corridor) -> None:
     names of junctions beside it."""
     from matplotlib.collections import LineCollection, PolyCollection
 
-    edges, first, last = way.edges, way.first, way.last
-    pieces = run_series.trajectories(folder, edges, first, last)
+    edges, first_second, last_second = way.edges, way.first_second, way.last_second
+    pieces = run_series.trajectories(folder, edges, first_second, last_second)
     _, length = run_series.links_and_length(folder, edges)
     for least, label, colour, width in reversed(SPEEDS):
         shown = [piece for piece in pieces if min(piece[2], SPEEDS[-1][0]) == least]
@@ -84,16 +84,16 @@ def draw_way(axes: Axes, folder: Folder, way: Corridor) -> None:
         axes.add_collection(
             PolyCollection(run_series.long_vehicle_strips(shown), facecolors=colour, linewidths=0, alpha=0.6)
         )
-    for at, (place, begin, end) in enumerate(run_series.red_times(folder, edges, first, last)):
+    for at, (place, begin, end) in enumerate(run_series.red_times(folder, edges, first_second, last_second)):
         named = "red" if at == 0 else None
         axes.plot((begin, end), (place, place), color="black", linewidth=4, solid_capstyle="butt", label=named)
     streets = Names(folder.mapping)
     begin_of, end_of = (streets.street(edge) or edge for edge in (edges[0], edges[-1]))
     where = f"Along {begin_of}" if begin_of == end_of else f"From {begin_of} to {end_of}"
     title = f"{where}: each line is a vehicle"
-    band = run_series.green_band(folder, edges, first)
+    band = run_series.green_band(folder, edges, first_second)
     title += f"; green band {band[0]} of {band[1]} s" if band else ""
-    axes.set(xlim=(first, last), ylim=(0, length * 1.01), title=title)
+    axes.set(xlim=(first_second, last_second), ylim=(0, length * 1.01), title=title)
     axes.set(xlabel="time (s)", ylabel="place along the path (m)")
     names = axes.secondary_yaxis("right")
     names.set_yticks(*zip(*run_series.junctions_along(folder, edges), strict=True))
@@ -164,25 +164,25 @@ def draw_arrivals(pyplot: Pyplot, folder: Folder, tripinfo: str | None) -> Figur
     """Wished departures and arrivals over time, and below them the departures less the arrivals; where a tripinfo (its
     path) is given, also SUMO's arrivals up to the run's end, and below the arrivals less these."""
     departs, arrivals = run_series.arrival_curves(folder)
-    figure, (axes, below) = pyplot.subplots(2, figsize=(8, 6.5), sharex=True, height_ratios=(3, 1))
+    figure, (axes, lower_axes) = pyplot.subplots(2, figsize=(8, 6.5), sharex=True, height_ratios=(3, 1))
     curves: list[tuple[Sequence[float], str, str, str]]
     curves = [(departs, "wished departures", "#888888", "--"), (arrivals, "arrivals here", LINE, "-")]
     if tripinfo:
         end = folder.made.get("until", inf)
         sumo = sorted(arrival for _, arrival in read_tripinfo(tripinfo).values() if arrival <= end)
         curves.append((sumo, "arrivals in SUMO", OTHER_LINE, ":"))
-        times, values = run_series.curve_difference(arrivals, sumo)
-        below.set(ylabel="here less SUMO")
+        clocks, values = run_series.curve_difference(arrivals, sumo)
+        lower_axes.set(ylabel="here less SUMO")
     else:
-        times, values = run_series.curve_difference(departs, arrivals)
-        below.set(ylabel="on their way or\nwaiting to depart")
+        clocks, values = run_series.curve_difference(departs, arrivals)
+        lower_axes.set(ylabel="on their way or\nwaiting to depart")
     for moments, label, colour, style in curves:
         minutes, counts = [moment / 60 for moment in moments], range(1, len(moments) + 1)
         axes.step(minutes, counts, where="post", label=label, color=colour, linestyle=style, linewidth=1.8)
-    below.step([time / 60 for time in times], values, where="post", color=LINE, linewidth=1.4)
-    below.axhline(0, color="black", linewidth=0.8)
+    lower_axes.step([time / 60 for time in clocks], values, where="post", color=LINE, linewidth=1.4)
+    lower_axes.axhline(0, color="black", linewidth=0.8)
     title = f"{len(arrivals):,} of {len(folder.trips()):,} vehicles arrived"
     axes.set(ylabel="vehicles", title=title, xlim=(0, None), ylim=(0, None))
-    below.set(xlabel="time (min)")
+    lower_axes.set(xlabel="time (min)")
     axes.legend(frameon=False)
     return figure

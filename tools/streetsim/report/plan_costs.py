@@ -11,7 +11,7 @@ from streetsim.report.plan_differences import PlanDifference, difference_of
 from streetsim.report.run_tables import Runs
 
 NOTICED = 10  # seconds by which a trip changes, above which one notices
-FEW = 10  # trips of a group in a run, below which it is not told
+FEWEST_TRIPS = 10  # trips of a group in a run, below which it is not told
 
 
 @dataclass(slots=True)
@@ -28,23 +28,23 @@ class PlanCosts:
 def costs_of(before: Runs, after: Runs) -> PlanCosts:
     """The changes of trips of the same vehicles and seeds from one plan to another, in all and by flow (over seeds
     with ten trips of it that arrived in both), and how many arrived with one plan alone."""
-    found, sums = PlanCosts(), defaultdict[str, tuple[dict, dict]](lambda: ({}, {}))
+    plan_costs, sums = PlanCosts(), defaultdict[str, tuple[dict, dict]](lambda: ({}, {}))
     counts: defaultdict[str, int] = defaultdict(int)
     for seed in sorted(before.folders.keys() & after.folders.keys()):
-        first, second = durations(before.folders[seed]), durations(after.folders[seed])
-        both = [name for name in first if name in second]
-        found.changes += [second[name] - first[name] for name in both]
-        found.lost += len(first) - len(both)
-        found.won += len(second) - len(both)
+        before_durations, after_durations = durations(before.folders[seed]), durations(after.folders[seed])
+        both = [name for name in before_durations if name in after_durations]
+        plan_costs.changes += [after_durations[name] - before_durations[name] for name in both]
+        plan_costs.lost += len(before_durations) - len(both)
+        plan_costs.won += len(after_durations) - len(both)
         for group, names in grouped(both).items():
             counts[group] += len(names)
-            for sides, values in zip(sums[group], (first, second), strict=True):
+            for sides, values in zip(sums[group], (before_durations, after_durations), strict=True):
                 sides[seed] = fmean(values[name] for name in names)
-    found.changes.sort()
+    plan_costs.changes.sort()
     drawn = before.is_drawn and after.is_drawn
     differences = {group: difference_of(*sides, drawn=drawn) for group, sides in sums.items()}
-    found.groups = {group: (counts[group], one) for group, one in differences.items() if one}
-    return found
+    plan_costs.groups = {group: (counts[group], one) for group, one in differences.items() if one}
+    return plan_costs
 
 
 @dataclass(frozen=True, slots=True)
@@ -60,7 +60,7 @@ class Means:
 def means_by_class(runs: Runs) -> dict[str, dict[int, Means]]:
     """{vehicle class, as SUMO names it: {seed: its means}} of a plan's runs; classes of which nobody arrived are left
     out, as are the seeds in which nobody of a class did."""
-    found: defaultdict[str, dict[int, Means]] = defaultdict(dict)
+    means: defaultdict[str, dict[int, Means]] = defaultdict(dict)
     for seed, folder in runs.folders.items():
         trips: defaultdict[str, list[tuple[int, float]]] = defaultdict(list)
         rows = folder.trips()
@@ -68,8 +68,8 @@ def means_by_class(runs: Runs) -> dict[str, dict[int, Means]]:
             if row["duration"]:
                 trips[vclass].append((int(row["duration"]), float(row["loss"])))
         for vclass, own in trips.items():
-            found[vclass][seed] = Means(len(own), *map(fmean, zip(*own, strict=True)))
-    return dict(found)
+            means[vclass][seed] = Means(len(own), *map(fmean, zip(*own, strict=True)))
+    return dict(means)
 
 
 def durations(folder: Folder) -> dict[str, int]:
@@ -85,4 +85,4 @@ def grouped(names: Iterable[str]) -> dict[str, list[str]]:
         flow, point, number = name.rpartition(".")
         if point and re.fullmatch(r"\d+(#\d+)?", number):
             found[flow].append(name)
-    return {flow: own for flow, own in found.items() if len(own) >= FEW}
+    return {flow: own for flow, own in found.items() if len(own) >= FEWEST_TRIPS}

@@ -17,7 +17,7 @@ class PlanDifference:
     half: float | None  # half the width of the interval; none of one seed
     of_days: bool = False  # whether the interval is of a day, as departures were drawn; else of dawdling alone
 
-    def told(self) -> str:
+    def in_words(self) -> str:
         """The change with its sign and the half of its interval: '-3.2 ± 0.4'; of one seed without the half."""
         return f"{self.change:+.1f}" + ("" if self.half is None else f" ± {self.half:.1f}")
 

@@ -12,7 +12,7 @@ FOLDER = Path(__file__).resolve().parent  # of the page's parts
 MOST_BYTES = 100_000_000  # of the packed data; browsers are slow with more
 
 
-def player_data(folder: Folder, first: int, last: int) -> Json:
+def player_data(folder: Folder, first_second: int, last_second: int) -> Json:
     """What the page plays of a run from a first to a last second, both included, as an object for json: "name" of the
     folder; "links", {"name", "points" in metres, "lanes" and "cells": how many, "end": its node, "street": its name
     where it has one}; "junctions" with lights, [name, x, y]; "signals", [clock, node, offset, [[seconds, links that may
@@ -31,7 +31,7 @@ def player_data(folder: Folder, first: int, last: int) -> Json:
     for clock, command in folder.signals:
         phases = [[seconds, sorted({link for link, _, _ in greens})] for seconds, greens in command["phases"]]
         signals.append([clock, command["node"], command["offset"], phases])
-    frames = [poll for poll in folder.polls() if first <= poll["clock"] <= last]
+    frames = [poll for poll in folder.polls() if first_second <= poll["clock"] <= last_second]
     lit = [mapping.nodes[node] for node in sorted({node for _, node in mapping.signals})]
     return {
         "name": name_with_notes(folder),

@@ -16,7 +16,7 @@ from streetsim.model.runs import Command
 from streetsim.model.timing import spans_of
 
 Spot = tuple[float, float]  # second and metres
-Piece = tuple[Spot, Spot, int, float]  # begin and end, speed in cells a step, metres of the vehicle's cells
+TrackPiece = tuple[Spot, Spot, int, float]  # begin and end, speed in cells a step, metres of the vehicle's cells
 
 
 def links_and_length(folder: Folder, edges: Sequence[str]) -> tuple[dict[int, tuple[float, float, int]], float]:
@@ -30,16 +30,16 @@ def links_and_length(folder: Folder, edges: Sequence[str]) -> tuple[dict[int, tu
     return placed, begin
 
 
-def trajectories(folder: Folder, edges: Sequence[str], first: int, last: int) -> list[Piece]:
+def trajectories(folder: Folder, edges: Sequence[str], first_second: int, last_second: int) -> list[TrackPiece]:
     """Pieces of the ways of vehicles' fronts along a path, each from one poll to the next, from a first to a last
     second (included), in metres from the path's begin, with the speed at the later poll; a vehicle that went back, or
     that one of both polls does not have on a cell of the path, is left out for that piece."""
     placed, _ = links_and_length(folder, edges)
-    pieces: list[Piece] = []
+    track_pieces: list[TrackPiece] = []
     before: dict[int, tuple[int, float, int, float]] = {}
     for poll in folder.polls():
         clock, now = poll["clock"], {}
-        if not first <= clock <= last:
+        if not first_second <= clock <= last_second:
             continue
         for link, _lane, cells, _buffer, _closed in poll["lanes"]:
             if link in placed:
@@ -49,38 +49,40 @@ def trajectories(folder: Folder, edges: Sequence[str], first: int, last: int) ->
                     now[car] = clock, begin + (cell + 1) * metres / count, speed, long
         for car, (_, place, speed, long) in now.items():
             if car in before and before[car][1] <= place:
-                pieces.append(((before[car][0], before[car][1]), (clock, place), speed, long))
+                track_pieces.append(((before[car][0], before[car][1]), (clock, place), speed, long))
         before = now
-    return pieces
+    return track_pieces
 
 
-def long_vehicle_strips(pieces: Iterable[Piece]) -> Iterator[tuple[Spot, Spot, Spot, Spot]]:
+def long_vehicle_strips(track_pieces: Iterable[TrackPiece]) -> Iterator[tuple[Spot, Spot, Spot, Spot]]:
     """The strips that long vehicles cover in time and metres, from front to rear: four corners (second, metres) for
     each piece. Vehicles whose cells have no more than 1.5 times CELL_METRES together are left out."""
-    for (second, place), (later, other), _, long in pieces:
+    for (second, place), (later, other), _, long in track_pieces:
         if long > 1.5 * limits.CELL_METRES:
             yield (second, place), (later, other), (later, other - long), (second, place - long)
 
 
-def red_times(folder: Folder, edges: Sequence[str], first: int, last: int) -> list[tuple[float, int, int]]:
+def red_times(
+    folder: Folder, edges: Sequence[str], first_second: int, last_second: int
+) -> list[tuple[float, int, int]]:
     """When the signals along a path are red for going on along it, from a first second to before a last: (metres from
     the path's begin, second in which it begins, second at which it has ended) of each red, which is cut at both bounds.
     Before its first command a signal has none."""
     placed, _ = links_and_length(folder, edges)
-    found = []
-    for here, following in pairwise(folder.links_along(edges)):
-        place, node = sum(placed[here[0]][:2]), folder.mapping.links[here[0]].end
+    reds = []
+    for links_here, following in pairwise(folder.links_along(edges)):
+        metres, node = sum(placed[links_here[0]][:2]), folder.mapping.links[links_here[0]].end
         plans = [(clock, command) for clock, command in folder.signals if command["node"] == node]
         begin = None
-        for second in range(first, last + 1):
+        for second in range(first_second, last_second + 1):
             sent = [command for clock, command in plans if clock <= second]
-            red = bool(sent) and second < last and not shows_green(sent[-1], second, here, following)
+            red = bool(sent) and second < last_second and not shows_green(sent[-1], second, links_here, following)
             if red and begin is None:
                 begin = second
             if not red and begin is not None:
-                found.append((place, begin, second))
+                reds.append((metres, begin, second))
                 begin = None
-    return found
+    return reds
 
 
 def shows_green(command: Command, second: int, links: Sequence[int], following: Sequence[int]) -> bool:
@@ -97,16 +99,16 @@ def way_back(folder: Folder, edges: Sequence[str]) -> list[str]:
     """The edges of a path's other direction, from its end to its begin, between the same junctions (of several the
     first of the map); Fault where there is no edge back."""
     mapping = folder.mapping
-    found: dict[tuple[int, int], str] = {}
+    edge_between: dict[tuple[int, int], str] = {}
     for edge, links in mapping.links_of.items():
-        found.setdefault((mapping.links[links[0]].begin, mapping.links[links[0]].end), edge)
-    back = []
+        edge_between.setdefault((mapping.links[links[0]].begin, mapping.links[links[0]].end), edge)
+    edges_back = []
     for (link, *_), edge in zip(reversed(folder.links_along(edges)), reversed(edges), strict=True):
         ends = mapping.links[link].end, mapping.links[link].begin
-        if ends not in found:
+        if ends not in edge_between:
             raise Fault(f"--both: no edge leads back along {edge!r}")
-        back.append(found[ends])
-    return back
+        edges_back.append(edge_between[ends])
+    return edges_back
 
 
 def junctions_along(folder: Folder, edges: Sequence[str]) -> list[tuple[float, str]]:
@@ -130,12 +132,12 @@ def junction_name_on_path(names: Names, junction: str, edges: Iterable[str]) -> 
     return " / ".join(name for name in names.junction(junction).split(" / ") if name and name not in own) or junction
 
 
-def green_band(folder: Folder, edges: Sequence[str], first: int) -> tuple[int, int] | None:
+def green_band(folder: Folder, edges: Sequence[str], at_clock: int) -> tuple[int, int] | None:
     """(width of the green band, cycle) in seconds: the width is how many seconds of a cycle in a row let a vehicle that
-    passes the first signal pass all others too at its free speed. Plans are those at the clock `first`; none where
-    there is no signal or no common cycle."""
+    passes the first signal pass all others too at its free speed. Plans are those at_clock; none where there is no
+    signal or no common cycle."""
     ends = edge_ends_along(folder, edges)
-    plans = {command["node"]: command for clock, command in folder.signals if clock <= first}
+    plans = {command["node"]: command for clock, command in folder.signals if clock <= at_clock}
     stops = [(after, plans[node], here, following) for after, node, here, following in ends if node in plans]
     cycles = {sum(duration for duration, _ in command["phases"]) for _, command, *_ in stops}
     if len(cycles) != 1:
@@ -152,13 +154,13 @@ def green_band(folder: Folder, edges: Sequence[str], first: int) -> tuple[int, i
 def edge_ends_along(folder: Folder, edges: Sequence[str]) -> list[tuple[float, int, list[int], list[int]]]:
     """(seconds at free speed from the path's begin, node, links, next links) of each end of an edge within a path, with
     a signal or without, in its order."""
-    after, found = 0.0, []
+    after, edge_ends = 0.0, []
     for here, following in pairwise(folder.links_along(edges)):
         link = folder.mapping.links[here[0]]
         after += link.cells / max(0.001, link.limit - folder.dawdle / 1000)
-        found.append((after, link.end, here, following))
+        edge_ends.append((after, link.end, here, following))
         after += folder.mapping.nodes[link.end][3]
-    return found
+    return edge_ends
 
 
 def densities(folder: Folder) -> list[float]:
@@ -178,16 +180,17 @@ def densities(folder: Folder) -> list[float]:
     ]
 
 
-def longest_queues(folder: Folder, most: int) -> tuple[list[tuple[str, dict[int, float]]], int]:
-    """The lanes with the longest queues at stop lines, the longest first and `most` of them at most: (lane's id after
-    its street's name, {clock: metres}); and how many lanes have queues at all."""
+def longest_queues(folder: Folder, most_lanes: int) -> tuple[list[tuple[str, dict[int, float]]], int]:
+    """The lanes with the longest queues at stop lines, the longest first, most_lanes at most: (lane's id after its
+    street's name, {clock: metres}); and how many lanes have queues at all."""
     by_lane: defaultdict[str, dict[int, float]] = defaultdict(dict)
     names = Names(folder.mapping)
     for row in folder.queues():
         if row["before"] == tables.STOP_LINE:
             by_lane[f"{row['edge']}_{row['lane']}"][int(row["time"])] = float(row["metres"])
     ranked = sorted(by_lane.items(), key=lambda item: (-max(item[1].values()), item[0]))
-    called = ((f"{names.street(name.rpartition('_')[0])} {name}".lstrip(), queue) for name, queue in ranked[:most])
+    longest = ranked[:most_lanes]
+    called = ((f"{names.street(name.rpartition('_')[0])} {name}".lstrip(), queue) for name, queue in longest)
     return list(called), len(ranked)
 
 
@@ -209,28 +212,28 @@ def middle_densities_and_flows(folder: Folder, edges: Sequence[str]) -> list[tup
     cell had 7.5 m (Edie's definitions). edges: those wanted, all where it is empty; Fault where nothing was polled."""
     links = folder.mapping.links
     polls: Counter[int] = Counter()
-    seen: defaultdict[tuple[int, int, int], list[int]] = defaultdict(lambda: [0, 0])
-    wanted = {place for place, link in enumerate(links) if not edges or link.edge in edges}
+    sums_of_lane: defaultdict[tuple[int, int, int], list[int]] = defaultdict(lambda: [0, 0])
+    wanted_links = {place for place, link in enumerate(links) if not edges or link.edge in edges}
     start = folder.made.get("start", 0)
     for poll in folder.polls():
         period = (poll["clock"] - 1 - start) // folder.period
         polls[period] += 1
         for link, lane, cells, *_ in poll["lanes"]:
-            first, last = middle_third(links[link].cells)
-            there = [entry[2] for entry in cells if first <= entry[1] < last] if link in wanted else []
+            first_cell, last_cell = middle_third(links[link].cells)
+            there = [entry[2] for entry in cells if first_cell <= entry[1] < last_cell] if link in wanted_links else []
             if there:
-                sums = seen[period, link, lane]
+                sums = sums_of_lane[period, link, lane]
                 sums[0] += len(there)
                 sums[1] += sum(there)
     if not polls:
         raise Fault(f"{folder.path}: nothing was polled")
-    whole, found = (folder.made.get("until", poll["clock"]) - start) // folder.period, []
-    for (period, link, _), (vehicles, speeds) in sorted(seen.items()):
+    whole, densities_and_flows = (folder.made.get("until", poll["clock"]) - start) // folder.period, []
+    for (period, link, _), (vehicles, speeds) in sorted(sums_of_lane.items()):
         if period < whole:
-            first, last = middle_third(links[link].cells)
-            looks = polls[period] * (last - first)
-            found.append((vehicles / looks / limits.CELL_METRES * 1000, speeds / looks * 3600))
-    return found
+            first_cell, last_cell = middle_third(links[link].cells)
+            looks = polls[period] * (last_cell - first_cell)
+            densities_and_flows.append((vehicles / looks / limits.CELL_METRES * 1000, speeds / looks * 3600))
+    return densities_and_flows
 
 
 def middle_third(cells: int) -> tuple[int, int]:
@@ -246,11 +249,11 @@ def arrival_curves(folder: Folder) -> tuple[list[int], list[int]]:
     return departs, sorted(int(row["arrival"]) for row in trips if row["arrival"])
 
 
-def curve_difference(first: Sequence[float], second: Sequence[float]) -> tuple[list[float], list[int]]:
-    """(clocks at which one of two curves rises, by how many vehicles the first is then above the second); first,
-    second: sorted clocks, one for each vehicle."""
-    times = sorted({*first, *second})
-    return times, [bisect_right(first, time) - bisect_right(second, time) for time in times]
+def curve_difference(curve: Sequence[float], other_curve: Sequence[float]) -> tuple[list[float], list[int]]:
+    """(clocks at which one of two curves rises, by how many vehicles the first is then above the second); curve,
+    other_curve: sorted clocks, one for each vehicle."""
+    times = sorted({*curve, *other_curve})
+    return times, [bisect_right(curve, time) - bisect_right(other_curve, time) for time in times]
 
 
 def round_length(metres: float) -> float:

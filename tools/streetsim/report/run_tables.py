@@ -55,14 +55,14 @@ class Runs:
     rows: dict[tuple[str, int, int], Rows] = field(default_factory=dict)  # by table, begin and end
 
     @property
-    def first(self) -> Folder:
+    def first_folder(self) -> Folder:
         """The folder of the first seed."""
         return next(iter(self.folders.values()))
 
     @property
     def names(self) -> Names:
         """The names of its map's streets and junctions."""
-        return Names(self.first.mapping)
+        return Names(self.first_folder.mapping)
 
     @property
     def is_drawn(self) -> bool:
@@ -136,14 +136,14 @@ def read_with_any_tables(path: str) -> Runs:
     """The runs of a folder that streetsim-run wrote, one or one for each seed; with their junction tables where the
     first of them has these, and then Fault as of read_runs, else as of read_folders."""
     runs = read_folders(path)
-    return read_runs(path) if os.path.exists(f"{runs.first.path}/junctions.csv") else runs
+    return read_runs(path) if os.path.exists(f"{runs.first_folder.path}/junctions.csv") else runs
 
 
 def add_rows(runs: Runs, table: str) -> None:
     """Adds the rows of a junction table, by its key in TABLES, of all seeds to `runs`; Fault where a folder lacks it.
     Measures that are empty in the table are left out."""
     # By (begin, end): {(key, control, movement): {seed: measures}}.
-    found: defaultdict[tuple[int, int], dict[Any, Any]] = defaultdict(dict)
+    measures_of: defaultdict[tuple[int, int], dict[Any, Any]] = defaultdict(dict)
     for seed, folder in runs.folders.items():
         place = f"{folder.path}/{table}.csv"
         if not os.path.exists(place):
@@ -151,8 +151,8 @@ def add_rows(runs: Runs, table: str) -> None:
         for row in read_table(place, TABLES[table]):
             key = tuple(row[name] for name in KEYS[table]), row["control"], row.get("movement", "")
             numbers = {name: float(row[name]) for name in MEASURES if row.get(name)}
-            found[int(row["begin"]), int(row["end"])].setdefault(key, {})[seed] = numbers
-    for (begin, end), rows in found.items():
+            measures_of[int(row["begin"]), int(row["end"])].setdefault(key, {})[seed] = numbers
+    for (begin, end), rows in measures_of.items():
         runs.rows[table, begin, end] = {
             key: ResultRow(key, control, movement, means_over_seeds(by_seed), by_seed)
             for (key, control, movement), by_seed in rows.items()

@@ -9,10 +9,10 @@ from streetsim.report.page_drawings import anchor
 from streetsim.report.page_markup import table
 from streetsim.report.run_tables import Runs
 
-OFF = "oO"  # the light is off, and vehicles drive by the right of way
-KINDS = ("yellow", YELLOW), ("green", MAIN + PERMISSIVE), ("off", OFF)  # of phases, by the first that one has
+OFF_LETTERS = "oO"  # the light is off, and vehicles drive by the right of way
+KINDS = ("yellow", YELLOW), ("green", MAIN + PERMISSIVE), ("off", OFF_LETTERS)  # of phases, by the first that one has
 COLOURS = ((MAIN, GREEN), (PERMISSIVE, "#a6dba0"), (YELLOW, "#fdd835"), ("s", "#d9f0d3"), ("uoO", "#fdae61"))
-LEFT, WIDE, ROW = 340, 900, 16  # pixels
+LEFT_MARGIN, WIDE, ROW = 340, 900, 16  # pixels
 MOST_PAIRS = 5  # of conflicting movements on a sheet
 LEGEND = (
     "Dark: green. Light: green, but gives way. Yellow: yellow. Grey: red. The seconds are those of the cycle, which "
@@ -36,17 +36,17 @@ def sheet(plans: Sequence[tuple[str, Timing | None]], light: str, names: Names) 
         return ""
     called = names.junction(known[0][1].junction)
     title = f"{called} (light {light})" if called else f"Light {light}"
-    parts = [f'<h3 id="{anchor(light).replace("junction", "light")}">{escape(title)}</h3>']
+    html_parts = [f'<h3 id="{anchor(light).replace("junction", "light")}">{escape(title)}</h3>']
     if len(known) == 2 and known[0][1].phases == known[1][1].phases:
         offsets = [f"{timing.offset:g} s" for _, timing in known]
         other = f"Both plans have the same phases; the offset is {offsets[0]} before and {offsets[1]} after."
-        parts.append(f"<p>{'Both plans show the same.' if offsets[0] == offsets[1] else other}</p>")
+        html_parts.append(f"<p>{'Both plans show the same.' if offsets[0] == offsets[1] else other}</p>")
         known = known[1:]
-    parts += [program(name, timing, names) for name, timing in known]
+    html_parts += [program(name, timing, names) for name, timing in known]
     last = known[-1][1]
-    parts += [phases_table(last), greens_table(last, names, known[0][1] if len(known) == 2 else None)]
-    parts.append(intergreens(last, names))
-    return f'<section class="sheet">{"".join(parts)}</section>'
+    html_parts += [phases_table(last), greens_table(last, names, known[0][1] if len(known) == 2 else None)]
+    html_parts.append(intergreens(last, names))
+    return f'<section class="sheet">{"".join(html_parts)}</section>'
 
 
 def changed(before: Timings, after: Timings) -> list[str]:
@@ -76,39 +76,39 @@ def program(name: str, timing: Timing, names: Names) -> str:
     return f'<h4>{escape(told)}</h4>{marks}<div class="picture">{bars(timing, names)}</div>'
 
 
-def clash_told(one: SignalMovement, other: SignalMovement, seconds: int, names: Names) -> str:
+def clash_told(movement: SignalMovement, other_movement: SignalMovement, seconds: int, names: Names) -> str:
     """That two movements conflict and have main green together for some seconds, as plain text."""
-    both = f"{movement_name(one, names)} and {movement_name(other, names)}"
+    both = f"{movement_name(movement, names)} and {movement_name(other_movement, names)}"
     return f"{both} conflict and have main green together for {seconds} s"
 
 
-def movement_name(one: SignalMovement, names: Names) -> str:
+def movement_name(movement: SignalMovement, names: Names) -> str:
     """What a movement is called: by streets, else by directions."""
-    return names.movement(one.edge, one.to)
+    return names.movement(movement.edge, movement.to)
 
 
 def bars(timing: Timing, names: Names) -> str:
     """A picture (SVG) with a bar for each movement over the cycle."""
-    cycle, parts = len(timing.states()), []
-    scale = (WIDE - LEFT - 10) / cycle
+    cycle, svg_parts = len(timing.states()), []
+    scale = (WIDE - LEFT_MARGIN - 10) / cycle
     for place, one in enumerate(timing.movements):
         y, name = 2 + ROW * place, escape(movement_name(one, names)[:52])
-        parts.append(f'<text x="{LEFT - 6}" y="{y + 10}" text-anchor="end">{name}</text>')
-        parts.append(f'<rect x="{LEFT}" y="{y + 5}" width="{cycle * scale:.1f}" height="3" fill="#999"/>')
+        svg_parts.append(f'<text x="{LEFT_MARGIN - 6}" y="{y + 10}" text-anchor="end">{name}</text>')
+        svg_parts.append(f'<rect x="{LEFT_MARGIN}" y="{y + 5}" width="{cycle * scale:.1f}" height="3" fill="#999"/>')
         signs = timing.signs(one)
         for letters, colour in COLOURS:
             for begin, seconds in spans_of(signs, letters):
                 for start, length in unfolded(begin, seconds, cycle):
                     title = f"{begin} to {(begin + seconds) % cycle or cycle} s"
-                    box = f'x="{LEFT + start * scale:.1f}" y="{y}" width="{length * scale:.1f}" height="12"'
-                    parts.append(f'<rect {box} fill="{colour}" stroke="#333"><title>{title}</title></rect>')
+                    box = f'x="{LEFT_MARGIN + start * scale:.1f}" y="{y}" width="{length * scale:.1f}" height="12"'
+                    svg_parts.append(f'<rect {box} fill="{colour}" stroke="#333"><title>{title}</title></rect>')
     low = 2 + ROW * len(timing.movements)
     for second in ticks(cycle):
-        x = LEFT + second * scale
-        parts.append(f'<line x1="{x:.1f}" x2="{x:.1f}" y1="0" y2="{low}" stroke="#0003"/>')
-        parts.append(f'<text x="{x:.1f}" y="{low + 13}" text-anchor="middle">{second}</text>')
+        x = LEFT_MARGIN + second * scale
+        svg_parts.append(f'<line x1="{x:.1f}" x2="{x:.1f}" y1="0" y2="{low}" stroke="#0003"/>')
+        svg_parts.append(f'<text x="{x:.1f}" y="{low + 13}" text-anchor="middle">{second}</text>')
     shape = f'viewBox="0 0 {WIDE} {low + 18}" role="img" aria-label="Greens over the cycle"'
-    return f'<svg class="bars" {shape}>{"".join(parts)}</svg>'
+    return f'<svg class="bars" {shape}>{"".join(svg_parts)}</svg>'
 
 
 def unfolded(begin: int, seconds: int, cycle: int) -> list[tuple[int, int]]:
@@ -146,20 +146,21 @@ def kept_told(seconds: int | None) -> str:
 def greens_table(timing: Timing, names: Names, before: Timing | None) -> str:
     """A table, as HTML, of when each movement has green, and of its seconds of green, of giving way in it, of yellow
     and of red, which is all else that is not off. before: the program before, whose greens stand beside, or None."""
-    rows, first = [], {(one.edge, one.to): one for one in before.movements} if before else {}
-    for one in timing.movements:
-        signs = timing.signs(one)
+    before_movements = before.movements if before else ()
+    rows, movement_before = [], {(movement.edge, movement.to): movement for movement in before_movements}
+    for movement in timing.movements:
+        signs = timing.signs(movement)
         cycle = len(signs)
         greens = spans_of(signs, MAIN + PERMISSIVE)
-        told = [greens_told(signs)]
+        green_cells = [greens_told(signs)]
         if before:
-            other = first.get((one.edge, one.to))
-            told.insert(0, greens_told(before.signs(other)) if other else "")
+            other = movement_before.get((movement.edge, movement.to))
+            green_cells.insert(0, greens_told(before.signs(other)) if other else "")
         gives_way = sum(sign == PERMISSIVE for sign in signs)
         numbers = [sum(seconds for _, seconds in greens), gives_way, sum(sign in YELLOW for sign in signs)]
-        red = cycle - numbers[0] - numbers[2] - sum(sign in OFF for sign in signs)
-        ids = f'<span class="ids">{escape(f"{one.edge} to {one.to}")}</span>'
-        rows.append([escape(movement_name(one, names)), ids, *told, *map(str, (*numbers, red))])
+        red = cycle - numbers[0] - numbers[2] - sum(sign in OFF_LETTERS for sign in signs)
+        ids = f'<span class="ids">{escape(f"{movement.edge} to {movement.to}")}</span>'
+        rows.append([escape(movement_name(movement, names)), ids, *green_cells, *map(str, (*numbers, red))])
     heads = ["before: green", "after: green"] if before else ["green in the cycle"]
     heads += ["green, s", "gives way, s", "yellow, s", "red, s"]
     return table(["movement", "from and to edge", *heads], rows, names=2)
@@ -169,7 +170,7 @@ def greens_told(signs: str) -> str:
     """When a movement has green, as text in seconds of the cycle, '0 to 20, 40 to 55', or 'never', and where the light
     is off in some second 'off'; signs: its letter in each second."""
     cycle, greens = len(signs), spans_of(signs, MAIN + PERMISSIVE)
-    never = "off" if {*signs} & {*OFF} else "never"
+    never = "off" if {*signs} & {*OFF_LETTERS} else "never"
     return ", ".join(f"{begin} to {(begin + seconds) % cycle or cycle}" for begin, seconds in greens) or never
 
 
@@ -184,13 +185,13 @@ def intergreens(timing: Timing, names: Names) -> str:
     )
     if not rows:
         return ""
-    least = rows[0][0]
-    first = [row for row in rows if row[0] <= least + 1][:MOST_PAIRS]
-    told = table(
+    least_seconds = rows[0][0]
+    nearest_rows = [row for row in rows if row[0] <= least_seconds + 1][:MOST_PAIRS]
+    pairs_table = table(
         ["green ends", "conflicting green begins", "seconds between"],
-        [[escape(one), escape(other), str(gap)] for gap, one, other in first],
+        [[escape(one), escape(other), str(gap)] for gap, one, other in nearest_rows],
         names=2,
     )
-    left = len(rows) - len(first)
+    left = len(rows) - len(nearest_rows)
     more = f'<p class="small">{left} other pairs have as many seconds or more.</p>' if left else ""
-    return f"<p>Least time between conflicting greens: {least} s.</p>{told}{more}"
+    return f"<p>Least time between conflicting greens: {least_seconds} s.</p>{pairs_table}{more}"

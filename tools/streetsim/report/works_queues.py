@@ -8,8 +8,8 @@ from streetsim.model import tables
 from streetsim.model.folder import Folder
 
 ROOM = 60.0  # metres shown beyond the longest queue
-LEAST = 150.0  # metres shown at least
-PLACE = ("edge", "lane", "from_m")  # columns by which a queue is that before some works
+LEAST_METRES = 150.0  # metres shown at least
+PLACE_COLUMNS = ("edge", "lane", "from_m")  # columns by which a queue is that before some works
 
 
 @dataclass(slots=True, frozen=True)
@@ -40,54 +40,54 @@ class WorksPlace:
     @property
     def room(self) -> float:
         """How many metres before the works are shown."""
-        return min(self.way[-1].far, max(LEAST, ROOM + max(self.lengths.values(), default=0.0)))
+        return min(self.way[-1].far, max(LEAST_METRES, ROOM + max(self.lengths.values(), default=0.0)))
 
 
 def works_places_of(folder: Folder) -> list[WorksPlace]:
     """The works of a run, in the order of its table works.csv; Fault where it had none, or ended before them."""
-    seen = Counter(link for poll in folder.polls() for link, _, cells, *_ in poll["lanes"] for _ in cells)
+    vehicles_seen = Counter(link for poll in folder.polls() for link, _, cells, *_ in poll["lanes"] for _ in cells)
     grouped: dict[tuple[str, ...], list[dict[str, str]]] = {}
     for row in folder.works():
         grouped.setdefault((row["edge"], row["lane"], row["from_m"], row["to_m"]), []).append(row)
     if not grouped:
         raise Fault(f"{folder.path}: the run ended before its works")
-    found = [works_place_of(folder, rows, seen) for rows in grouped.values()]
+    found = [works_place_of(folder, rows, vehicles_seen) for rows in grouped.values()]
     note_standing(folder, found)
     return found
 
 
-def works_place_of(folder: Folder, rows: Sequence[dict[str, str]], seen: Counter[int]) -> WorksPlace:
-    """The works of one place, of its rows of works.csv, without who stands there. seen: how many vehicles polls saw, by
+def works_place_of(folder: Folder, rows: Sequence[dict[str, str]], vehicles_seen: Counter[int]) -> WorksPlace:
+    """The works of one place, of its rows of works.csv, without who stands there. vehicles_seen: by polls, on each
     link. Fault where queues.csv cannot be read, or the map does not have the lane."""
     edge, lane = rows[0]["edge"], rows[0]["lane"]
     begin, end = float(rows[0]["from_m"]), float(rows[0]["to_m"])
     lengths = {
         int(row["time"]): float(row["metres"])
         for row in folder.queues()
-        if row["before"] == tables.BEFORE_WORKS and all(row[name] == rows[0][name] for name in PLACE)
+        if row["before"] == tables.BEFORE_WORKS and all(row[name] == rows[0][name] for name in PLACE_COLUMNS)
     }
     capacity = min((row["capacity_per_hour"] for row in rows if row["capacity_per_hour"]), key=float, default="")
     if (place := folder.mapping.place_of(f"{edge}_{lane}")) is None:
         raise Fault(f"{folder.path}/{tables.WORKS_FILE}: the map has no lane {edge}_{lane}")
-    way = way_to(folder, place[0], begin, seen)
+    way = way_to(folder, place[0], begin, vehicles_seen)
     vehicles = sum(int(row["vehicles"]) for row in rows)
     times = int(rows[0]["begin"]), int(rows[-1]["end"])
     return WorksPlace(edge, lane, (begin, end), *times, vehicles, capacity, way, lengths, [])
 
 
-def way_to(folder: Folder, link: int, begin: float, seen: Counter[int]) -> list[LinkOnWay]:
+def way_to(folder: Folder, link: int, begin: float, vehicles_seen: Counter[int]) -> list[LinkOnWay]:
     """The way to works, from them on against the traffic: the link on which they lie, `begin` metres from its begin,
     and of the links before each the one on which most vehicles were seen, until no further one leads there."""
     links, way = folder.mapping.links, [LinkOnWay(link, begin - folder.mapping.links[link].metres, begin)]
     known = {link}
     while feeders := {turn.link for turn in folder.mapping.turns if turn.next == way[-1].link} - known:
-        best = max(sorted(feeders), key=lambda one: seen[one])
+        best = max(sorted(feeders), key=lambda one: vehicles_seen[one])
         known.add(best)
         way.append(LinkOnWay(best, way[-1].far, way[-1].far + links[best].metres))
     return way
 
 
-def note_standing(folder: Folder, places: Sequence[WorksPlace]) -> None:
+def note_standing(folder: Folder, works_places: Sequence[WorksPlace]) -> None:
     """Adds to each place who stands on a cell before its works while they last (both clocks included), at each poll, on
     all lanes of the way to it. Fault where the polls cannot be read."""
     links = folder.mapping.links
@@ -96,7 +96,7 @@ def note_standing(folder: Folder, places: Sequence[WorksPlace]) -> None:
         by_link: dict[int, list[int]] = {}
         for link, _, cells, *_ in poll["lanes"]:
             by_link.setdefault(link, []).extend(cell for _, cell, speed, *_ in cells if not speed)
-        for place in (one for one in places if one.begin <= clock <= one.end):
+        for place in (one for one in works_places if one.begin <= clock <= one.end):
             for piece in place.way:
                 size = links[piece.link].metres / links[piece.link].cells
                 away = (piece.far - (cell + 1) * size for cell in by_link.get(piece.link, ()))

@@ -90,7 +90,7 @@ def path_for_share(path: str, share: float | None, many_shares: bool) -> str:
 def give_ways_of_file(trips: Sequence[Trip], before: Trips, graph: Graph, where: str) -> None:
     """Gives each trip the path of the trip of the same name in before, which was read from the file where. Fault where
     there is none, it begins or ends on another edge than the trip, or two edges in a row have no connection."""
-    ways = {trip.name: trip for trip in before.all}
+    ways = {trip.name: trip for trip in before.trips}
     for trip in trips:
         routed = ways.get(trip.name)
         if routed is None or not routed.path:

@@ -64,7 +64,7 @@ def search_routes(job: Job, workers: Team, stopping: Stopping) -> list[Diverted]
     for each share of drivers who know of the works, if there are any. The trips of the job get the ways without works;
     with works, and where all have ways, these stay and are not improved. Iterations and warnings are printed on
     standard error. Fault where a trip has no way, or none round the works, or a run fails."""
-    works, count = job.works, len(job.trips.all)
+    works, count = job.works, len(job.trips.trips)
 
     def told(label: str, iteration: Iteration) -> bool:
         """Prints an iteration on standard error, after the label of its search; gives whether the user has asked for an
@@ -73,16 +73,16 @@ def search_routes(job: Job, workers: Team, stopping: Stopping) -> list[Diverted]
         return stopping.asked
 
     label = "before, " if works.close else ""
-    search = RouteSearch(job.town, job.ground, job.trips.all, workers, partial(told, label))
-    have_ways = works.close and all(trip.path for trip in job.trips.all)
+    search = RouteSearch(job.town, job.ground, job.trips.trips, workers, partial(told, label))
+    have_ways = works.close and all(trip.path for trip in job.trips.trips)
     if not have_ways:
         search.give_first_ways(job.settings.seeds[0])
         search.improve(job.settings)
     judged = search.judged(job.check)
-    before = Diverted(None, job.trips.all, search, judged)
+    before = Diverted(None, job.trips.trips, search, judged)
     if not works.close:
         return [before]
-    for text in town_with_works(job.town, works).told_of_lost(job.trips.all):
+    for text in town_with_works(job.town, works).told_of_lost(job.trips.trips):
         print(f"warning: {text}", file=sys.stderr)
     closing = closing_of(works, job.town.graph, search, judged)
     return [before, *search_by_share(before, closing, job.settings, job.check, works.knowing, told)]

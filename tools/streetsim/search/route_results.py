@@ -80,7 +80,7 @@ def trip_rows(trips: Sequence[Trip], judged: JudgedRoutes) -> Iterator[tuple]:
         ends = [end for outcome in judged.outcomes if (end := outcome.arrivals[at]) is not None]
         mean = "" if len(ends) < len(judged.outcomes) else f"{fmean(ends) - trip.depart:.1f}"
         best = searched.get(at)
-        ways = (f"{best.own:.1f}", f"{best.least:.1f}") if best and best.path else ("", "")
+        ways = (f"{best.own_seconds:.1f}", f"{best.seconds:.1f}") if best and best.path else ("", "")
         yield trip.name, f"{trip.depart:.2f}", len(trip.path), int(trip.changes), mean, *ways
 
 

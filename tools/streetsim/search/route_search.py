@@ -262,13 +262,13 @@ def paths_after(trips: Sequence[Trip], changed: Sequence[FoundPath]) -> list[Pat
 
 def seconds_gained(found_path: FoundPath) -> float:
     """The seconds that a trip would gain by its best way; 0 where no way was found."""
-    return max(0.0, found_path.own - found_path.least) if found_path.path else 0.0
+    return max(0.0, found_path.own_seconds - found_path.seconds) if found_path.path else 0.0
 
 
 def relative_gap(paths: Sequence[FoundPath]) -> float:
     """The relative gap: what all could gain together, over the seconds of their shortest ways. 0 where nobody may
     change, or no way was found for any."""
-    least = sum(path.least for path in paths if path.path)
+    least = sum(path.seconds for path in paths if path.path)
     return sum(map(seconds_gained, paths)) / least if least else 0.0
 
 
@@ -277,7 +277,7 @@ def those_who_change(paths: Sequence[FoundPath], share: float) -> list[FoundPath
     greatest relative loss, at most a share (0 to 1) of all found, but at least one. Empty where nobody gains so
     much."""
     worth = [path for path in paths if seconds_gained(path) > LEAST_GAIN]
-    worth.sort(key=lambda path: (-seconds_gained(path) / max(1.0, path.least), path.trip))
+    worth.sort(key=lambda path: (-seconds_gained(path) / max(1.0, path.seconds), path.trip))
     return sorted(worth[: max(1, int(len(paths) * share))], key=lambda path: path.trip)
 
 
@@ -295,6 +295,7 @@ def iteration_of(number: int, shown: SeenCosts, paths: Sequence[FoundPath], chan
         number=number, mean=fmean(outcome.mean for outcome in shown.outcomes),
         arrived=min(outcome.arrived for outcome in shown.outcomes),
         rescues=sum(outcome.rescues for outcome in shown.outcomes),
-        gap=shown.gap, cost=fmean(path.own for path in paths) if paths else 0.0, may_change=len(paths), changed=changed,
+        gap=shown.gap, cost=fmean(path.own_seconds for path in paths) if paths else 0.0, may_change=len(paths),
+        changed=changed,
         taken_back=back,
     )  # fmt: skip

@@ -46,20 +46,20 @@ def run_on_found_ways(run: Run, mapping: Map, map_path: str, wished: Wished, whe
     options = options_again(mapping, joint=wished.joint)
     town = read_town(sources.net, sources.additional, options, Report())
     trips = read_trips([*sources.routes, *sources.trips], town.net, town.graph, town.types, options, Report())
-    trips.all = connected_trips(trips.all, town.net, town.graph, options.ignore_route_errors, Report())
+    trips.trips = connected_trips(trips.trips, town.net, town.graph, options.ignore_route_errors, Report())
     program, until = wished.program, wished.until
     ground = RunGround(program, program_digest(program), town.graph, SLICE, until, wished.rounds, wished.driven)
 
     def told(label: str, iteration: Iteration) -> bool:
         """Prints an iteration on standard error; gives False, as nobody ends this search."""
-        print(f"{where}: {label}{iteration.line(len(trips.all))}", file=sys.stderr, flush=True)
+        print(f"{where}: {label}{iteration.line(len(trips.trips))}", file=sys.stderr, flush=True)
         return False
 
     with team(ground, CORES, None) as workers:
-        search = RouteSearch(town, ground, trips.all, workers, lambda iteration: told("", iteration))
+        search = RouteSearch(town, ground, trips.trips, workers, lambda iteration: told("", iteration))
         search.give_first_ways(ASKED.seeds[0])
         if wished.close:
-            before = Diverted(None, trips.all, search, search.judged(CHECK))
+            before = Diverted(None, trips.trips, search, search.judged(CHECK))
             shutting = Shutting(wished.close, (), wished.lost)
             closing = closing_of(shutting, town.graph, search, before.judged)
             search = next(search_by_share(before, closing, ASKED, CHECK, [wished.knowing], told)).search

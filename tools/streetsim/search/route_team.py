@@ -58,4 +58,4 @@ def team(ground: RunGround, jobs: int, cluster: str | None) -> Iterator[Team]:
 def search_part(ground: RunGround, wishes: Sequence[Wish], costs: Costs, shut: Shut | None) -> list[FoundPath]:
     """What the router finds for wishes; a task of a worker. shut: when edges and movements are closed, None: never."""
     router = Router(ground.graph, costs, shut)
-    return [router.found(wish) for wish in wishes]
+    return [router.best_path(wish) for wish in wishes]

@@ -106,7 +106,7 @@ class WaysRound:
         for last, wish in sorted((last, wish) for wish in wishes for last in self.parallel_links(wish.target)):
             for first in self.parallel_links(wish.origin):
                 path, seconds = router.search(first, last, wish.clock)
-                if path and seconds < best[wish.trip].least:
+                if path and seconds < best[wish.trip].seconds:
                     best[wish.trip] = FoundPath(wish.trip, path, seconds, FAR)
         return list(best.values())
 

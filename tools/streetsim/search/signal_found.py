@@ -135,7 +135,7 @@ def draw_plan(target: PlanFiles, corridor: Corridor, town: SignalTown, plan: Pla
     """Runs a plan as the target says, and draws where the vehicles are along a corridor over time, with the signals, as
     a picture at path."""
     run = replace(town.run, first=town.first_lines(plan))
-    until = min(corridor.last + 1, target.until)
+    until = min(corridor.last_second + 1, target.until)
     settings = replace(town.settings, until=until, every=1, edges=tuple(corridor.edges))
     with tempfile.TemporaryDirectory() as folder:
         make_run(target.making, run, town.mapping, settings, folder, lambda *_: None)

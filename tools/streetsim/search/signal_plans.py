@@ -55,7 +55,7 @@ class PlannedLight:
     def mended(self, timing: PlannedTiming) -> PlannedTiming:
         """The timing with each phase as long as the plan must keep it, and the same offset in its cycle."""
         pairs = zip(timing.durations, self.constraints or [Constraint()] * len(timing.durations), strict=True)
-        kept_timing = PlannedTiming(timing.offset, tuple(constraint.kept(seconds) for seconds, constraint in pairs))
+        kept_timing = PlannedTiming(timing.offset, tuple(constraint.clamp(seconds) for seconds, constraint in pairs))
         return kept_timing.shifted(0)
 
     def fixed_seconds(self, timing: PlannedTiming) -> int:
@@ -143,7 +143,7 @@ def stretch_bounds(state: str, seconds: int, constraint: Constraint, least: int)
     """The (least, most) seconds of a phase, within which are its given seconds, or the nearest that its constraint
     allows. One with green and no yellow that lasts least seconds or more may be changed, from least to 600 s, as far as
     the constraint allows; each other keeps its length."""
-    seconds = constraint.kept(seconds)
+    seconds = constraint.clamp(seconds)
     if not is_green(state) or seconds < least:
         return seconds, seconds
     return min(seconds, max(least, constraint.low)), max(seconds, constraint.high)

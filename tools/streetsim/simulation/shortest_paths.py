@@ -68,7 +68,11 @@ class ShortestPaths:
         links_of, router = self.map.links_of, self.by_metres
         begins = [(0.0, link) for link in links_of[origin]]
         if origin == target:
-            begins = [(router.least[movement], after) for _, link in begins for after, movement in self.graph.out[link]]
+            begins = [
+                (router.least_seconds[movement], after)
+                for _, link in begins
+                for after, movement in self.graph.outgoing[link]
+            ]
         ends = [(metres, router.search(link, end, 0.0)) for metres, link in begins for end in links_of[target]]
         metres_of_paths = [metres + least for metres, (path, least) in ends if path]
         if not metres_of_paths:

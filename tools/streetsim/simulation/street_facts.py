@@ -7,7 +7,7 @@ from xml.etree.ElementTree import Element
 from streetsim.base.files import at_least_zero, attribute, elements, number, optional, seconds
 from streetsim.simulation.lights import LightShow
 from streetsim.sumo.configuration import NOWHERE as NO_FILE
-from streetsim.sumo.net import OFF
+from streetsim.sumo.net import OFF_PROGRAM
 
 Point = tuple[float, float]
 WIDTH = 3.2  # metres of a lane, where a file has none
@@ -103,7 +103,7 @@ class Facts:
         can be chosen. One without phases gives the program of its name another offset."""
         name, program = attribute(path, element, "id"), element.get("programID", "0")
         phase_elements, begin = list(element.iter("phase")), optional(path, element, "offset", seconds, 0.0)
-        if program == OFF or not phase_elements and (name, program) not in self.offsets:
+        if program == OFF_PROGRAM or not phase_elements and (name, program) not in self.offsets:
             return
         self.offsets[name, program] = begin
         if not phase_elements:

@@ -32,31 +32,32 @@ def mean_crossing(
     return sum(weight * own for weight, own in zip(weights, seconds, strict=True)) / sum(weights)
 
 
-def crossing_seconds(one: NetConnection, net: SumoNet, drivers: Drivers) -> float:
+def crossing_seconds(connection: NetConnection, net: SumoNet, drivers: Drivers) -> float:
     """Mean seconds of one who crosses a junction alone in SUMO, from its line to the next edge, with what it loses as
     it brakes before and gains speed behind it; without the seconds for which it stands at a red."""
-    before, behind = net.edges[one.source].lanes[0].speed, net.edges[one.target].lanes[0].speed
-    inside = min(one.speed or before, max(before, behind))
+    before, behind = net.edges[connection.source].lanes[0].speed, net.edges[connection.target].lanes[0].speed
+    inside = min(connection.speed or before, max(before, behind))
     if not (before and behind and inside):
         return 0.0
-    if not one.light and one.state in STOPPING:
-        return one.metres * drivers.slowness(behind) + lost(drivers, before, 0.0, behind)
-    looks_out = not one.light and one.state not in (MAJOR, ZIPPER) and bool(net.yields_of(one))
+    if not connection.light and connection.state in STOPPING:
+        return connection.metres * drivers.slowness(behind) + lost(drivers, before, 0.0, behind)
+    looks_out = not connection.light and connection.state not in (MAJOR, ZIPPER) and bool(net.yields_of(connection))
     slow = min(inside, SEEING) if looks_out else inside
-    driving = one.metres * drivers.slowness(inside) + lost(drivers, before, slow, behind)
+    driving = connection.metres * drivers.slowness(inside) + lost(drivers, before, slow, behind)
     driving += LOOKING if looks_out else TURNING if slow < before else 0.0
-    if not one.light:
+    if not connection.light:
         return driving
-    starting = starting_seconds(drivers, min(behind, drivers.most))
-    if may_turn_on_red(one, net):
+    starting = starting_seconds(drivers, min(behind, drivers.max_speed))
+    if may_turn_on_red(connection, net):
         starting = lost(drivers, before, 0.0, behind)
-    return (1 - RED) * driving + RED * (one.metres * drivers.slowness(inside) + starting)
+    return (1 - RED) * driving + RED * (connection.metres * drivers.slowness(inside) + starting)
 
 
-def may_turn_on_red(one: NetConnection, net: SumoNet) -> bool:
+def may_turn_on_red(connection: NetConnection, net: SumoNet) -> bool:
     """Whether a light lets those of a connection go after a stop in some of its phases."""
-    program = net.programs.get(one.light or "")
-    return program is not None and any(state[one.index : one.index + 1] == STOPPED for _, state in program.phases)
+    program = net.programs.get(connection.light or "")
+    at = connection.index
+    return program is not None and any(state[at : at + 1] == STOPPED for _, state in program.phases)
 
 
 def lost(drivers: Drivers, before: float, slow: float, behind: float) -> float:

@@ -7,7 +7,7 @@ from streetsim.base.files import Fault, FilePath, attribute, element_told, eleme
 from streetsim.base.report import Report, first_few
 from streetsim.sumo.demand import Demand
 from streetsim.sumo.detectors import KINDS, read_detector
-from streetsim.sumo.net import OFF, SumoNet, read_program
+from streetsim.sumo.net import OFF_PROGRAM, SumoNet, read_program
 from streetsim.sumo.stops import BUS_STOPS, read_bus_stop
 from streetsim.sumo.types import TAGS, Types
 from streetsim.sumo.wauts import read_waut, read_waut_junction
@@ -30,7 +30,7 @@ def read_additional(path: FilePath, net: SumoNet, types: Types, report: Report, 
         if element.tag == "tlLogic":
             refuse_unknown_light(path, element, net)
             read_program(path, element, net, ())
-            if element.get("programID") == OFF:
+            if element.get("programID") == OFF_PROGRAM:
                 told_off = f"{element_told(path, element)} does nothing here, as it switches the light off"
                 report.warn(told_off, [element.get("id", "")], "a network without the light is made by netconvert")
         elif element.tag in TAGS:

@@ -41,7 +41,7 @@ def may_wait(connection: NetConnection, net: SumoNet) -> bool:
 def closing_lanes(net: SumoNet, names: Iterable[str]) -> dict[str, set[int]]:
     """The lanes that are named, or all lanes of an edge that is named, {edge: SUMO's indexes}. Fault where the import
     has no such name, or the edge has one lane."""
-    found = defaultdict(set)
+    lanes_of_edge = defaultdict(set)
     for name in names:
         edge = name if name in net.edges else name.rpartition("_")[0]
         lanes = [lane.index for lane in net.edges[edge].lanes] if edge in net.edges else []
@@ -50,8 +50,8 @@ def closing_lanes(net: SumoNet, names: Iterable[str]) -> dict[str, set[int]]:
             raise Fault(f"--joint: the import has no edge or lane {name!r}")
         if len(lanes) == 1:
             raise Fault(f"--joint: edge {edge!r} has one lane, and none beside it")
-        found[edge].update(named)
-    return found
+        lanes_of_edge[edge].update(named)
+    return lanes_of_edge
 
 
 def bundles_of(
@@ -77,22 +77,22 @@ def bundles_of_edge(
     # For the first lanes: those without an open one, groups, less their shared edges.
     best: list[tuple[int, int, int, list[list[NetLane]]]] = [(0, 0, 0, [])]
     for end in range(1, len(edge.lanes) + 1):
-        found = []
+        candidates = []
         for lanes in (edge.lanes[end - size : end] for size in (1, 2) if size <= end):
             keys, shut = [(edge.name, lane.index) for lane in lanes], [lane for lane in lanes if lane.index in closing]
             alike = all(lane.closed == lanes[0].closed for lane in lanes)
             if len(lanes) == 1 or alike and (shut or may_share(keys[0], keys[1], following, waiting)):
-                alone, groups, shared, made = best[end - len(lanes)]
+                alone, groups, shared, bundles = best[end - len(lanes)]
                 alone += len(shut) if len(shut) == len(lanes) else 0
-                own = len(following[keys[0]] & following[keys[1]]) if len(lanes) == 2 else 0
-                found.append((alone, groups + 1, shared - own, [*made, lanes]))
-        best.append(min(found, key=lambda way: way[:3]))
+                common = len(following[keys[0]] & following[keys[1]]) if len(lanes) == 2 else 0
+                candidates.append((alone, groups + 1, shared - common, [*bundles, lanes]))
+        best.append(min(candidates, key=lambda way: way[:3]))
     return best[-1][3]
 
 
-def may_share(right: LaneKey, left: LaneKey, following: Targets, waiting: Targets | None) -> bool:
+def may_share(right_lane: LaneKey, left_lane: LaneKey, following: Targets, waiting: Targets | None) -> bool:
     """Whether two lanes side by side may be one link: not where they lead to no common edge, or where they wait for
     gaps to different edges. Always where one of them leads nowhere, or waiting is None."""
-    if waiting is None or not following[right] or not following[left]:
+    if waiting is None or not following[right_lane] or not following[left_lane]:
         return True
-    return bool(following[right] & following[left]) and waiting[right] == waiting[left]
+    return bool(following[right_lane] & following[left_lane]) and waiting[right_lane] == waiting[left_lane]

@@ -34,8 +34,8 @@ OUTPUT = re.compile(
 )
 NOWHERE = ("NUL", "NULL", "nul", "/dev/null")  # for SUMO: do not write it
 DEFAULTS = ("begin", "end", "seed", "ignore-route-errors")  # that stand for the words of the import
-DONE = {"net-file", "route-files", "additional-files", *DEFAULTS}
-HERE = {  # what a configuration asks for otherwise than it is done here, and what to do
+SUPPORTED = {"net-file", "route-files", "additional-files", *DEFAULTS}
+DONE_OTHERWISE = {  # what a configuration asks for otherwise than it is done here, and what to do
     "step-length": "steps are of one second",
     "time-to-teleport": "streetsim-run --rescue says after how many seconds of standing a vehicle is taken out "
     "and entered anew",
@@ -48,20 +48,20 @@ def read_configuration(path: str) -> dict[str, str]:
     """The options that a configuration (.sumocfg) sets, {long name: value as text}; the paths of FILES and WRITTEN are
     made those from the folder of the command, several with commas between. Of an option that is set twice the last
     counts, unless it has no value. Fault where the file cannot be read or is no XML."""
-    found = {}
+    options = {}
     for element in elements(path):
-        for one in element.iter():
-            value = one.get("value", one.get("v", (one.text or "").strip()))
+        for setting in element.iter():
+            value = setting.get("value", setting.get("v", (setting.text or "").strip()))
             if value:
-                found[SYNONYMS.get(one.tag, one.tag)] = value
-    beside = partial(os.path.join, os.path.dirname(path))
+                options[SYNONYMS.get(setting.tag, setting.tag)] = value
+    path_from_here = partial(os.path.join, os.path.dirname(path))
     for name in WRITTEN:
-        if found.get(name, NOWHERE[0]) not in NOWHERE:
-            found[name] = beside(found[name])
+        if options.get(name, NOWHERE[0]) not in NOWHERE:
+            options[name] = path_from_here(options[name])
     for name in FILES:
-        if name in found:
-            found[name] = ",".join(beside(part.strip()) for part in found[name].split(",") if part.strip())
-    return found
+        if name in options:
+            options[name] = ",".join(path_from_here(part.strip()) for part in options[name].split(",") if part.strip())
+    return options
 
 
 def files_named(path: str, options: Mapping[str, str]) -> tuple[str, list[str], list[str]]:
@@ -79,12 +79,12 @@ def tell_options(options: Mapping[str, str], report: Report) -> None:
     """Reports the options of a configuration that are not done here, outputs too, but for those of SILENT."""
     for name, value in options.items():
         off = value.lower() in FALSE
-        if name in DONE or SILENT.fullmatch(name) or off or (name in ("step-length", "scale") and is_one(value)):
+        if name in SUPPORTED or SILENT.fullmatch(name) or off or (name in ("step-length", "scale") and is_one(value)):
             continue
         if OUTPUT.fullmatch(name):
             report.ignored[f"{name} of the configuration (streetsim-run --sumo-output writes SUMO's files)"] += 1
-        elif name in HERE:
-            report.warn(f"the configuration's {name} {value} is not done: {HERE[name]}")
+        elif name in DONE_OTHERWISE:
+            report.warn(f"the configuration's {name} {value} is not done: {DONE_OTHERWISE[name]}")
         else:
             report.ignored[f"{name} of the configuration"] += 1
 

@@ -29,7 +29,7 @@ EQUAL, EQUAL_JOINING = 4.3, 6.5  # Gap.rolling where nobody has a main street, t
 NONE = Gap(0.0, 0.0, 0.0)  # where all stop they go in turn
 AFTER_STOP = Gap(18.5, 17.0, 5.0, 1.0, 0.3)  # to join any stream
 # The same where nobody has a main street, and at a stop sign.
-OTHERS = {
+STATE_GAPS = {
     EQUALS: {
         CROSSING: Gap(7.8, 2.8, 3.5, 0.0, 0.4, rolling=EQUAL), ENTERING: Gap(8.0, 2.0, 3.5, rolling=EQUAL),
         JOINING: Gap(9.2, 3.0, 5.0, rolling=EQUAL_JOINING),
@@ -74,66 +74,67 @@ def foes_by_movement(
     added: the turns that SUMO has not, by (edge, next edge); flows: as in conflicts_of."""
     used = (one for one in connections if flows.get((one.source, one.target)))
     of_request = {one.request: one for one in used if one.request is not None}
-    found: dict[EdgePair, dict[TurnKey, Foe]] = {(one.source, one.target): {} for one in of_request.values()}
-    for request, one in of_request.items():
-        if one.state == ALL_STOP:
-            before = [at for at, other in of_request.items() if other.source != one.source]
+    foes_of: dict[EdgePair, dict[TurnKey, Foe]] = {(one.source, one.target): {} for one in of_request.values()}
+    for request, yielding in of_request.items():
+        if yielding.state == ALL_STOP:
+            before = [at for at, other in of_request.items() if other.source != yielding.source]
         else:
             asked = (foe for foe in sorted(yields.get(request, ())) if foe in of_request)
-            before = [foe for foe in asked if not one.state == of_request[foe].state == ZIPPER]
+            before = [foe for foe in asked if not yielding.state == of_request[foe].state == ZIPPER]
         for foe in before:
-            found[one.source, one.target].update(foes(one, of_request[foe], network, added))
-    return found
+            foes_of[yielding.source, yielding.target].update(foes(yielding, of_request[foe], network, added))
+    return foes_of
 
 
 def foes(
-    one: NetConnection, other: NetConnection, network: Network, added: Mapping[EdgePair, Iterable[TurnKey]] = {}
+    yielding: NetConnection, foe: NetConnection, network: Network, added: Mapping[EdgePair, Iterable[TurnKey]] = {}
 ) -> dict[TurnKey, Foe]:
-    """A connection (other) as foes of one that gives way to it, one for each link of its next edge, by (link, lane,
+    """A connection (foe) as foes of one that gives way to it, one for each link of its next edge, by (link, lane,
     next link), whether or not the network has such a turn, and one for each turn between its edges that SUMO has not,
     as vehicles use these too. added: such turns, by (edge, next edge)."""
-    link, lane = network.place_of[other.source, other.source_lane]
-    links = network.links_of[other.source]
-    fast = joins_fast(one, other, network.links[link].speed, other.source in network.rings)
-    gap = gap_of(one, other, fast)
-    if one.target != other.target:
+    link, lane = network.place_of[foe.source, foe.source_lane]
+    links = network.links_of[foe.source]
+    fast = joins_fast(yielding, foe, network.links[link].speed, foe.source in network.rings)
+    gap = gap_of(yielding, foe, fast)
+    if yielding.target != foe.target:
         gap = gap.across(sum(len(network.links[link].lanes) for link in links))
-        if other.state in (one.state, MINOR):
-            gap = gap.longer(FACING.get(one.state, 0.0))
-    if one.state == other.state:
-        gap = gap.later(STANDING.get(one.state, 0.0))
-    slow = fast and one.state not in PACES  # which have a pace of their own
-    own = [(link, lane, following) for following in network.links_of[other.target]]
-    turns = [*own, *added.get((other.source, other.target), ())]
+        if foe.state in (yielding.state, MINOR):
+            gap = gap.longer(FACING.get(yielding.state, 0.0))
+    if yielding.state == foe.state:
+        gap = gap.later(STANDING.get(yielding.state, 0.0))
+    slow = fast and yielding.state not in PACES  # which have a pace of their own
+    own = [(link, lane, following) for following in network.links_of[foe.target]]
+    turns = [*own, *added.get((foe.source, foe.target), ())]
     return {turn: Foe(*turn, gap, slow, links[0]) for turn in turns}
 
 
-def joins_fast(one: NetConnection, other: NetConnection, speed: float, in_ring: bool) -> bool:
-    """Whether a connection joins the stream of a fast one (FAST). speed: of the other's street, metres a second;
-    in_ring: the other is in a roundabout, where its speed inside the junction counts."""
-    own = other.speed if in_ring and other.speed is not None else speed
-    return one.target == other.target and own > FAST
+def joins_fast(yielding: NetConnection, foe: NetConnection, speed: float, in_ring: bool) -> bool:
+    """Whether a connection joins the stream of a fast one (FAST). speed: of the foe's street, metres a second;
+    in_ring: the foe is in a roundabout, where its speed inside the junction counts."""
+    own = foe.speed if in_ring and foe.speed is not None else speed
+    return yielding.target == foe.target and own > FAST
 
 
-def gap_of(one: NetConnection, other: NetConnection, fast: bool) -> Gap:
+def gap_of(yielding: NetConnection, foe: NetConnection, fast: bool) -> Gap:
     """The gap that one who gives way needs before each vehicle of another connection, as for a street of one lane;
     fast: as joins_fast says. Zero where all stop."""
-    gap = JOINING if fast else ENTERING if one.target == other.target else CROSSING
-    return NONE if one.state == ALL_STOP else OTHERS[one.state][gap] if one.state in OTHERS else gap
+    gap = JOINING if fast else ENTERING if yielding.target == foe.target else CROSSING
+    state = yielding.state
+    return NONE if state == ALL_STOP else STATE_GAPS[state][gap] if state in STATE_GAPS else gap
 
 
 def gaps_by_movement(net: SumoNet) -> dict[EdgePair, dict[EdgePair, Gap]]:
     """The movements that go before each movement without a light, whether or not routes take it, with the gap that
     gap_of gives: {(edge, next edge): {(edge, next edge) that goes first: gap}}; a movement that gives way to none is
     left out, as are those, on both sides, that have a light or a request that is not known."""
-    found: defaultdict[EdgePair, dict[EdgePair, Gap]] = defaultdict(dict)
+    gaps: defaultdict[EdgePair, dict[EdgePair, Gap]] = defaultdict(dict)
     for junction, connections in connections_of(net).items():
         of_request = {one.request: one for one in connections if one.request is not None and not one.light}
-        for request, one in of_request.items():
+        for request, yielding in of_request.items():
             for foe in sorted(net.yields.get(junction, {}).get(request, ())):
                 if foe in of_request:
-                    other = of_request[foe]
-                    speed, in_ring = net.edges[other.source].lanes[0].speed, other.source in net.roundabouts
-                    fast = joins_fast(one, other, speed, in_ring)
-                    found[one.source, one.target][other.source, other.target] = gap_of(one, other, fast)
-    return dict(found)
+                    prior = of_request[foe]
+                    speed, in_ring = net.edges[prior.source].lanes[0].speed, prior.source in net.roundabouts
+                    fast = joins_fast(yielding, prior, speed, in_ring)
+                    gaps[yielding.source, yielding.target][prior.source, prior.target] = gap_of(yielding, prior, fast)
+    return dict(gaps)

@@ -37,7 +37,7 @@ class Constraint:
         """The most seconds that the phase may last."""
         return limits.PHASE_STEPS if self.most is None else min(self.most, limits.PHASE_STEPS)
 
-    def kept(self, seconds: int) -> int:
+    def clamp(self, seconds: int) -> int:
         """The nearest seconds that keep the constraint."""
         return min(self.high, max(self.low, seconds)) if any(self.values()) else seconds
 
@@ -81,15 +81,15 @@ def kept_values(light: str, program: LightProgram) -> list[tuple[int | None, int
 def pedestrians_of(light: str, program: LightProgram) -> dict[int, int]:
     """The greens of pedestrians, whole seconds, by phase, that a program's parameters say; Fault where one is no number
     or names no phase with a green."""
-    found = {}
+    greens = {}
     for key, text in program.parameters.items():
         if key.startswith(PEDESTRIANS):
             place = key.removeprefix(PEDESTRIANS)
             if not (place.isdecimal() and text.strip().isdecimal()):
                 raise Fault(f"light {light!r}: parameter {key}={text!r} is no whole seconds of a phase, from 0")
             refuse_no_green(light, int(place), program)
-            found[int(place)] = int(text)
-    return found
+            greens[int(place)] = int(text)
+    return greens
 
 
 def refuse_no_green(light: str, at: int, program: LightProgram) -> None:
@@ -100,24 +100,24 @@ def refuse_no_green(light: str, at: int, program: LightProgram) -> None:
         raise Fault(f"light {light!r}: phase {at}: pedestrians have no green in it ({program.phases[at][1]})")
 
 
-def checked(light: str, at: int, one: Constraint) -> Constraint:
+def checked(light: str, at: int, constraint: Constraint) -> Constraint:
     """The constraint of a light's phase; Fault where nothing could keep it."""
     where = f"light {light!r}: phase {at}: its least of"
-    if one.low > limits.PHASE_STEPS:
-        raise Fault(f"{where} {one.low} s is above the {limits.PHASE_STEPS} s that a phase may last")
-    if one.most is not None and one.low > one.most:
-        told = f"{one.low} s for pedestrians" if one.low > (one.least or 0) else f"{one.low} s"
-        raise Fault(f"{where} {told} is above its most of {one.most} s")
-    return one
+    if constraint.low > limits.PHASE_STEPS:
+        raise Fault(f"{where} {constraint.low} s is above the {limits.PHASE_STEPS} s that a phase may last")
+    if constraint.most is not None and constraint.low > constraint.most:
+        told = f"{constraint.low} s" + (" for pedestrians" if constraint.low > (constraint.least or 0) else "")
+        raise Fault(f"{where} {told} is above its most of {constraint.most} s")
+    return constraint
 
 
-Given = dict[str, dict[int, Constraint]]  # of a file, by light and phase
+LightConstraints = dict[str, dict[int, Constraint]]  # of a file, by light and phase
 
 
-def read_constraints(path: FilePath) -> Given:
+def read_constraints(path: FilePath) -> LightConstraints:
     """The constraints of a CSV file: light, phase (from 0), and whole seconds of least, most and pedestrians, each
     maybe empty. Fault where it cannot be read, a cell is wrong, or a phase has two rows."""
-    found: Given = {}
+    constraints: LightConstraints = {}
     for line, row in enumerate(read_table(path, COLUMNS), 2):
         cells = [row[name].strip() for name in COLUMNS[1:]]
         if wrong := next((cell for cell in cells if cell and not cell.isdecimal()), None):
@@ -125,57 +125,61 @@ def read_constraints(path: FilePath) -> Given:
         if not cells[0] or not any(cells[1:]):
             raise Fault(f"{path}: line {line}: a row has a phase, and a least, a most or a green of pedestrians")
         at, values = int(cells[0]), [int(cell) if cell else None for cell in cells[1:]]
-        own = found.setdefault(row["light"], {})
-        if at in own:
+        of_light = constraints.setdefault(row["light"], {})
+        if at in of_light:
             raise Fault(f"{path}: line {line}: light {row['light']!r}: phase {at} has two rows")
-        own[at] = Constraint(*values)
-    return found
+        of_light[at] = Constraint(*values)
+    return constraints
 
 
 def with_given(
-    light: str, program: LightProgram, own: Sequence[Constraint], given: Mapping[int, Constraint]
+    light: str, program: LightProgram, planned: Sequence[Constraint], file_constraints: Mapping[int, Constraint]
 ) -> list[Constraint]:
     """The constraints of a light with those of a file. Fault where a file loosens what the program keeps, contradicts
     it, or names no such phase."""
-    found = list(own)
-    for at, one in given.items():
-        if at >= len(found):
-            raise Fault(f"light {light!r}: no phase {at}: it has {len(found)}, from 0")
-        if one.pedestrians:
+    constraints = list(planned)
+    for at, file_constraint in file_constraints.items():
+        if at >= len(constraints):
+            raise Fault(f"light {light!r}: no phase {at}: it has {len(constraints)}, from 0")
+        if file_constraint.pedestrians:
             refuse_no_green(light, at, program)
-        before = found[at]
+        before = constraints[at]
         loose = [
             name
             for name, new, old, is_loose in (
-                ("least", one.least, before.least, lambda new, old: new < old),
-                ("most", one.most, before.most, lambda new, old: new > old),
-                ("pedestrians", one.pedestrians, before.pedestrians, lambda new, old: new < old),
+                ("least", file_constraint.least, before.least, lambda new, old: new < old),
+                ("most", file_constraint.most, before.most, lambda new, old: new > old),
+                ("pedestrians", file_constraint.pedestrians, before.pedestrians, lambda new, old: new < old),
             )
             if new is not None and old is not None and is_loose(new, old)
         ]
         if loose:
-            told = f"{loose[0]} of {getattr(one, loose[0])} s is looser than the {getattr(before, loose[0])} s"
+            new_seconds, old_seconds = (getattr(constraint, loose[0]) for constraint in (file_constraint, before))
+            told = f"{loose[0]} of {new_seconds} s is looser than the {old_seconds} s"
             raise Fault(f"light {light!r}: phase {at}: {told} that its plan keeps: change the plan's own first")
-        values = (new if new is not None else old for new, old in zip(one.values(), before.values(), strict=True))
-        found[at] = checked(light, at, Constraint(*values))
-    return found
+        pairs = zip(file_constraint.values(), before.values(), strict=True)
+        values = (new if new is not None else old for new, old in pairs)
+        constraints[at] = checked(light, at, Constraint(*values))
+    return constraints
 
 
-def with_walks(program: LightProgram, own: Sequence[Constraint], crossings: Mapping[int, float]) -> list[Constraint]:
+def with_walks(
+    program: LightProgram, planned: Sequence[Constraint], crossings: Mapping[int, float]
+) -> list[Constraint]:
     """The constraints with the greens of crossings: each lasts as long as its metres take on foot, or as it does now
     where that is shorter; the longest phase of a green is held to it. A green with pedestrians' seconds of its own in
     one of its phases, and a phase whose most is too short, stays as it is. crossings: metres by place in the states."""
-    found, seconds = list(own), [duration for duration, _ in program.phases]
+    constraints, seconds = list(planned), [duration for duration, _ in program.phases]
     for index, metres in crossings.items():
         for run in green_runs([state for _, state in program.phases], index):
-            if any(found[at].pedestrians for at in run):
+            if any(constraints[at].pedestrians for at in run):
                 continue
             need = min(ceil(metres / WALK), floor(sum(seconds[at] for at in run)))
             longest = max(run, key=lambda at: seconds[at])
-            rest = need - floor(sum(found[at].low or seconds[at] for at in run if at != longest))
-            if 0 < rest <= found[longest].high:
-                found[longest] = replace(found[longest], pedestrians=rest)
-    return found
+            rest = need - floor(sum(constraints[at].low or seconds[at] for at in run if at != longest))
+            if 0 < rest <= constraints[longest].high:
+                constraints[longest] = replace(constraints[longest], pedestrians=rest)
+    return constraints
 
 
 def green_runs(states: Sequence[str], index: int) -> Iterator[list[int]]:
@@ -194,15 +198,15 @@ def green_runs(states: Sequence[str], index: int) -> Iterator[list[int]]:
 def read_crossings(path: FilePath) -> Crossings:
     """The crossings on foot at lights of a network; empty where it has none. Fault where the file cannot be read."""
     metres: dict[str, float] = {}
-    found: Crossings = {}
+    crossings: Crossings = {}
     for element in elements(path, ["net"]):
         if element.tag == "edge" and element.get("function") == "crossing":
             lanes = [optional(path, lane, "length", at_least_zero(number), 0.0) for lane in element.iter("lane")]
             metres[element.get("id", "")] = max(lanes, default=0.0)
         elif element.tag == "connection" and (light := element.get("tl")) and element.get("to") in metres:
             index = attribute(path, element, "linkIndex", at_least_zero(int))
-            found.setdefault(light, {})[index] = metres[element.get("to", "")]
-    return found
+            crossings.setdefault(light, {})[index] = metres[element.get("to", "")]
+    return crossings
 
 
 def broken_in(light: str, program: LightProgram, constraints: Sequence[Constraint]) -> Iterator[str]:

@@ -30,13 +30,13 @@ from streetsim.sumo.wauts import day_lines, days_of, programs_shown
 from streetsim.sumo.yielding import equivalents
 
 # The network, its lights with their nodes, the commands of the run, the names of its vehicles.
-Made = tuple[Network, list[tuple[str, int]], list[Command], list[str]]
+ConvertedRun = tuple[Network, list[tuple[str, int]], list[Command], list[str]]
 
 
-def run_and_map(made: Made, report: Report) -> tuple[list[str], Map]:
+def run_and_map(converted_run: ConvertedRun, report: Report) -> tuple[list[str], Map]:
     """(the lines of a run as JSON texts; its map, with all that the report says), of what converted made. Fault where a
     limit of the simulator is passed, or `detectors_on_cells` raises one."""
-    network, lights, commands, names = made
+    network, lights, commands, names = converted_run
     mapping = map_of(network, lights, names, report)
     mapping.detectors = detectors_on_cells(network.detectors, mapping, network.closed_lanes, report)
     mapping.warnings, mapping.told = list(report.lines()), report.rows()
@@ -48,7 +48,7 @@ def run_and_map(made: Made, report: Report) -> tuple[list[str], Map]:
 def converted(
     net: SumoNet, types: Types, vehicles: Sequence[DemandVehicle], options: Options, report: Report,
     doubted: bool = True,
-) -> Made:
+) -> ConvertedRun:
     """(the network, the lights with their nodes, the commands, the names of the vehicles that drive) of a run;
     vehicles: in order of departure. What is left out or made otherwise than in SUMO is reported. Fault for what cannot
     be made, as a route without a connection. In net, programs may become those of the run's begin (wauts.days_of).
@@ -62,33 +62,33 @@ def converted(
     days = days_of(net, options.begin, last, report)
     paces = Paces(vehicles, types.drivings, lambda name: types.class_kept(name, options.classes))
     network = Network(net, options, report, flows, paces)
-    found = movements(net, {link.edge: link.limit for link in network.links}, flows)
+    movements_at = movements(net, {link.edge: link.limit for link in network.links}, flows)
     network.timings = timings
-    network.equivalents = equivalents(one for junction in found.values() for one in junction.values())
+    network.equivalents = equivalents(one for junction in movements_at.values() for one in junction.values())
     entered, driven = enters(vehicles, net, network, types, report)
     network.kinds = kinds_of(driven, types)
     network.starts = slow_starts(net, driven, types.drivings)
     network.reserved = reserved_lanes(network, driven, lambda name: types.class_kept(name, options.classes))
-    network.last = max((command["depart"] for command in entered), default=options.begin)
+    network.last_depart = max((command["depart"] for command in entered), default=options.begin)
     network.open_beside_works()
     if doubted:
         warn_of_rules(net, network, programs_shown(net, days), report)
         warn_of_clashes(net, report)
         warn_of_broken(net, report)
     ends = {light: day[1][0] - 1 for light, day in days.items() if len(day) > 1}
-    made = signal_commands(net, network, found, report, ends) + day_lines(net, network, days, flows, report)
-    lights = [(light, command["node"]) for light, command in made if "at" not in command]
+    signals = signal_commands(net, network, movements_at, report, ends) + day_lines(net, network, days, flows, report)
+    lights = [(light, command["node"]) for light, command in signals if "at" not in command]
     network.yields = conflicts_of(net, network, flows)
     sensing = (light for light, program in programs_shown(net, days) if light in days and program.kind != STATIC)
-    network.actuated = list(dict.fromkeys([*lights_not_static(net, (light for light, _ in made)), *sensing]))
+    network.actuated = list(dict.fromkeys([*lights_not_static(net, (light for light, _ in signals)), *sensing]))
     network.switches = sorted((clock, light, program) for light, day in days.items() for clock, program in day)
     network.programs = kept_programs(net, network, lights, flows)
     network.fixed = fixed_programs(net, network, lights, flows, lights_of_riders(entered, driven, types, network))
     giving_way = {one.node for one in network.yields}
     merges = [one for one in merges_of(net, network, flows) if one.command["node"] not in giving_way]
     if doubted and flows and options.permissive is None:
-        network.full = fullness(net, network, vehicles, merges, found)
-    turns = [command for _, command in made] + [one.command for one in merges]
+        network.full = fullness(net, network, vehicles, merges, movements_at)
+    turns = [command for _, command in signals] + [one.command for one in merges]
     commands = [network.load_command(), *turns, *entered]
     return network, lights, commands, [vehicle.name for vehicle in driven]
 
@@ -96,13 +96,13 @@ def converted(
 def refuse_over_limits(network: Network, load: str, names: Sequence[str]) -> None:
     """Fault where a network, its load line (load, as text) or the number of vehicles (of names) is above the
     simulator's limits."""
-    over = list(network.over_limits())
+    exceeded = list(network.over_limits())
     if len(names) > limits.VEHICLES:
-        over.append(f"{len(names):,} vehicles, at most {limits.VEHICLES:,}")
+        exceeded.append(f"{len(names):,} vehicles, at most {limits.VEHICLES:,}")
     if len(load) > limits.LINE:
-        over.append(f"a load line of {len(load):,} bytes, at most {limits.LINE:,}")
-    if over:
-        raise Fault(f"too large for streetsim: {'; '.join(over)}. Nothing was written")
+        exceeded.append(f"a load line of {len(load):,} bytes, at most {limits.LINE:,}")
+    if exceeded:
+        raise Fault(f"too large for streetsim: {'; '.join(exceeded)}. Nothing was written")
 
 
 def map_of(network: Network, lights: list[tuple[str, int]], names: list[str], report: Report) -> Map:
@@ -140,7 +140,7 @@ def map_of(network: Network, lights: list[tuple[str, int]], names: list[str], re
     )
 
 
-def options_again(mapping: Map, **more: Iterable[str]) -> Options:
+def options_again(mapping: Map, **further: Iterable[str]) -> Options:
     """The options of the import that made a map, with further values in those that are lists: joint, led, slow."""
     known: Json = {name: tuple(value) if isinstance(value, list) else value for name, value in mapping.options.items()}
-    return Options(**{**known, **{name: (*known.get(name, ()), *values) for name, values in more.items()}})
+    return Options(**{**known, **{name: (*known.get(name, ()), *values) for name, values in further.items()}})

@@ -25,7 +25,7 @@ from streetsim.sumo.types import DEFAULT, Mix, Sizes, Types, named_in, weight_of
 READ = {"id", "type", "depart", "route", "edges", "begin", "end"}
 READ |= {"number", "period", "probability", "vehsPerHour", "perHour", "repeat", "line"}
 READ_INSIDE = {"route", "routeDistribution", "stop"}  # elements in a vehicle, flow or trip
-KEPT = {"departSpeed"}  # of the further attributes, those that count
+USED_ATTRIBUTES = {"departSpeed"}  # of the further attributes, those that count
 ENDS = {"from", "to", "fromTaz", "toTaz", "via"}
 READ_OR_END = READ | ENDS
 DEPARTS = {"vehicle": "depart", "trip": "depart", "flow": "begin"}  # by element, the attribute by which SUMO sorts
@@ -55,7 +55,7 @@ class DemandVehicle:
     route: str = ""  # the name of its route, as SUMO has it; none where the route stands in the vehicle
     stops: tuple[Stop, ...] = ()
     line: str = ""  # of public transport
-    more: tuple[tuple[str, str], ...] = ()  # further attributes; those of KEPT count, others have no effect here
+    further_attributes: tuple[tuple[str, str], ...] = ()  # those of USED_ATTRIBUTES count, others have no effect here
 
 
 class Demand:
@@ -81,14 +81,14 @@ class Demand:
 
     def read_file(self, path: FilePath) -> None:
         """Adds what a file of routes has; Fault where it cannot be read or read_element raises one."""
-        last = -math.inf
+        latest = -math.inf
         for element in route_elements(path, self.roots):
             self.read_element(path, element)
             text = element.get(DEPARTS.get(element.tag, ""), "0")
             if element.tag in DEPARTS and text not in NO_TIMES:
-                if (clock := seconds(text)) < last:
+                if (clock := seconds(text)) < latest:
                     self.unsorted.append(element.get("id", ""))
-                last = max(last, clock)
+                latest = max(latest, clock)
 
     def read_element(self, path: FilePath, element: Element) -> None:
         """Adds an element of a file of routes or an additional file. Unrouted for a trip, or a vehicle or flow without
@@ -205,7 +205,7 @@ class Demand:
         """Reports all attributes of an element that are not among those that are read, and all elements in it that are
         not in READ_INSIDE, as ignored."""
         inside = (f"<{one.tag}>" for one in element if one.tag not in READ_INSIDE)
-        for name in [*(set(element.keys()) - read - KEPT), *inside]:
+        for name in [*(set(element.keys()) - read - USED_ATTRIBUTES), *inside]:
             self.report.ignored[f"{name} of {element.tag}s"] += 1
 
     def read_vehicle(self, path: FilePath, element: Element) -> None:
@@ -266,17 +266,17 @@ def enters(
     driven: list[DemandVehicle] = []
     used: Counter[int] = Counter()
     for vehicle in vehicles:
-        found = stops.on_route(vehicle.name, vehicle.edges, vehicle.stops)
+        route_stops = stops.on_route(vehicle.name, vehicle.edges, vehicle.stops)
         vclass = types.class_kept(vehicle.type, network.options.classes)
-        plan, why = plan_or_reason(vehicle, net, network, found.first_lanes(), vclass)
+        plan, why = plan_or_reason(vehicle, net, network, route_stops.first_lanes(), vclass)
         if plan is None:
             report.skipped[why] += 1
             continue
-        stops.add_visits((len(driven), vehicle.name, vehicle.type), plan, found, network)
+        stops.add_visits((len(driven), vehicle.name, vehicle.type), plan, route_stops, network)
         command: Command = {
             "cmd": "enter",
             "plan": list(plan),
-            "lane": entry_lane(plan, network, used, found),
+            "lane": entry_lane(plan, network, used, route_stops),
             "depart": max(0, math.ceil(vehicle.depart)),
         }
         size = sizes.next_size(vehicle.type) if network.options.sizes else 1
@@ -288,10 +288,10 @@ def enters(
     return commands, driven
 
 
-def entry_lane(plan: Sequence[int], network: Network, used: Counter[int], found: FoundStops) -> int:
+def entry_lane(plan: Sequence[int], network: Network, used: Counter[int], route_stops: FoundStops) -> int:
     """The lane (0 or 1 of its first link) where a vehicle enters: that of its stop on this link, else one of those that
     lead on, one after the other. used: how many entered each link so, to which it is added."""
-    if 0 in (stops := found.first_lanes()):
+    if 0 in (stops := route_stops.first_lanes()):
         return network.place_of[stops[0]][1]
     lanes = network.serves(plan[0], plan[1]) if len(plan) > 1 else range(len(network.links[plan[0]].lanes))
     used[plan[0]] += 1

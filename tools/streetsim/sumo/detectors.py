@@ -19,7 +19,7 @@ KINDS = {"inductionLoop": E1, "e1Detector": E1, "laneAreaDetector": E2, "e2Detec
 class SumoDetector:
     """A detector as its file tells it; period in seconds."""
 
-    where: str  # file and element, for what is told
+    element_label: str  # file and element, for what is told
     name: str
     kind: str
     lane: str
@@ -80,41 +80,43 @@ def detectors_on_cells(
     """Detectors on the cells of a map; those on lanes that are left out (closed: their names) are reported and left out
     too. Fault where the network does not have a lane, two have one name, there are more induction loops than a run may
     have, or `detector_cells` raises one."""
-    places = {mapping.lane_name(*place): place for place in mapping.lanes()}
-    found = {}
-    for one in detectors:
-        if one.name in found:
-            raise Fault(f"{one.where}: a second detector of this name")
-        if one.lane in places:
-            place, at = places[one.lane], mapping.links[places[one.lane][0]]
-            cells = detector_cells(one, at, report)
-            found[one.name] = Detector(one.name, one.kind, *place, *cells, one.period, at.cell_metres)
-        elif one.lane in closed:
-            told = f"detector {one.name} lies on {one.lane}, which is left out"
-            report.warn(told, [one.name], kind="detectors lie on lanes that are left out")
+    place_of_lane = {mapping.lane_name(*place): place for place in mapping.lanes()}
+    on_cells = {}
+    for detector in detectors:
+        if detector.name in on_cells:
+            raise Fault(f"{detector.element_label}: a second detector of this name")
+        if detector.lane in place_of_lane:
+            place, at = place_of_lane[detector.lane], mapping.links[place_of_lane[detector.lane][0]]
+            cells = detector_cells(detector, at, report)
+            named = detector.name, detector.kind
+            on_cells[detector.name] = Detector(*named, *place, *cells, detector.period, at.cell_metres)
+        elif detector.lane in closed:
+            told = f"detector {detector.name} lies on {detector.lane}, which is left out"
+            report.warn(told, [detector.name], kind="detectors lie on lanes that are left out")
         else:
-            raise Fault(f"{one.where}: the network has no lane {one.lane!r}")
-    if sum(one.kind == E1 for one in found.values()) > limits.METERS:
+            raise Fault(f"{detector.element_label}: the network has no lane {detector.lane!r}")
+    if sum(detector.kind == E1 for detector in on_cells.values()) > limits.METERS:
         raise Fault(f"more than {limits.METERS:,} induction loops")
-    return list(found.values())
+    return list(on_cells.values())
 
 
-def detector_cells(one: SumoDetector, link: MapLink, report: Report) -> tuple[int, int]:
+def detector_cells(detector: SumoDetector, link: MapLink, report: Report) -> tuple[int, int]:
     """The (first, last) cell, from 0, both included, of a detector on a link: the one in which a loop lies, or for a
     lane area the one in which it begins and the one whose end is nearest to its own. Fault where it lies beyond its
     lane by more than NEAR and is not friendly, or does not end behind its begin. One that goes on beyond its lane is no
     Fault but reported; friendly ones are not."""
-    begin = one.begin + link.metres if one.begin < 0 else one.begin
-    end = one.end + link.metres if one.end is not None and one.end < 0 else one.end
-    if not one.friendly and not -NEAR <= begin <= link.metres + NEAR:
-        raise Fault(f"{one.where}: begins at {one.begin:g} m, and lane {one.lane!r} is {link.metres:g} m long")
-    if end is not None and end > link.metres + NEAR and not one.friendly:
-        if not one.goes_on:
-            raise Fault(f"{one.where}: ends at {one.end:g} m, and lane {one.lane!r} is {link.metres:g} m long")
-        tell_beyond(one.name, one.lane, report)
+    begin = detector.begin + link.metres if detector.begin < 0 else detector.begin
+    end = detector.end + link.metres if detector.end is not None and detector.end < 0 else detector.end
+    lane = f"lane {detector.lane!r} is {link.metres:g} m long"
+    if not detector.friendly and not -NEAR <= begin <= link.metres + NEAR:
+        raise Fault(f"{detector.element_label}: begins at {detector.begin:g} m, and {lane}")
+    if end is not None and end > link.metres + NEAR and not detector.friendly:
+        if not detector.goes_on:
+            raise Fault(f"{detector.element_label}: ends at {detector.end:g} m, and {lane}")
+        tell_beyond(detector.name, detector.lane, report)
     if end is not None and end <= begin:
-        raise Fault(f"{one.where}: ends at {end:g} m, and begins at {begin:g} m")
+        raise Fault(f"{detector.element_label}: ends at {end:g} m, and begins at {begin:g} m")
     first, _ = link.cells_between(begin, begin)
-    if one.kind == E1:
+    if detector.kind == E1:
         return first, first
     return link.cells_between(begin, link.metres if end is None else end)

@@ -13,8 +13,8 @@ from streetsim.model.mapping import Map
 
 SPEEDS, CUTS = (0.2, 3.0), (-10.0, 20.0)  # the range of a factor, and of seconds
 KEYS = {"dawdle": (0, 1000), "cut": CUTS}  # numbers of a file, and their ranges
-MORE = ("speeds", "shares")  # tables of a file: by class of street, by edge
-ALL = ""  # the class of all streets
+TABLES = ("speeds", "shares")  # tables of a file: by class of street, by edge
+ALL_STREETS = ""  # the class of all streets
 SPREAD = 0.618  # of nodes, by which a fraction of a second is cut at as large a part of them
 Pairs = tuple[tuple[str, float], ...]
 
@@ -38,7 +38,7 @@ def factor_of(speeds: Iterable[tuple[str, float]], speed: float) -> float:
     """The factor of the free speed of a street with an allowed speed (metres a second): that of its class, else that
     of all."""
     known = {name: factor for name, factor in speeds}
-    return known.get(street_class(speed), known.get(ALL, 1.0))
+    return known.get(street_class(speed), known.get(ALL_STREETS, 1.0))
 
 
 def cut_at(cut: float, node: int) -> int:
@@ -54,7 +54,7 @@ def measured_of(mapping: Map) -> tuple[float, Pairs]:
 def refuse_unknown_streets(speeds: Iterable[tuple[str, float]], allowed: Iterable[float]) -> None:
     """Fault where a factor is of a class of which there is no street; allowed: the speeds of all, metres a second."""
     known = sorted({street_class(speed) for speed in allowed}, key=int)
-    if unknown := [name for name, _ in speeds if name != ALL and name not in known]:
+    if unknown := [name for name, _ in speeds if name != ALL_STREETS and name not in known]:
         raise Fault(f"--speed-factor: no street has a limit of {unknown[0]} km/h; there are {', '.join(known)}")
 
 
@@ -67,42 +67,42 @@ def refuse_unknown_edges(shares: Iterable[tuple[str, float]], edges: Collection[
 def shares_read(text: str, name: str) -> tuple[float | None, Pairs]:
     """(the share of all, None: none is given; shares by edge) of a text as 0.5, or EDGE=0.4,EDGE=0.3. Fault otherwise;
     name: of the word."""
-    every, found = None, {}
-    for part in names_in(text):
-        edge, sign, share = part.rpartition("=")
-        value = number_within(share, (0.0, 1.0), f"{name} {part}")
-        if sign and edge in found or not sign and every is not None:
+    every, shares = None, {}
+    for entry in names_in(text):
+        edge, sign, share = entry.rpartition("=")
+        value = number_within(share, (0.0, 1.0), f"{name} {entry}")
+        if sign and edge in shares or not sign and every is not None:
             raise Fault(f"{name}: {edge or 'the share of all'} is given twice")
         if sign:
-            found[edge] = value
+            shares[edge] = value
         else:
             every = value
-    return every, tuple(found.items())
+    return every, tuple(shares.items())
 
 
 def speeds_read(text: str, name: str) -> Pairs:
     """The factors of a text as 0.9, or 50=0.9,60=0.85, by class; Fault otherwise; name: of the word."""
-    found: dict[str, float] = {}
-    for part in names_in(text):
-        street, _, factor = part.rpartition("=")
+    factors: dict[str, float] = {}
+    for entry in names_in(text):
+        street, _, factor = entry.rpartition("=")
         if street and not street.isdecimal():
-            raise Fault(f"{name} {part}: {street!r} is no limit of a street in whole km/h")
-        if street in found:
+            raise Fault(f"{name} {entry}: {street!r} is no limit of a street in whole km/h")
+        if street in factors:
             raise Fault(f"{name}: {street or 'the factor of all'} is given twice")
-        found[street] = number_within(factor, SPEEDS, f"{name} {part}")
-    return tuple(found.items())
+        factors[street] = number_within(factor, SPEEDS, f"{name} {entry}")
+    return tuple(factors.items())
 
 
-def number_within(text: object, within: tuple[float, float], where: str) -> float:
-    """The number that a text, or a value of a file, has; Fault where it is none, or not within a range. where: what
-    the Fault begins with."""
-    least, most = within
+def number_within(text: object, within: tuple[float, float], fault_begin: str) -> float:
+    """The number that a text, or a value of a file, has; Fault where it is none, or not within a range. fault_begin:
+    what the Fault begins with."""
+    lowest, highest = within
     try:
         value = float(str(text))
     except ValueError:
         value = float("nan")
-    if not isfinite(value) or not least <= value <= most:
-        raise Fault(f"{where}: {text!r} is not {least:g} to {most:g}")
+    if not isfinite(value) or not lowest <= value <= highest:
+        raise Fault(f"{fault_begin}: {text!r} is not {lowest:g} to {highest:g}")
     return value
 
 
@@ -115,13 +115,13 @@ def read_drivers(path: FilePath) -> DriverValues:
             value = json.load(file)
         except ValueError as fault:
             raise Fault(f"{path}: no JSON: {fault}") from None
-    if not isinstance(value, dict) or not value.keys() & {*KEYS, *MORE}:
-        raise Fault(f"{path}: no drivers in it: none of {', '.join((*KEYS, *MORE))}")
+    if not isinstance(value, dict) or not value.keys() & {*KEYS, *TABLES}:
+        raise Fault(f"{path}: no drivers in it: none of {', '.join((*KEYS, *TABLES))}")
     numbers = {key: number_within(value[key], within, f"{path}: {key}") for key, within in KEYS.items() if key in value}
     if numbers.get("dawdle", 0) % 1:
         raise Fault(f"{path}: dawdle: {value['dawdle']!r} is no whole number")
     dawdle = int(numbers["dawdle"]) if "dawdle" in numbers else None
-    return DriverValues(dawdle, numbers.get("cut"), *(pairs_in(path, value, key) for key in MORE))
+    return DriverValues(dawdle, numbers.get("cut"), *(pairs_in(path, value, key) for key in TABLES))
 
 
 def pairs_in(path: FilePath, value: Json, key: str) -> Pairs:
@@ -135,17 +135,17 @@ def pairs_in(path: FilePath, value: Json, key: str) -> Pairs:
     return tuple((name, number_within(one, within, f"{path}: {key}, {name!r}")) for name, one in table.items())
 
 
-def with_cut(shown: list[bool], begins: Iterable[tuple[int, int]], letters: str, cut: int) -> list[bool]:
+def with_cut(is_shown: list[bool], begins: Iterable[tuple[int, int]], letters: str, cut: int) -> list[bool]:
     """What a turn is shown in each second, with so many seconds of the begin of each green left out, but for its last
     second; below 0: with so many seconds of yellow behind it shown, but for the last of these. begins: (second, length)
     of its greens; letters: of its signal in each second."""
-    made, count = list(shown), len(shown)
+    cut_shown, count = list(is_shown), len(is_shown)
     for begin, length in begins:
         if cut > 0:
             for second in range(begin, begin + min(cut, length - 1)):
-                made[second % count] = False
+                cut_shown[second % count] = False
         end = begin + length
         yellow = next((at for at in range(count) if letters[(end + at) % count] not in "yY"), count)
         for second in range(end, end + min(-cut, yellow - 1)):
-            made[second % count] = True
-    return made
+            cut_shown[second % count] = True
+    return cut_shown

@@ -36,7 +36,7 @@ class Driving:
     sigma: float = 0.5
     factor: float = 1.0  # of the limit, in the mean
     deviation: float = 0.1  # of the factor
-    most: float = 55.56  # metres a second
+    max_speed: float = 55.56  # metres a second
 
     def slowness(self, speed: float) -> float:
         """Mean seconds for a metre where speed is allowed (metres a second, above 0)."""
@@ -46,15 +46,15 @@ class Driving:
         """What is lost of a speed by chance, in the mean; metres a second."""
         return self.sigma / 2 * min(self.accel, speed)
 
-    def gaining(self, speed: float, first: float = 0.0, metres: float = math.inf) -> float:
+    def gaining(self, speed: float, begin_speed: float = 0.0, metres: float = math.inf) -> float:
         """Seconds lost, on a street of some metres, from a first speed on until the own one where speed is allowed is
         reached; both metres a second."""
-        own, accel = min(self.most, self.factor * speed), self.mean_accel()
-        if not own:
+        own_speed, accel = min(self.max_speed, self.factor * speed), self.mean_accel()
+        if not own_speed:
             return 0.0
-        last = min(max(first, own), math.sqrt(first**2 + 2 * accel * metres))
-        driven = (last**2 - first**2) / (2 * accel)
-        return max(0.0, (last - first) / accel - driven / own)
+        end_speed = min(max(begin_speed, own_speed), math.sqrt(begin_speed**2 + 2 * accel * metres))
+        driven = (end_speed**2 - begin_speed**2) / (2 * accel)
+        return max(0.0, (end_speed - begin_speed) / accel - driven / own_speed)
 
     def mean_accel(self) -> float:
         """Metres a second and second with which one gains speed in the mean."""
@@ -65,19 +65,19 @@ USUAL = Driving()
 
 
 @cache
-def slownesses(one: Driving, speed: float) -> tuple[tuple[float, float], ...]:
+def slownesses(driving: Driving, speed: float) -> tuple[tuple[float, float], ...]:
     """(seconds for a metre, share) of the vehicles of a type where speed is allowed (metres a second, above 0)."""
-    found = []
+    shares = []
     for deviations, weight in POINTS:
-        own = speed * min(MOST_FACTOR, max(LEAST_FACTOR, one.factor + deviations * one.deviation))
-        found.append((1 / max(SLOWEST, min(one.most, own) - one.lost(own)), weight))
-    return tuple(found)
+        own_speed = speed * min(MOST_FACTOR, max(LEAST_FACTOR, driving.factor + deviations * driving.deviation))
+        shares.append((1 / max(SLOWEST, min(driving.max_speed, own_speed) - driving.lost(own_speed)), weight))
+    return tuple(shares)
 
 
 @cache
-def mean_slowness(one: Driving, speed: float) -> float:
+def mean_slowness(driving: Driving, speed: float) -> float:
     """Mean seconds for a metre, as Driving.slowness says."""
-    return sum(seconds * share for seconds, share in slownesses(one, speed))
+    return sum(seconds * share for seconds, share in slownesses(driving, speed))
 
 
 def driving_of(path: FilePath, element: Element, accel: float, vclass: str) -> Driving:
@@ -88,7 +88,7 @@ def driving_of(path: FilePath, element: Element, accel: float, vclass: str) -> D
         deviation = DEVIATIONS.get(vclass, USUAL.deviation)
     deviation = optional(path, element, "speedDev", at_least_zero(number), deviation)
     sigma = optional(path, element, "sigma", at_least_zero(number), USUAL.sigma)
-    most = optional(path, element, "maxSpeed", above_zero(number), MOST_SPEEDS.get(vclass, USUAL.most))
+    most = optional(path, element, "maxSpeed", above_zero(number), MOST_SPEEDS.get(vclass, USUAL.max_speed))
     has_sigma = KRAUSS in element.get("carFollowModel", KRAUSS)
     return Driving(accel, min(1.0, sigma) if has_sigma else 0.0, factor, deviation, most)
 

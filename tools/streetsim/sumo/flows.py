@@ -37,30 +37,30 @@ def elements_in_interval(path: FilePath, interval: Element) -> Iterator[Element]
         yield one
 
 
-def departs(path: FilePath, element: Element, draws: Random, last: float | None = None) -> list[float]:
+def departs(path: FilePath, element: Element, draws: Random, run_end: float | None = None) -> list[float]:
     """The seconds at which the vehicles of a flow depart, in order: its number spread evenly from its begin to its end;
     or begin + k * period below its end, its number at most; with a probability, or a period exp(RATE), by draws. A flow
-    that tells no end, nor both a rate and a number, has the end of the run (last), else a day, as in SUMO. Fault where
-    there are more than may drive, it ends before it begins, or refuse_two_rates or moments raises one. element: the
-    <flow>."""
+    that tells no end, nor both a rate and a number, has the end of the run (run_end), else a day, as in SUMO. Fault
+    where there are more than may drive, it ends before it begins, or refuse_two_rates or moments raises one. element:
+    the <flow>."""
     begin = optional(path, element, "begin", at_least_zero(seconds), 0.0)
-    most = optional(path, element, "number", only(int, lambda value: 0 <= value <= LARGEST), None)
-    usual = begin + DAY if last is None else max(begin, last)
-    if most is not None and any(element.get(name) is not None for name in RATES):
+    count = optional(path, element, "number", only(int, lambda value: 0 <= value <= LARGEST), None)
+    usual = begin + DAY if run_end is None else max(begin, run_end)
+    if count is not None and any(element.get(name) is not None for name in RATES):
         usual = math.inf
     end = optional(path, element, "end", seconds, usual)
     if end < begin:
         raise Fault(f"{element_told(path, element)}: ends at {end:g} s, before it begins at {begin:g} s")
     refuse_two_rates(path, element)
-    if most is None or end == math.inf:
-        times: Iterator[float] = takewhile(lambda time: time < end, islice(moments(path, element, begin, draws), most))
+    if count is None or end == math.inf:
+        times: Iterator[float] = takewhile(lambda time: time < end, islice(moments(path, element, begin, draws), count))
     else:
-        period = (end - begin) / max(1, most)
-        times = (begin + at * period for at in range(most))
-    found = list(islice(times, limits.VEHICLES + 1))
-    if len(found) > limits.VEHICLES:
+        period = (end - begin) / max(1, count)
+        times = (begin + at * period for at in range(count))
+    departures = list(islice(times, limits.VEHICLES + 1))
+    if len(departures) > limits.VEHICLES:
         raise Fault(f"{element_told(path, element)}: more than {limits.VEHICLES:,} vehicles")
-    return found
+    return departures
 
 
 def refuse_two_rates(path: FilePath, element: Element) -> None:

@@ -16,13 +16,13 @@ from streetsim.sumo.network import Network
 from streetsim.sumo.signals import movements
 from streetsim.sumo.yielding import capacity
 
-PART, LEAST_PART = 900, 1 / 8  # seconds that are looked at alone; share of the vehicles, below which these are not
-LEAST = 30.0  # vehicles an hour of a lane
+PART_SECONDS, LEAST_PART = 900, 1 / 8  # that are looked at alone; share of the vehicles, below which these are not
+LEAST_FLOW = 30.0  # vehicles an hour of a lane
 # Shares of what can pass, from which on a lane at a light is nearly full: where some wait for gaps, and where none do.
 FULL, FULL_IN_TURN = 0.8, 1.0
 WAYS = {"l": LEFT, "r": RIGHT, "t": TURNAROUND}  # by SUMO's directions; others are STRAIGHT
 Movements = Mapping[str, Mapping[int, CrossingMovement]]  # by junction and request, as `movements` gives them
-Found = tuple[FullLane, Collection[EdgePair]]  # and the edge pairs of those who pass it
+LaneAndPairs = tuple[FullLane, Collection[EdgePair]]  # and the edge pairs of those who pass it
 
 
 class OnWay(Protocol):
@@ -38,23 +38,23 @@ class OnWay(Protocol):
 
 
 def fullness(
-    net: SumoNet, network: Network, vehicles: Sequence[DemandVehicle], merges: Sequence[Merge], whole: Movements
+    net: SumoNet, network: Network, vehicles: Sequence[DemandVehicle], merges: Sequence[Merge], of_demand: Movements
 ) -> Fullness:
     """The nearly full lanes of a demand, by its flows and by those of each quarter of an hour in which more than
     LEAST_PART of the vehicles depart. The flow of an edge is split evenly over the lanes that lead on, as vehicles of
-    SUMO do not see who turns ahead. whole: the movements by the flows of the whole demand."""
+    SUMO do not see who turns ahead. of_demand: the movements by the flows of the whole demand."""
     ways, limits_of = ways_of(net), {link.edge: link.limit for link in network.links}
-    worst: dict[str, Found] = {}
+    worst: dict[str, LaneAndPairs] = {}
     parts = ((flows, movements(net, limits_of, flows)) for flows in flows_of_parts(vehicles))
-    for flows, found in chain([(hourly_flows(vehicles), whole)], parts):
-        note_worst(worst, chain(full_at_lights(found, ways), full_merges(merges, flows)))
+    for flows, part_movements in chain([(hourly_flows(vehicles), of_demand)], parts):
+        note_worst(worst, chain(full_at_lights(part_movements, ways), full_merges(merges, flows)))
     return counted(worst, vehicles)
 
 
 def full_lanes_at_lights(net: SumoNet, vehicles: Sequence[OnWay], limits_of: Mapping[str, int]) -> list[FullLane]:
     """The nearly full lanes at lights under the programs of a network, as `fullness` finds them. limits_of: cells a
     step, by edge."""
-    ways, worst = ways_of(net), dict[str, Found]()
+    ways, worst = ways_of(net), dict[str, LaneAndPairs]()
     for flows in chain([hourly_flows(vehicles)], flows_of_parts(vehicles)):
         note_worst(worst, full_at_lights(movements(net, limits_of, flows), ways))
     return [one for one, _ in worst.values()]
@@ -65,41 +65,43 @@ def ways_of(net: SumoNet) -> dict[EdgePair, str]:
     return {(one.source, one.target): WAYS.get(one.direction.lower(), STRAIGHT) for one in net.connections}
 
 
-def note_worst(worst: dict[str, Found], found: Iterable[Found]) -> None:
+def note_worst(worst: dict[str, LaneAndPairs], full_lanes: Iterable[LaneAndPairs]) -> None:
     """Keeps of each lane what is fullest of what was known and what was found."""
-    for one, pairs in found:
-        if one.lane not in worst or worst[one.lane][0].demand < one.demand:
-            worst[one.lane] = one, pairs
+    for full_lane, pairs in full_lanes:
+        if full_lane.lane not in worst or worst[full_lane.lane][0].demand < full_lane.demand:
+            worst[full_lane.lane] = full_lane, pairs
 
 
-def full_at_lights(found: Movements, ways: Mapping[EdgePair, str]) -> Iterator[Found]:
+def full_at_lights(movements_at: Movements, ways: Mapping[EdgePair, str]) -> Iterator[LaneAndPairs]:
     """The nearly full lanes of all junctions with lights."""
-    for name, own in found.items():
-        yield from full_at_light(name, own.values(), ways)
+    for name, at_junction in movements_at.items():
+        yield from full_at_light(name, at_junction.values(), ways)
 
 
 def flows_of_parts(vehicles: Sequence[OnWay]) -> Iterator[Flows]:
     """The flows of the parts of a demand that are looked at alone, beside the whole."""
     parts: defaultdict[int, list[OnWay]] = defaultdict(list)
     for vehicle in vehicles:
-        parts[int(vehicle.depart // PART)].append(vehicle)
+        parts[int(vehicle.depart // PART_SECONDS)].append(vehicle)
     if len(parts) > 1:
         yield from (hourly_flows(own) for own in parts.values() if len(own) >= LEAST_PART * len(vehicles))
 
 
-def full_at_light(junction: str, own: Iterable[CrossingMovement], ways: Mapping[EdgePair, str]) -> Iterator[Found]:
+def full_at_light(
+    junction: str, at_junction: Iterable[CrossingMovement], ways: Mapping[EdgePair, str]
+) -> Iterator[LaneAndPairs]:
     """The nearly full lanes of a junction with a light, by its movements; ways: by edge pair."""
     lanes: defaultdict[tuple[str, int], list[CrossingMovement]] = defaultdict(list)
-    for one in own:
-        lanes[one.lane].append(one)
+    for movement in at_junction:
+        lanes[movement.lane].append(movement)
     for (edge, index), sharing in lanes.items():
-        wish = sum(one.flow for one in sharing)
-        demand = wish / min(capacity(sharing, wish), by_greens(sharing, wish)) if wish >= LEAST else 0.0
-        waiting = [one for one in sharing if one.waits and one.flow]
+        wish = sum(movement.flow for movement in sharing)
+        demand = wish / min(capacity(sharing, wish), by_greens(sharing, wish)) if wish >= LEAST_FLOW else 0.0
+        waiting = [movement for movement in sharing if movement.waits and movement.flow]
         if demand >= (FULL if waiting else FULL_IN_TURN):
-            source, target = max(waiting or sharing, key=lambda one: one.flow).pair
+            source, target = max(waiting or sharing, key=lambda movement: movement.flow).pair
             where = junction, f"{edge}_{index}", ways[source, target], source, target
-            yield FullLane(*where, round(demand, 2)), [one.pair for one in sharing]
+            yield FullLane(*where, round(demand, 2)), [movement.pair for movement in sharing]
 
 
 def by_greens(sharing: Sequence[CrossingMovement], wish: float) -> float:
@@ -111,7 +113,7 @@ def by_greens(sharing: Sequence[CrossingMovement], wish: float) -> float:
     return sum(until_first(queue, share) if share else queue for share, queue in queues) * 3600 / cycle
 
 
-def full_merges(merges: Iterable[Merge], flows: Flows) -> Iterator[Found]:
+def full_merges(merges: Iterable[Merge], flows: Flows) -> Iterator[LaneAndPairs]:
     """Where lanes become one and nearly as many vehicles wish to pass as can."""
     for one in merges:
         pairs = {pair: flow for pair, flow in flows.items() if pair[0] in one.edges}
@@ -121,7 +123,7 @@ def full_merges(merges: Iterable[Merge], flows: Flows) -> Iterator[Found]:
             yield FullLane(one.junction, source, MERGING, source, target, round(demand, 2)), pairs
 
 
-def counted(worst: Mapping[str, Found], vehicles: Iterable[DemandVehicle]) -> Fullness:
+def counted(worst: Mapping[str, LaneAndPairs], vehicles: Iterable[DemandVehicle]) -> Fullness:
     """The lanes with the vehicles that pass them, the fullest first; worst: by lane."""
     lanes_of: defaultdict[EdgePair, list[str]] = defaultdict(list)
     for lane, (_, pairs) in worst.items():

@@ -18,7 +18,7 @@ def headway(speed: float) -> float:
     return BEHIND + ROOM / speed
 
 
-def leaving(green: float, speed: float, accel: float = ACCELERATION) -> float:
+def vehicles_leaving(green: float, speed: float, accel: float = ACCELERATION) -> float:
     """How many vehicles, one at least, leave a queue in SUMO in some seconds of green; speed: metres a second."""
     return max(1.0, (green - speed / (2 * accel) + EARLY) / headway(speed))
 
@@ -37,7 +37,7 @@ def passing_here(seconds: int, limit: int) -> float:
 def hidden_start(length: int, speed: float, limit: int, accel: float = ACCELERATION) -> int:
     """How many seconds at the begin of a green of length seconds are not shown, so that as many pass here as in SUMO.
     speed: metres a second; limit: cells a step."""
-    return max(0, length - green_here(leaving(length, speed, accel), limit))
+    return max(0, length - green_here(vehicles_leaving(length, speed, accel), limit))
 
 
 @cache
@@ -47,19 +47,19 @@ def hidden_middle(length: int, speed: float, limit: int, accel: float = ACCELERA
     at once, as there. A green below TWO_PARTS has them at its begin. speed: metres a second; limit: cells a step."""
     if length < TWO_PARTS:
         return 0, hidden_start(length, speed, limit, accel)
-    half, vehicles = length // 2, leaving(length, speed, accel)
+    half, vehicles = length // 2, vehicles_leaving(length, speed, accel)
 
-    def off(pause: int) -> float:
+    def difference(pause: int) -> float:
         """How far, 0 or more, the vehicles that pass here, but for pause seconds in the middle, are from SUMO's."""
         passing = passing_here(length, limit)
         if pause:
             passing = passing_here(half, limit) + passing_here(length - half - pause, limit)
         return abs(passing - vehicles)
 
-    return half, half + min((0, *range(2, length - half)), key=off)
+    return half, half + min((0, *range(2, length - half)), key=difference)
 
 
-def parts_shown(length: int, seconds: int, parts: int, lead: int | None = None) -> list[tuple[int, int]]:
+def parts_shown(length: int, seconds: int, part_count: int, lead: int | None = None) -> list[tuple[int, int]]:
     """Where seconds of a permissive green of length seconds are shown, (begin, end) from its begin, the end not
     included: at its end, as those who are given way to go first; or in parts with equal waits before them, so that a
     vehicle that waits holds its lane up for less long, unless a part would have less than two seconds, or more than 0.9
@@ -67,9 +67,9 @@ def parts_shown(length: int, seconds: int, parts: int, lead: int | None = None) 
     if lead is not None and length - seconds - lead >= LEAST_PAUSE and seconds >= 2:
         first = seconds // 2
         return [(lead, lead + first), (length - seconds + first, length)]
-    parts = parts if 2 * parts <= seconds <= 0.9 * length else 1
-    wait, shown = (length - seconds) / parts, seconds / parts
-    return [(round((at + 1) * wait + at * shown), round((at + 1) * (wait + shown))) for at in range(parts)]
+    part_count = part_count if 2 * part_count <= seconds <= 0.9 * length else 1
+    wait, shown = (length - seconds) / part_count, seconds / part_count
+    return [(round((at + 1) * wait + at * shown), round((at + 1) * (wait + shown))) for at in range(part_count)]
 
 
 def parts_shown_in_red(length: int, seconds: int) -> list[tuple[int, int]]:

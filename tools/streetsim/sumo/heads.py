@@ -13,7 +13,7 @@ from functools import cache
 # Seconds from when one that waited goes until both lanes move again; chosen of 5.0 and 7.0 at lone crosses with 50 to
 # 350 vehicles an hour from each side, of which 20 % turn left and none or 20 % right.
 AGAIN = 7.0
-PART = 0.1  # of a second, in which is reckoned
+TIME_STEP = 0.1  # of a second, in which is reckoned
 Pair = tuple[float, float]  # of the own lane and the other
 
 
@@ -34,13 +34,18 @@ class Heads:
 def passing_heads(heads: Heads, seconds: float) -> float:
     """How many vehicles of the own lane pass in so many seconds (0 or more) of a green, while both lanes have queues,
     on average."""
-    (own, other), (freed, gone) = heads.waits, heads.freed
-    step, again = max(1, round(heads.headway / PART)), round(AGAIN / PART)
-    both, held, holding = [0.0], [0.0], [0.0]  # by the time left: two heads come; the own one waits; the other one
-    for left in range(1, round(seconds / PART) + 1):
-        before, anew = max(0, left - step), min(1.0, left / again) + both[max(0, left - again)]
-        one = min(1.0, left / step)  # that passes now
-        both.append((1 - own - other) * (one + both[before]) + own * held[before] + other * (one + holding[before]))
-        held.append(freed * anew + (1 - freed) * held[before])
-        holding.append(gone * anew + (1 - gone) * (one + holding[before]))
-    return both[-1]
+    (own_waits, other_waits), (own_freed, other_freed) = heads.waits, heads.freed
+    step, again = max(1, round(heads.headway / TIME_STEP)), round(AGAIN / TIME_STEP)
+    # By the time left: two heads come; the own one waits; the other one.
+    two_come, own_held, other_held = [0.0], [0.0], [0.0]
+    for left in range(1, round(seconds / TIME_STEP) + 1):
+        before, passing_again = max(0, left - step), min(1.0, left / again) + two_come[max(0, left - again)]
+        passing_now = min(1.0, left / step)  # that passes now
+        two_come.append(
+            (1 - own_waits - other_waits) * (passing_now + two_come[before])
+            + own_waits * own_held[before]
+            + other_waits * (passing_now + other_held[before])
+        )
+        own_held.append(own_freed * passing_again + (1 - own_freed) * own_held[before])
+        other_held.append(other_freed * passing_again + (1 - other_freed) * (passing_now + other_held[before]))
+    return two_come[-1]

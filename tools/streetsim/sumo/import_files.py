@@ -9,7 +9,7 @@ from streetsim.model.names import read_own
 from streetsim.model.sources import Sources
 from streetsim.sumo.additional import read_additional
 from streetsim.sumo.configuration import tell_options
-from streetsim.sumo.converting import Made, converted, run_and_map
+from streetsim.sumo.converting import ConvertedRun, converted, run_and_map
 from streetsim.sumo.demand import Demand, Unrouted
 from streetsim.sumo.import_ways import vehicles_with_ways
 from streetsim.sumo.net import read_net
@@ -17,19 +17,19 @@ from streetsim.sumo.network import Options
 from streetsim.sumo.types import Types
 
 
-def read_and_converted(sources: Sources, options: Options, report: Report, told: dict[str, str]) -> Made:
-    """What `convert` makes of the sources. told: the options of SUMO's configuration, empty where none was given. The
-    routes that a configuration names may be trips without ways: then these get ways, the sources change to say so
+def read_and_converted(sources: Sources, options: Options, report: Report, configured: dict[str, str]) -> ConvertedRun:
+    """What `convert` makes of the sources. configured: the options of SUMO's configuration, empty where none was given.
+    The routes that a configuration names may be trips without ways: then these get ways, the sources change to say so
     (routes empty, trips in their place), and the report begins anew. Unrouted where trips without ways come from
     elsewhere; Fault where `convert` raises one."""
-    tell_options(told, report)
+    tell_options(configured, report)
     try:
         return convert(sources.net, sources.additional, sources.routes, options, report, sources.trips)
     except Unrouted:
-        if not told or sources.trips:
+        if not configured or sources.trips:
             raise
     report.clear()
-    tell_options(told, report)
+    tell_options(configured, report)
     how = "shortest by free speed, signals and volumes, as by --trips (better ways: streetsim-route)"
     report.warn(f"trips have the ways that are {how}")
     sources.routes, sources.trips = [], sources.routes
@@ -37,14 +37,14 @@ def read_and_converted(sources: Sources, options: Options, report: Report, told:
 
 
 def write_run(
-    output: str, map_output: str, made: Made, report: Report, sources: Sources | None = None, names: str | None = None,
-    end: int = 0,
+    output: str, map_output: str, converted_run: ConvertedRun, report: Report, sources: Sources | None = None,
+    names: str | None = None, end: int = 0,
 ) -> Map:  # fmt: skip
-    """Writes the run to `output` and its map to `map_output`, and gives the map. made: of `convert`; sources: files
-    that the map is to name, or none; names: path of a file of names of one's own, or none; end: the clock at which the
-    configuration ends the run, or 0. Fault where a limit of the simulator is passed, or a file cannot be read or
-    written."""
-    lines, mapping = run_and_map(made, report)
+    """Writes the run to `output` and its map to `map_output`, and gives the map. converted_run: of `convert`; sources:
+    files that the map is to name, or none; names: path of a file of names of one's own, or none; end: the clock at
+    which the configuration ends the run, or 0. Fault where a limit of the simulator is passed, or a file cannot be read
+    or written."""
+    lines, mapping = run_and_map(converted_run, report)
     if names:
         read_own(names, mapping)
     mapping.sources, mapping.end = sources.written(map_output, lines) if sources else {}, end
@@ -57,7 +57,7 @@ def write_run(
 def convert(
     net_path: str, additional: Sequence[str], routes: Sequence[str], options: Options, report: Report,
     trips: Sequence[str] = (),
-) -> Made:  # fmt: skip
+) -> ConvertedRun:  # fmt: skip
     """(the network, its lights with their nodes, the commands of the run, the names of its vehicles), of files of SUMO;
     additional, routes, trips: paths. trips: files whose vehicles get ways; where there are some, those of `routes` are
     read with them. Unrouted where there are none and a vehicle has no route. What is left out or otherwise than in SUMO

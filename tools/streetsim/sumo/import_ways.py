@@ -25,9 +25,10 @@ def vehicles_with_ways(
     graph = graph_of_net(net)
     return [
         DemandVehicle(
-            trip.name, trip.depart, graph.names(trip.path), trip.type, trip.route, trip.stops, trip.line, trip.more
+            trip.name, trip.depart, graph.names(trip.path), trip.type, trip.route, trip.stops, trip.line,
+            trip.further_attributes,
         )
-        for trip in trips_with_ways(net, graph, types, paths, options, report).all
+        for trip in trips_with_ways(net, graph, types, paths, options, report).trips
     ]
 
 
@@ -43,15 +44,15 @@ def trips_with_ways(
     """
     trips = read_trips(paths, net, graph, types, options, report)
     lost: set[str] = set()
-    if any(not trip.path for trip in trips.all):
+    if any(not trip.path for trip in trips.trips):
         free, capacity = times_and_capacities_without_routes(net, graph, replace(options, joint=(), led=(), slow=()))
 
         def search(wishes: Sequence[Wish], costs: Costs) -> list[FoundPath]:
             """What a router finds for each wish by some costs, sorted by target."""
             router = Router(graph, costs)
-            return [router.found(wish) for wish in by_target(wishes)]
+            return [router.best_path(wish) for wish in by_target(wishes)]
 
-        lost = {trip.name for trip in first_ways(graph, trips.all, free, capacity, options.seed, search)}
+        lost = {trip.name for trip in first_ways(graph, trips.trips, free, capacity, options.seed, search)}
     if lost:
         report.skipped[NO_WAY] += len(lost)
-    return Trips([trip for trip in trips.all if trip.name not in lost], trips.types)
+    return Trips([trip for trip in trips.trips if trip.name not in lost], trips.types)

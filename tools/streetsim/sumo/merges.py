@@ -12,11 +12,11 @@ from streetsim.sumo.greens import green_here
 from streetsim.sumo.net import ZIPPER, NetConnection, SumoNet, connections_of
 from streetsim.sumo.network import Network
 
-CYCLE, LEAST = 12, 3  # seconds of a zipper's turns, and of the shorter one of two
+CYCLE, LEAST_TURN = 12, 3  # seconds of a zipper's turns, and of the shorter one of two
 TOGETHER = 6  # of them, in which both go at most, where there is room for both streets, as lone zippers chose
 ALONE = 2  # of them, at least, in which the street goes alone that goes last when both go
 ZIPPED, ZIPPED_HERE = 1730.0, 1590.0  # vehicles an hour that pass a zipper in SUMO, and here
-MORE = 1.1  # in whose place one counts of the street that needs less than half
+LESSER_WEIGHT = 1.1  # in whose place one counts of the street that needs less than half
 TURN, PASSING = 3, 3.36  # seconds of each of two lanes; how many vehicles pass in both
 LEAST_PAUSE = 2  # seconds in which nobody passes, in all
 # Vehicles an hour that pass where one of two lanes ends, by the metres of the edge, measured at lone streets in SUMO.
@@ -50,33 +50,38 @@ def is_zipper(connections: Collection[NetConnection], flows: Flows) -> bool:
 
 def zippers(net: SumoNet, network: Network, flows: Flows) -> list[Merge]:
     """The zippers of two streets, which go by turns, by their flows."""
-    made, number = [], {name: at for at, name in enumerate(network.nodes)}
+    merges, number = [], {name: at for at, name in enumerate(network.nodes)}
     for name, connections in connections_of(net).items():
         if name not in number or not is_zipper(connections, flows):
             continue
-        sources = {one.source for one in connections if flows.get((one.source, one.target))}
+        sources = {connection.source for connection in connections if flows.get((connection.source, connection.target))}
         edges = sorted(sources, key=lambda edge: network.links_of[edge][0])
         hourly = [sum(count for (source, _), count in flows.items() if source == edge) for edge in edges]
         # At a node the first in the load goes first, so the other one needs the rest.
         limit = network.links[network.links_of[edges[0]][0]].limit
-        first = min(CYCLE - LEAST, max(LEAST, green_here(share_of_first(*hourly) * CYCLE / 3600, limit)))
+        needed = green_here(share_of_first(*hourly) * CYCLE / 3600, limit)
+        first_seconds = min(CYCLE - LEAST_TURN, max(LEAST_TURN, needed))
         turns = turns_at(network, number[name])
-        one, other = ([turn for turn in turns if network.links[turn[0]].edge == edge] for edge in edges)
-        both = min(TOGETHER, 2 * (CYCLE - first - ALONE)) if sum(hourly) < ZIPPED_HERE else 0
-        parts = (first - both // 2, one), (both, one + other), (CYCLE - first - both // 2, other)
-        phases = [[seconds, listed(sorted(own))] for seconds, own in parts if seconds]
-        made.append(Merge(name, tuple(edges), ZIPPED_HERE, FULL_ZIPPER, signal(number[name], phases)))
-    return made
+        first_turns, second_turns = ([turn for turn in turns if network.links[turn[0]].edge == edge] for edge in edges)
+        joint_seconds = min(TOGETHER, 2 * (CYCLE - first_seconds - ALONE)) if sum(hourly) < ZIPPED_HERE else 0
+        parts = (
+            (first_seconds - joint_seconds // 2, first_turns),
+            (joint_seconds, first_turns + second_turns),
+            (CYCLE - first_seconds - joint_seconds // 2, second_turns),
+        )
+        phases = [[seconds, listed(sorted(part_turns))] for seconds, part_turns in parts if seconds]
+        merges.append(Merge(name, tuple(edges), ZIPPED_HERE, FULL_ZIPPER, signal(number[name], phases)))
+    return merges
 
 
-def share_of_first(first: float, other: float) -> float:
+def share_of_first(first_flow: float, other_flow: float) -> float:
     """How many of ZIPPED vehicles an hour the first of two streets gets: what it needs and a little more where that is
     less than half, what the other one leaves where that needs less, else by their flows (vehicles an hour)."""
-    share = ZIPPED * first / (first + other)
-    if first < ZIPPED / 2 < other:
-        return max(share, MORE * first)
-    if other < ZIPPED / 2 < first:
-        return min(share, ZIPPED - MORE * other)
+    share = ZIPPED * first_flow / (first_flow + other_flow)
+    if first_flow < ZIPPED / 2 < other_flow:
+        return max(share, LESSER_WEIGHT * first_flow)
+    if other_flow < ZIPPED / 2 < first_flow:
+        return min(share, ZIPPED - LESSER_WEIGHT * other_flow)
     return share
 
 
@@ -86,20 +91,20 @@ def lane_ends(net: SumoNet, network: Network, flows: Flows) -> list[Merge]:
     ends = defaultdict(set)  # by node: (link, lane that ends)
     for link, lane in ending_lanes(net, network, flows):
         ends[network.links[link].end].add((link, lane))
-    made = []
-    for node, found in sorted(ends.items()):
-        if len(found) > 1 or network.nodes[node] in lit:
+    merges = []
+    for node, ending in sorted(ends.items()):
+        if len(ending) > 1 or network.nodes[node] in lit:
             continue
-        ((link, lane),) = found
-        own = network.links[link]
-        capacity = passed(own.metres)
-        behind_light = own.metres < PASSED[-1][0] and network.nodes[own.begin] in lit
-        wish = sum(flow for (source, _), flow in flows.items() if source == own.edge)
+        ((link, lane),) = ending
+        ending_link = network.links[link]
+        capacity = passed(ending_link.metres)
+        behind_light = ending_link.metres < PASSED[-1][0] and network.nodes[ending_link.begin] in lit
+        wish = sum(flow for (source, _), flow in flows.items() if source == ending_link.edge)
         shown = capacity if wish >= FAR_FROM_FULL * capacity else PASSED[-1][1]
         command = signal(node, phases_of_end(turns_at(network, node), link, lane, shown))
         nearly = FAR_FROM_FULL if behind_light else FULL_END
-        made.append(Merge(network.nodes[node], (own.edge,), capacity, nearly, command))
-    return made
+        merges.append(Merge(network.nodes[node], (ending_link.edge,), capacity, nearly, command))
+    return merges
 
 
 def ending_lanes(net: SumoNet, network: Network, flows: Flows) -> Iterable[tuple[int, int]]:

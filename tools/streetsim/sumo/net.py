@@ -13,7 +13,7 @@ from streetsim.sumo.bus_stops import BusStop
 from streetsim.sumo.detectors import SumoDetector
 
 STATIC, NEMA = "static", "NEMA"  # kinds of signal programs: seconds alone, and two rings of phases
-OFF = "off"  # the program by which SUMO has a light blink
+OFF_PROGRAM = "off"  # the program by which SUMO has a light blink
 # What phases may have without more effect on actuated lights: type and targetLanes are of other kinds.
 PHASE = ("duration", "state", "minDur", "maxDur", "next", "name", "vehext", "yellow", "red", "type", "targetLanes")
 Point = tuple[float, float]
@@ -79,7 +79,7 @@ class LightProgram:
     bounds: list[tuple[float | None, float | None]] = field(default_factory=list)
     following: list[tuple[int, ...]] = field(default_factory=list)  # the phases that each names as its next
     parameters: dict[str, str] = field(default_factory=dict)
-    more: tuple[str, ...] = ()  # what else its phases and it have, by name
+    further_names: tuple[str, ...] = ()  # what else its phases and it have, by name
     name: str = "0"
     # Of the phases of a NEMA light: name, extension, yellow and red, in seconds.
     timing: list[tuple[str, float, float, float]] = field(default_factory=list)
@@ -214,10 +214,10 @@ def wait_inside(net: SumoNet) -> None:
                     yields.setdefault(request, set()).add(foe)
 
 
-def turn_into_one(one: NetConnection, other: NetConnection) -> bool:
+def turn_into_one(connection: NetConnection, other_connection: NetConnection) -> bool:
     """Whether two connections turn into one street from two others, one to the left and one to the right."""
-    turns = {one.direction.lower(), other.direction.lower()} == {"l", "r"}
-    return turns and one.source != other.source and one.target == other.target
+    turns = {connection.direction.lower(), other_connection.direction.lower()} == {"l", "r"}
+    return turns and connection.source != other_connection.source and connection.target == other_connection.target
 
 
 def spare_main_streets(net: SumoNet) -> None:
@@ -361,7 +361,7 @@ def read_program(path: FilePath, element: Element, net: SumoNet, _classes: Colle
     offset = optional(path, element, "offset", seconds, 0.0)
     known = net.programs_of(light) if light in net.programs else []
     phases = element.findall("phase")
-    if name == OFF or not phases and not known:
+    if name == OFF_PROGRAM or not phases and not known:
         return
     if not phases:
         same = [one for one in known if one.name == name]

@@ -121,7 +121,7 @@ class Network:
         self.leads = {(link, self.links[following].edge) for link, _, following in self.turns}
         self.unlike = self.edges_with_shared_targets() & {edge for edge, _ in self.waiting}
         # By link what one more vehicle costs there (weight), its lanes, and the links of its edge.
-        self.beside = [
+        self.crowding_of_links = [
             (CROWDING_BESIDE if link.edge in self.unlike else CROWDING, len(link.lanes), self.links_of[link.edge])
             for link in self.links
         ]
@@ -136,7 +136,7 @@ class Network:
         self.equivalents: Mapping[tuple[str, str], float] = {}
         self.joined: set[tuple[int, int]] = set()
         self.yields: list[GivingWay] = []
-        self.last = options.begin  # departure
+        self.last_depart = options.begin  # departure
         self.kinds: Json = {}  # of the vehicles, as demand.kinds_of
         self.visits: list[Visit] = []  # of bus stops and other stops
         self.switches: list[tuple[int, str, str]] = []  # of lights by time of day: clock, light, program
@@ -161,7 +161,7 @@ class Network:
 
     def drivers_on(self, link: int) -> Drivers:
         """Who drives on a link, by the demand."""
-        return self.paces.on(self.links[link].edge, self.users[link])
+        return self.paces.drivers_on(self.links[link].edge, self.users[link])
 
     def add_connections(self, net: SumoNet, report: Report) -> None:
         """Adds the turns of all connections, and notes these in connections_between. Of several from one lane to one
@@ -186,7 +186,7 @@ class Network:
         """The turn of a connection from a link to the lane next_lane of the next link; added: SUMO has no connection
         from this lane or link."""
         own, drivers = self.links[link], self.drivers_on(link)
-        speed = min(connection.speed or own.speed, drivers.most)
+        speed = min(connection.speed or own.speed, drivers.max_speed)
         accel = round(drivers.accel, 2)
         return Turn(next_lane, connection.light, connection.index, added, speed, own.limit, accel)
 
@@ -293,7 +293,7 @@ class Network:
     def cost(self, link: int, vclass: str) -> float:
         """The cost of a link to a vehicle of a class: for what each of its lanes carries so far, against the mean of
         its edge's links, and where it is open to more classes than others of the edge."""
-        (weight, lanes, links), use, users = self.beside[link], self.use, self.users[link]
+        (weight, lanes, links), use, users = self.crowding_of_links[link], self.use, self.users[link]
         total = sum([use[other] for other in links])
         crowding = weight * use[link] / lanes * len(links) / total if total else 0.0
         return crowding + (OTHERS_LANE if users is not None and vclass not in users else 0.0)
@@ -318,13 +318,13 @@ class Network:
 
     def over_limits(self) -> Iterator[str]:
         """The limits of nodes, links, turns and cells that this network is above, a text each; none where it fits."""
-        for what, count, most in (
+        for noun, count, limit in (
             ("nodes", len(self.nodes), limits.NODES),
             ("links", len(self.links), limits.LINKS),
             ("turns", len(self.turns), limits.TURNS),
         ):
-            if count > most:
-                yield f"{count:,} {what}, at most {most:,}"
+            if count > limit:
+                yield f"{count:,} {noun}, at most {limit:,}"
         if long := [link.edge for link in self.links if link.cells > limits.CELLS]:
             yield f"{len(long)} links above {limits.CELLS:,} cells of {limits.CELL_METRES} m: edges {first_few(long)}"
 

@@ -30,7 +30,7 @@ class Drivers:
         self.total = sum(counts.values()) if counts else 0
         self.accel = self.mean(lambda one: one.accel)  # metres a second and second
         self.mean_accel = self.mean(Driving.mean_accel)  # the same, with what is lost by chance
-        self.most = self.mean(lambda one: one.most)  # metres a second
+        self.max_speed = self.mean(lambda one: one.max_speed)  # metres a second
 
     def mean(self, value: Callable[[Driving], float]) -> float:
         """The mean of a value over the vehicles."""
@@ -56,20 +56,22 @@ class Paces:
     ) -> None:  # fmt: skip
         """vehicles: with edges, type, depart (seconds) and more, as sumo.demand has them; drivings: by type, usual ones
         where it has none; class_of: gives the class of a type."""
-        journeys, first, last = Counter[tuple[tuple[str, ...], str]](), 0.0, 0.0
+        journeys, first_depart, last_depart = Counter[tuple[tuple[str, ...], str]](), 0.0, 0.0
         departing = Counter[tuple[str, str, str]]()  # by edge, type and departSpeed
         for at, vehicle in enumerate(vehicles):
             journeys[vehicle.edges, vehicle.type] += 1
-            first, last = (min(first, vehicle.depart), max(last, vehicle.depart)) if at else (vehicle.depart,) * 2
-            speed = dict(vehicle.more).get("departSpeed", "0") if vehicle.more else "0"
+            first_depart = min(first_depart, vehicle.depart) if at else vehicle.depart
+            last_depart = max(last_depart, vehicle.depart) if at else vehicle.depart
+            attributes = vehicle.further_attributes
+            speed = dict(attributes).get("departSpeed", "0") if attributes else "0"
             departing[vehicle.edges[0], vehicle.type, speed] += 1
-        own = {name: (drivings.get(name, USUAL), class_of(name)) for _, name in journeys}
+        driving_of_type = {name: (drivings.get(name, USUAL), class_of(name)) for _, name in journeys}
         self.types_of: defaultdict[tuple[Driving, str], set[str]] = defaultdict(set)
-        for name, one in own.items():
-            self.types_of[one].add(name)
+        for name, driving_and_class in driving_of_type.items():
+            self.types_of[driving_and_class].add(name)
         self.starts: defaultdict[str, Counter[Started]] = defaultdict(Counter)
         for (edge, name, speed), count in departing.items():
-            self.starts[edge][*own[name], speed] += count
+            self.starts[edge][*driving_of_type[name], speed] += count
         on_edge: defaultdict[str, dict[str, int]] = defaultdict(dict)  # by type
         for (edges, name), count in journeys.items():
             for edge in edges:
@@ -78,11 +80,11 @@ class Paces:
         self.passing: defaultdict[str, Counter[tuple[Driving, str]]] = defaultdict(Counter)  # with their class
         for edge, counts in on_edge.items():
             for name, count in counts.items():
-                self.passing[edge][own[name]] += count
-        self.seconds = max(LEAST_SECONDS, last - first)
+                self.passing[edge][driving_of_type[name]] += count
+        self.seconds = max(LEAST_SECONDS, last_depart - first_depart)
         self.known: dict[tuple[str, frozenset[str] | None], Drivers] = {}
 
-    def on(self, edge: str, classes: frozenset[str] | None = None) -> Drivers:
+    def drivers_on(self, edge: str, classes: frozenset[str] | None = None) -> Drivers:
         """Who drives on an edge: of some classes, or all (None)."""
         if (edge, classes) not in self.known:
             counts = Counter[Driving]()
@@ -127,7 +129,7 @@ def lost_behind(rate: float, alone: Sequence[tuple[float, float]]) -> float:
     return lost
 
 
-def gained(one: Driving, metres: float, speed: float, text: str) -> float:
+def gained(driving: Driving, metres: float, speed: float, text: str) -> float:
     """Seconds that one loses on an edge of some metres who departs there, where speed is allowed (metres a second);
     text: its departSpeed."""
     if text in AT_SPEED:
@@ -136,4 +138,4 @@ def gained(one: Driving, metres: float, speed: float, text: str) -> float:
         first = max(0.0, float(text))
     except ValueError:
         first = speed / 2 if text == "random" else 0.0
-    return one.gaining(speed, first, max(0.0, metres - BEGIN))
+    return driving.gaining(speed, first, max(0.0, metres - BEGIN))

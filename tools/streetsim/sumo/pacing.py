@@ -26,26 +26,26 @@ STANDING = 1  # second in which a vehicle stands that departs
 
 
 def residences(
-    net: SumoNet, nodes: Sequence[str], links: Iterable[Link], given: int | None, dawdle: float, paces: Paces,
+    net: SumoNet, nodes: Sequence[str], links: Iterable[Link], given_steps: int | None, dawdle: float, paces: Paces,
     flows: Flows,
 ) -> list[int]:  # fmt: skip
     """The steps that a vehicle takes in each node, in the order of nodes (names of junctions), limits.RESIDENCE at
     most: as one alone crosses it in SUMO, in the mean of its movements; in a ring so many that its edge and the
-    junction behind it take together as long as in SUMO. given: at lights and real junctions in place of that; dawdle:
-    the chance, 0 to 1, to go on by a cell less."""
-    at_junction, fixed = connections_of(net), real_or_lit(net) if given else set[str]()
+    junction behind it take together as long as in SUMO. given_steps: at lights and real junctions in place of that;
+    dawdle: the chance, 0 to 1, to go on by a cell less."""
+    at_junction, fixed = connections_of(net), real_or_lit(net) if given_steps else set[str]()
     into = {link.end: link for link in links if link.edge in net.roundabouts}
-    found = []
+    steps = []
     for at, name in enumerate(nodes):
-        own, seconds = at_junction.get(name, []), 1.0
-        if given and name in fixed:
-            seconds = given
+        connections, seconds = at_junction.get(name, []), 1.0
+        if given_steps and name in fixed:
+            seconds = given_steps
         elif at in into:
-            seconds = seconds_in_ring(into[at], own, net, paces, flows) - seconds_of_cells(into[at], dawdle)
-        elif own:
-            seconds = mean_crossing(own, net, paces.on, flows) - MEAN_LINE
-        found.append(min(limits.RESIDENCE, max(1, round(seconds))))
-    return found
+            seconds = seconds_in_ring(into[at], connections, net, paces, flows) - seconds_of_cells(into[at], dawdle)
+        elif connections:
+            seconds = mean_crossing(connections, net, paces.drivers_on, flows) - MEAN_LINE
+        steps.append(min(limits.RESIDENCE, max(1, round(seconds))))
+    return steps
 
 
 def real_or_lit(net: SumoNet) -> set[str]:
@@ -60,8 +60,8 @@ def seconds_in_ring(
 ) -> float:  # fmt: skip
     """Mean seconds of one alone in SUMO on a link of a ring and over the junction at its end; at_end: the connections
     there."""
-    drivers, own = paces.on(link.edge), [one for one in at_end if one.source == link.edge]
-    crossing = mean_crossing(own, net, paces.on, flows) if own else 0.0
+    drivers, own = paces.drivers_on(link.edge), [one for one in at_end if one.source == link.edge]
+    crossing = mean_crossing(own, net, paces.drivers_on, flows) if own else 0.0
     return link.metres * drivers.slowness(link.speed) + crossing if link.speed else 0.0
 
 
@@ -77,59 +77,61 @@ def owed_by_rings(
     """By edge that leads into a ring the mean seconds that those who come from it take longer on the ring's edges than
     in SUMO, as stays are whole seconds. links: all; residences: by node."""
     ring_of, at_junction = rings_by_edge(net), connections_of(net)
-    longer, entering, leaving = (defaultdict[str, float](float) for _ in range(3))
+    longer, entering_flow, leaving_flow = (defaultdict[str, float](float) for _ in range(3))
     for (source, target), flow in flows.items():
-        leaving[source] += flow
+        leaving_flow[source] += flow
         if target in ring_of and source not in ring_of:
-            entering[ring_of[target]] += flow
+            entering_flow[ring_of[target]] += flow
     for link in links:
         if ring := ring_of.get(link.edge):
             there = seconds_in_ring(link, at_junction.get(net.edges[link.edge].end, ()), net, paces, flows)
             here = seconds_of_cells(link, dawdle) + residences[link.end]
-            longer[ring] += (here - there) * leaving[link.edge]
+            longer[ring] += (here - there) * leaving_flow[link.edge]
     into = {one.source: ring_of[one.target] for one in net.connections if one.target in ring_of}
-    outside = {edge: ring for edge, ring in into.items() if edge not in ring_of and entering[ring]}
-    return {edge: longer[ring] / entering[ring] - THROUGH_RING for edge, ring in outside.items()}
+    outside = {edge: ring for edge, ring in into.items() if edge not in ring_of and entering_flow[ring]}
+    return {edge: longer[ring] / entering_flow[ring] - THROUGH_RING for edge, ring in outside.items()}
 
 
 def rings_by_edge(net: SumoNet) -> dict[str, str]:
     """By edge of a roundabout the name of one edge that all of its ring have in common."""
-    beside = defaultdict[str, set[str]](set)
+    edges_at_node = defaultdict[str, set[str]](set)
     for name in net.roundabouts & net.edges.keys():
-        beside[net.edges[name].begin].add(name)
-        beside[net.edges[name].end].add(name)
-    found: dict[str, str] = {}
+        edges_at_node[net.edges[name].begin].add(name)
+        edges_at_node[net.edges[name].end].add(name)
+    ring_of_edge: dict[str, str] = {}
     for name in sorted(net.roundabouts & net.edges.keys()):
-        open_ = [] if name in found else [name]
+        open_ = [] if name in ring_of_edge else [name]
         while open_:
-            own = open_.pop()
-            found[own] = name
-            open_ += (beside[net.edges[own].begin] | beside[net.edges[own].end]) - found.keys()
-    return found
+            edge = open_.pop()
+            ring_of_edge[edge] = name
+            open_ += (edges_at_node[net.edges[edge].begin] | edges_at_node[net.edges[edge].end]) - ring_of_edge.keys()
+    return ring_of_edge
 
 
 def street_metres(net: SumoNet, flows: Flows) -> dict[str, float]:
     """By edge of one lane the metres of its whole street: of the edges of one lane, in a row and without a light
     between, over which most go on from each to the next, and come from the one before."""
-    out, into = Counter[str](), Counter[str]()
+    outgoing, incoming = Counter[str](), Counter[str]()
     for (source, target), flow in flows.items():
-        out[source] += flow  # type: ignore[assignment]  # the stubs have whole counts alone
-        into[target] += flow  # type: ignore[assignment]
+        outgoing[source] += flow  # type: ignore[assignment]  # the stubs have whole counts alone
+        incoming[target] += flow  # type: ignore[assignment]
     lit = {(one.source, one.target) for one in net.connections if one.light}
     single = {name for name, edge in net.edges.items() if len(edge.lanes) == 1}
     following = {
         source: target
         for (source, target), flow in flows.items()
-        if {source, target} <= single and (source, target) not in lit and flow > 0.5 * max(out[source], into[target])
+        if {source, target} <= single
+        and (source, target) not in lit
+        and flow > 0.5 * max(outgoing[source], incoming[target])
     }
-    found: dict[str, float] = {}
+    metres_of_edge: dict[str, float] = {}
     begins = single - set(following.values())
     for first in [*sorted(begins), *sorted(single)]:  # the last are of rings
-        street, at = dict.fromkeys(() if first in found else [first]), following.get(first)
-        while street and at is not None and at not in street and at not in found:
+        street, at = dict.fromkeys(() if first in metres_of_edge else [first]), following.get(first)
+        while street and at is not None and at not in street and at not in metres_of_edge:
             street[at], at = None, following.get(at)
-        found |= dict.fromkeys(street, sum(net.edges[name].lanes[0].metres for name in street))
-    return found
+        metres_of_edge |= dict.fromkeys(street, sum(net.edges[name].lanes[0].metres for name in street))
+    return metres_of_edge
 
 
 class Pacing:
@@ -160,7 +162,7 @@ class Pacing:
     def seconds(self, link: Link, classes: Collection[str] | None) -> float:
         """The seconds that a vehicle alone is to take in a link's cells; classes: as in set_cells."""
         edge = self.net.edges[link.edge]
-        drivers = self.paces.on(link.edge, None if classes is None else frozenset(classes))
+        drivers = self.paces.drivers_on(link.edge, None if classes is None else frozenset(classes))
         seconds = link.metres * drivers.slowness(link.speed)
         if sum(lane.closed == link.closed for lane in edge.lanes) == 1:  # nobody overtakes
             whole = self.metres_of_street.get(link.edge, link.metres)

@@ -26,18 +26,19 @@ def kept_programs(net: SumoNet, network: Network, lights: Iterable[tuple[str, in
     (light, node)."""
     nodes = nodes_by_light(lights)
     programs = [
-        (one is not net.programs[light], light, one)
+        (kept_program is not net.programs[light], light, kept_program)
         for light in sorted(nodes)
-        for one in net.programs_of(light)
-        if one.kind != STATIC
+        for kept_program in net.programs_of(light)
+        if kept_program.kind != STATIC
     ]
     at_junction = connections_of(net) if programs else {}
     before = connections_to_lanes(net) if programs else {}
-    found = []
-    for is_idle, light, program in sorted(programs, key=lambda one: one[0]):
-        own = [one for one in net.connections if one.light == light]
+    program_rows = []
+    for is_idle, light, program in sorted(programs, key=lambda row: row[0]):
+        connections = [connection for connection in net.connections if connection.light == light]
+        lanes = sorted({(connection.source, connection.source_lane) for connection in connections})
         phases = zip(program.phases, program.bounds, program.following, strict=True)
-        found.append({
+        program_rows.append({
             "light": light,
             "program": program.name,
             **({"idle": True} if is_idle else {}),
@@ -45,22 +46,22 @@ def kept_programs(net: SumoNet, network: Network, lights: Iterable[tuple[str, in
             "offset": program.offset,
             "phases": [[seconds, state, *bounds, list(then)] for (seconds, state), bounds, then in phases],
             "parameters": program.parameters,
-            "more": list(program.more),
-            "ways": [connection_fields(one, net) for one in own],
-            "lanes": [lane_fields(*key, net, before) for key in sorted({(one.source, one.source_lane) for one in own})],
+            "more": list(program.further_names),
+            "ways": [connection_fields(connection, net) for connection in connections],
+            "lanes": [lane_fields(*key, net, before) for key in lanes],
             "nodes": [node_fields(node, network.nodes[node], net, flows, at_junction) for node in nodes[light]],
-            **({"timing": [list(one) for one in program.timing]} if program.timing else {}),
+            **({"timing": [list(timing) for timing in program.timing]} if program.timing else {}),
         })
-    return found
+    return program_rows
 
 
 def fixed_programs(
-    net: SumoNet, network: Network, lights: Iterable[tuple[str, int]], flows: Flows, wanted: Container[str]
+    net: SumoNet, network: Network, lights: Iterable[tuple[str, int]], flows: Flows, wanted_lights: Container[str]
 ) -> list[Json]:
-    """What a map keeps of each light of wanted whose program in force is static, so that it can wait for buses:
+    """What a map keeps of each of wanted_lights whose program in force is static, so that it can wait for buses:
     {"light", "program": its name, "offset": seconds, "phases": [[seconds, state, minDur, maxDur]], "nodes": a list of
     what node_fields gives}. lights: (light, node)."""
-    nodes = {light: own for light, own in nodes_by_light(lights).items() if light in wanted}
+    nodes = {light: own for light, own in nodes_by_light(lights).items() if light in wanted_lights}
     at_junction = connections_of(net) if nodes else {}
     return [
         {
@@ -97,10 +98,12 @@ def lights_of_riders(
     return found
 
 
-def connection_fields(one: NetConnection, net: SumoNet) -> list[Any]:
+def connection_fields(connection: NetConnection, net: SumoNet) -> list[Any]:
     """[position in the light's state, lane, next lane, whether it turns back, SUMO's direction] of a connection."""
-    back = net.edges[one.source].begin == net.edges[one.target].end
-    return [one.index, f"{one.source}_{one.source_lane}", f"{one.target}_{one.target_lane}", back, one.direction]
+    back = net.edges[connection.source].begin == net.edges[connection.target].end
+    lane = f"{connection.source}_{connection.source_lane}"
+    next_lane = f"{connection.target}_{connection.target_lane}"
+    return [connection.index, lane, next_lane, back, connection.direction]
 
 
 def connections_to_lanes(net: SumoNet) -> dict[tuple[str, int], list[NetConnection]]:

@@ -12,15 +12,15 @@ def reserved_lanes(
 ) -> ReservedLanes | None:
     """Who of a demand drives on lanes that are closed to the first class of the import; None where nobody does.
     class_of: the class by a vehicle's type."""
-    first, *others = network.options.classes
-    taken = {
+    first_class, *other_classes = network.options.classes
+    reserved_edges = {
         (network.links[link].edge, name)
         for link, users in enumerate(network.users)
-        if first in network.links[link].closed
-        for name in others
+        if first_class in network.links[link].closed
+        for name in other_classes
         if users and name in users
     }
-    edges = {name: {edge for edge, one in taken if one == name} for name in others}
+    edges = {name: {edge for edge, one in reserved_edges if one == name} for name in other_classes}
     met = [
         (name, own) for vehicle in vehicles
         if (own := edges.get(name := class_of(vehicle.type), set()) & set(vehicle.edges))

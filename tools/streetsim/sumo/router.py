@@ -33,8 +33,8 @@ class FoundPath(NamedTuple):
 
     trip: int
     path: Path
-    least: float
-    own: float
+    seconds: float
+    own_seconds: float
 
 
 class Router:
@@ -47,7 +47,7 @@ class Router:
         pairs = [one for one in self.shut if isinstance(one, tuple)]
         # By edge: those to which one may not turn at times.
         self.barred = {edge: {after for before, after in pairs if before == edge} for edge, _ in pairs}
-        self.least = [costs.least(movement) for movement in range(len(graph.movements))]
+        self.least_seconds = [costs.least_seconds(movement) for movement in range(len(graph.movements))]
         self.arcs: list[list[tuple[int, array]] | None] = [None] * len(graph.edges)
         self.target, self.bounds = END, [FAR]
 
@@ -56,7 +56,7 @@ class Router:
         made = self.arcs[edge]
         if made is None:
             made = self.arcs[edge] = [
-                (following, self.table.row(movement)) for following, movement in self.graph.out[edge]
+                (following, self.table.row(movement)) for following, movement in self.graph.outgoing[edge]
             ]
         return made
 
@@ -64,26 +64,26 @@ class Router:
         """For each edge the least seconds from its begin to that of the target; FAR where no way leads there."""
         if self.target == target:
             return self.bounds
-        least, into = self.least, self.graph.into
-        found, heap = [FAR] * len(into), [(0.0, target)]
-        found[target] = 0.0
+        least_seconds, into = self.least_seconds, self.graph.incoming
+        bounds, heap = [FAR] * len(into), [(0.0, target)]
+        bounds[target] = 0.0
         while heap:
             seconds, edge = heappop(heap)
-            if seconds > found[edge]:
+            if seconds > bounds[edge]:
                 continue
             for before, movement in into[edge]:
-                through = seconds + least[movement]
-                if through < found[before]:
-                    found[before] = through
+                through = seconds + least_seconds[movement]
+                if through < bounds[before]:
+                    bounds[before] = through
                     heappush(heap, (through, before))
-        self.target, self.bounds = target, found
-        return found
+        self.target, self.bounds = target, bounds
+        return bounds
 
     def search(self, origin: int, target: int, clock: float) -> tuple[Path, float]:
         """(the path that is quickest from a clock on, its seconds to the end of the target); an empty path and FAR
         where there is no way. Nobody waits: an edge or movement that would be reached while it is shut is not used;
         whether the origin is shut is not looked at."""
-        bounds, inverse, last, shut = self.bounds_to(target), self.table.inverse, self.table.last, self.shut
+        bounds, inverse, last_part, shut = self.bounds_to(target), self.table.inverse, self.table.last_part, self.shut
         best, before = {origin: clock}, dict[int, int]()
         # Of equal ones the farthest comes first.
         heap = [(clock + bounds[origin], -clock, origin)] if bounds[origin] < FAR else []
@@ -95,20 +95,20 @@ class Router:
                 return self.traced(before, origin, target), end - clock
             if now > best[edge]:
                 continue
-            part = int(now * inverse)
-            if part > last:
-                part = last
+            cost_part = int(now * inverse)
+            if cost_part > last_part:
+                cost_part = last_part
             barred = self.barred.get(edge, ())
             for following, row in self.arcs_of(edge):
-                then = now + row[part]
-                if then >= best.get(following, FAR):
+                arrival = now + row[cost_part]
+                if arrival >= best.get(following, FAR):
                     continue
                 if following in shut or following in barred:
-                    if self.when_open(then, following, (edge, following)) > then:
+                    if self.when_open(arrival, following, (edge, following)) > arrival:
                         continue
-                best[following] = then
+                best[following] = arrival
                 before[following] = edge
-                heappush(heap, (then + bounds[following], -then, following))
+                heappush(heap, (arrival + bounds[following], -arrival, following))
         return (), FAR
 
     @staticmethod
@@ -129,10 +129,10 @@ class Router:
             found.append(self.when_open(reached, pair[1], pair))
         return found
 
-    def when_open(self, clock: float, *those: int | EdgePair) -> float:
+    def when_open(self, clock: float, *keys: int | EdgePair) -> float:
         """The first clock, from the given one on, at which none of some edges and movements is shut."""
         if self.shut:
-            for begin, end in sorted(span for one in those for span in self.shut.get(one, ())):
+            for begin, end in sorted(span for key in keys for span in self.shut.get(key, ())):
                 if begin <= clock < end:
                     clock = end
         return clock
@@ -155,7 +155,7 @@ class Router:
         """The seconds of the path that a trip has, with waits where it is shut; FAR where it has none."""
         return self.clocks(wish.path, wish.clock)[-1] - wish.clock if wish.path else FAR
 
-    def found(self, wish: Wish) -> FoundPath:
+    def best_path(self, wish: Wish) -> FoundPath:
         """The best path of a trip with its seconds, and the seconds of the trip's own path (FAR: it has none)."""
         path, least = self.search(wish.origin, wish.target, wish.clock)
         return FoundPath(wish.trip, path, least, self.own_seconds(wish))

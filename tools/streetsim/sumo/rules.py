@@ -9,7 +9,7 @@ from streetsim.sumo.links import OTHER_SPEED
 from streetsim.sumo.net import LightProgram, SumoNet
 from streetsim.sumo.network import Network
 
-MUCH = 1.1  # times as long as in SUMO
+MUCH_LONGER = 1.1  # times as long as in SUMO
 LONGER = 2.0  # seconds more than in SUMO, from which on an edge is told
 OTHER_PACE = 0.02  # of the seconds of a type on empty streets, by which they may be off
 FAST = 22.0  # metres a second: from here on a road with a merge is told
@@ -53,7 +53,7 @@ def warn_of_classes(net: SumoNet, network: Network, report: Report) -> None:
 def warn_of_reserved(network: Network, report: Report) -> None:
     """Reports vehicles that drive on lanes of their own class."""
     if own := network.reserved:
-        report.warn(f"{own.told()}: they may be faster there than in SUMO", [own.edge])
+        report.warn(f"{own.in_words()}: they may be faster there than in SUMO", [own.edge])
 
 
 def warn_of_lengths(network: Network, report: Report) -> None:
@@ -62,7 +62,7 @@ def warn_of_lengths(network: Network, report: Report) -> None:
         told = f"{len(short)} edges are shorter than a cell of {limits.CELL_METRES} m and get one: {first_few(short)}"
         report.warn(told, short)
     whole = ((link, limits.cells_of_length(link.metres) * limits.CELL_METRES) for link in network.links)
-    longer = [link for link, metres in whole if limits.CELL_METRES <= MUCH * link.metres < metres]
+    longer = [link for link, metres in whole if limits.CELL_METRES <= MUCH_LONGER * link.metres < metres]
     if names := sorted({link.edge for link in longer if link.metres >= limits.CELL_METRES}):
         report.warn(
             f"{len(names)} edges are longer here than in SUMO by more than a tenth, "
@@ -98,20 +98,21 @@ def warn_of_speeds(network: Network, report: Report) -> None:
 def warn_of_types(network: Network, report: Report) -> None:
     """Reports the vehicle types that drive slower or faster on an empty street than in SUMO, as all on a street have
     its mean pace."""
-    own, mean = defaultdict[Key, float](float), defaultdict[Key, float](float)
+    own_seconds, mean_seconds = defaultdict[Key, float](float), defaultdict[Key, float](float)
     for link, users in zip(network.links, network.users, strict=True):
-        drivers = network.paces.on(link.edge, users)
+        drivers = network.paces.drivers_on(link.edge, users)
         for (driving, vclass), count in network.paces.passing.get(link.edge, {}).items():
             if link.speed and (users is None or vclass in users):
-                own[driving, vclass] += count * link.metres * driving.slowness(link.speed)
-                mean[driving, vclass] += count * link.metres * drivers.slowness(link.speed)
-    off = {key: mean[key] / own[key] - 1 for key in own if abs(mean[key] / own[key] - 1) > OTHER_PACE}
+                own_seconds[driving, vclass] += count * link.metres * driving.slowness(link.speed)
+                mean_seconds[driving, vclass] += count * link.metres * drivers.slowness(link.speed)
+    slower = {key: mean_seconds[key] / own_seconds[key] - 1 for key in own_seconds}
+    off = {key: share for key, share in slower.items() if abs(share) > OTHER_PACE}
     if off:
         order = sorted(off, key=lambda key: -abs(off[key]))
         names = [name for key in order for name in sorted(network.paces.types_of[key])]
         share_of = {name: off[key] for key in order for name in network.paces.types_of[key]}
-        told = first_few(f"{name} {share_of[name]:+.0%}" for name in names)
-        report.warn(f"all on a street have its mean pace, so on empty streets types take other seconds: {told}", names)
+        text = first_few(f"{name} {share_of[name]:+.0%}" for name in names)
+        report.warn(f"all on a street have its mean pace, so on empty streets types take other seconds: {text}", names)
 
 
 def warn_of_merges(net: SumoNet, report: Report) -> None:
@@ -158,24 +159,24 @@ def warn_of_unknown(net: SumoNet, programs: Iterable[tuple[str, LightProgram]], 
         if kind not in TYPES and name in ends:
             junctions[kind].append(name)
     for kind, names in sorted(junctions.items()):
-        told = f"{len(names)} junctions are of type {kind}, which does nothing here: {first_few(names)}"
-        report.warn(told, names, "judge them by SUMO")
+        text = f"{len(names)} junctions are of type {kind}, which does nothing here: {first_few(names)}"
+        report.warn(text, names, "judge them by SUMO")
     edges = defaultdict(list)
-    for one in net.connections:
-        if not one.light and one.state not in STATES:
-            edges[one.state].append(one.source)
+    for connection in net.connections:
+        if not connection.light and connection.state not in STATES:
+            edges[connection.state].append(connection.source)
     for state, names in sorted(edges.items()):
         sources = first_few(sorted(set(names)))
-        told = f"{len(names)} connections have the state {state!r}, which does nothing here: edges {sources}"
-        report.warn(told, dict.fromkeys(names), "judge them by SUMO")
+        text = f"{len(names)} connections have the state {state!r}, which does nothing here: edges {sources}"
+        report.warn(text, dict.fromkeys(names), "judge them by SUMO")
     for light, program in programs:
         if unknown := set().union(*(state for _, state in program.phases)) - SHOWN_STATES:
-            told = f"light {light!r}: states {' '.join(sorted(unknown))} are shown red"
-            report.warn(told, [light], "judge by SUMO", kind="lights have states that are shown red")
+            text = f"light {light!r}: states {' '.join(sorted(unknown))} are shown red"
+            report.warn(text, [light], "judge by SUMO", kind="lights have states that are shown red")
     for names in rings_that_yield(net):
-        told = f"a ring whose entries go first, which fills and locks as in SUMO: edges {first_few(names)}"
+        text = f"a ring whose entries go first, which fills and locks as in SUMO: edges {first_few(names)}"
         do = "netconvert --roundabouts.guess, or a <roundabout> of them, lets the ring go first"
-        report.warn(told, names, do, kind="rings have entries that go first, which fill and lock as in SUMO, on edges")
+        report.warn(text, names, do, kind="rings have entries that go first, which fill and lock as in SUMO, on edges")
 
 
 def rings_that_yield(net: SumoNet) -> list[list[str]]:
@@ -183,17 +184,17 @@ def rings_that_yield(net: SumoNet) -> list[list[str]]:
     these; the names of each ring's edges."""
     ways = {(edge.begin, edge.end) for edge in net.edges.values()}
     following: dict[str, str] = {}
-    for one in net.connections:
-        source, target = net.edges[one.source], net.edges[one.target]
+    for connection in net.connections:
+        source, target = net.edges[connection.source], net.edges[connection.target]
         alone = all((edge.end, edge.begin) not in ways for edge in (source, target))
-        if alone and not one.light and one.state in "m=" and net.yields_of(one):
-            following.setdefault(one.source, one.target)
-    found: dict[frozenset[str], list[str]] = {}
+        if alone and not connection.light and connection.state in "m=" and net.yields_of(connection):
+            following.setdefault(connection.source, connection.target)
+    rings: dict[frozenset[str], list[str]] = {}
     for begin in following:
         ring, at = [begin], following[begin]
         while at != begin and at in following and len(ring) < RING_EDGES:
             ring.append(at)
             at = following[at]
         if at == begin and sum(net.edges[name].lanes[0].metres for name in ring) <= RING_METRES:
-            found.setdefault(frozenset(ring), ring)
-    return list(found.values())
+            rings.setdefault(frozenset(ring), ring)
+    return list(rings.values())

@@ -22,9 +22,9 @@ from streetsim.sumo.yielding import settle
 Green = frozenset[TurnKey]
 AtLight = tuple[int, int, int, Turn | MapTurn]  # link, lane, next link
 # How much of a green, or of a red in which one may go, is shown: seconds, parts, and the lead of greens.parts_shown.
-Piece = tuple[int, int, int | None]
-ShownSeconds = Mapping[int | None, Mapping[int, Piece]]  # by index in a light's state, and by first second
-NOTHING: Piece = (0, 1, None)
+ShownPart = tuple[int, int, int | None]
+ShownSeconds = Mapping[int | None, Mapping[int, ShownPart]]  # by index in a light's state, and by first second
+NOTHING: ShownPart = (0, 1, None)
 AS_MAIN = 0  # the parts of a permissive green against which nobody comes
 DEFAULT_SHARE = 0.7  # of a permissive green that is shown, where nothing is known of who gives way
 LONGEST = 200_000  # seconds of a cycle that are read
@@ -39,7 +39,7 @@ FINE = GRAINS[:2]
 
 @dataclass(frozen=True, slots=True)
 class LitNode:
-    """A node with a light. Where found is empty, a share of each permissive green is shown: of a green in which
+    """A node with a light. Where movements is empty, a share of each permissive green is shown: of a green in which
     vehicles give way."""
 
     node: int
@@ -49,7 +49,7 @@ class LitNode:
     program: LightProgram
     permissive: float | None  # the share, of each permissive green its last part; None: DEFAULT_SHARE
     report: Report
-    found: Mapping[int, CrossingMovement] = field(default_factory=dict)  # by request: who gives way there
+    movements: Mapping[int, CrossingMovement] = field(default_factory=dict)  # by request: who gives way there
     cut: float = 0.0  # seconds that are cut from greens, in the mean over nodes
     shares: Pairs = ()  # of permissive greens that were surveyed: (edge, share)
 
@@ -59,15 +59,15 @@ class LitNode:
 
     def shown_seconds(self, states: Sequence[str]) -> ShownSeconds:
         """What is shown, by first second, as shown_by_gaps or shown_by_share has it; states: as states gives them."""
-        if self.found:
-            made = shown_by_gaps(self.found)
+        if self.movements:
+            seconds_shown = shown_by_gaps(self.movements)
         else:
-            made = shown_by_share(self.light, self.turns, states, self.permissive)
+            seconds_shown = shown_by_share(self.light, self.turns, states, self.permissive)
         known = {edge: share for edge, share in self.shares}
         for edge in known.keys() & {*self.edges.values()}:
             own = [one for one in self.turns if self.edges[one[0]] == edge]
-            made = {**made, **shown_by_share(self.light, own, states, known[edge])}
-        return made
+            seconds_shown = {**seconds_shown, **shown_by_share(self.light, own, states, known[edge])}
+        return seconds_shown
 
 
 def movements(
@@ -120,13 +120,14 @@ def lit_node(
     node: int,
     turns: Sequence[AtLight],
     light: str,
-    found: Mapping[int, CrossingMovement],
+    movements: Mapping[int, CrossingMovement],
     report: Report,
 ) -> LitNode:
-    """A node with a light and its program in the network; found: as in LitNode."""
+    """A node with a light and its program in the network; movements: as in LitNode."""
     edges = {link: network.links[link].edge for link, *_ in turns}
     measured = network.options.cut, network.options.shares
-    return LitNode(node, turns, edges, light, net.programs[light], network.options.permissive, report, found, *measured)
+    program, permissive = net.programs[light], network.options.permissive
+    return LitNode(node, turns, edges, light, program, permissive, report, movements, *measured)
 
 
 def signal_commands(
@@ -139,7 +140,7 @@ def signal_commands(
     """The signal commands, (light, command), as signal_lines gives them for each node where a light has a program.
     movements_at: of movements; ends: by light the last clock of this program, where it changes by time of day; else
     AFTER seconds behind network.last, which must be set. Lights without a program, not static or too long are told."""
-    made = []
+    commands = []
     for node, turns in sorted(turns_at(network).items()):
         lights = {turn.light for *_, turn in turns if turn.light}
         known, junction = sorted(lights & net.programs.keys()), network.nodes[node]
@@ -150,13 +151,13 @@ def signal_commands(
             told = f"junction {junction!r}: of its lights {', '.join(known)} the first alone is used"
             report.warn(told, [junction], kind="junctions have several lights, of which the first alone is used")
         if known:
-            found = movements_at.get(junction, {}) if network.options.permissive is None else {}
-            own = lit_node(net, network, node, turns, known[0], found, report)
-            until = ends.get(known[0], network.last + AFTER)
-            made += [(known[0], command) for command in signal_lines(own, network.options.begin, until)]
-    for light in sorted({light for light, _ in made}):
+            movements = movements_at.get(junction, {}) if network.options.permissive is None else {}
+            lit = lit_node(net, network, node, turns, known[0], movements, report)
+            until = ends.get(known[0], network.last_depart + AFTER)
+            commands += [(known[0], command) for command in signal_lines(lit, network.options.begin, until)]
+    for light in sorted({light for light, _ in commands}):
         warn_of_kind(light, net.programs[light], report)
-    return made
+    return commands
 
 
 def warn_of_kind(light: str, program: LightProgram, report: Report) -> None:
@@ -182,61 +183,61 @@ def too_long(cycle: int) -> str:
     return f"a cycle of {cycle:,} s does not fit in {limits.PHASES} phases of {limits.PHASE_STEPS} s"
 
 
-def signal_lines(own: LitNode, begin: int, last: int) -> list[Command]:
+def signal_lines(lit: LitNode, begin: int, last_clock: int) -> list[Command]:
     """The signal command of a node, in a list; of a program that does not fit in one plan, which is reported, a command
-    for each phase, with its clock ("at"; not in the first), from begin to last (clocks, both included), as a plan of
-    one phase stays until the next. Fault where these are more than MOST_LINES, or each_second or check_states raises
+    for each phase, with its clock ("at"; not in the first), from begin to last_clock (both included), as a plan of one
+    phase stays until the next. Fault where these are more than MOST_LINES, or each_second or check_states raises
     one."""
     try:
-        return [signal_command(own)]
+        return [signal_command(lit)]
     except TooLong:
         pass
-    kind = f"lights have a cycle that does not fit in one plan; their phases are lines, until {last:,} s"
-    told = f"light {own.light!r}: {cycle_told(own)}; its phases are lines, until {last:,} s"
-    own.report.warn(told, [own.light], light=True, kind=kind)
-    lines = list(islice(takewhile(lambda line: line[0] <= last, phase_lines(own, begin)), MOST_LINES + 1))
+    kind = f"lights have a cycle that does not fit in one plan; their phases are lines, until {last_clock:,} s"
+    told = f"light {lit.light!r}: {cycle_told(lit)}; its phases are lines, until {last_clock:,} s"
+    lit.report.warn(told, [lit.light], light=True, kind=kind)
+    lines = list(islice(takewhile(lambda line: line[0] <= last_clock, phase_lines(lit, begin)), MOST_LINES + 1))
     if len(lines) > MOST_LINES:
-        until = f"until {last:,} s, a day after the last departure"
-        raise Fault(f"light {own.light!r}: {cycle_told(own)}, and has more than {MOST_LINES:,} phases {until}")
+        until = f"until {last_clock:,} s, a day after the last departure"
+        raise Fault(f"light {lit.light!r}: {cycle_told(lit)}, and has more than {MOST_LINES:,} phases {until}")
     return [{**command, "at": clock} if clock > begin else command for clock, command in lines]
 
 
-def cycle_told(own: LitNode) -> str:
+def cycle_told(lit: LitNode) -> str:
     """Why a light's program that does not fit in one plan does not: its cycle, as the middle of a sentence."""
-    return f"a cycle of {len(own.states()):,} s does not fit in one plan"
+    return f"a cycle of {len(lit.states()):,} s does not fit in one plan"
 
 
-def phase_lines(own: LitNode, begin: int) -> Iterator[tuple[int, Command]]:
+def phase_lines(lit: LitNode, begin: int) -> Iterator[tuple[int, Command]]:
     """The signal commands of a node's phases from the clock begin on, (clock, command), without end (one alone where
     the light never changes): a plan of one phase stays until the next is sent."""
-    states = own.states()
-    greens = green_seconds(own, states, own.shown_seconds(states), 1, True)
-    place = (begin + round(-own.program.offset)) % len(greens)
+    states = lit.states()
+    greens = green_seconds(lit, states, lit.shown_seconds(states), 1, True)
+    place = (begin + round(-lit.program.offset)) % len(greens)
     runs = [(green, len(list(run))) for green, run in groupby(greens[place:] + greens[:place])]
     clock, shown = begin, None
     for green, length in cycle_of(runs) if len(runs) > 1 else runs:
         if green != shown:
             phases = [[limits.PHASE_STEPS, sorted([*turn] for turn in green)]]
-            yield clock, {"cmd": "signal", "node": own.node, "offset": 0, "phases": phases}
+            yield clock, {"cmd": "signal", "node": lit.node, "offset": 0, "phases": phases}
         clock, shown = clock + length, green
 
 
-def signal_command(own: LitNode) -> Command:
+def signal_command(lit: LitNode) -> Command:
     """The signal command of one node; TooLong where its program does not fit in one plan, Fault where each_second or
     check_states raises one. More phases than a plan has, and turns that are never green, are reported."""
-    light, report, states = own.light, own.report, own.states()
-    check_states(light, states, [turn for *_, turn in own.turns])
+    light, report, states = lit.light, lit.report, lit.states()
+    check_states(light, states, [turn for *_, turn in lit.turns])
     if len(states) > limits.PHASES * limits.PHASE_STEPS:
         raise TooLong(f"light {light!r}: {too_long(len(states))}")
-    shown_seconds = own.shown_seconds(states)
+    shown_seconds = lit.shown_seconds(states)
     for middle, grain in chain(product([True], FINE), product([False], GRAINS)):
-        phases = run_lengths(green_seconds(own, states, shown_seconds, grain, middle))
+        phases = run_lengths(green_seconds(lit, states, shown_seconds, grain, middle))
         if len(phases) <= limits.PHASES:
             break
     if len(phases) > limits.PHASES:
         more = f"more than {limits.PHASES} phases, so permissive greens are green throughout"
         report.warn(f"light {light!r}: {more}", [light], kind=f"lights have {more}")
-        phases = run_lengths(green_seconds(own, states, {}, 1, False))
+        phases = run_lengths(green_seconds(lit, states, {}, 1, False))
     if len(phases) > limits.PHASES:
         more = f"still more than {limits.PHASES} phases; the shortest are joined to those before them"
         report.warn(f"light {light!r}: {more}", [light], kind=f"lights have {more}")
@@ -245,14 +246,14 @@ def signal_command(own: LitNode) -> Command:
         except TooLong as fault:
             raise TooLong(f"light {light!r}: {fault}") from None
     shown = frozenset[TurnKey]().union(*(green for _, green in phases))
-    if never := sorted({own.edges[link] for link, *turn, _ in own.turns if (link, *turn) not in shown}):
+    if never := sorted({lit.edges[link] for link, *turn, _ in lit.turns if (link, *turn) not in shown}):
         text = f"light {light!r}: a turn is never green on edges {first_few(never)}"
         report.warn(text, never, kind="lights have a turn that is never green, on edges")
     cycle = sum(duration for duration, _ in phases)
     return {
         "cmd": "signal",
-        "node": own.node,
-        "offset": round(-own.program.offset) % cycle,
+        "node": lit.node,
+        "offset": round(-lit.program.offset) % cycle,
         "phases": [[duration, sorted([*turn] for turn in green)] for duration, green in phases],
     }
 
@@ -276,16 +277,18 @@ def check_states(light: str, states: Sequence[str], turns: Iterable[Turn | MapTu
             raise Fault(f"light {light!r}: a state is shorter than link index {turn.index}")
 
 
-def shown_by_gaps(found: Mapping[int, CrossingMovement]) -> ShownSeconds:
-    """What is shown of permissive greens, and of reds in which one may go after a stop, by what was found of who gives
-    way; of movements that share an index the most. One against which nobody comes goes as if first (AS_MAIN parts)."""
-    made: defaultdict[int | None, dict[int, Piece]] = defaultdict(dict)
-    for movement in found.values():
-        own = made[movement.index]
-        for start, seconds in movement.shown.items():
-            parts = movement.parts if movement.foes or start in movement.stops else AS_MAIN
-            own[start] = max((seconds, parts, movement.leads.get(start)), own.get(start, NOTHING), key=itemgetter(0, 1))
-    return made
+def shown_by_gaps(movements: Mapping[int, CrossingMovement]) -> ShownSeconds:
+    """What is shown of permissive greens, and of reds in which one may go after a stop, by the movements of those who
+    give way; of movements that share an index the most. One against which nobody comes goes as if first (AS_MAIN
+    parts)."""
+    by_index: defaultdict[int | None, dict[int, ShownPart]] = defaultdict(dict)
+    for movement in movements.values():
+        of_index = by_index[movement.index]
+        for start, seconds in movement.shown_seconds.items():
+            parts = movement.shown_parts if movement.foes or start in movement.stops else AS_MAIN
+            own = seconds, parts, movement.leads.get(start)
+            of_index[start] = max(own, of_index.get(start, NOTHING), key=itemgetter(0, 1))
+    return by_index
 
 
 def shown_by_share(
@@ -294,7 +297,7 @@ def shown_by_share(
     """What is shown of permissive greens, where it is the last share of each. states: of the light, one for each
     second; permissive: the share, 0 to 1; None: DEFAULT_SHARE."""
     hidden_share = 1 - (DEFAULT_SHARE if permissive is None else permissive)
-    made: dict[int | None, dict[int, Piece]] = {}
+    made: dict[int | None, dict[int, ShownPart]] = {}
     for index in {turn.index for *_, turn in turns if turn.light == light}:
         runs = spans_of("".join(state[index] for state in states), OPEN)
         made[index] = {start: (length - round(length * hidden_share), 1, None) for start, length in runs}
@@ -302,27 +305,27 @@ def shown_by_share(
 
 
 def green_seconds(
-    own: LitNode, states: Sequence[str], seconds: ShownSeconds, grain: int, middle: bool
+    lit: LitNode, states: Sequence[str], seconds: ShownSeconds, grain: int, middle: bool
 ) -> list[Green]:
     """The green turns in each second of the cycle; turns that the light does not control are always green. grain,
     middle: as in shown_green."""
     greens: list[set[TurnKey]] = [set() for _ in states]
     signs = ["".join(each) for each in zip(*states, strict=False)]  # by index
-    for link, lane, following, turn in own.turns:
-        shown = [True] * len(states)
-        if turn.light == own.light:
+    for link, lane, following, turn in lit.turns:
+        is_shown = [True] * len(states)
+        if turn.light == lit.light:
             own_seconds = seconds.get(turn.index, {})
             letters = with_main_greens(signs[turn.index], own_seconds)
-            shown = shown_green(letters, own_seconds, turn, grain, middle)
-            if cut := cut_at(own.cut, own.node):
-                shown = with_cut(shown, spans_of(letters, GREEN + OPEN), letters, cut)
-        for green, on in zip(greens, shown, strict=True):
+            is_shown = shown_green(letters, own_seconds, turn, grain, middle)
+            if cut := cut_at(lit.cut, lit.node):
+                is_shown = with_cut(is_shown, spans_of(letters, GREEN + OPEN), letters, cut)
+        for green, on in zip(greens, is_shown, strict=True):
             if on:
                 green.add((link, lane, following))
     return [frozenset(green) for green in greens]
 
 
-def with_main_greens(states: str, seconds: Mapping[int, Piece]) -> str:
+def with_main_greens(states: str, seconds: Mapping[int, ShownPart]) -> str:
     """The letters of a turn in each second, with those of a green that goes first in place of those of the permissive
     greens whose parts are AS_MAIN; seconds: as in shown_green."""
     letters = list(states)
@@ -334,7 +337,7 @@ def with_main_greens(states: str, seconds: Mapping[int, Piece]) -> str:
 
 
 def shown_green(
-    states: str, seconds: Mapping[int, Piece], turn: Turn | MapTurn, grain: int, middle: bool
+    states: str, seconds: Mapping[int, ShownPart], turn: Turn | MapTurn, grain: int, middle: bool
 ) -> list[bool]:
     """For each second whether a turn shows green; states: the letter of this turn in each second. Of each permissive
     green, and each red in which one may go after a stop, so many are shown as seconds says, in so many parts ({first
@@ -343,21 +346,21 @@ def shown_green(
     seconds are left out, as SUMO's queues start later and turn slower: those of hidden_seconds, of a green above
     PHASE_STEPS those of one of QUEUED."""
     count = len(states)
-    shown = [state in GREEN for state in states]
+    is_shown = [state in GREEN for state in states]
     greens, reds = spans_of(states, OPEN), spans_of(states, STOPPED)
     pieces = [(start, length, parts_shown(length, *seconds.get(start, (length, 1, None)))) for start, length in greens]
     pieces += [(start, length, parts_shown_in_red(length, seconds.get(start, NOTHING)[0])) for start, length in reds]
-    for start, length, found in pieces:
-        for begin, end in found:
+    for start, length, parts in pieces:
+        for begin, end in parts:
             begin = begin // grain * grain
             end = length if end == length else max(begin + grain, end // grain * grain)
             for second in range(begin, min(end, length)):
-                shown[(start + second) % count] = True
+                is_shown[(start + second) % count] = True
     for start, length in spans_of(states, GREEN):
         if length < count and states[start - 1] not in OPEN:
             for second in hidden_seconds(length if length <= limits.PHASE_STEPS else QUEUED, turn, grain, middle):
-                shown[(start + second) % count] = False
-    return shown
+                is_shown[(start + second) % count] = False
+    return is_shown
 
 
 def hidden_seconds(length: int, turn: Turn | MapTurn, grain: int, middle: bool) -> range:
@@ -388,11 +391,11 @@ def phases_that_fit(phases: Iterable[tuple[int, Green]]) -> list[tuple[int, Gree
     """The phases, (seconds, green turns), made fewer until they fit in a plan: the shortest, but for the first and
     those that would be above PHASE_STEPS with the one before, is added to the one before it, whose greens it gets.
     TooLong where there is no such phase."""
-    made = list(phases)
-    while len(made) > limits.PHASES:
-        fitting = [at for at in range(1, len(made)) if made[at - 1][0] + made[at][0] <= limits.PHASE_STEPS]
+    fitted = list(phases)
+    while len(fitted) > limits.PHASES:
+        fitting = [at for at in range(1, len(fitted)) if fitted[at - 1][0] + fitted[at][0] <= limits.PHASE_STEPS]
         if not fitting:
-            raise TooLong(too_long(sum(seconds for seconds, _ in made)))
-        at = min(fitting, key=lambda place: made[place][0])
-        made[at - 1 : at + 1] = [(made[at - 1][0] + made[at][0], made[at - 1][1])]
-    return made
+            raise TooLong(too_long(sum(seconds for seconds, _ in fitted)))
+        at = min(fitting, key=lambda place: fitted[place][0])
+        fitted[at - 1 : at + 1] = [(fitted[at - 1][0] + fitted[at][0], fitted[at - 1][1])]
+    return fitted

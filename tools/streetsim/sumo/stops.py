@@ -36,18 +36,18 @@ class Stop:
     """A stop of a vehicle, as its file tells it: of duration seconds at least, ending at the clock until or later
     (None: not told)."""
 
-    where: str  # file and element, for what is told
+    element_label: str  # file and element, for what is told
     name: str  # of the bus stop, or of what one that cannot be made names; else empty
     bus_stop: BusStop | None  # where the lane is told
     duration: int
     until: int | None
-    why: str = ""  # it cannot be made; empty where it can
-    told: tuple[tuple[str, str], ...] = ()  # its attributes in the file
+    reason: str = ""  # it cannot be made; empty where it can
+    attributes: tuple[tuple[str, str], ...] = ()  # its attributes in the file
 
     def text(self) -> str:
         """Its element as XML text, as a file of routes has it."""
         until = {} if self.until is None else {"until": str(self.until)}
-        return f"<stop{attributes_of({**dict(self.told), **until})}/>"
+        return f"<stop{attributes_of({**dict(self.attributes), **until})}/>"
 
     def later(self, shift: float) -> Stop:
         """The stop with its until shift seconds later; without until it stays as it is."""
@@ -88,24 +88,24 @@ def read_bus_stop(path: FilePath, element: Element, net: SumoNet) -> None:
     net.bus_stops[name] = checked_bus_stop(BusStop(lane, *ends), element, net, element_told(path, element))
 
 
-def metres_of_lane(lane: str, net: SumoNet, where: str) -> float:
+def metres_of_lane(lane: str, net: SumoNet, element_label: str) -> float:
     """The metres of a lane; 0 where it is left out, as it is not for the classes. Fault where the network has no lane
-    of this name; where: the element, for the Fault."""
+    of this name; element_label: the element, for the Fault."""
     edge, _, index = lane.rpartition("_")
     if lane in net.closed_lanes:
         return 0.0
     lanes = net.edges[edge].lanes if edge in net.edges else []
-    found = next((one.metres for one in lanes if str(one.index) == index), None)
-    if found is None:
-        raise Fault(f"{where}: the network has no lane {lane!r}")
-    return found
+    metres = next((one.metres for one in lanes if str(one.index) == index), None)
+    if metres is None:
+        raise Fault(f"{element_label}: the network has no lane {lane!r}")
+    return metres
 
 
-def checked_bus_stop(bus_stop: BusStop, element: Element, net: SumoNet, where: str) -> BusStop:
+def checked_bus_stop(bus_stop: BusStop, element: Element, net: SumoNet, element_label: str) -> BusStop:
     """The bus stop itself, which an element tells. Fault where the network has no such lane, or
-    `begin_and_end_on_lane` raises one (not called where the lane is left out); where: the element, for the Fault."""
-    if length := metres_of_lane(bus_stop.lane, net, where):
-        begin_and_end_on_lane(bus_stop, length, element.get("friendlyPos", "").lower() in TRUE, where)
+    `begin_and_end_on_lane` raises one (not called where the lane is left out); element_label: for the Fault."""
+    if length := metres_of_lane(bus_stop.lane, net, element_label):
+        begin_and_end_on_lane(bus_stop, length, element.get("friendlyPos", "").lower() in TRUE, element_label)
     return bus_stop
 
 
@@ -115,22 +115,22 @@ def stops_in(path: FilePath, owner: Element, net: SumoNet) -> tuple[Stop, ...]:
 
 
 def stop_of(path: FilePath, owner: Element, element: Element, net: SumoNet) -> Stop:
-    """The stop of a <stop> in an element (owner); one that cannot be made has the reason (why) and no bus_stop. Its
+    """The stop of a <stop> in an element (owner); one that cannot be made has the reason and no bus_stop. Its
     seconds are whole ones, a duration is 1 at least. Fault where unnamed_bus_stop raises one; whether there is a bus
     stop of its name is looked at later (Stops.bus_stop_of)."""
-    where = f"{element_told(path, owner)}: <stop>"
+    element_label = f"{element_told(path, owner)}: <stop>"
     name = next((element.get(kind, "") for kind in BUS_STOPS if element.get(kind)), "")
     duration, until = (optional(path, element, key, at_least_zero(seconds), None) for key in ("duration", "until"))
-    why, bus_stop = why_cannot_be_made(element), None
+    reason, bus_stop = why_cannot_be_made(element), None
     if duration is None and until is None:
-        why = why or NO_SECONDS
-    if why:
+        reason = reason or NO_SECONDS
+    if reason:
         kinds = (*BUS_STOPS, *ELSEWHERE, "lane", "edge")
         name = next((element.get(kind, "") for kind in kinds if element.get(kind)), "")
     elif not name:
-        bus_stop = unnamed_bus_stop(path, element, net, where)
+        bus_stop = unnamed_bus_stop(path, element, net, element_label)
     return Stop(
-        where, name, bus_stop, max(1, round(duration or 0)), None if until is None else round(until), why,
+        element_label, name, bus_stop, max(1, round(duration or 0)), None if until is None else round(until), reason,
         tuple(element.items()),
     )  # fmt: skip
 
@@ -150,26 +150,26 @@ def why_cannot_be_made(element: Element) -> str:
     return ""
 
 
-def unnamed_bus_stop(path: FilePath, element: Element, net: SumoNet, where: str) -> BusStop:
+def unnamed_bus_stop(path: FilePath, element: Element, net: SumoNet, element_label: str) -> BusStop:
     """The bus stop of a stop that names a lane, or an edge: then the first lane of it that is kept. An end that is not
     told (by endPos, or pos, its former name) is the lane's, a begin that is not told POINT before the end. Fault where
-    it names neither, the network does not have the edge, or `checked_bus_stop` raises one; where: the element, for the
+    it names neither, the network does not have the edge, or `checked_bus_stop` raises one; element_label: for the
     Fault."""
     lane, edge = element.get("lane", ""), element.get("edge", "")
     if not lane and not edge:
-        raise Fault(f"{where}: without busStop, lane or edge")
+        raise Fault(f"{element_label}: without busStop, lane or edge")
     if not lane and edge not in net.edges and edge not in net.dropped:
-        raise Fault(f"{where}: the network has no edge {edge!r}")
+        raise Fault(f"{element_label}: the network has no edge {edge!r}")
     lane = lane or f"{edge}_{net.edges[edge].lanes[0].index if edge in net.edges else 0}"
     end = optional(path, element, "endPos", number, optional(path, element, "pos", number, None))
-    end = metres_of_lane(lane, net, where) if end is None else end
+    end = metres_of_lane(lane, net, element_label) if end is None else end
     begin = optional(path, element, "startPos", number, max(0.0, end - POINT) if end >= 0 else end - POINT)
-    return checked_bus_stop(BusStop(lane, begin, end), element, net, where)
+    return checked_bus_stop(BusStop(lane, begin, end), element, net, element_label)
 
 
 def edge_of(stop: Stop, net: SumoNet) -> str:
     """The name of the edge where a stop lies; empty where neither it nor its bus stop tells a lane or edge."""
-    bus_stop, told = net.bus_stops.get(stop.name) if stop.name else stop.bus_stop, dict(stop.told)
+    bus_stop, told = net.bus_stops.get(stop.name) if stop.name else stop.bus_stop, dict(stop.attributes)
     lane = bus_stop.lane if bus_stop else told.get("lane", "")
     return lane.rpartition("_")[0] or told.get("edge", "")
 
@@ -187,39 +187,41 @@ class Stops:
     def on_route(self, name: str, edges: Sequence[str], stops: Iterable[Stop]) -> FoundStops:
         """The stops of a vehicle (name) that lie on its route (edges), each behind the stop before it; the others are
         kept in unmade, by reason. Fault where `bus_stop_of` raises one."""
-        found, at, before = FoundStops(), 0, 0.0
+        route_stops, at, before = FoundStops(), 0, 0.0
         for stop in stops:
             bus_stop = self.bus_stop_of(stop)
-            why, edge = stop.why, bus_stop.lane.rpartition("_")[0] if bus_stop else ""
-            if bus_stop and not why and bus_stop.lane in self.net.closed_lanes:
-                why = LEFT_OUT
-            if bus_stop and not why:
+            reason, edge = stop.reason, bus_stop.lane.rpartition("_")[0] if bus_stop else ""
+            if bus_stop and not reason and bus_stop.lane in self.net.closed_lanes:
+                reason = LEFT_OUT
+            if bus_stop and not reason:
                 begin, end = begin_and_end_on_lane(
-                    bus_stop, metres_of_lane(bus_stop.lane, self.net, stop.where), True, stop.where
+                    bus_stop, metres_of_lane(bus_stop.lane, self.net, stop.element_label), True, stop.element_label
                 )
                 first = at + (end < before and at < len(edges) and edges[at] == edge)
                 further = next((here for here in range(first, len(edges)) if edges[here] == edge), None)
                 if further is None:
-                    why = NOT_ON_WAY
+                    reason = NOT_ON_WAY
                 else:
                     at, before = further, end
                     spot = StopSpot(at, edge, int(bus_stop.lane.rpartition("_")[2]), begin, end)
-                    found.stops.append((stop, spot))
-            if why:
-                self.unmade[why].append(f"{name} at {called(stop)}")
-        return found
+                    route_stops.stops.append((stop, spot))
+            if reason:
+                self.unmade[reason].append(f"{name} at {called(stop)}")
+        return route_stops
 
     def bus_stop_of(self, stop: Stop) -> BusStop | None:
         """The bus stop of a stop, if any. Fault where it can be made, but no file has the bus stop that it names."""
-        if stop.name and stop.name not in self.net.bus_stops and not stop.why:
-            raise Fault(f"{stop.where}: there is no busStop {stop.name!r}")
+        if stop.name and stop.name not in self.net.bus_stops and not stop.reason:
+            raise Fault(f"{stop.element_label}: there is no busStop {stop.name!r}")
         return self.net.bus_stops.get(stop.name) if stop.name else stop.bus_stop
 
-    def add_visits(self, vehicle: tuple[int, str, str], plan: Sequence[int], found: FoundStops, net: Network) -> None:
+    def add_visits(
+        self, vehicle: tuple[int, str, str], plan: Sequence[int], route_stops: FoundStops, net: Network
+    ) -> None:
         """Adds to visits those of a vehicle (its number in the run file, name and type) on the links of its plan;
-        found: as on_route gives it. Stops that these links do not reach, or on links of one cell, go to unmade."""
+        route_stops: of on_route. Stops that these links do not reach, or on links of one cell, go to unmade."""
         number, name, kind = vehicle
-        for stop, spot in found.stops:
+        for stop, spot in route_stops.stops:
             link, lane = net.place_of[spot.edge, spot.index]
             cells = stopping_cells(net.links[link], spot)
             if cells and plan[spot.at] == link:
@@ -249,9 +251,9 @@ class Stops:
             self.report.notes.append(f"{len(self.visits):,} stops of {count:,} vehicles")
 
 
-def advice_on(why: str) -> str:
+def advice_on(reason: str) -> str:
     """What the user can do where stops are not made for a reason."""
-    if why == LEFT_OUT:
+    if reason == LEFT_OUT:
         return "--classes NAMES keeps lanes of other classes too"
     return "who stands in others' way: streetsim-run --close, for as long"
 

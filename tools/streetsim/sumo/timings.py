@@ -22,7 +22,7 @@ def timings_of(net: SumoNet, in_run: bool = False) -> Iterator[Timing]:
     for light, connections in sorted(at_light.items()):
         last = max(one.index for one in connections)
         programs = net.programs_in_run(light)[: None if in_run else 1]
-        if not (whole := [one for one in programs if all(len(state) > last for _, state in one.phases)]):
+        if not (whole_programs := [one for one in programs if all(len(state) > last for _, state in one.phases)]):
             continue
         conflicts = {
             frozenset((one.index, other.index))
@@ -31,7 +31,7 @@ def timings_of(net: SumoNet, in_run: bool = False) -> Iterator[Timing]:
         }
         junction = net.edges[connections[0].source].end
         movements = movements_by_edges((one.source, one.target, one.index) for one in connections)
-        for one in whole:
+        for one in whole_programs:
             kept = kept_values(light, one)
             yield Timing(light, junction, one.offset, one.phases, one.kind, movements, conflicts, kept)
 
@@ -47,13 +47,14 @@ def timings_of_files(net_path: str, additional: Iterable[str], classes: Sequence
     return list(timings_of(net))
 
 
-def do_conflict(net: SumoNet, one: NetConnection, other: NetConnection) -> bool:
+def do_conflict(net: SumoNet, connection: NetConnection, other_connection: NetConnection) -> bool:
     """Whether two connections meet at one junction, as the network's foes say. False where a request is not known."""
-    junction = net.edges[one.source].end
-    if net.edges[other.source].end != junction or one.request is None or other.request is None:
+    junction = net.edges[connection.source].end
+    request, other_request = connection.request, other_connection.request
+    if net.edges[other_connection.source].end != junction or request is None or other_request is None:
         return False
     foes = net.foes.get(junction, {})
-    return other.request in foes.get(one.request, ()) or one.request in foes.get(other.request, ())
+    return other_request in foes.get(request, ()) or request in foes.get(other_request, ())
 
 
 def warn_of_clashes(net: SumoNet, report: Report) -> None:

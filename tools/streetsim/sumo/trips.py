@@ -42,7 +42,7 @@ class Trip:
     route: str = ""  # the name of the route that it was given
     stops: tuple[Stop, ...] = ()
     line: str = ""  # of public transport
-    more: tuple[tuple[str, str], ...] = ()  # further attributes that its file has, as departSpeed
+    further_attributes: tuple[tuple[str, str], ...] = ()  # further attributes that its file has, as departSpeed
     calls: tuple[tuple[str, str], ...] = ()  # (edge or, where it is not known, an empty text; element) of each stop
 
 
@@ -121,7 +121,7 @@ class TripDemand(Demand):
 class Trips:
     """All trips in order of departure, and the vehicle types of their files as XML texts."""
 
-    all: list[Trip]
+    trips: list[Trip]
     types: list[str]
 
 
@@ -135,33 +135,36 @@ def read_trips(
     demand = TripDemand(net, types, options.seed, report, options.end)
     for path in paths:
         demand.read_file(path)
-    found = []
-    for one in demand.completed_vehicles():
-        if why := reason_against(one, net, options.begin):
-            report.skipped[why] += 1
+    trips = []
+    for vehicle in demand.completed_vehicles():
+        if reason := reason_against(vehicle, net, options.begin):
+            report.skipped[reason] += 1
             continue
-        way = () if one.name in demand.without else tuple(graph.number[name] for name in one.edges)
-        ends = graph.number[one.edges[0]], graph.number[one.edges[-1]]
+        way = () if vehicle.name in demand.without else tuple(graph.number[name] for name in vehicle.edges)
+        ends = graph.number[vehicle.edges[0]], graph.number[vehicle.edges[-1]]
         back = ends[0] == ends[1] and len(way) > 1
-        trip = Trip(one.name, one.depart, *ends, one.type, way, one.depart, not back, one.route, one.stops, one.line)
-        trip.more = one.more
-        trip.calls = tuple((edge_of(stop, net), stop.text()) for stop in one.stops)
-        found.append(trip)
-    if not found:
-        why = "".join(f"; {count:,} left out: {reason}" for reason, count in sorted(report.skipped.items()))
-        raise Fault(f"{', '.join(paths)}: no trip that can drive{why}")
+        trip = Trip(
+            vehicle.name, vehicle.depart, *ends, vehicle.type, way, vehicle.depart, not back, vehicle.route,
+            vehicle.stops, vehicle.line,
+        )  # fmt: skip
+        trip.further_attributes = vehicle.further_attributes
+        trip.calls = tuple((edge_of(stop, net), stop.text()) for stop in vehicle.stops)
+        trips.append(trip)
+    if not trips:
+        left_out = "".join(f"; {count:,} left out: {reason}" for reason, count in sorted(report.skipped.items()))
+        raise Fault(f"{', '.join(paths)}: no trip that can drive{left_out}")
     types.note_braking((), report)
-    return Trips(found, demand.told_types)
+    return Trips(trips, demand.told_types)
 
 
 def connected_trips(trips: Sequence[Trip], net: SumoNet, graph: Graph, ignore: bool, report: Report) -> list[Trip]:
     """The trips whose routes have connections between all edges. Others are left out and reported where all that they
     lack are closed to the classes, or with ignore; else they are a Fault, as it is where no trip is left."""
-    found = []
+    connected = []
     for trip in trips:
         ways = [way for way in pairwise(trip.path) if way not in graph.movement_of]
         if not ways:
-            found.append(trip)
+            connected.append(trip)
             continue
         source, target = graph.names(
             next((way for way in ways if graph.names(way) not in net.closed_movements), ways[0])
@@ -176,9 +179,9 @@ def connected_trips(trips: Sequence[Trip], net: SumoNet, graph: Graph, ignore: b
                 "which follow each other in its route (--anew forgets routes, "
                 "--ignore-route-errors leaves such trips out)"
             )
-    if not found:
+    if not connected:
         raise Fault(f"none of {len(trips):,} trips has a route whose edges are connected")
-    return found
+    return connected
 
 
 def reason_against(vehicle: DemandVehicle, net: SumoNet, begin: int) -> str | None:
@@ -196,7 +199,8 @@ def vehicles_from_trips(trips: Iterable[Trip], graph: Graph) -> list[DemandVehic
     """The trips, with their present ways and their stops, as vehicles of an import."""
     return [
         DemandVehicle(
-            one.name, one.depart, graph.names(one.path), one.type, stops=one.stops, line=one.line, more=one.more
+            one.name, one.depart, graph.names(one.path), one.type, stops=one.stops, line=one.line,
+            further_attributes=one.further_attributes,
         )
         for one in trips
     ]
@@ -208,7 +212,7 @@ def write_routes(path: str, trips: Trips, graph: Graph) -> None:
     lie on their ways, one after the other."""
     with whole_file(path) as file:
         file.write("<routes>\n" + "".join(f"    {one}\n" for one in trips.types))
-        for trip in trips.all:
+        for trip in trips.trips:
             edges = graph.names(trip.path)
             inside = [f"<route edges={quoteattr(' '.join(edges))}/>", *calls_on(trip, edges)]
             file.write(f"    <vehicle{attributes_of(attributes_in(trip))}>{''.join(inside)}</vehicle>\n")
@@ -224,7 +228,8 @@ def attributes_in(trip: Trip) -> dict[str, str]:
         depart += 0.01
     kind = {"type": trip.type} if trip.type != DEFAULT else {}
     line = {"line": trip.line} if trip.line else {}
-    return {"id": trip.name, "depart": f"{depart:.2f}", **kind, "departLane": "best", **line, **dict(trip.more)}
+    further = dict(trip.further_attributes)
+    return {"id": trip.name, "depart": f"{depart:.2f}", **kind, "departLane": "best", **line, **further}
 
 
 def calls_on(trip: Trip, edges: Sequence[str]) -> Iterator[str]:

@@ -10,7 +10,7 @@ from streetsim.base.files import Fault, FilePath, at_least_zero, attribute, elem
 from streetsim.base.report import Report, first_few
 from streetsim.model.runs import Command
 from streetsim.sumo.crossing import Flows
-from streetsim.sumo.net import OFF, LightProgram, SumoNet, Waut, connections_of
+from streetsim.sumo.net import OFF_PROGRAM, LightProgram, SumoNet, Waut, connections_of
 from streetsim.sumo.network import Network
 from streetsim.sumo.signals import (
     AFTER, light_of, lit_node, movements_of_junction, signal_lines, turns_at, warn_of_kind,
@@ -50,44 +50,47 @@ def read_waut_junction(path: FilePath, element: Element, net: SumoNet, report: R
     net.wauts[name].lights.append(light)
 
 
-def days_of(net: SumoNet, begin: int, last: int, report: Report) -> dict[str, Day]:
-    """By light with a WAUT the programs that it shows from the clock begin to last, both included, [(clock, program's
-    name)]; in the network the first then becomes the light's program, those that follow stand in changing, all but the
-    first in earlier. Of several WAUTs of a light the last counts. Lights whose WAUT has them blink (off) keep their
-    program, and are reported. Fault where a light has not a program that its WAUT names, or day_of raises one."""
-    found: dict[str, Day] = {}
+def days_of(net: SumoNet, begin: int, last_clock: int, report: Report) -> dict[str, Day]:
+    """By light with a WAUT the programs that it shows from the clock begin to last_clock, both included, [(clock,
+    program's name)]; in the network the first then becomes the light's program, those that follow stand in changing,
+    all but the first in earlier. Of several WAUTs of a light the last counts. Lights whose WAUT has them blink (off)
+    keep their program, and are reported. Fault where a light has not a program that its WAUT names, or day_of raises
+    one."""
+    days: dict[str, Day] = {}
     for name, waut in net.wauts.items():
         for light in waut.lights:
-            wanted = {waut.start, *(program for _, program in waut.switches)}
-            if OFF in wanted:
+            names = {waut.start, *(program for _, program in waut.switches)}
+            if OFF_PROGRAM in names:
                 report.warn(
                     f"WAUT {name!r} does nothing here, as it switches lights off: {first_few(waut.lights)}", [light]
                 )
                 continue
-            known = {one.name: one for one in net.programs_of(light)}
-            if missing := sorted(wanted - known.keys()):
+            known = {program.name: program for program in net.programs_of(light)}
+            if missing := sorted(names - known.keys()):
                 raise Fault(f"WAUT {name!r}: light {light!r} has no program {missing[0]!r}")
-            found[light] = day_of(name, waut, begin, last)
-            first = known[found[light][0][1]]
-            net.programs[light], net.earlier[light] = first, [one for one in known.values() if one is not first]
-            net.changing[light] = [known[to] for to in {to: 0 for _, to in found[light]} if known[to] is not first]
-    return found
+            days[light] = day_of(name, waut, begin, last_clock)
+            first = known[days[light][0][1]]
+            net.programs[light] = first
+            net.earlier[light] = [program for program in known.values() if program is not first]
+            net.changing[light] = [known[to] for to in {to: 0 for _, to in days[light]} if known[to] is not first]
+    return days
 
 
-def day_of(name: str, waut: Waut, begin: int, last: int) -> Day:
-    """The programs of a WAUT (name) from the clock begin to last, both included, [(clock, program's name)], the first
-    at begin; those that follow an equal one are left out. Fault where it switches more than MOST_SWITCHES times."""
-    switches = list(islice(takewhile(lambda one: one[0] <= last, switches_from(waut, begin)), MOST_SWITCHES + 1))
+def day_of(name: str, waut: Waut, begin: int, last_clock: int) -> Day:
+    """The programs of a WAUT (name) from the clock begin to last_clock, both included, [(clock, program's name)], the
+    first at begin; those that follow an equal one are left out. Fault where it switches more than MOST_SWITCHES
+    times."""
+    switches = list(islice(takewhile(lambda one: one[0] <= last_clock, switches_from(waut, begin)), MOST_SWITCHES + 1))
     if len(switches) > MOST_SWITCHES:
-        until = f"until {last:,} s, a day after the last departure"
+        until = f"until {last_clock:,} s, a day after the last departure"
         raise Fault(f"WAUT {name!r}: more than {MOST_SWITCHES:,} switches {until}")
-    found: Day = [(begin, waut.start)]
+    day: Day = [(begin, waut.start)]
     for clock, program in switches:
         if clock <= begin:
-            found = [(begin, program)]
-        elif program != found[-1][1]:
-            found.append((clock, program))
-    return found
+            day = [(begin, program)]
+        elif program != day[-1][1]:
+            day.append((clock, program))
+    return day
 
 
 def switches_from(waut: Waut, begin: int) -> Iterable[tuple[int, str]]:
@@ -114,17 +117,17 @@ def day_lines(
     they change after the first, the last until AFTER seconds behind network.last, which must be set; reported as by
     signal_commands. days: of days_of; flows: vehicles an hour by (edge, next edge). Fault where each_second or
     check_states raises one."""
-    made: list[tuple[str, Command]] = []
+    lines: list[tuple[str, Command]] = []
     turns = turns_at(network)
     lights = {node: light_of((turn for *_, turn in own), net) for node, own in turns.items()}
     at_junction, limits_of = connections_of(net), {link.edge: link.limit for link in network.links}
     for light, node in sorted((light, node) for node, light in lights.items() if light and light in days):
         known = {one.name: one for one in net.programs_of(light)}
-        for (clock, name), (end, _) in list(pairwise([*days[light], (network.last + AFTER, "")]))[1:]:
+        for (clock, name), (end, _) in list(pairwise([*days[light], (network.last_depart + AFTER, "")]))[1:]:
             changed = replace(net, programs={**net.programs, light: known[name]})
             own = network.nodes[node], at_junction[network.nodes[node]], changed, flows, limits_of
             found = movements_of_junction(*own) if flows and network.options.permissive is None else {}
             lit = lit_node(changed, network, node, turns[node], light, found, report)
-            made += [(light, {"at": clock, **command}) for command in signal_lines(lit, clock, end - 1)]
+            lines += [(light, {"at": clock, **command}) for command in signal_lines(lit, clock, end - 1)]
             warn_of_kind(light, known[name], report)
-    return made
+    return lines

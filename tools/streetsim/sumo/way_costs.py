@@ -10,8 +10,9 @@ AS_MOVEMENT = 2.0  # vehicles for which the mean delay of the edge counts where 
 AS_EDGE = 1.0  # vehicles without delay that are added to those of an edge
 TURN_BACK = 5.0  # seconds that a turn back costs the router besides
 FALL = 0.9  # seconds a second by which costs fall at most: who sets out later should not arrive much sooner
-PARTS = 5  # of a slice, in each of which a cost is constant
-SHARES = [(part + 0.5) / PARTS - 0.5 for part in range(PARTS)]  # of a slice, from its middle to the middle of a part
+PARTS_OF_SLICE = 5  # of a slice, in each of which a cost is constant
+# Of a slice, from its middle to the middle of a part.
+SHARES = [(part + 0.5) / PARTS_OF_SLICE - 0.5 for part in range(PARTS_OF_SLICE)]
 
 
 @dataclass(slots=True)
@@ -56,14 +57,14 @@ class Costs:
     @property
     def part_seconds(self) -> float:
         """The seconds for which a cost is constant."""
-        return self.slice_seconds / PARTS
+        return self.slice_seconds / PARTS_OF_SLICE
 
     def row(self, movement: int) -> array:
         """The seconds of a movement in each part of all slices: from the middle of a slice to the middle of the next
         they change along a straight line."""
         means = self.means[movement]
         if isinstance(means, float):
-            return array("d", [means]) * (PARTS * self.slices)
+            return array("d", [means]) * (PARTS_OF_SLICE * self.slices)
         before, after = [means[0], *means[:-1]], [*means[1:], means[-1]]
         return array("d", [
             own + ((later - own) * share if share >= 0 else (own - sooner) * share)
@@ -71,7 +72,7 @@ class Costs:
             for share in SHARES
         ])  # fmt: skip
 
-    def least(self, movement: int) -> float:
+    def least_seconds(self, movement: int) -> float:
         """The least seconds that a movement takes at any time."""
         means = self.means[movement]
         return means if isinstance(means, float) else min(means)
@@ -84,7 +85,7 @@ class Table:
         """costs: of all movements of a graph."""
         self.costs = costs
         self.rows: list[array | None] = [None] * len(costs.means)
-        self.inverse, self.last = 1 / costs.part_seconds, PARTS * costs.slices - 1
+        self.inverse, self.last_part = 1 / costs.part_seconds, PARTS_OF_SLICE * costs.slices - 1
 
     def row(self, movement: int) -> array:
         """The seconds of a movement in each part of all slices; made at the first call."""
@@ -96,7 +97,7 @@ class Table:
     def at(self, movement: int, clock: float) -> float:
         """The seconds of a movement that begins at a clock (seconds from 0, where the first slice begins); after the
         last slice those of its last part."""
-        return self.row(movement)[min(self.last, int(clock * self.inverse))]
+        return self.row(movement)[min(self.last_part, int(clock * self.inverse))]
 
 
 def costs_of(
@@ -120,15 +121,15 @@ def costs_of(
         if not seen[edge] and not waits:
             means.append(base)
             continue
-        row, last = array("d"), 0.0
+        row, last_cost = array("d"), 0.0
         for slice_ in range(slices):
             place, there = movement * slices + slice_, edge * slices + slice_
             shared = of_edge[there] / (edge_counts[there] + AS_EDGE)
             if minor is not None and waits:
                 shared = max(shared, minor.wait(movement, lambda foe: counts[foe * slices + slice_] * 3600 / width))
             delay = (delays[place] + AS_MOVEMENT * shared) / (counts[place] + AS_MOVEMENT)
-            last = max(0.5 * free[movement], base + delay, last - FALL * width)
-            row.append(last)
+            last_cost = max(0.5 * free[movement], base + delay, last_cost - FALL * width)
+            row.append(last_cost)
         means.append(row)
     return Costs(width, slices, means)
 

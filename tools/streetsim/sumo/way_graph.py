@@ -19,11 +19,11 @@ class Graph:
         found = dict.fromkeys((self.number[edge], self.number[following]) for edge, following in ways)
         self.movements = [*found, *((edge, END) for edge in range(len(self.edges)))]
         self.movement_of = {way: at for at, way in enumerate(self.movements)}
-        self.out: list[list[tuple[int, int]]] = [[] for _ in self.edges]  # (next edge, movement)
-        self.into: list[list[tuple[int, int]]] = [[] for _ in self.edges]  # (edge before, movement)
+        self.outgoing: list[list[tuple[int, int]]] = [[] for _ in self.edges]  # (next edge, movement)
+        self.incoming: list[list[tuple[int, int]]] = [[] for _ in self.edges]  # (edge before, movement)
         for at, (edge, following) in enumerate(found):
-            self.out[edge].append((following, at))
-            self.into[following].append((edge, at))
+            self.outgoing[edge].append((following, at))
+            self.incoming[following].append((edge, at))
         self.turns_back = [
             following != END and ends[self.edges[edge]] == ends[self.edges[following]][::-1]
             for edge, following in self.movements

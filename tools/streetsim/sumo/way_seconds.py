@@ -13,7 +13,7 @@ from streetsim.model.timing import spans_of
 from streetsim.sumo.way_graph import END, Graph
 
 SATURATION = 1700.0  # vehicles an hour and lane in green, by and large
-NEVER = 3600.0  # seconds of a wait for a green that does not come
+NO_GREEN_SECONDS = 3600.0  # seconds of a wait for a green that does not come
 LEAST_CAPACITY = 100.0  # vehicles an hour that any movement lets pass
 
 
@@ -25,13 +25,13 @@ def whole_plans(sent: Iterable[Sent]) -> list[Command]:
     by_node: defaultdict[int, list[tuple[int, list]]] = defaultdict(list)
     for clock, command in sent:
         by_node[command["node"]].append((clock, command["phases"]))
-    found = []
+    commands = []
     for node, plans in by_node.items():
         alone = list(takewhile(lambda plan: len(plan[1]) == 1, plans))
         last = max((at for at, (_, phases) in enumerate(alone) if phases == plans[0][1]), default=0) or len(alone)
         spans = [[later - clock, phases[0][1]] for (clock, phases), (later, _) in pairwise(alone[: last + 1])]
-        found.append({"node": node, "phases": spans or plans[0][1]})
-    return found
+        commands.append({"node": node, "phases": spans or plans[0][1]})
+    return commands
 
 
 def free_seconds(graph: Graph, mapping: Map, signals: Iterable[dict], dawdle: float) -> array:
@@ -49,29 +49,30 @@ def free_seconds(graph: Graph, mapping: Map, signals: Iterable[dict], dawdle: fl
 
 def mean_waits(graph: Graph, mapping: Map, signals: Iterable[dict]) -> dict[tuple[int, int], float]:
     """The mean seconds, by (edge, next edge), for which signals hold a vehicle that comes at any time; of parallel
-    links the least, and NEVER where the movement is never green. Movements at nodes without a signal are left out."""
+    links the least, and NO_GREEN_SECONDS where the movement is never green. Movements at nodes without a signal are
+    left out."""
     signals = list(signals)
     lit = {command["node"] for command in signals}
     at_signals = (turn for turn in mapping.turns if mapping.links[turn.link].end in lit)
-    waits = {edge_numbers(graph, mapping, turn.link, turn.next): NEVER for turn in at_signals}
+    waits = {edge_numbers(graph, mapping, turn.link, turn.next): NO_GREEN_SECONDS for turn in at_signals}
     for command in signals:
         cycle = sum(duration for duration, _ in command["phases"])
         for way, green in green_bits(graph, mapping, command):
             wait = sum(red * (red + 1) / 2 for red in red_lengths(green, cycle)) / cycle
-            waits[way] = min(waits.get(way, NEVER), wait)
+            waits[way] = min(waits.get(way, NO_GREEN_SECONDS), wait)
     return waits
 
 
 def green_bits(graph: Graph, mapping: Map, command: dict) -> Iterator[tuple[tuple[int, int], int]]:
     """((edge, next edge), green seconds of the cycle as bits, second 0 the lowest) for each link and next link of which
     a signal command ever lets a lane go; a pair of edges comes more than once where links are parallel."""
-    shown: dict[tuple[int, int], int] = defaultdict(int)
+    green_of_pair: dict[tuple[int, int], int] = defaultdict(int)
     clock = 0
     for duration, turns in command["phases"]:
         for link, _, following in turns:
-            shown[link, following] |= ((1 << duration) - 1) << clock
+            green_of_pair[link, following] |= ((1 << duration) - 1) << clock
         clock += duration
-    for (link, following), green in shown.items():
+    for (link, following), green in green_of_pair.items():
         yield edge_numbers(graph, mapping, link, following), green
 
 
@@ -89,10 +90,10 @@ def capacities(graph: Graph, mapping: Map, signals: Iterable[dict]) -> list[floa
     """Vehicles an hour that each movement lets pass, a list by movement: at a signal SATURATION for each lane, times
     its share of green, and LEAST_CAPACITY at least; where no signal ever shows it green (as at none, or where it ends a
     trip) SATURATION, whatever its lanes."""
-    found: dict[tuple[int, int], float] = defaultdict(float)
+    vehicles_of_pair: dict[tuple[int, int], float] = defaultdict(float)
     for command in signals:
         cycle = sum(duration for duration, _ in command["phases"])
         for duration, turns in command["phases"]:
             for link, _, following in turns:
-                found[edge_numbers(graph, mapping, link, following)] += SATURATION * duration / cycle
-    return [max(LEAST_CAPACITY, found.get(way, SATURATION)) for way in graph.movements]
+                vehicles_of_pair[edge_numbers(graph, mapping, link, following)] += SATURATION * duration / cycle
+    return [max(LEAST_CAPACITY, vehicles_of_pair.get(way, SATURATION)) for way in graph.movements]

@@ -10,7 +10,7 @@ from streetsim.sumo.trips import Trip
 from streetsim.sumo.way_costs import Costs, flat_costs
 from streetsim.sumo.way_graph import Graph
 
-PARTS = 5  # of the trips, each of which sees the delays that those before it make
+PARTS_OF_TRIPS = 5  # of the trips, each of which sees the delays that those before it make
 # The delay is so much of the free seconds, times the load to that power (as of the Bureau of Public Roads).
 STEEPNESS, POWER = 0.5, 4
 MOST_DELAY = 300.0  # seconds
@@ -29,9 +29,12 @@ def first_ways(
     random.Random(f"start {seed}").shuffle(wanting)
     hours = max(LEAST_HOURS, (trips[-1].depart - trips[0].depart) / 3600)
     given, volume, lost = volumes(graph, trips), [0] * len(graph.movements), []
-    for part in range(PARTS):
-        mine = wanting[part::PARTS]
-        hourly = ((count + own * PARTS / max(1, part)) / hours for count, own in zip(given, volume, strict=True))
+    for part in range(PARTS_OF_TRIPS):
+        mine = wanting[part::PARTS_OF_TRIPS]
+        hourly = (
+            (count + own * PARTS_OF_TRIPS / max(1, part)) / hours
+            for count, own in zip(given, volume, strict=True)
+        )
         seconds = delayed(graph, free, [flow / most for flow, most in zip(hourly, capacity, strict=True)])
         wishes = [Wish(at, trips[at].origin, trips[at].target, trips[at].depart, ()) for at in mine]
         for found in search(wishes, flat_costs(graph, seconds)):

@@ -25,16 +25,17 @@ FAR_FROM_FULL, NEARLY_FULL = 0.6, 0.8  # of what a lane lets pass: one of severa
 
 
 def settle(movements: Sequence[CrossingMovement]) -> None:
-    """Sets shown and passing of the movements of a junction, one at least, in ROUNDS rounds at most until they fit to
-    each other (CLOSE): a vehicle that waits to turn blocks those behind it on its lane, and so makes room for those on
-    the other side."""
+    """Sets shown_seconds and passing of the movements of a junction, one at least, in ROUNDS rounds at most until they
+    fit to each other (CLOSE): a vehicle that waits to turn blocks those behind it on its lane, and so makes room for
+    those on the other side."""
     lanes = defaultdict(list)
     for movement in movements:
         lanes[movement.lane].append(movement)
     for _ in range(ROUNDS):
         for movement in movements:
-            movement.shown = {start: seconds_shown(movement, start, length) for start, length in movement.runs.items()}
-            movement.shown |= {start: seconds_after_stop(movement, start) for start in movement.stops}
+            runs = movement.runs.items()
+            movement.shown_seconds = {start: seconds_shown(movement, start, length) for start, length in runs}
+            movement.shown_seconds |= {start: seconds_after_stop(movement, start) for start in movement.stops}
         if max([adjust_passing(sharing) for sharing in lanes.values()]) < CLOSE:
             break
     for sharing in lanes.values():
@@ -47,14 +48,14 @@ def set_leads(sharing: Sequence[CrossingMovement]) -> None:
     holds up all, so there its seconds are the nearer to the end of the green the fuller the lane is. A full lane needs
     its seconds in one piece."""
     wish = sum(movement.flow for movement in sharing)
-    only = sharing[0].lanes == 1
-    share = wish / capacity(sharing, wish) / (NEARLY_FULL if only else FAR_FROM_FULL) if wish else 1.0
+    is_only_lane = sharing[0].lanes == 1
+    share = wish / capacity(sharing, wish) / (NEARLY_FULL if is_only_lane else FAR_FROM_FULL) if wish else 1.0
     for movement in sharing if share < 1 else ():
         for start, length in movement.runs.items() if movement.foes else ():
             free = reduce(or_, (seconds for seconds, _ in free_meetings(movement, start, 1.0)), 0)
             first = next((at for at in range(length) if free >> (start + at) % movement.cycle & 1), length)
             alone = first + gap_wait(min(most_against(movement), MOST_AGAINST))
-            later = share * max(0.0, length - movement.shown[start] - alone) if only else 0.0
+            later = share * max(0.0, length - movement.shown_seconds[start] - alone) if is_only_lane else 0.0
             movement.leads[start] = round(alone + later)
 
 
@@ -103,12 +104,12 @@ def lane_there(movement: CrossingMovement, start: int, length: int, factor: floa
     for seconds, foes in movement.meets[start]:
         count = (seconds & ~blocked).bit_count()
         each = time_of(movement, movement.against(foes) * factor)
-        passed += count / (movement.share * each + (1 - movement.share) * movement.beside)
+        passed += count / (movement.share * each + (1 - movement.share) * movement.headway_beside)
         free += count
     queued = max(0.0, length - free - START)
     if movement.heads:
         return max(SNEAKERS, passing_heads(movement.heads, queued) + passed)
-    before = queued / movement.beside
+    before = queued / movement.headway_beside
     waiting = 1 - (1 - movement.share) ** before
     return until_first(before, movement.share) + max(passed, SNEAKERS * waiting)
 
@@ -153,7 +154,7 @@ def time_of(movement: CrossingMovement, against: float) -> float:
 def lane_here(movement: CrossingMovement, seconds: int, length: int) -> float:
     """How many vehicles of a movement's whole lane pass in streetsim in a permissive green of length seconds, of which
     some seconds are shown at its end."""
-    whole = max(0.0, length - START) / movement.beside  # pass if nobody waits, here as in SUMO
+    whole = max(0.0, length - START) / movement.headway_beside  # pass if nobody waits, here as in SUMO
     before = whole * (length - seconds + AHEAD) / (length + AHEAD)
     none = (1 - movement.share) ** before  # that waits has come until then
     shown = none * (whole - before) + (1 - none) * passing_here(seconds, movement.limit)
@@ -201,27 +202,27 @@ def capacity(sharing: Sequence[CrossingMovement], wish: float) -> float:
     """Vehicles an hour that a lane lets pass, by its movements, of wish that want to (above 0): all until the first
     comes that waits to turn, and then those of the seconds that are shown to it."""
     cycle, green = sharing[0].cycle, reduce(or_, (movement.green for movement in sharing))
-    each = sum(movement.flow * movement.headway for movement in sharing) / wish
-    whole = green.bit_count() / each
+    mean_headway = sum(movement.flow * movement.headway for movement in sharing) / wish
+    most_vehicles = green.bit_count() / mean_headway
     waiting = [movement for movement in sharing if movement.waits]
     share = sum(movement.flow for movement in waiting) / wish
     if not share:
-        return whole * 3600 / cycle
+        return most_vehicles * 3600 / cycle
     shown = max(movement.shown_open / HEADWAYS[movement.limit - 1] for movement in waiting)
-    shown += waiting[0].sure.bit_count() / each
-    before = max(0.0, whole - shown)
-    return min(whole, until_first(before, share) + shown) * 3600 / cycle
+    shown += waiting[0].sure.bit_count() / mean_headway
+    before = max(0.0, most_vehicles - shown)
+    return min(most_vehicles, until_first(before, share) + shown) * 3600 / cycle
 
 
 def equivalents(movements: Iterable[CrossingMovement]) -> dict[EdgePair, float]:
     """For how many vehicles (1 to MOST_EQUIVALENT) one counts on its lane that waits for a gap, by edge pair, once
     settle was called: as many others could pass in its green for each that passes. Those that do not wait are left
     out."""
-    found: dict[EdgePair, float] = {}
+    of_pair: dict[EdgePair, float] = {}
     for movement in movements:
         if movement.waits:
             passing = movement.shown_open / HEADWAYS[movement.limit - 1]
             passing += movement.sure.bit_count() / movement.headway
             most = min(MOST_EQUIVALENT, movement.green.bit_count() / movement.headway / max(passing, 0.5))
-            found[movement.pair] = max(found.get(movement.pair, 1.0), most)
-    return found
+            of_pair[movement.pair] = max(of_pair.get(movement.pair, 1.0), most)
+    return of_pair
