@@ -121,7 +121,7 @@ class Pages(Case):
         shown = [flush_left(block) for block in re.findall(r"(?ms)^```\n(.*?)^```$", text)]
         files = [*TOP.glob("crates/*/src/*.rt"), *TOP.glob("crates/*/specs/*.antt")]
         sources = [flush_left(path.read_text(encoding="utf-8")) for path in files]
-        self.assertEqual(len(shown), 3)
+        self.assertEqual(len(shown), 4)
         self.assertEqual([block for block in shown if not any(block in source for source in sources)], [])
 
     def test_each_measurement_that_a_page_names_is_there(self):
