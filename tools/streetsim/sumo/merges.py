@@ -13,17 +13,19 @@ from streetsim.sumo.net import ZIPPER, NetConnection, SumoNet, connections_of
 from streetsim.sumo.network import Network
 
 CYCLE, LEAST = 12, 3  # seconds of a zipper's turns, and of the shorter one of two
-TOGETHER = 6  # of them, in which both go at most, where there is room for both streets, as lone zippers chose
-ALONE = 2  # of them, at least, in which the street goes alone that goes last when both go
+TOGETHER = 10  # of them, in which both go at most, where there is room for both streets, as lone zippers chose
+ALONE = 1  # of them, at least, in which the street goes alone that goes last when both go
 ZIPPED, ZIPPED_HERE = 1730.0, 1590.0  # vehicles an hour that pass a zipper in SUMO, and here
 MORE = 1.1  # in whose place one counts of the street that needs less than half
 TURN, PASSING = 3, 3.36  # seconds of each of two lanes; how many vehicles pass in both
 LEAST_PAUSE = 2  # seconds in which nobody passes, in all
-# Vehicles an hour that pass where one of two lanes ends, by the metres of the edge, measured at lone streets in SUMO.
-PASSED = ((60.0, 790.0), (120.0, 1020.0), (240.0, 1200.0))
-FAR_FROM_FULL = 0.7  # of these, below which nobody waits longer than where the edge is long
-# Shares of what can pass, from which on a zipper, and an end, is nearly full; just behind a light FAR_FROM_FULL.
-FULL_ZIPPER, FULL_END = 0.92, 0.95
+# Vehicles an hour that pass where one of two lanes ends, by the metres of the edge behind a light, as lone streets of
+# SUMO chose with lights of 60 to 90 s.
+PASSED = ((60.0, 790.0), (120.0, 900.0), (240.0, 1110.0), (300.0, 1200.0))
+# Up to so many an hour nobody waits longer than where the edge is long; for each one more, one less can pass.
+FEW = 550.0
+# Shares of what can pass, from which on a zipper, an end, and an end just behind a light are nearly full.
+FULL_ZIPPER, FULL_END, FULL_BEHIND_LIGHT = 0.92, 0.95, 0.8
 
 
 @dataclass(frozen=True, slots=True)
@@ -62,7 +64,7 @@ def zippers(net: SumoNet, network: Network, flows: Flows) -> list[Merge]:
         first = min(CYCLE - LEAST, max(LEAST, green_here(share_of_first(*hourly) * CYCLE / 3600, limit)))
         turns = turns_at(network, number[name])
         one, other = ([turn for turn in turns if network.links[turn[0]].edge == edge] for edge in edges)
-        both = min(TOGETHER, 2 * (CYCLE - first - ALONE)) if sum(hourly) < ZIPPED_HERE else 0
+        both = min(TOGETHER, 2 * first, 2 * (CYCLE - first - ALONE)) if sum(hourly) < ZIPPED_HERE else 0
         parts = (first - both // 2, one), (both, one + other), (CYCLE - first - both // 2, other)
         phases = [[seconds, listed(sorted(own))] for seconds, own in parts if seconds]
         made.append(Merge(name, tuple(edges), ZIPPED_HERE, FULL_ZIPPER, signal(number[name], phases)))
@@ -95,9 +97,9 @@ def lane_ends(net: SumoNet, network: Network, flows: Flows) -> list[Merge]:
         capacity = passed(own.metres)
         behind_light = own.metres < PASSED[-1][0] and network.nodes[own.begin] in lit
         wish = sum(flow for (source, _), flow in flows.items() if source == own.edge)
-        shown = capacity if wish >= FAR_FROM_FULL * capacity else PASSED[-1][1]
+        shown = min(PASSED[-1][1], max(capacity, PASSED[-1][1] - (wish - FEW)))
         command = signal(node, phases_of_end(turns_at(network, node), link, lane, shown))
-        nearly = FAR_FROM_FULL if behind_light else FULL_END
+        nearly = FULL_BEHIND_LIGHT if behind_light else FULL_END
         made.append(Merge(network.nodes[node], (own.edge,), capacity, nearly, command))
     return made
 
