@@ -25,7 +25,7 @@ PASSED = ((60.0, 790.0), (120.0, 900.0), (240.0, 1110.0), (300.0, 1200.0))
 # Up to so many an hour nobody waits longer than where the edge is long; for each one more, one less can pass.
 FEW = 550.0
 # Shares of what can pass, from which on a zipper, an end, and an end just behind a light are nearly full.
-FULL_ZIPPER, FULL_END, FULL_BEHIND_LIGHT = 0.92, 0.95, 0.8
+FULL_ZIPPER, FULL_END, FULL_BEHIND_LIGHT = 0.89, 0.95, 0.8
 
 
 @dataclass(frozen=True, slots=True)
