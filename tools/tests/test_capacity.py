@@ -1,5 +1,6 @@
 """Vehicles that leave in each green of a lone cross, beside SUMO 1.15 on the same demand; who gives way to whom."""
 import unittest
+import xml.etree.ElementTree as ElementTree
 from types import SimpleNamespace
 from unittest import mock
 
@@ -11,12 +12,14 @@ from streetsim.model.folder import read_folder
 from streetsim.report.beside_sumo import trip_times_of
 from streetsim.sumo.across import may_turn_on_red
 from streetsim.sumo.crossing import CrossingMovement, set_heads, set_lane, wait_together
+from streetsim.sumo.driving import driving_of
 from streetsim.sumo.gaps import gap_capacity, gap_wait, until_first
 from streetsim.sumo.greens import green_here, hidden_middle, hidden_start, passing_here, vehicles_leaving
 from streetsim.sumo.heads import Heads, passing_heads
 from streetsim.sumo.import_files import convert
 from streetsim.sumo.net import NetConnection, NetEdge, SumoNet, request_of, wait_inside
 from streetsim.sumo.network import Options
+from streetsim.sumo.paces import Drivers
 from streetsim.sumo.signals import AS_MAIN, shown_by_gaps
 from streetsim.sumo.way_minor import Minor
 from streetsim.sumo.yielding import lane_here, lane_queue, lane_there, seconds_for, settle, time_of
@@ -83,6 +86,15 @@ class Formulas(unittest.TestCase):
         self.assertEqual([hidden_start(1, 13.89, 2), hidden_start(0, 13.89, 2)], [0, 0])
         for seconds, left_out in {0: (0, 0), 1: (0, 0), 8: (0, 2), 42: (21, 21)}.items():
             self.assertEqual(hidden_middle(seconds, 13.89, 2), left_out)
+
+    def test_queues_by_sigma(self):
+        """SUMO's vehicles of a full lane in 12 and 42 s of green, straight on at 50 km/h."""
+        for sigma, passed in {0.0: (7.0, 24.7), 0.3: (6.0, 22.9), 0.8: (4.4, 17.9), 1.0: (3.7, 15.5)}.items():
+            element = ElementTree.fromstring(f'<vType id="t" sigma="{sigma}"/>')
+            drivers = Drivers({driving_of("x.rou.xml", element, 2.6, "passenger"): 1})
+            for seconds, vehicles in zip((12, 42), passed, strict=True):
+                own = vehicles_leaving(seconds, 13.89, drivers.accel, drivers.apart)
+                self.assertAlmostEqual(own, vehicles, delta=0.9, msg=sigma)
 
     def test_requests_of_inner_lanes(self):
         # The lanes of one inner edge follow each other: ":c_13_1" is the connection after ":c_13_0".

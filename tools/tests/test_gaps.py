@@ -2,6 +2,8 @@
 import json
 import unittest
 from dataclasses import asdict
+from itertools import groupby
+from random import Random
 from types import SimpleNamespace
 
 from support import Case, lane
@@ -13,8 +15,9 @@ from streetsim.observe.giving_way_gaps import (
     CLOSE_S, MOST_SEEN, PATIENCE_S, UNSEEN, GapCounts, be_patient, followings, gap_lines, mark, phases_of_reds,
     red_seconds, slow_down, standing_seconds, stands_of,
 )
-from streetsim.sumo.conflicts import CROSSING, JOINING, foes, turns_by_movement
+from streetsim.sumo.conflicts import AFTER_STOP, CROSSING, JOINING, PACES, foes, turns_by_movement
 from streetsim.sumo.driving import Driving
+from streetsim.sumo.greens import passing_here
 from streetsim.sumo.import_files import convert
 from streetsim.sumo.net import MAJOR, MINOR, STOPS, NetConnection
 from streetsim.sumo.network import Options
@@ -142,6 +145,18 @@ class Reds(unittest.TestCase):
         near = [*range(45, 75), *range(85, 115)]
         self.assertEqual([at for at in range(200) if red[at]], [at for at in near if at % 8 > 1])
         self.assertEqual(giving_way_of([json.loads(json.dumps(asdict(waiting)))]), [waiting])
+
+    def test_as_many_join_after_a_stop_as_in_sumo(self):
+        """Vehicles an hour of a queue at a lone stop sign of SUMO 1.15, by those of the stream."""
+        draws, end = Random(1), 20 * 3600
+        waiting = GivingWay(1, ((2, 0, 1),), (foe(AFTER_STOP),), PACES[STOPS])
+        queue = [float(second) for second in range(0, end, 10)]
+        for hourly, joining in {100: 275, 200: 183, 400: 130, 600: 109}.items():
+            stream = sorted(draws.uniform(0, end) for _ in range(20 * hourly))
+            red = red_seconds(waiting, {(0, 0, 1): stream, (2, 0, 1): queue}, 0, end)
+            greens = (len(list(run)) for hidden, run in groupby(red) if not hidden)
+            passing = sum(passing_here(seconds, 2) for seconds in greens) / 20
+            self.assertAlmostEqual(passing / joining, 1, delta=0.15, msg=hourly)
 
     def test_where_all_stop_more_traffic_makes_it_slower(self):
         foes = (Foe(0, 0, 1, Gap(0.0, 0.0, 0.0), False),)

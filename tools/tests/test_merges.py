@@ -80,12 +80,11 @@ class Made(Case):
 
 class Zippers(Made):
     def test_two_streets_go_by_turns(self):
-        """For half of the time together, where both have room."""
+        """Together but for the last seconds, where both have room: 2.88 vehicles of each pass in five of 12 s."""
         network, [command] = self.made(zipper(), ac=600, bc=600)
         self.assertEqual((network.nodes[command["node"]], command["offset"]), ("C", 0))
         edges = [sorted({network.links[turn[0]].edge for turn in turns}) for _, turns in command["phases"]]
-        self.assertEqual((edges, sum(seconds for seconds, _ in command["phases"])), ([["a"], ["a", "b"], ["b"]], 12))
-        self.assertEqual(command["phases"][1][0], 6)
+        self.assertEqual((edges, [seconds for seconds, _ in command["phases"]]), ([["a", "b"], ["b"]], [10, 2]))
         network, [command] = self.made(zipper(), ac=900, bc=800)
         edges = [sorted({network.links[turn[0]].edge for turn in turns}) for _, turns in command["phases"]]
         self.assertEqual((edges, sum(seconds for seconds, _ in command["phases"])), ([["a"], ["b"]], 12))
@@ -114,14 +113,18 @@ class Ends(Made):
     def test_both_lanes_go_by_turns_with_pauses(self):
         # 3.36 vehicles pass in two turns of 3 s: 1,200 an hour are one cycle of 10 s, 790 one of 15 s.
         for metres, seconds in ((1500, [3, 2, 3, 2]), (60, [3, 5, 3, 4])):
-            network, [command] = self.made(drop(metres), ab=600)
+            network, [command] = self.made(drop(metres), ab=1000)
             self.assertEqual([length for length, _ in command["phases"]], seconds)
             lanes = [[turn[1] for turn in turns] for _, turns in command["phases"]]
             self.assertEqual(lanes, [[1], [], [0], []])
-        # Of 790 less than 0.7 wish to pass: in SUMO they wait no longer than where the edge is long.
-        _, [command] = self.made(drop(60), ab=500)
-        self.assertEqual([length for length, _ in command["phases"]], [3, 2, 3, 2])
-        self.assertEqual([passed(metres) for metres in (10, 60, 90, 120, 240, 900)], [790, 790, 905, 1020, 1200, 1200])
+        self.assertEqual([passed(metres) for metres in (10, 60, 90, 120, 240, 900)], [790, 790, 845, 900, 1110, 1200])
+
+    def test_few_wait_no_longer_than_where_the_edge_is_long(self):
+        # SUMO 1.15, 30 m behind lights of 60 to 90 s: 553 an hour have trips as where 1,200 can pass, 711 as where
+        # some 1,040 can.
+        for hourly, seconds in ((500, [3, 2, 3, 2]), (711, [3, 3, 3, 3])):
+            _, [command] = self.made(drop(60), ab=hourly)
+            self.assertEqual([length for length, _ in command["phases"]], seconds)
 
     def test_not_at_a_light_nor_where_nobody_drives(self):
         light = '<tlLogic id="L" programID="0" type="static" offset="0"><phase duration="30" state="G"/></tlLogic><edge'

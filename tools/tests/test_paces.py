@@ -48,7 +48,7 @@ class Drivings(unittest.TestCase):
             ('speedFactor="normc(0.9,0.2,0.5,1.3)"', Driving(factor=0.9, deviation=0.2)),
             ('speedFactor="norm(0.9, 0.2)" speedDev="0.05"', Driving(factor=0.9, deviation=0.05)),
             ('sigma="0.9" carFollowModel="IDM"', Driving(sigma=0.0)),
-            ('sigma="0.9" carFollowModel="KraussOrig1"', Driving(sigma=0.9)),
+            ('sigma="0.9" carFollowModel="KraussOrig1"', Driving(sigma=0.9, apart=0.465)),  # 0.83 (0.81 - 0.25)
             ('vClass="bus"', Driving(deviation=0.0, max_speed=27.78)),
             ('vClass="moped" maxSpeed="9"', Driving(max_speed=9.0)),
         ):

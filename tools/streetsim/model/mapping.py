@@ -76,7 +76,8 @@ class MapTurn:
     added: bool  # it is none of SUMO's connections, but the import's
     speed: float = 13.9  # metres a second, inside the junction if that is known
     limit: int = 2  # of its link, cells a step
-    accel: float = 2.6  # metres a second and second, of those who start there, in the mean
+    accel: float = 2.6  # metres a second and second of usual cars that start as those do who start there, in the mean
+    apart: float = 0.0  # seconds more between two of a queue there than between usual cars
 
 
 class MapNode(NamedTuple):

@@ -27,7 +27,7 @@ CROSSING, ENTERING = Gap(7.0, 3.6, 3.5, 0.0, 0.4), Gap(7.2, 2.0, 3.5)
 JOINING = Gap(8.4, 3.0, 5.0, 1.0, 0.4, rolling=5.5)
 EQUAL, EQUAL_JOINING = 4.3, 6.5  # Gap.rolling where nobody has a main street, to cross and to join fast ones
 NONE = Gap(0.0, 0.0, 0.0)  # where all stop they go in turn
-AFTER_STOP = Gap(18.5, 17.0, 5.0, 1.0, 0.3)  # to join any stream
+AFTER_STOP = Gap(26.0, 32.0, 9.0, 1.0, 0.3)  # to join any stream
 # The same where nobody has a main street, and at a stop sign.
 STATE_GAPS = {
     EQUALS: {

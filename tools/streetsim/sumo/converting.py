@@ -116,7 +116,9 @@ def map_of(network: Network, lights: list[tuple[str, int]], names: list[str], re
             for link in network.links
         ],
         turns=[
-            MapTurn(*key, turn.next_lane, turn.light, turn.index, turn.added, turn.speed, turn.limit, turn.accel)
+            MapTurn(
+                *key, turn.next_lane, turn.light, turn.index, turn.added, turn.speed, turn.limit, turn.accel, turn.apart
+            )
             for key, turn in network.turns.items()
         ],
         signals=lights,

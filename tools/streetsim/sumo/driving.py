@@ -17,6 +17,8 @@ POINTS = ((-1.9, 0.07), (-1.2, 0.15), (-0.6, 0.2), (0.0, 0.16), (0.6, 0.2), (1.2
 LEAST_FACTOR, MOST_FACTOR = 0.2, 2.0  # of a limit
 SLOWEST = 0.3  # metres a second
 FACTOR = re.compile(r"(?:normc?\()?\s*([-+0-9.eE]+)\s*(?:,\s*([-+0-9.eE]+)[^)]*)?\)?")
+# Seconds between two of a queue that passes a light, by the square of sigma: measured in SUMO from 0 to 1.0.
+BY_SIGMA = 0.83
 KRAUSS = "Krauss"  # in the names of the models that have a sigma
 # Measured in SUMO 1.15 with one type of each class alone; others have Driving's.
 DEVIATIONS = dict.fromkeys(("taxi", "coach", "delivery", "truck", "trailer"), 0.05)
@@ -37,6 +39,7 @@ class Driving:
     factor: float = 1.0  # of the limit, in the mean
     deviation: float = 0.1  # of the factor
     max_speed: float = 55.56  # metres a second
+    apart: float = 0.0  # seconds more between two of a queue that passes a light than between usual cars
 
     def slowness(self, speed: float) -> float:
         """Mean seconds for a metre where speed is allowed (metres a second, above 0)."""
@@ -90,7 +93,10 @@ def driving_of(path: FilePath, element: Element, accel: float, vclass: str) -> D
     sigma = optional(path, element, "sigma", at_least_zero(number), USUAL.sigma)
     most = optional(path, element, "maxSpeed", above_zero(number), MOST_SPEEDS.get(vclass, USUAL.max_speed))
     has_sigma = KRAUSS in element.get("carFollowModel", KRAUSS)
-    return Driving(accel, min(1.0, sigma) if has_sigma else 0.0, factor, deviation, most)
+    if not has_sigma:
+        return Driving(accel, 0.0, factor, deviation, most)
+    sigma = min(1.0, sigma)
+    return Driving(accel, sigma, factor, deviation, most, round(BY_SIGMA * (sigma**2 - USUAL.sigma**2), 3))
 
 
 def factor_and_deviation(text: str) -> tuple[float, float | None]:

@@ -18,9 +18,10 @@ def headway(speed: float) -> float:
     return BEHIND + ROOM / speed
 
 
-def vehicles_leaving(green: float, speed: float, accel: float = ACCELERATION) -> float:
-    """How many vehicles, one at least, leave a queue in SUMO in some seconds of green; speed: metres a second."""
-    return max(1.0, (green - speed / (2 * accel) + EARLY) / headway(speed))
+def vehicles_leaving(green: float, speed: float, accel: float = ACCELERATION, apart: float = 0.0) -> float:
+    """How many vehicles, one at least, leave a queue in SUMO in some seconds of green; speed: metres a second; apart:
+    seconds more between two than between usual cars."""
+    return max(1.0, (green - speed / (2 * accel) + EARLY) / (headway(speed) + apart))
 
 
 def green_here(vehicles: float, limit: int) -> int:
@@ -34,20 +35,22 @@ def passing_here(seconds: int, limit: int) -> float:
     return SHORT[seconds - 1] if seconds <= len(SHORT) else (seconds + AHEAD) / HEADWAYS[limit - 1]
 
 
-def hidden_start(length: int, speed: float, limit: int, accel: float = ACCELERATION) -> int:
+def hidden_start(length: int, speed: float, limit: int, accel: float = ACCELERATION, apart: float = 0.0) -> int:
     """How many seconds at the begin of a green of length seconds are not shown, so that as many pass here as in SUMO.
-    speed: metres a second; limit: cells a step."""
-    return max(0, length - green_here(vehicles_leaving(length, speed, accel), limit))
+    speed: metres a second; limit: cells a step; apart: as of vehicles_leaving."""
+    return max(0, length - green_here(vehicles_leaving(length, speed, accel, apart), limit))
 
 
 @cache
-def hidden_middle(length: int, speed: float, limit: int, accel: float = ACCELERATION) -> tuple[int, int]:
+def hidden_middle(
+    length: int, speed: float, limit: int, accel: float = ACCELERATION, apart: float = 0.0
+) -> tuple[int, int]:  # fmt: skip
     """The seconds that are not shown in a green of length seconds, (begin, end) counted from its begin, the end not
     included: from its half on, so that about as many pass here as in SUMO, and who has waited alone for its begin goes
-    at once, as there. A green below TWO_PARTS has them at its begin. speed: metres a second; limit: cells a step."""
+    at once, as there. A green below TWO_PARTS has them at its begin. Others: as of hidden_start."""
     if length < TWO_PARTS:
-        return 0, hidden_start(length, speed, limit, accel)
-    half, vehicles = length // 2, vehicles_leaving(length, speed, accel)
+        return 0, hidden_start(length, speed, limit, accel, apart)
+    half, vehicles = length // 2, vehicles_leaving(length, speed, accel, apart)
 
     def difference(pause: int) -> float:
         """How far, 0 or more, the vehicles that pass here, but for pause seconds in the middle, are from SUMO's."""

@@ -13,17 +13,19 @@ from streetsim.sumo.net import ZIPPER, NetConnection, SumoNet, connections_of
 from streetsim.sumo.network import Network
 
 CYCLE, LEAST_TURN = 12, 3  # seconds of a zipper's turns, and of the shorter one of two
-TOGETHER = 6  # of them, in which both go at most, where there is room for both streets, as lone zippers chose
-ALONE = 2  # of them, at least, in which the street goes alone that goes last when both go
+TOGETHER = 10  # of them, in which both go at most, where there is room for both streets, as lone zippers chose
+ALONE = 1  # of them, at least, in which the street goes alone that goes last when both go
 ZIPPED, ZIPPED_HERE = 1730.0, 1590.0  # vehicles an hour that pass a zipper in SUMO, and here
 LESSER_WEIGHT = 1.1  # in whose place one counts of the street that needs less than half
 TURN, PASSING = 3, 3.36  # seconds of each of two lanes; how many vehicles pass in both
 LEAST_PAUSE = 2  # seconds in which nobody passes, in all
-# Vehicles an hour that pass where one of two lanes ends, by the metres of the edge, measured at lone streets in SUMO.
-PASSED = ((60.0, 790.0), (120.0, 1020.0), (240.0, 1200.0))
-FAR_FROM_FULL = 0.7  # of these, below which nobody waits longer than where the edge is long
-# Shares of what can pass, from which on a zipper, and an end, is nearly full; just behind a light FAR_FROM_FULL.
-FULL_ZIPPER, FULL_END = 0.92, 0.95
+# Vehicles an hour that pass where one of two lanes ends, by the metres of the edge behind a light, as lone streets of
+# SUMO chose with lights of 60 to 90 s.
+PASSED = ((60.0, 790.0), (120.0, 900.0), (240.0, 1110.0), (300.0, 1200.0))
+# Up to so many an hour nobody waits longer than where the edge is long; for each one more, one less can pass.
+FEW = 550.0
+# Shares of what can pass, from which on a zipper, an end, and an end just behind a light are nearly full.
+FULL_ZIPPER, FULL_END, FULL_BEHIND_LIGHT = 0.89, 0.95, 0.8
 
 
 @dataclass(frozen=True, slots=True)
@@ -63,7 +65,8 @@ def zippers(net: SumoNet, network: Network, flows: Flows) -> list[Merge]:
         first_seconds = min(CYCLE - LEAST_TURN, max(LEAST_TURN, needed))
         turns = turns_at(network, number[name])
         first_turns, second_turns = ([turn for turn in turns if network.links[turn[0]].edge == edge] for edge in edges)
-        joint_seconds = min(TOGETHER, 2 * (CYCLE - first_seconds - ALONE)) if sum(hourly) < ZIPPED_HERE else 0
+        most_joint = min(TOGETHER, 2 * first_seconds, 2 * (CYCLE - first_seconds - ALONE))
+        joint_seconds = most_joint if sum(hourly) < ZIPPED_HERE else 0
         parts = (
             (first_seconds - joint_seconds // 2, first_turns),
             (joint_seconds, first_turns + second_turns),
@@ -100,9 +103,9 @@ def lane_ends(net: SumoNet, network: Network, flows: Flows) -> list[Merge]:
         capacity = passed(ending_link.metres)
         behind_light = ending_link.metres < PASSED[-1][0] and network.nodes[ending_link.begin] in lit
         wish = sum(flow for (source, _), flow in flows.items() if source == ending_link.edge)
-        shown = capacity if wish >= FAR_FROM_FULL * capacity else PASSED[-1][1]
+        shown = min(PASSED[-1][1], max(capacity, PASSED[-1][1] - (wish - FEW)))
         command = signal(node, phases_of_end(turns_at(network, node), link, lane, shown))
-        nearly = FAR_FROM_FULL if behind_light else FULL_END
+        nearly = FULL_BEHIND_LIGHT if behind_light else FULL_END
         merges.append(Merge(network.nodes[node], (ending_link.edge,), capacity, nearly, command))
     return merges
 

@@ -68,7 +68,8 @@ class Turn:
     added: bool
     speed: float  # metres a second, inside the junction if that is known
     limit: int  # of its link, cells a step
-    accel: float = 2.6  # metres a second and second, with which its vehicles start, in the mean
+    accel: float = 2.6  # metres a second and second of usual cars that start as its vehicles do, in the mean
+    apart: float = 0.0  # seconds more between two of its queue than between usual cars
 
 
 class Network:
@@ -186,9 +187,9 @@ class Network:
         """The turn of a connection from a link to the lane next_lane of the next link; added: SUMO has no connection
         from this lane or link."""
         own, drivers = self.links[link], self.drivers_on(link)
-        speed = min(connection.speed or own.speed, drivers.max_speed)
-        accel = round(drivers.accel, 2)
-        return Turn(next_lane, connection.light, connection.index, added, speed, own.limit, accel)
+        speed = min((connection.speed or own.speed) * drivers.factor, drivers.max_speed)
+        accel, apart = round(drivers.accel, 2), round(drivers.apart, 2)
+        return Turn(next_lane, connection.light, connection.index, added, speed, own.limit, accel, apart)
 
     def open_both_lanes(self, report: Report) -> None:
         """Where one lane of two has a turn to a next link, the other gets it too, which is reported: else two vehicles

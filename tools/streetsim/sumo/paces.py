@@ -28,8 +28,10 @@ class Drivers:
         """counts: vehicles by how they drive."""
         self.counts = counts or {USUAL: 1}
         self.total = sum(counts.values()) if counts else 0
-        self.accel = self.mean(lambda one: one.accel)  # metres a second and second
-        self.mean_accel = self.mean(Driving.mean_accel)  # the same, with what is lost by chance
+        self.mean_accel = self.mean(Driving.mean_accel)  # metres a second and second, with what is lost by chance
+        self.accel = self.mean_accel * USUAL.accel / USUAL.mean_accel()  # of usual cars that gain speed as these do
+        self.apart = self.mean(lambda one: one.apart)  # seconds more between two of a queue than between usual cars
+        self.factor = self.mean(lambda one: one.factor)  # of a limit
         self.max_speed = self.mean(lambda one: one.max_speed)  # metres a second
 
     def mean(self, value: Callable[[Driving], float]) -> float:

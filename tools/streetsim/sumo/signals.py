@@ -368,7 +368,7 @@ def hidden_seconds(length: int, turn: Turn | MapTurn, grain: int, middle: bool) 
     at its begin; of a green below TWO_PARTS always at its begin. Begin and number are rounded down to grain seconds,
     the number of a green below TWO_PARTS to the nearest: of seven, one hidden second fewer lets a quarter more pass,
     and a search for plans would prefer such greens."""
-    own = length, turn.speed, turn.limit, turn.accel
+    own = length, turn.speed, turn.limit, turn.accel, turn.apart
     begin, end = hidden_middle(*own) if middle else (0, hidden_start(*own))
     nearest = grain // 2 if length < TWO_PARTS else 0
     begin, seconds = begin // grain * grain, (end - begin + nearest) // grain * grain
