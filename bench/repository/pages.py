@@ -167,7 +167,6 @@ class Table:
     command: str
     words: str
     minutes: int
-    shares: str = ""  # the table whose folder it has too, for what SUMO wrote
 
     def line(self, program: str, place: Path) -> list[str]:
         """The command line. place: the folder of its own."""
@@ -177,7 +176,7 @@ class Table:
     def place(self, folder: Path) -> Path:
         """Its own folder: where what the tools found is kept, one for these tools."""
         own = f"-{digest(self.digests().values())}" if self.command in FINDING else ""
-        return folder / f"{self.shares or self.name}{own}"
+        return folder / f"{self.name}{own}"
 
     def digests(self) -> Digests:
         return digests_of(COMMANDS[self.command], TOP)
@@ -197,7 +196,6 @@ TABLES = (
     Table("unseen", CLOSENESS, KINDS, "unseen", "38885,10463,25092 --rows unseen", 20),
     Table("closeness", CLOSENESS, CLOSE, "closeness", "--seeds 1-5 --rows closeness", 20),
     Table("sweep", CLOSENESS, LOADS, "sweep", "74220 --rows sweep", 15),
-    Table("versions", CLOSENESS, LOADS, "versions", "74220 --levels 0.5", 15, shares="sweep"),
     Table("drawn-rows", CLOSENESS, DRAWN, "drawn-rows", "31877 --rows drawn-rows", 4),
     Table("doubts", CLOSENESS, RIGHT, "doubts", "", 1),
     Table("shared-lanes", CLOSENESS, GREENS, "shared-lanes", "--seeds 1-1", 4),

@@ -188,7 +188,6 @@ class Pages(Case):
     def test_what_tools_found_is_kept_apart_for_each_state_of_them(self):
         places = {table.name: table.place(Path("/folder")).name for table in TABLES}
         self.assertEqual(places["cross"], "cross")
-        self.assertEqual(places["versions"], places["sweep"])
         self.assertRegex(places["signals"], "^signals-[0-9a-f]{16}$")
         self.assertRegex(places["day"], "^day-[0-9a-f]{16}$")
 
