@@ -211,7 +211,7 @@ TABLES = (
     Table("works", WORKS, BESIDE, "works", "--only grid,acosta --edges C1C2,21b,69,85", 7),
     Table("buses", BUSES, CLOSE, "buses", "--seeds 9639-9640 --table stops", 2),
     Table("priority", BUSES, CLOSE, "buses", "--seeds 9639-9641 --table priority", 3),
-    Table("actuated", ACTUATED, CLOSE, "actuated", "--seed 90083 --levels 0.5", 3),
+    Table("actuated", ACTUATED, CLOSE, "actuated", "--seed 14142", 6),
     Table("signals", SIGNALS, "## How good", "signals", "--only corridor --sumo 1-3", 2),
     Table("signals-verified", SIGNALS, "## How good", "signals", "--verified --only rilsa1,rilsa2,rilsa4", 3),
     Table("routes", ROUTES, GOOD, "routes", "--only town", 6),
