@@ -15,7 +15,9 @@ from streetsim.observe.giving_way_gaps import (
     CLOSE_S, MOST_SEEN, PATIENCE_S, UNSEEN, GapCounts, be_patient, followings, gap_lines, mark, phases_of_reds,
     red_seconds, slow_down, standing_seconds, stands_of,
 )
-from streetsim.sumo.conflicts import AFTER_STOP, CROSSING, JOINING, PACES, foes, turns_by_movement
+from streetsim.sumo.conflicts import (
+    AFTER_STOP, CROSSING, EQUALS, JOINING, PACES, foes, foes_by_movement, turns_by_movement,
+)  # fmt: skip
 from streetsim.sumo.driving import Driving
 from streetsim.sumo.greens import passing_here
 from streetsim.sumo.import_files import convert
@@ -220,6 +222,26 @@ class Conflicts(unittest.TestCase):
         found = foes(waiting, left, network, turns_by_movement(network, True))
         self.assertEqual({(one.link, one.lane, one.next) for one in found.values()}, set(turns))
         self.assertEqual(len({one.gap for one in found.values()}), 1)
+
+    def test_right_before_left_one_who_gives_way_too_is_out_of_the_way_later(self):
+        """Straight on over a cross: s gives way to e, e to n, n to w, w to s. Where nobody comes from n, who comes from
+        e starts at once; else it stands first, and takes a second longer, as in a junction's minor streets."""
+        arms = "senw"
+        ways = {arm: (arm, arms[(at + 2) % 4]) for at, arm in enumerate(arms)}
+        links = [SimpleNamespace(lanes=(0,), speed=13.89) for _ in arms]
+        network = SimpleNamespace(
+            place_of={(arm, 0): (at, 0) for at, arm in enumerate(arms)}, links=links, rings=[],
+            links_of={arm: [at] for at, arm in enumerate(arms)},
+        )  # fmt: skip
+        streams = [NetConnection(*ways[arm], 0, 0, None, 0, EQUALS, at) for at, arm in enumerate(arms)]
+        yields = {at: [(at + 1) % 4] for at in range(4)}
+
+        def after(used):
+            flows = {ways[arm]: 100.0 for arm in used}
+            found = foes_by_movement(streams, yields, network, {}, flows)
+            return [foe.gap.after for foe in found[ways["s"]].values()]
+
+        self.assertEqual((after("se"), after("sen"), after("senw"), after("sn")), ([1.0], [2.0], [2.0], []))
 
 
 class Lines(unittest.TestCase):

@@ -18,8 +18,9 @@ from streetsim.sumo.network import Network
 
 FAST = 10.0  # metres a second before the junction, in a roundabout inside it: a stream like that is a fast one
 EQUALS, ALL_STOP = "=", "w"  # SUMO's states of connections: right before left, all-way stop
-# One who gives way too starts from a stand: so many seconds later it is out of the way than one who does not.
-STANDING = {MINOR: 1.0}
+# One who gives way too starts from a stand: so many seconds later it is out of the way than one who does not. Right
+# before left, that is one to whose own right somebody comes.
+STANDING = {MINOR: 1.0, EQUALS: 1.0}
 # Seconds more before one who is crossed and gives way too: in which gaps these go changes from run to run.
 FACING = {STOPS: 6.0}
 # To cross a stream, to join a slow and a fast one.
@@ -82,16 +83,18 @@ def foes_by_movement(
             asked = (foe for foe in sorted(yields.get(request, ())) if foe in of_request)
             before = [foe for foe in asked if not yielding.state == of_request[foe].state == ZIPPER]
         for foe in before:
-            foes_of[yielding.source, yielding.target].update(foes(yielding, of_request[foe], network, added))
+            waits = any(other in of_request for other in yields.get(foe, ()))
+            foes_of[yielding.source, yielding.target].update(foes(yielding, of_request[foe], network, added, waits))
     return foes_of
 
 
 def foes(
-    yielding: NetConnection, foe: NetConnection, network: Network, added: Mapping[EdgePair, Iterable[TurnKey]] = {}
-) -> dict[TurnKey, Foe]:
+    yielding: NetConnection, foe: NetConnection, network: Network, added: Mapping[EdgePair, Iterable[TurnKey]] = {},
+    waits: bool = False,
+) -> dict[TurnKey, Foe]:  # fmt: skip
     """A connection (foe) as foes of one that gives way to it, one for each link of its next edge, by (link, lane,
     next link), whether or not the network has such a turn, and one for each turn between its edges that SUMO has not,
-    as vehicles use these too. added: such turns, by (edge, next edge)."""
+    as vehicles use these too. added: such turns, by (edge, next edge); waits: the foe gives way to a used movement."""
     link, lane = network.place_of[foe.source, foe.source_lane]
     links = network.links_of[foe.source]
     fast = joins_fast(yielding, foe, network.links[link].speed, foe.source in network.rings)
@@ -100,7 +103,7 @@ def foes(
         gap = gap.across(sum(len(network.links[link].lanes) for link in links))
         if foe.state in (yielding.state, MINOR):
             gap = gap.longer(FACING.get(yielding.state, 0.0))
-    if yielding.state == foe.state:
+    if yielding.state == foe.state and (waits or foe.state != EQUALS):
         gap = gap.later(STANDING.get(yielding.state, 0.0))
     slow = fast and yielding.state not in PACES  # which have a pace of their own
     own = [(link, lane, following) for following in network.links_of[foe.target]]
