@@ -12,7 +12,7 @@ from streetsim.base.files import Fault, attribute, elements, number, optional, r
 from streetsim.demand.calibration_field import TRIP, TravelTime, pooled, read_times
 from streetsim.demand.calibration_page import way_name
 from streetsim.demand.cells import begins_with
-from streetsim.model.folder import KEPT, NAME, Folder
+from streetsim.model.folder import RUN_LINES, NAME, Folder
 from streetsim.model.runs import read_run
 from streetsim.model.tables import ROUTES, ROUTES_FILE, SEGMENTS, read_table
 
@@ -108,9 +108,9 @@ def trips_of_folder(
     """(way, clock of its arrival, seconds, 1) of each trip that is wanted, from its first edge to its last. Fault where
     the folder does not keep the lines of its run."""
     above = Path(folder.path).resolve().parent
-    run_path = next((path for path in (Path(folder.path) / KEPT, above / KEPT) if path.exists()), None)
+    run_path = next((path for path in (Path(folder.path) / RUN_LINES, above / RUN_LINES) if path.exists()), None)
     if run_path is None:
-        raise Fault(f"{folder.path}: keeps no {KEPT}, which tells from where to where trips go")
+        raise Fault(f"{folder.path}: keeps no {RUN_LINES}, which tells from where to where trips go")
     listed = read_json(f"{folder.path}/{NAME}", ()).get("listed", {})  # of drawn departures the vehicles of the file
     names, ends = listed.get("cars") or folder.mapping.cars, dict[str, tuple[str, ...]]()
     for name, line in zip(names, read_run(str(run_path)).enters):

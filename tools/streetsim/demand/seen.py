@@ -129,7 +129,7 @@ def passed_by_rows(folder: Folder, counts: Sequence[Count]) -> Iterator[int]:
 
 def words_of(folder: Folder) -> Sequence[str]:
     """The words by which a run was made, as far as its setting has them."""
-    arguments = folder.made.get("words", ())
+    arguments = folder.setting.get("words", ())
     return [str(word) for word in arguments] if isinstance(arguments, list) else ()
 
 

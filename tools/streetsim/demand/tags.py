@@ -64,11 +64,11 @@ def read_tags(path: FilePath, roots: Collection[str]) -> Iterator[Tag]:
     parser.EndElementHandler = end
     with reading(path), open_bytes(path) as file:
         for chunk in chain(chunks := Chunks(file), (b"",)):
-            before = nesting.passed
+            before = nesting.tag_count
             try:
                 parser.Parse(chunk, not chunk)
             except expat.ExpatError as fault:
                 raise Fault(f"{path}: not XML: {fault}") from None
-            chunks.stretch, chunks.kept = chunks.stretch if nesting.passed == before else 0, 0
+            chunks.stretch, chunks.kept_bytes = chunks.stretch if nesting.tag_count == before else 0, 0
             yield from tags
             tags.clear()

@@ -161,7 +161,7 @@ def red_seconds(waiting: GivingWay, times: Times, start: int, end: int, stands: 
         if not foe.gap.seconds:  # all stop, and go in turn
             continue
         stood = stands.get(((foe.link, foe.lane, foe.next), second), 0.0)
-        length = foe.gap.before(*counts.flows_around(second, foe)) + stood + foe.gap.after + owed
+        length = foe.gap.seconds_needed(*counts.flows_around(second, foe)) + stood + foe.gap.after + owed
         owed = length % 1
         red_end = round(second + foe.gap.after) - start
         mark(red, red_end - int(length), red_end)

@@ -8,7 +8,7 @@ from math import atan2, degrees
 from typing import Any
 
 from streetsim.model.mapping import Map, Place, Shape
-from streetsim.model.runs import Sent
+from streetsim.model.runs import TimedCommand
 from streetsim.model.service import PRIORITY, ROUNDABOUT, SIGNALS
 
 STRAIGHT, BACK = 45, 150  # degrees: less is straight on, more is a turn back
@@ -136,17 +136,17 @@ class Greens:
     """What the signals of a run show to each lane; steps are clocks at their begin. A node without a light always shows
     green to all."""
 
-    def __init__(self, mapping: Map, signals: Iterable[Sent]) -> None:
+    def __init__(self, mapping: Map, signals: Iterable[TimedCommand]) -> None:
         """signals: (clock at which it is sent, command), in any order."""
         self.mapping = mapping
         # By node: (clock from which it holds, command).
-        self.plans: dict[int, list[Sent]] = {node: [] for _, node in mapping.signals}
+        self.plans: dict[int, list[TimedCommand]] = {node: [] for _, node in mapping.signals}
         self.clocks: dict[int, list[int]] = {node: [] for node in self.plans}
         # By the list of a plan's phases, which its command keeps: the ends of these, and by lane what is green in each.
         self.shown: dict[int, tuple[list[int], dict[Place, list[frozenset[int]]]]] = {}
         self.add(signals)
 
-    def add(self, signals: Iterable[Sent]) -> None:
+    def add(self, signals: Iterable[TimedCommand]) -> None:
         """Adds signals, in any order, none of which is sent before those that are known."""
         for clock, command in sorted(signals, key=lambda pair: pair[0]):
             if command["node"] in self.plans:

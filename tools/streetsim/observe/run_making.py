@@ -148,7 +148,7 @@ class RunTables:
         if self.along:
             of_routes = self.segments.route_rows(self.along, self.settings.period)
             write_table(f"{folder}/{tables.ROUTES_FILE}", tables.ROUTES, of_routes)
-        write_table(f"{folder}/warnings.csv", COLUMNS, mapping.told)
+        write_table(f"{folder}/warnings.csv", COLUMNS, mapping.warning_rows)
         if phases := self.steering.phases(clock):
             write_table(f"{folder}/{tables.PHASES_FILE}", tables.PHASES, phases)
         if stops := self.steering.stops():
