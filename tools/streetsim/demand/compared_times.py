@@ -38,7 +38,7 @@ class ComparedTime:
         return {1: EDGE, 2: SEGMENT}.get(len(self.key), ROUTE)
 
     @property
-    def off(self) -> float:
+    def deviation(self) -> float:
         """By which share the run is off."""
         return self.model_seconds / self.field_seconds - 1
 
@@ -130,13 +130,13 @@ def lines_of_times(times: list[ComparedTime]) -> Iterator[str]:
             good = fmean(abs(model - field) <= max(MARK * field, minute) for model, field in pairs)
             mark = "within 15 %" + (" or a minute" if minute else "")
             held = "held" if good >= SHARE else "not held"
-            rms = fmean(time.off**2 for time in of_kind) ** 0.5
+            rms = fmean(time.deviation**2 for time in of_kind) ** 0.5
             within = f"{100 * good:.0f} % of {len(of_kind):,} {mark} ({held} by 85 %)"
             yield f"{name}: {within}, off by {100 * rms:.1f} % (rms)"
-    worst = sorted(times, key=lambda time: -abs(time.off))[:MOST_TOLD]
+    worst = sorted(times, key=lambda time: -abs(time.deviation))[:MOST_TOLD]
     for time in worst:
         both = f"{time.model_seconds:.1f} s here, {time.field_seconds:.1f} s there"
-        yield f"{way_name(time.key)}: {both} ({100 * time.off:+.1f} %)"
+        yield f"{way_name(time.key)}: {both} ({100 * time.deviation:+.1f} %)"
 
 
 def are_close(times: list[ComparedTime]) -> bool:

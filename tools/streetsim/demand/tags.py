@@ -8,7 +8,7 @@ from xml.parsers import expat
 from streetsim.base.files import Fault, FilePath, open_bytes, reading
 from streetsim.base.unpacking import Chunks, Nesting
 
-Value = TypeVar("Value")
+Converted = TypeVar("Converted")
 
 
 @dataclass(frozen=True, slots=True)
@@ -26,7 +26,7 @@ class Tag:
         """The file and its line, as faults name it."""
         return f"{self.path}: line {self.line}"
 
-    def get(self, name: str, convert: Callable[[str], Value]) -> Value:
+    def get(self, name: str, convert: Callable[[str], Converted]) -> Converted:
         """An attribute, converted; Fault where it is absent or where `convert` raises ValueError, whose words it
         tells."""
         text = self.attributes.get(name)

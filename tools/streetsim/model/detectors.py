@@ -53,7 +53,7 @@ class Areas:
             inside = [entry for entry in cells if detector.first <= entry[1] <= detector.last]
             jam = longest_jam(inside)
             area.samples, area.vehicles, area.jams = area.samples + 1, area.vehicles + len(inside), area.jams + jam
-            area.most_vehicles, area.longest = max(area.most, len(inside)), max(area.longest, jam)
+            area.most_vehicles, area.longest = max(area.most_vehicles, len(inside)), max(area.longest, jam)
             area.speeds += sum(entry[2] for entry in inside)
             area.covered += sum(metres_in(entry, detector.first, detector.cell_metres) for entry in inside)
 
