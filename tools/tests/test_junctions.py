@@ -89,7 +89,7 @@ class Approaches(unittest.TestCase):
         )
         approach = approaches_of(mapping)["c"]
         names = [mapping.links[link].edge for link in approach.all_links]
-        self.assertEqual((names, approach.whole), (["c", "b", "a"], 225.0))
+        self.assertEqual((names, approach.whole_metres), (["c", "b", "a"], 225.0))
 
     def test_not_through_a_node_where_another_street_begins(self):
         mapping = street(a=(0, 1), b=(1, 2), off=(1, 4), c=(2, 3), also={"signals": [["L", 2]]})

@@ -67,7 +67,7 @@ class ByHand(unittest.TestCase):
             kernel.vehicles.add([int(kernel.vehicles.owner[one.car])], [1])
         for parts in (1, 5):
             show(kernel, frames, passings, parts=parts)
-            found = passings.link_arrivals(), passings.passed()
+            found = passings.link_arrivals(), passings.stop_line_passings()
             self.assertEqual(found, getattr(self, "before", found), "in parts")
             self.before = found
         return found
@@ -133,7 +133,7 @@ class OfARun(Case):
         came = {owner: clocks for owner, clocks in enumerate(passings.link_arrivals()) if clocks}
         self.assertEqual(came, looking.came)
         self.assertGreater(len(came), 1000)
-        passed = {place: [one[:2] for one in those] for place, those in passings.passed().items()}
+        passed = {place: [one[:2] for one in those] for place, those in passings.stop_line_passings().items()}
         self.assertEqual({place: sorted(those) for place, those in passed.items()},
                          {place: sorted(those) for place, those in looking.passed.items()})
 

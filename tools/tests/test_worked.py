@@ -490,7 +490,7 @@ class Beside(unittest.TestCase):
                 for second, clock in enumerate(seconds.clocks.tolist()):
                     if second and clock > 20:
                         lanes, places = LanesNow(seconds, second), [(0, 0), (0, 1), (1, 0), (1, 1)]
-                        exact.append(reach_of({one: lanes.at(one) for one in places}, streets, 1, 20).metres)
+                        exact.append(reach_of({one: lanes.lane_at(one) for one in places}, streets, 1, 20).metres)
 
         works = WorksTable(closures_of(run, 900))
         made(PROGRAM, run, mapping, Settings(900, 0, rescue=0), works, Looking())

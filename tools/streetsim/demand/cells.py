@@ -47,8 +47,8 @@ class TableRow:
 def table_rows(path: FilePath, required: Sequence[str], optional: Collection[str] = ()) -> Iterator[TableRow]:
     """The rows of a table whose first row has the columns `required`, and maybe those of `optional` (given in small
     letters; the file may have capital ones). Blank rows, and those that begin with #, are left out. Fault where the
-    file cannot be read or is no such table: a column is missing, stands there twice or is none of these, or a row has more or fewer
-    values than the first."""
+    file cannot be read or is no such table: a column is missing, stands there twice or is none of these, or
+    a row has more or fewer values than the first."""
     with reading(path), open_text(path) as file:
         rows = values_in(path, file)
         line, head = next(rows, (0, []))

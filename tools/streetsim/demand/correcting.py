@@ -94,8 +94,9 @@ def corrected_counts(
     basis: Basis, attempt: Attempt, costs: Costs, vehicles_counted: Array, earlier_target: Array
 ) -> Array:
     """What the next fit is to meet, an array by count: the mean of what the last fit was to meet, earlier_target, and
-    of what was counted, less half of what passed in the run beyond what would pass by the seconds that it showed (costs); 0 at
-    least. At full edges and next after them it is what was counted: more demand would only make the queue longer."""
+    of what was counted, less half of what passed in the run beyond what would pass by the seconds that it showed
+    (costs); 0 at least. At full edges and next after them it is what was counted: more demand would only make the
+    queue longer."""
     numpy, _ = numpy_and_scipy()
     shown = passing_by_class(basis, costs) @ attempt.fitted.whole_vehicles
     apart = numpy.array(attempt.counts_passed) - shown
