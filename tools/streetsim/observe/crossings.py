@@ -97,7 +97,8 @@ class Crossings:
         edge = movements.approach_edges[columns["edge"]]
         self.movement = edge * len(movements.edges) + movements.edge_of[self.following]
         self.delay = columns["end"] - columns["begin"] - plans.seconds_between(first_place, place) - columns["dwell"]
-        self.slot, self.end, self.line, self.stood_before = (columns[name] for name in ("slot", "end", "line", "before"))
+        self.slot, self.end = columns["slot"], columns["end"]
+        self.line, self.stood_before = columns["line"], columns["before"]
         self.stops, self.stood, self.alone = (columns[name] for name in ("stops", "stood", "alone"))
         distinct, group = np.unique(self.movement, return_inverse=True)
         losses = [movements.losses_of(number) for number in distinct.tolist()]
