@@ -35,8 +35,8 @@ class Report:
 
     def warn(self, text: str, names: Iterable[str] = (), advice: str = "", light: bool = False, kind: str = "") -> None:
         """Notes what is other than in SUMO, once for each text; of the same text again nothing is taken. names: the ids
-        that it is of; advice: what the user may do about it; light: it changes results little, if at all; kind: how several
-        of its kind are told in one line, behind their count and before the ids; empty: each has its line."""
+        that it is of; advice: what the user may do about it; light: it changes results little, if at all; kind: how
+        several of its kind are told in one line, behind their count and before the ids; empty: each has its line."""
         if text not in self.warnings:
             self.warnings.append(text)
             warning = Warned(text, LIGHT if light else HEAVY, tuple(names), advice)

@@ -120,7 +120,7 @@ class Passages(Observer):
         slot, of each lane alone."""
         for column, (link, lane) in enumerate(self.lane_keys):
             reach, full = queue[:, 2 * link + lane], self.metres[link]
-            for links in self.approaches[self.edges[self.edge_of[link]]].before:
+            for links in self.approaches[self.edges[self.edge_of[link]]].edges_before:
                 fills = reach >= full - GAP_M - 0.1
                 if not fills.any():
                     break
