@@ -276,9 +276,9 @@ class Inputs(Case):
         counts = [Count(0, 900, (edge,), 100, "") for edge in "ab"]
         graph = Graph("ab", [], {name: (name, name + "+") for name in "ab"})
         basis = SimpleNamespace(counts=counts, town=SimpleNamespace(graph=graph))
-        fitted = SimpleNamespace(whole=numpy.array([100.0, 100.0]))
+        fitted = SimpleNamespace(whole_vehicles=numpy.array([100.0, 100.0]))
         for full, wanted in (({}, [80, 105]), ({0: 150.0}, [100, 105])):
-            one = SimpleNamespace(fitted=fitted, passed=[120.0, 90.0], full=full)
+            one = SimpleNamespace(fitted=fitted, counts_passed=[120.0, 90.0], full=full)
             with mock.patch("streetsim.demand.correcting.passing_by_class", return_value=numpy.eye(2)):
                 found = corrected_counts(basis, one, None, numpy.array([100.0, 100.0]), numpy.array([80.0, 100.0]))
             self.assertEqual(found.tolist(), wanted)
