@@ -56,7 +56,7 @@ class Told(unittest.TestCase):
         for looks, expected in (((), [(2, 1, 1)]), ((1,), [(1, 2, 0), (2, 1, 1)]), ((2,), [(2, 1, 1)])):
             summary = Summary(None, looks)
             show(kernel_of(map_from("", MAP), [[0, 1]] * 2), frames, summary)
-            self.assertEqual(summary.counted, expected)
+            self.assertEqual(summary.counts, expected)
 
 
 class ByHand(unittest.TestCase):
