@@ -257,7 +257,8 @@ def judged(frames, plans, signals=((0, SIGNAL),), dwells=None, end=10, parts=1):
     judge = judge_of(frames, plans, signals, dwells, parts, end)
     seen = judge.passages
     back, stood = seen.back[:end], seen.stood[:end]
-    return judge.interval_measures(0, make_shown_interval(judge.shown_plans, seen.lanes, seen.lane_keys, 0, back, stood))
+    shown = make_shown_interval(judge.shown_plans, seen.lanes, seen.lane_keys, 0, back, stood)
+    return judge.interval_measures(0, shown)
 
 
 class ByHand(unittest.TestCase):
