@@ -28,7 +28,7 @@ from streetsim.base.program import find_program
 from streetsim.cli import live
 from streetsim.control.works_asked import all_works
 from streetsim.control.works_sites import WorksOptions, with_works
-from streetsim.demand.correcting import AFTER
+from streetsim.demand.correcting import LONGEST_AFTER
 from streetsim.env import SignalEnv
 from streetsim.kernel.session_program import QUESTION_PREFIXES
 from streetsim.live.joining import Joining
@@ -341,5 +341,5 @@ DOORS = {
 }  # fmt: skip
 SEARCHES = {
     "signals": (by_signals, run_of_signals), "route": (by_route, partial(run_of_found, until=UNTIL)),
-    "demand": (by_demand, partial(run_of_found, until=UNTIL + AFTER)),
+    "demand": (by_demand, partial(run_of_found, until=UNTIL + LONGEST_AFTER)),
 }  # fmt: skip

@@ -166,7 +166,7 @@ class OneLane(Lanes):
 
     def test_wait_without_a_light(self):
         """For a gap of 6.5 s by Adams' formula, as above; nobody waits where nobody comes, and none for minutes."""
-        minor, gap = Minor.__new__(Minor), SimpleNamespace(before=lambda *_: 6.5)
+        minor, gap = Minor.__new__(Minor), SimpleNamespace(seconds_needed=lambda *_: 6.5)
         minor.foes = {7: [(1, gap), (2, gap)]}
         for flows, wait in (((600, 0), 5.227), ((180, 180), 2.655), ((0, 0), 0), ((3600, 3600), 150)):
             self.assertAlmostEqual(minor.wait(7, [None, *flows].__getitem__), wait, places=3)

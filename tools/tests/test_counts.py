@@ -231,7 +231,7 @@ class Inputs(Case):
             ComparedCount(begin, begin + 3600, tuple(edges), "", "", 9.0, passed, 3600)
             for begin, edges, passed in ((0, "a", 8.0), (0, "ab", 2.0), (3600, "ab", 5.0), (3600, "abc", 1.0))
         ]
-        self.assertEqual([one.passed for one in without_parts(hourly)], [8.0, 5.0])
+        self.assertEqual([one.vehicles_passed for one in without_parts(hourly)], [8.0, 5.0])
         self.assertEqual(differences_of(hourly), {"a": (-1 - 4) / 2})
         self.assertEqual(differences_of([]), {})
 
@@ -276,9 +276,9 @@ class Inputs(Case):
         counts = [Count(0, 900, (edge,), 100, "") for edge in "ab"]
         graph = Graph("ab", [], {name: (name, name + "+") for name in "ab"})
         basis = SimpleNamespace(counts=counts, town=SimpleNamespace(graph=graph))
-        fitted = SimpleNamespace(whole=numpy.array([100.0, 100.0]))
+        fitted = SimpleNamespace(whole_vehicles=numpy.array([100.0, 100.0]))
         for full, wanted in (({}, [80, 105]), ({0: 150.0}, [100, 105])):
-            one = SimpleNamespace(fitted=fitted, passed=[120.0, 90.0], full=full)
+            one = SimpleNamespace(fitted=fitted, counts_passed=[120.0, 90.0], full=full)
             with mock.patch("streetsim.demand.correcting.passing_by_class", return_value=numpy.eye(2)):
                 found = corrected_counts(basis, one, None, numpy.array([100.0, 100.0]), numpy.array([80.0, 100.0]))
             self.assertEqual(found.tolist(), wanted)
@@ -355,7 +355,8 @@ class Judging(Case):
         self.assertEqual([one.meets_criteria for one in (fit, judging.judge_counts(counts[1:2], [101]))], [False, True])
         hours = [(one.counts, one.good, one.meets_criteria) for one in fit.hours]
         self.assertEqual(hours, [(2, 2, False), (1, 1, True)])
-        self.assertEqual([(one.group, one.counted, one.passed) for one in fit.groups], [("north", 800, 904)])
+        rows = [(one.group, one.vehicles_counted, one.vehicles_passed) for one in fit.groups]
+        self.assertEqual(rows, [("north", 800, 904)])
         # GEH of 904 and 800 is sqrt(2 * 104^2 / 1704) = 3.56.
         self.assertEqual(fit.groups[0].group_row(), (0, 3600, "north", 2, "800", "904", "13.0", "3.56"))
         self.assertIn("does not fit (totals within 5 %)", next(fit.lines()))
@@ -644,7 +645,7 @@ class Fit(Tool):
         wanted = SimpleNamespace(program="p", runs=1, rounds=0)
         names = "RunGround", "program_digest", "correcting"
         with mock.patch.multiple(making, **dict.fromkeys(names, mock.DEFAULT)) as made:
-            made["correcting"].AFTER, made["correcting"].try_demands.return_value = correcting.AFTER, []
+            made["correcting"].LONGEST_AFTER, made["correcting"].try_demands.return_value = correcting.LONGEST_AFTER, []
             self.assertEqual(making.run_attempts(basis, None, wanted, None, None, None), [])
         self.assertEqual(made["RunGround"].call_args.args[4], 1800 + 2 * 3600)
 

@@ -129,7 +129,7 @@ class Reds(unittest.TestCase):
         few = sum(red_seconds(waiting, {(0, 0, 1): [300.0]}, 0, 600))
         many = sum(red_seconds(waiting, {(0, 0, 1): [20.0 * at for at in range(1, 30)]}, 0, 600)) / 29
         self.assertGreater(few, many)
-        self.assertGreater(JOINING.before(400, 400, 400), CROSSING.before(400, 400, 400))
+        self.assertGreater(JOINING.seconds_needed(400, 400, 400), CROSSING.seconds_needed(400, 400, 400))
 
     def test_those_who_join_follow_each_other_slowly(self):
         red = bytearray(12)
@@ -175,7 +175,7 @@ class Reds(unittest.TestCase):
         counts = GapCounts(times)
         lane, street, every = counts.flows_around(100.0, foes[0])
         self.assertEqual((lane, street, every), (300.0, 600.0, 900.0))
-        self.assertAlmostEqual(gap.before(lane, street, every), 7.0 - 10.0 * (0.3 + 0.5 * 0.3))
+        self.assertAlmostEqual(gap.seconds_needed(lane, street, every), 7.0 - 10.0 * (0.3 + 0.5 * 0.3))
         self.assertEqual(CROSSING.across(1), CROSSING)
         self.assertAlmostEqual(CROSSING.across(3).seconds - CROSSING.seconds, 0.6)
 

@@ -41,7 +41,7 @@ class Limits(Case):
     def test_the_page_has_them(self):
         text = (TOOLS.parent / "SECURITY.md").read_text(encoding="utf-8")
         for told in (
-            f"| {unpacking.ALLOWED >> 20} MB and {unpacking.RATIO} times its size |",
+            f"| {unpacking.UNPACKED_BASE >> 20} MB and {unpacking.RATIO} times its size |",
             f"polls of a run {unpacking.STREAMED:,} times",
             f"| {unpacking.LONGEST >> 20} MB without the begin or end of an element; {unpacking.DEEPEST} elements in "
             f"one another; {unpacking.MOST_BELOW:,} elements or {unpacking.MOST_KEPT >> 20} MB in one below the root;",
@@ -95,9 +95,9 @@ class Lifted(Case):
 
     def test_small_files_may_be_packed_as_well_as_can_be(self):
         path = self.folder / "x.gz"
-        path.write_bytes(hostile.bomb(b"", b" " * 64, megas=unpacking.ALLOWED >> 20)[:-8])
+        path.write_bytes(hostile.bomb(b"", b" " * 64, megas=unpacking.UNPACKED_BASE >> 20)[:-8])
         with open_bytes(path) as file:
-            self.assertEqual(len(file.read(unpacking.ALLOWED - 9)), unpacking.ALLOWED - 9)
+            self.assertEqual(len(file.read(unpacking.UNPACKED_BASE - 9)), unpacking.UNPACKED_BASE - 9)
 
 
 if __name__ == "__main__":

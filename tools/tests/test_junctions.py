@@ -89,11 +89,11 @@ class Approaches(unittest.TestCase):
         )
         approach = approaches_of(mapping)["c"]
         names = [mapping.links[link].edge for link in approach.all_links]
-        self.assertEqual((names, approach.whole), (["c", "b", "a"], 225.0))
+        self.assertEqual((names, approach.whole_metres), (["c", "b", "a"], 225.0))
 
     def test_not_through_a_node_where_another_street_begins(self):
         mapping = street(a=(0, 1), b=(1, 2), off=(1, 4), c=(2, 3), also={"signals": [["L", 2]]})
-        self.assertEqual(approaches_of(mapping)["b"].before, [])
+        self.assertEqual(approaches_of(mapping)["b"].edges_before, [])
 
     def test_a_roundabout_is_a_junction_whose_approaches_are_its_entries(self):
         ring = {"p": (0, 1), "q": (1, 2), "r": (2, 0)}
@@ -257,7 +257,8 @@ def judged(frames, plans, signals=((0, SIGNAL),), dwells=None, end=10, parts=1):
     judge = judge_of(frames, plans, signals, dwells, parts, end)
     seen = judge.passages
     back, stood = seen.back[:end], seen.stood[:end]
-    return judge.interval_measures(0, make_shown_interval(judge.shown, seen.lanes, seen.lane_keys, 0, back, stood))
+    shown = make_shown_interval(judge.shown_plans, seen.lanes, seen.lane_keys, 0, back, stood)
+    return judge.interval_measures(0, shown)
 
 
 class ByHand(unittest.TestCase):

@@ -30,7 +30,7 @@ def street(lanes=2):
         turns=[], signals=[], cars=[], options={}, warnings=[],
     )  # fmt: skip
     needed = [one["depart"] for one in enters]
-    return Run("street", lines[0], enters=lines[1:], needed=needed), mapped
+    return Run("street", lines[0], enters=lines[1:], least_departs=needed), mapped
 
 
 def closing(clock, name, lane, first, last):

@@ -37,7 +37,7 @@ class Closed(unittest.TestCase):
         lines = [sent(5, "close", 0), sent(5, "close", 1, True), sent(9, "reopen", 0)]
         kernel = SimpleNamespace(run=SimpleNamespace(first=[]), sent=lines)
         closed = ClosedLanes(kernel, [True] * 2)
-        found = [closed.at(clock) for clock in (4, 5, 6, 9)]
+        found = [closed.stretches_at(clock) for clock in (4, 5, 6, 9)]
         self.assertEqual(found, [{}, {0: [(2, 3)]}, {0: [(2, 3)], 1: [(2, 3)]}, {1: [(2, 3)]}])
 
 
@@ -56,7 +56,7 @@ class Told(unittest.TestCase):
         for looks, expected in (((), [(2, 1, 1)]), ((1,), [(1, 2, 0), (2, 1, 1)]), ((2,), [(2, 1, 1)])):
             summary = Summary(None, looks)
             show(kernel_of(map_from("", MAP), [[0, 1]] * 2), frames, summary)
-            self.assertEqual(summary.counted, expected)
+            self.assertEqual(summary.counts, expected)
 
 
 class ByHand(unittest.TestCase):
@@ -67,7 +67,7 @@ class ByHand(unittest.TestCase):
             kernel.vehicles.add([int(kernel.vehicles.owner[one.car])], [1])
         for parts in (1, 5):
             show(kernel, frames, passings, parts=parts)
-            found = passings.link_arrivals(), passings.passed()
+            found = passings.link_arrivals(), passings.stop_line_passings()
             self.assertEqual(found, getattr(self, "before", found), "in parts")
             self.before = found
         return found
@@ -133,7 +133,7 @@ class OfARun(Case):
         came = {owner: clocks for owner, clocks in enumerate(passings.link_arrivals()) if clocks}
         self.assertEqual(came, looking.came)
         self.assertGreater(len(came), 1000)
-        passed = {place: [one[:2] for one in those] for place, those in passings.passed().items()}
+        passed = {place: [one[:2] for one in those] for place, those in passings.stop_line_passings().items()}
         self.assertEqual({place: sorted(those) for place, those in passed.items()},
                          {place: sorted(those) for place, those in looking.passed.items()})
 

@@ -127,7 +127,7 @@ class Numbers(Given):
         that was cut short neither."""
         looks = [[[0, 5, 2], [1, 3, 1]], [[0, 7, 2], [1, 6, 0], [2, 2, 1]], [[1, 5, 1]]]
         self.write_polls([{"clock": clock, "lanes": [[0, 0, cells, [], []]]} for clock, cells in enumerate(looks, 1)])
-        self.given.period, self.given.made = 2, {"start": 0, "until": 3}
+        self.given.period, self.given.setting = 2, {"start": 0, "until": 3}
         self.assertEqual(run_series.middle_densities_and_flows(self.given, []), [(50.0, 1350.0)])
         self.assertEqual(run_series.middle_densities_and_flows(self.given, ["b"]), [])
         self.assertEqual([run_series.middle_third(cells) for cells in (1, 2, 3, 10)], [(0, 1), (0, 2), (1, 2), (3, 7)])
@@ -149,7 +149,7 @@ class Numbers(Given):
 
     def test_arrivals(self):
         self.assertEqual(run_series.arrival_curves(self.given), ([0, 1], [30]))
-        self.given.made["until"] = 0  # the second vehicle wished to depart after the run's end
+        self.given.setting["until"] = 0  # the second vehicle wished to depart after the run's end
         self.assertEqual(run_series.arrival_curves(self.given)[0], [0])
 
 

@@ -101,7 +101,7 @@ class OfARun(Case):
         with serving_program(PROGRAM, run.path) as program:
             Kernel(program, run, mapping, steering.controllers, [segments, trips]).go(1200)
         own, ends, rescues = defaultdict(list), segments.ends(), 0
-        columns = (ends.owner, ends.before, ends.edge, ends.since, ends.clock)
+        columns = (ends.owner, ends.line_before, ends.edge, ends.since, ends.clock)
         for owner, *segment in zip(*(one.tolist() for one in columns), strict=True):
             own[owner].append(segment)
         departs = {at: line.command["depart"] for at, line in enumerate(run.enters)}

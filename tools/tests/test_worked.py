@@ -466,7 +466,7 @@ class Beside(unittest.TestCase):
         enters = [{"cmd": "enter", "plan": [0, 1], "lane": at % 2, "depart": at} for at in range(120)]
         close = [{"cmd": "close", "link": 1, "lane": lane, "first": 20, "last": 30} for lane in (0, 1)]
         lines = [Line(at, json.dumps(one), one) for at, one in enumerate([load, *close, *enters], 1)]
-        run = Run("x", lines[0], first=lines[1:3], enters=lines[3:], needed=[one["depart"] for one in enters])
+        run = Run("x", lines[0], first=lines[1:3], enters=lines[3:], least_departs=[one["depart"] for one in enters])
         works = WorksTable(closures_of(run, 900))
         _, steering = made(PROGRAM, run, TWO, Settings(900, 0), works)
         self.assertGreater(steering.rescue.count.total(), 0)
@@ -480,7 +480,7 @@ class Beside(unittest.TestCase):
         enters = [{"cmd": "enter", "plan": [0, 1], "lane": at % 2, "depart": at * 3 // 2} for at in range(600)]
         lines = [Line(at, json.dumps(one), one) for at, one in enumerate([load, *enters], 1)]
         close = {"cmd": "close", "link": 1, "lane": 0, "first": 20, "last": 30}
-        run = Run("x", lines[0], enters=lines[1:], needed=[one["depart"] for one in enters])
+        run = Run("x", lines[0], enters=lines[1:], least_departs=[one["depart"] for one in enters])
         run.timed = [(20, Line(0, json.dumps(close), close))]
         mapping = mapped(link("z", cells=100), link("a", cells=60, begin=1, end=2), turns=TWO.turns)
         streets, exact = streets_of(mapping), []
@@ -490,7 +490,7 @@ class Beside(unittest.TestCase):
                 for second, clock in enumerate(seconds.clocks.tolist()):
                     if second and clock > 20:
                         lanes, places = LanesNow(seconds, second), [(0, 0), (0, 1), (1, 0), (1, 1)]
-                        exact.append(reach_of({one: lanes.at(one) for one in places}, streets, 1, 20).metres)
+                        exact.append(reach_of({one: lanes.lane_at(one) for one in places}, streets, 1, 20).metres)
 
         works = WorksTable(closures_of(run, 900))
         made(PROGRAM, run, mapping, Settings(900, 0, rescue=0), works, Looking())

@@ -192,30 +192,30 @@ class Census:
 Reply = Refused | Starved | Loaded | Short | Vehicle | Lane | Rows | Census | int
 
 
-def reply_of(value: Any) -> Reply:
+def reply_of(reply: Any) -> Reply:
     """The typed reply of a JSON object; a refusal or Starved is given as a value. Plain numbers answer enter, advance,
     signal, close, reopen, takeout and meter. KeyError, TypeError and the like where it is no reply."""
-    if "error" in value:
-        return REFUSALS[value["error"]](value.get("at"), value.get("part"))
-    if "starved" in value:
+    if "error" in reply:
+        return REFUSALS[reply["error"]](reply.get("at"), reply.get("part"))
+    if "starved" in reply:
         return Starved()
-    if "state" in value:
-        plan: Any = tuple(value.get("plan", ()))
-        return Vehicle(**{**value, "plan": plan})
-    if "admitted" in value:
-        return Census(**value)
-    if "buffer" in value:
-        closed = tuple((first, last) for first, last in value["closed"])
-        return Lane(entries(value["cells"]), entries(value["buffer"]), entries(value["waiting"]), closed)
-    if "now" in value:
-        now, rows = Row(*value["now"]), value["rows"]
+    if "state" in reply:
+        plan: Any = tuple(reply.get("plan", ()))
+        return Vehicle(**{**reply, "plan": plan})
+    if "admitted" in reply:
+        return Census(**reply)
+    if "buffer" in reply:
+        closed = tuple((first, last) for first, last in reply["closed"])
+        return Lane(entries(reply["cells"]), entries(reply["buffer"]), entries(reply["waiting"]), closed)
+    if "now" in reply:
+        now, rows = Row(*reply["now"]), reply["rows"]
         period = now.start - rows[-1][0] if rows else 0
         return Rows(now, tuple(Row(start, period, *rest) for start, *rest in rows))
-    if "links" in value:
-        return Loaded(**value)
-    if "short" in value:
-        return Short(**value)
-    [(name, number)] = value.items()
+    if "links" in reply:
+        return Loaded(**reply)
+    if "short" in reply:
+        return Short(**reply)
+    [(name, number)] = reply.items()
     if name not in ("car", "clock", "cycle", "closed", "taken", "meter"):
         raise KeyError(name)
     return number

@@ -28,7 +28,7 @@ GZIP = b"\x1f\x8b"  # with which a gzip file begins
 ESCAPED = (("&", "&amp;"), (">", "&gt;"), ("<", "&lt;"), ("\n", "&#10;"), ("\r", "&#13;"), ("\t", "&#9;"))
 Json = dict[str, Any]  # an object of JSON
 FilePath = str | os.PathLike[str]
-Value = TypeVar("Value")
+Converted = TypeVar("Converted")
 Default = TypeVar("Default")
 Number = TypeVar("Number", int, float)
 Main = Callable[[list[str]], int]  # a tool's main function: its words, and the status
@@ -147,7 +147,7 @@ def elements(path: FilePath, roots: Collection[str] = ()) -> Iterator[Element]:
             if nesting.depth == 1:
                 yield element
                 root.clear()
-                chunks.kept = 0
+                chunks.kept_bytes = 0
 
 
 def events_of(parser: ElementTree.XMLPullParser, chunks: Chunks) -> Iterator[tuple[str, Element]]:
@@ -174,7 +174,7 @@ def attribute(path: FilePath, element: Element, name: str) -> str:
 
 
 @overload
-def attribute(path: FilePath, element: Element, name: str, convert: Callable[[str], Value]) -> Value:
+def attribute(path: FilePath, element: Element, name: str, convert: Callable[[str], Converted]) -> Converted:
     ...
 
 
@@ -191,8 +191,8 @@ def attribute(path: FilePath, element: Element, name: str, convert: Callable[[st
 
 
 def optional(
-    path: FilePath, element: Element, name: str, convert: Callable[[str], Value], default: Default
-) -> Value | Default:
+    path: FilePath, element: Element, name: str, convert: Callable[[str], Converted], default: Default
+) -> Converted | Default:
     """As `attribute`, but the default where the element does not have the attribute."""
     return default if element.get(name) is None else attribute(path, element, name, convert)
 
@@ -205,13 +205,13 @@ def number(text: str) -> float:
     return value
 
 
-def only(convert: Callable[[str], Number], holds: Callable[[Number], bool]) -> Callable[[str], Number]:
-    """A conversion of a text to a number, as `convert` makes it; ValueError for one for which `holds` is false."""
+def only(convert: Callable[[str], Number], condition: Callable[[Number], bool]) -> Callable[[str], Number]:
+    """A conversion of a text to a number, as `convert` makes it; ValueError for one for which `condition` is false."""
 
     def converted(text: str) -> Number:
         """The number that a text writes; ValueError where the condition does not hold for it."""
         value = convert(text)
-        if not holds(value):
+        if not condition(value):
             raise ValueError(text)
         return value
 

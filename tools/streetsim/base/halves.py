@@ -41,13 +41,13 @@ def half_file(path: str) -> Iterator[str]:
         open(half, "x").close()
         return half
 
-    half, held = hold_new(make)
+    half, descriptor = hold_new(make)
     try:
         yield half
     finally:
         with contextlib.suppress(OSError):
             os.remove(half)
-        os.close(held)
+        os.close(descriptor)
 
 
 def is_half(path: str) -> bool:
@@ -62,17 +62,17 @@ def hold_new(make: Callable[[], str]) -> tuple[str, int]:
     while True:
         path = make()
         with contextlib.suppress(FileNotFoundError):
-            held = os.open(path, os.O_RDONLY)
-            if lock(held) is not False and os.path.exists(path):
-                return path, held
-            os.close(held)
+            descriptor = os.open(path, os.O_RDONLY)
+            if lock(descriptor) is not False and os.path.exists(path):
+                return path, descriptor
+            os.close(descriptor)
 
 
-def lock(held: int) -> bool | None:
+def lock(descriptor: int) -> bool | None:
     """Takes the lock on an open file, by its descriptor, without waiting: true where this tool has it now, false where
     another holds it, none where its file system has no locks."""
     try:
-        fcntl.flock(held, fcntl.LOCK_EX | fcntl.LOCK_NB)
+        fcntl.flock(descriptor, fcntl.LOCK_EX | fcntl.LOCK_NB)
     except BlockingIOError:
         return False
     except OSError:
@@ -84,9 +84,9 @@ def remove_left(pattern: str) -> None:
     """Removes the files and folders of a pattern (as glob's) that no tool holds; what cannot be removed stays."""
     for path in glob.glob(pattern, include_hidden=True):
         with contextlib.suppress(OSError):
-            held = os.open(path, os.O_RDONLY | os.O_NOFOLLOW)
+            descriptor = os.open(path, os.O_RDONLY | os.O_NOFOLLOW)
             try:
-                if lock(held):
+                if lock(descriptor):
                     shutil.rmtree(path) if os.path.isdir(path) else os.remove(path)
             finally:
-                os.close(held)
+                os.close(descriptor)

@@ -24,7 +24,7 @@ class Process:
     def __init__(self, arguments: Sequence[str], buffer: int, files: Sequence[int] = ()) -> None:
         """Starts the program. arguments: its path and what follows it; buffer: bytes of the buffer of each pipe, 0 for
         none; files: descriptors that it inherits beside its streams."""
-        self.ended: tuple[int, str] | None = None
+        self.end_state: tuple[int, str] | None = None
         self.errors = tempfile.TemporaryFile()
         self.process = subprocess.Popen(
             arguments, stdin=subprocess.PIPE, stdout=subprocess.PIPE, stderr=self.errors, bufsize=buffer, pass_fds=files
@@ -53,13 +53,13 @@ class Process:
 
     def end(self) -> tuple[int, str]:
         """Ends the input and waits for the program; gives (its status, its standard error), later the same."""
-        if self.ended is not None:
-            return self.ended
+        if self.end_state is not None:
+            return self.end_state
         for pipe in self.pipes:
             with contextlib.suppress(OSError):
                 pipe.close()
         status = self.process.wait()
         with self.errors:
             self.errors.seek(0)
-            self.ended = status, self.errors.read().decode(errors="replace")
-        return self.ended
+            self.end_state = status, self.errors.read().decode(errors="replace")
+        return self.end_state

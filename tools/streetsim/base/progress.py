@@ -15,12 +15,12 @@ LEAST_SHARE = 0.01  # of the work that is done before an end is told
 
 
 class TerminalLine:
-    """A line that is written over and over on a terminal: who writes asks `takes_turn`, or `shown`, before."""
+    """A line that is written over and over on a terminal: who writes asks `takes_turn`, or `on_terminal`, before."""
 
     def __init__(self, stream: IO[str] | None = None) -> None:
         """stream: where the line is written; none: standard error."""
         self.stream = stream or sys.stderr
-        self.shown, self.begin, self.last, self.width = self.stream.isatty(), time.monotonic(), 0.0, 0
+        self.on_terminal, self.begin, self.last, self.width = self.stream.isatty(), time.monotonic(), 0.0, 0
 
     def seconds(self) -> float:
         """Seconds since this line was made."""
@@ -29,7 +29,7 @@ class TerminalLine:
     def takes_turn(self, ended: bool = False) -> bool:
         """Whether to write it now, which is noted: on a terminal alone, five times a second at most, or if ended."""
         now = time.monotonic()
-        if not self.shown or (now - self.last < PAUSE and not ended):
+        if not self.on_terminal or (now - self.last < PAUSE and not ended):
             return False
         self.last = now
         return True
@@ -64,14 +64,14 @@ class WorkProgress(TerminalLine):
         if self.takes_turn(done >= self.total):
             self.write_over(self.line(done, more, self.seconds(), seconds_left))
 
-    def line(self, done: int, more: str, seconds: float, seconds_left: float | None = None) -> str:
-        """The line's text; done: parts done; more: what else there is to say; seconds: since the begin of the work;
-        seconds_left: that it still takes, None: as long for a part as so far."""
+    def line(self, parts_done: int, remark: str, seconds: float, seconds_left: float | None = None) -> str:
+        """The line's text; remark: what else there is to say; seconds: since the begin of the work; seconds_left: that
+        it still takes, None: as long for a part as so far."""
         if seconds_left is None:
-            going = min(self.abreast, max(0, self.total - done)) / 2 if self.abreast > 1 else 0.0  # half done
-            seconds_left = seconds * max(0, self.total - done - going) / max(1, done + going)
-        text = f"[{bar(done, self.total)}] {done:,} of {self.total:,} {self.unit}"
-        return f"{text}{more and f', {more}'}, {time_text(seconds_left)} left"
+            going = min(self.abreast, max(0, self.total - parts_done)) / 2 if self.abreast > 1 else 0.0  # half done
+            seconds_left = seconds * max(0, self.total - parts_done - going) / max(1, parts_done + going)
+        text = f"[{bar(parts_done, self.total)}] {parts_done:,} of {self.total:,} {self.unit}"
+        return f"{text}{remark and f', {remark}'}, {time_text(seconds_left)} left"
 
 
 class RunProgress(TerminalLine):
@@ -92,8 +92,8 @@ class RunProgress(TerminalLine):
         super().__init__(stream)
         self.start, self.until, self.vehicles, self.passes = start, until, vehicles, passes
         self.clocks, self.ways, self.arrived = [start] * runs, [0] * runs, [0] * runs
-        self.passed, self.steps = [0] * runs, [0] * runs  # passes that are over, and their seconds
-        self.over = 0  # runs
+        self.passes_done, self.steps = [0] * runs, [0] * runs  # passes that are over, and their seconds
+        self.runs_done = 0
 
     def __enter__(self) -> Self:
         """Gives the line itself, of which nothing is written yet."""
@@ -110,7 +110,7 @@ class RunProgress(TerminalLine):
         before the last one is of the next pass."""
         if census is not None:
             if clock < self.clocks[run]:
-                self.passed[run] += 1
+                self.passes_done[run] += 1
                 self.steps[run] += self.clocks[run] - self.start
             self.clocks[run], self.ways[run], self.arrived[run] = clock, census.cells + census.buffers, census.arrived
             if self.takes_turn():
@@ -118,23 +118,23 @@ class RunProgress(TerminalLine):
 
     def note_end(self) -> None:
         """Notes that one of the runs has ended, at whatever clock."""
-        self.over += 1
+        self.runs_done += 1
 
     def share(self, run: int) -> float:
         """The share of its work, 0 to 1, that a run (its place, from 0) has done, all passes together."""
         seconds = max(1, self.until - self.start)
         own = (self.arrived[run] + self.ways[run] / 2) / self.vehicles if self.vehicles else 0.0
         own = own if self.vehicles else (self.clocks[run] - self.start) / seconds
-        return (min(self.passed[run], self.passes - 1) + min(1.0, own)) / (self.passes + TABLES)
+        return (min(self.passes_done[run], self.passes - 1) + min(1.0, own)) / (self.passes + TABLES)
 
-    def line(self, seconds: float, ended: bool = False) -> str:
-        """The line's text; seconds: since the begin of the work; ended: whether it is over."""
+    def line(self, seconds: float, final: bool = False) -> str:
+        """The line's text; seconds: since the begin of the work; final: whether it is over."""
         steps = sum(clock - self.start for clock in self.clocks) + sum(self.steps)
         runs = len(self.clocks)
-        share = 1.0 if ended else sum(map(self.share, range(runs))) / runs
-        place = f"{self.clocks[0]:,} s" if runs == 1 else f"{self.over} of {runs} runs done"
-        around = f"round {self.passed[0] + 1} of {self.passes}, " if runs == 1 < self.passes else ""
-        seconds_left = "" if ended or share < LEAST_SHARE else f", {time_text(seconds * (1 - share) / share)} left"
+        share = 1.0 if final else sum(map(self.share, range(runs))) / runs
+        place = f"{self.clocks[0]:,} s" if runs == 1 else f"{self.runs_done} of {runs} runs done"
+        around = f"round {self.passes_done[0] + 1} of {self.passes}, " if runs == 1 < self.passes else ""
+        seconds_left = "" if final or share < LEAST_SHARE else f", {time_text(seconds * (1 - share) / share)} left"
         return (
             f"[{bar(round(1000 * share), 1000)}] {around}{place}, {sum(self.ways):,} on their way, "
             f"{sum(self.arrived):,} arrived, {steps / max(0.001, seconds):,.0f} x real time{seconds_left}"
@@ -155,25 +155,25 @@ class Slow(TerminalLine):
         """text: what the tool does; wait: seconds before the line comes. stream: of the line, None: standard error."""
         super().__init__(stream)
         self.text, self.wait = text, wait
-        self.ended = threading.Event()
+        self.end_event = threading.Event()
         self.thread = threading.Thread(target=self.show, daemon=True)
 
     def __enter__(self) -> Self:
         """Begins to wait for the line's time, which can be done once (RuntimeError); only on a terminal."""
-        if self.shown:
+        if self.on_terminal:
             self.thread.start()
         return self
 
     def __exit__(self, *_: object) -> None:
         """Takes the line away."""
-        self.ended.set()
+        self.end_event.set()
         if self.thread.ident is not None:
             self.thread.join()
             self.end()
 
     def show(self) -> None:
         """Writes the line anew until the end; runs in a thread of its own."""
-        while not self.ended.wait(self.wait if not self.width else 0.5):
+        while not self.end_event.wait(self.wait if not self.width else 0.5):
             self.write_over(f"{self.text}, {self.seconds():.0f} s")
 
 
@@ -183,24 +183,24 @@ def bar(done: int, total: int) -> str:
 
 
 class Stopping:
-    """While the block runs, the first Ctrl-C only sets `asked`, and the caller ends its work when it sees that; a
+    """While the block runs, the first Ctrl-C only sets `end_asked`, and the caller ends its work when it sees that; a
     second one ends the tool as anywhere."""
 
     def __init__(self) -> None:
         """Nothing is asked for yet, and Ctrl-C is not taken over."""
-        self.asked = False
+        self.end_asked = False
 
     def __enter__(self) -> Self:
         """Takes Ctrl-C over from Python, and gives itself."""
-        self.before: Any = signal.signal(signal.SIGINT, self.note)
+        self.earlier_handler: Any = signal.signal(signal.SIGINT, self.note)
         return self
 
     def __exit__(self, *_: object) -> None:
         """Gives Ctrl-C back."""
-        signal.signal(signal.SIGINT, self.before)
+        signal.signal(signal.SIGINT, self.earlier_handler)
 
     def note(self, _number: int, _frame: FrameType | None) -> None:
         """Handles the first Ctrl-C: sets `asked`, says so, and gives Ctrl-C back."""
-        self.asked = True
+        self.end_asked = True
         print("\nCtrl-C: ends with the best so far; a second one ends at once", file=sys.stderr, flush=True)
-        signal.signal(signal.SIGINT, self.before)
+        signal.signal(signal.SIGINT, self.earlier_handler)

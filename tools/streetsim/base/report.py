@@ -10,12 +10,12 @@ HEAVY, LIGHT, NONE = "changes results", "told", "no effect"  # weights of what i
 
 @dataclass(frozen=True, slots=True)
 class Warned:
-    """A warning as it is told. names: the ids that it is of; do: what the user may do about it."""
+    """A warning as it is told. names: the ids that it is of; advice: what the user may do about it."""
 
     text: str
     weight: str
     names: tuple[str, ...]
-    do: str
+    advice: str
 
 
 class Report:
@@ -33,13 +33,13 @@ class Report:
         """Forgets all that was noted, where an import begins again."""
         self.__init__()  # type: ignore[misc]  # nobody derives a class from this one
 
-    def warn(self, text: str, names: Iterable[str] = (), do: str = "", light: bool = False, kind: str = "") -> None:
+    def warn(self, text: str, names: Iterable[str] = (), advice: str = "", light: bool = False, kind: str = "") -> None:
         """Notes what is other than in SUMO, once for each text; of the same text again nothing is taken. names: the ids
-        that it is of; do: what the user may do about it; light: it changes results little, if at all; kind: how several
-        of its kind are told in one line, behind their count and before the ids; empty: each has its line."""
+        that it is of; advice: what the user may do about it; light: it changes results little, if at all; kind: how
+        several of its kind are told in one line, behind their count and before the ids; empty: each has its line."""
         if text not in self.warnings:
             self.warnings.append(text)
-            warning = Warned(text, LIGHT if light else HEAVY, tuple(names), do)
+            warning = Warned(text, LIGHT if light else HEAVY, tuple(names), advice)
             self.alike.setdefault(kind or text, []).append(warning)
 
     def by_weight(self) -> list[Warned]:
@@ -52,7 +52,7 @@ class Report:
         where several of a kind are one."""
         yield from (f"skipped: {count} vehicles: {why}" for why, count in sorted(self.skipped.items()))
         for warning in self.by_weight():
-            yield f"warning: {warning.text}{f' ({warning.do})' if warning.do else ''}"
+            yield f"warning: {warning.text}{f' ({warning.advice})' if warning.advice else ''}"
         yield from self.notes
         yield from (f"ignored: {count} x {what}" for what, count in sorted(self.ignored.items()) if count)
 
@@ -62,7 +62,7 @@ class Report:
         skipped, ignored = sorted(self.skipped.items()), sorted(self.ignored.items())
         table_rows = [[HEAVY, f"{count} vehicles are left out: {why}", "", ""] for why, count in skipped]
         table_rows += [
-            [warning.weight, warning.text, " ".join(warning.names), warning.do] for warning in self.by_weight()
+            [warning.weight, warning.text, " ".join(warning.names), warning.advice] for warning in self.by_weight()
         ]
         return table_rows + [[NONE, f"{count} x {what}", "", ""] for what, count in ignored if count]
 

@@ -42,13 +42,13 @@ def segment_at(line: Line, share: float) -> tuple[int | None, float]:
 
 def nearest(point: Point, line: Line) -> tuple[float, float]:
     """(metres from a point to a line, or to its single point; metres along the line to the nearest place)."""
-    (x, y), passed, best = point, 0.0, (hypot(point[0] - line[0][0], point[1] - line[0][1]), 0.0)
+    (x, y), metres_before, best = point, 0.0, (hypot(point[0] - line[0][0], point[1] - line[0][1]), 0.0)
     for ((ax, ay), (bx, by)), size in zip(pairwise(line), lengths(line), strict=True):
         if size:
             share = min(1.0, max(0.0, ((x - ax) * (bx - ax) + (y - ay) * (by - ay)) / size**2))
             far = hypot(ax + (bx - ax) * share - x, ay + (by - ay) * share - y)
-            best = min(best, (far, passed + share * size))
-        passed += size
+            best = min(best, (far, metres_before + share * size))
+        metres_before += size
     return best
 
 

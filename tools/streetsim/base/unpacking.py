@@ -11,7 +11,7 @@ from collections.abc import Iterable, Iterator
 from typing import IO
 
 LIFT = "STREETSIM_LARGE_FILES"  # in the environment, 1: no limits
-ALLOWED = 1 << 24  # bytes that any packed file may unpack to
+UNPACKED_BASE = 1 << 24  # bytes that any packed file may unpack to
 RATIO = 100  # how often its own size a larger one may unpack to; files of SUMO do so 5 to 20 times
 STREAMED = 1_000  # the same of what stood on lanes, poll by poll, where polls may be equal; it is read one by one
 LONGEST = 1 << 22  # bytes of XML without the begin or end of an element; letters of a line of a table
@@ -43,33 +43,33 @@ def lift() -> None:
 
 def most_unpacked(size: int, ratio: int = RATIO) -> int:
     """The bytes to which a packed file of so many bytes may unpack."""
-    return ALLOWED + ratio * size
+    return UNPACKED_BASE + ratio * size
 
 
 def refuse_bomb(file: IO[bytes], size: int, ratio: int = RATIO) -> None:
     """TooMuch where a gzip file, open for its packed bytes at their begin, unpacks to more than most_unpacked of its
     size; reads it, to its end or to there, and keeps nothing. zlib.error for what is no gzip file; what is cut off is
     let be, as its reader tells that."""
-    most = most_unpacked(size, ratio)
-    if lifted() or 1032 * size <= most:  # no stream of zlib unpacks to more than 1,032 times its size
+    greatest_size = most_unpacked(size, ratio)
+    if lifted() or 1032 * size <= greatest_size:  # no stream of zlib unpacks to more than 1,032 times its size
         return
     unpacked, member = 0, None
-    while data := file.read(CHUNK):
-        while data := data if member else data.lstrip(b"\0"):  # zeros may stand behind a member
+    while packed := file.read(CHUNK):
+        while packed := packed if member else packed.lstrip(b"\0"):  # zeros may stand behind a member
             stream = member or zlib.decompressobj(31)
-            unpacked += len(stream.decompress(data, MEGA))
-            if unpacked > most:
-                raise TooMuch(f"unpacks to more than {most:,} bytes, and has {size:,}")
-            member, data = (None, stream.unused_data) if stream.eof else (stream, stream.unconsumed_tail)
+            unpacked += len(stream.decompress(packed, MEGA))
+            if unpacked > greatest_size:
+                raise TooMuch(f"unpacks to more than {greatest_size:,} bytes, and has {size:,}")
+            member, packed = (None, stream.unused_data) if stream.eof else (stream, stream.unconsumed_tail)
 
 
-def inflate(data: bytes, most: int) -> bytes:
-    """What a whole stream of zlib unpacks to; TooMuch for more than `most` bytes, zlib.error where it is none, is cut
-    off, or has something behind it."""
+def inflate(data: bytes, greatest_size: int) -> bytes:
+    """What a whole stream of zlib unpacks to; TooMuch for more than `greatest_size` bytes, zlib.error where it is
+    none, is cut off, or has something behind it."""
     stream = zlib.decompressobj()
-    unpacked = stream.decompress(data, most + 1)
-    if len(unpacked) > most:
-        raise TooMuch(f"unpacks to more than {most:,} bytes")
+    unpacked = stream.decompress(data, greatest_size + 1)
+    if len(unpacked) > greatest_size:
+        raise TooMuch(f"unpacks to more than {greatest_size:,} bytes")
     if not stream.eof or stream.unused_data:
         raise zlib.error("cut off, or with something behind its end")
     return unpacked
@@ -77,29 +77,29 @@ def inflate(data: bytes, most: int) -> bytes:
 
 class Chunks:
     """The bytes of a file of XML, in chunks. Who reads them sets `stretch` to 0 where an element begins or ends, and
-    `kept` where nothing is kept of those before. Chunks grow where no element does, as a parser begins anew with each
-    chunk at the piece that has not ended."""
+    `kept_bytes` where nothing is kept of those before. Chunks grow where no element does, as a parser begins anew with
+    each chunk at the piece that has not ended."""
 
     def __init__(self, file: IO[bytes]) -> None:
         """file: open, at its begin."""
-        self.file, self.stretch, self.kept = file, 0, 0
+        self.file, self.stretch, self.kept_bytes = file, 0, 0
         self.begin = b""  # what stands before the root's end is known, where entities are declared
 
     def __iter__(self) -> Iterator[bytes]:
         """The chunks. TooMuch for a piece that does not end within LONGEST bytes, and for entities."""
-        begun = False
+        root_begun = False
         while chunk := self.file.read(max(CHUNK, min(self.stretch, LONGEST - self.stretch))):
             self.stretch += len(chunk)
-            self.kept += len(chunk)
-            if not begun:
+            self.kept_bytes += len(chunk)
+            if not root_begun:
                 self.begin += chunk
                 if b"<!ENTITY" in self.begin.replace(b"\0", b""):
                     raise ValueError("declares entities, which are not read")
             yield chunk
-            begun = begun or self.stretch == 0
+            root_begun = root_begun or self.stretch == 0
             if self.stretch > LONGEST and not lifted():
                 raise TooMuch(f"has more than {LONGEST:,} bytes without the begin or end of an element")
-            if self.kept > MOST_KEPT and not lifted():
+            if self.kept_bytes > MOST_KEPT and not lifted():
                 raise TooMuch(f"has an element of more than {MOST_KEPT:,} bytes")
 
 
@@ -108,26 +108,26 @@ class Nesting:
 
     def __init__(self) -> None:
         """Before the root."""
-        self.depth, self.count, self.passed = 0, 0, 0  # elements open; begun below the root; begun or ended in all
+        self.depth, self.count, self.tag_count = 0, 0, 0  # elements open; begun below the root; begun or ended in all
 
     def begin(self) -> None:
         """An element begins; TooMuch where it is too deep, or one too many."""
-        self.depth, self.count, self.passed = self.depth + 1, self.count + 1, self.passed + 1
+        self.depth, self.count, self.tag_count = self.depth + 1, self.count + 1, self.tag_count + 1
         if (self.depth > DEEPEST or self.count > MOST_BELOW) and not lifted():
             raise TooMuch(f"has an element with more than {DEEPEST} in one another, or {MOST_BELOW:,} in all, in it")
 
     def end(self) -> None:
         """An element ends."""
-        self.depth, self.passed = self.depth - 1, self.passed + 1
+        self.depth, self.tag_count = self.depth - 1, self.tag_count + 1
         if self.depth <= 1:
             self.count = 0
 
 
 def refuse_crowded(text: str, size: int = 0) -> None:
     """TooMuch for a text of JSON with more objects and lists than BRACKETS; size: bytes of its file."""
-    most = BRACKETS + size // 4
-    if len(text) > most and text.count("{") + text.count("[") > most and not lifted():
-        raise TooMuch(f"has more than {most:,} objects and lists")
+    limit = BRACKETS + size // 4
+    if len(text) > limit and text.count("{") + text.count("[") > limit and not lifted():
+        raise TooMuch(f"has more than {limit:,} objects and lists")
 
 
 def lines_of(file: IO[str], most: int = LONGEST) -> Iterator[str]:

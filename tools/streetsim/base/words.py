@@ -112,28 +112,29 @@ def unnamed_argument(arguments: Sequence[str]) -> str | None:
     return None
 
 
-def integer_within(least: int, most: int) -> Callable[[str], int]:
-    """A conversion for argparse that takes whole numbers from least to most, both included, written in digits alone;
-    ArgumentTypeError otherwise. least: 0 or more, as no sign is taken."""
+def integer_within(lowest: int, highest: int) -> Callable[[str], int]:
+    """A conversion for argparse that takes whole numbers from lowest to highest, both included, written in digits
+    alone; ArgumentTypeError otherwise. lowest: 0 or more, as no sign is taken."""
 
     def number(text: str) -> int:
         """The number that a text writes; ArgumentTypeError where it is no whole number of the range."""
-        if not re.fullmatch(r"\d{1,20}", text) or not least <= int(text) <= most:
-            raise argparse.ArgumentTypeError(f"{text!r} is not {least} to {most:,}")
+        if not re.fullmatch(r"\d{1,20}", text) or not lowest <= int(text) <= highest:
+            raise argparse.ArgumentTypeError(f"{text!r} is not {lowest} to {highest:,}")
         return int(text)
 
     return number
 
 
-def time_within(least: int, most: int) -> Callable[[str], int]:
-    """A conversion for argparse that takes whole seconds from least to most, both included, written as SUMO's times,
-    3600, 01:00:00 or 0:01:00:00, or as a clock shows them, 01:00; ArgumentTypeError otherwise."""
+def time_within(lowest: int, highest: int) -> Callable[[str], int]:
+    """A conversion for argparse that takes whole seconds from lowest to highest, both included, written as SUMO's
+    times, 3600, 01:00:00 or 0:01:00:00, or as a clock shows them, 01:00; ArgumentTypeError otherwise."""
 
     def time(text: str) -> int:
         """The seconds that a text writes; ArgumentTypeError where they are out of the range or not whole."""
         value = whole_seconds(text)
-        if value is None or not least <= value <= most:
-            raise argparse.ArgumentTypeError(f"{text!r} is not {least} to {most:,} s, in seconds, HH:MM or HH:MM:SS")
+        if value is None or not lowest <= value <= highest:
+            bounds = f"{lowest} to {highest:,} s, in seconds, HH:MM or HH:MM:SS"
+            raise argparse.ArgumentTypeError(f"{text!r} is not {bounds}")
         return value
 
     return time

@@ -122,7 +122,7 @@ def main(arguments: list[str]) -> int:
                     shutil.copy(path, out)
             write_calibration(out, calibration)
             write_drivers(args.output, calibration)
-    print(*lines_of(calibration.result, calibration.days[0].day), *criteria_lines(calibration), sep="\n")
+    print(*lines_of(calibration.fit_result, calibration.days[0].day), *criteria_lines(calibration), sep="\n")
     return 0 if calibration.is_valid() else 1
 
 

@@ -69,7 +69,7 @@ def with_sumo(path: str, files: list[str]) -> int:
         raise Fault("--sumo takes tripinfo.xml and at most one edgedata.xml")
     with Slow(f"reading {path}") as progress:
         folder = read_folder(path)
-        if is_drawn(folder.made):
+        if is_drawn(folder.setting):
             raise Fault(f"{path}: its departures were drawn, and SUMO had those of the file: --departures listed")
         run_times, names = trip_times_of(folder), [row["id"] for row in folder.trips()]
         progress.text = f"reading {files[0]}"

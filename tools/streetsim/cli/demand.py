@@ -114,7 +114,7 @@ def main(arguments: Sequence[str]) -> int:
         with Stopping() as stopping:
             tried = []
             if running:
-                tried = making.run_attempts(basis, inputs, running, fitted, lambda: stopping.asked, show_step)
+                tried = making.run_attempts(basis, inputs, running, fitted, lambda: stopping.end_asked, show_step)
         demand = making.best_demand(basis, inputs, fitted, tried)
         show_step("writing")
         note = program.proof_note(running.program) if running else {}

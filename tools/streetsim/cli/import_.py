@@ -200,7 +200,7 @@ def main(arguments: list[str]) -> int:
     with Slow(f"importing {args.net}"):
         converted = read_and_converted(sources, options, report, configured)
         if any(name.startswith(INVENTED) for name in converted[3]):
-            report.warn(TOLD_INVENTED, do="counts and matrices: streetsim-demand")
+            report.warn(TOLD_INVENTED, advice="counts and matrices: streetsim-demand")
     mapping = write_run(args.output, args.map, converted, report, sources, args.names, end_of(configured))
     if args.warnings:
         write_table(args.warnings, COLUMNS, report.rows())

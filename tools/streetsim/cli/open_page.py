@@ -68,7 +68,8 @@ def page_without_junctions(runs: Runs, run: str, reason: str) -> str:
     lead = f"{notes}<p>No junctions are shown: {escape(reason)}</p>"
     doubts = Section("doubts", "What is doubted", doubted([runs]))
     run_section = Section("run", "What was run", what_was_run([runs]))
-    return page(runs.name, lead, [*sections(runs, runs.first_folder.made.get("start", 0), run), doubts], [run_section])
+    start = runs.first_folder.setting.get("start", 0)
+    return page(runs.name, lead, [*sections(runs, start, run), doubts], [run_section])
 
 
 def sections(runs: Runs, begin: int, run: str, timings: Timings = MappingProxyType({})) -> Iterator[Section]:
@@ -120,7 +121,7 @@ def next_steps_html(runs: Runs, run: str, search: Sequence[str]) -> str:
     """Five questions, each with the command that answers it, as HTML; run: path of the run file, or none; search:
     further words of a search for signals."""
     folder = runs.first_folder
-    name = run or folder.made.get("run", "RUN.jsonl")
+    name = run or folder.setting.get("run", "RUN.jsonl")
     net = net_of(folder, name)
     lane, metres, is_only = lane_to_close(folder)
     works = f"{lane}:{int(metres / 2)}-{int(metres / 2 + min(metres / 4, 100))}:{closing_times(folder)}"
@@ -171,8 +172,8 @@ def lane_to_close(folder: Folder) -> tuple[str, float, bool]:
 def closing_times(folder: Folder) -> str:
     """About the middle half of the time in which vehicles depart, as --close takes it: round clock times, and of less
     than four minutes round seconds."""
-    departs = [int(row["depart"]) for row in folder.trips()] or [folder.made.get("start", 0)]
-    start, until = min(departs), min(max(departs), folder.made.get("until", max(departs)))
+    departs = [int(row["depart"]) for row in folder.trips()] or [folder.setting.get("start", 0)]
+    start, until = min(departs), min(max(departs), folder.setting.get("until", max(departs)))
     quarter = max(1, (until - start) // 4)
     step = next(step for step in ROUND_SECONDS if quarter >= step)
     clocks = [step * round(second / step) for second in (start + quarter, max(until - quarter, start + 2 * quarter))]

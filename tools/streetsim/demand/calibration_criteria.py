@@ -22,13 +22,12 @@ LEAST_QUEUE = 10.0  # metres, below which a queue counts nothing
 
 @dataclass(frozen=True, slots=True)
 class Criterion:
-    """How much of a day meets a mark. share: 0 to 1; of: how many were judged; off: by which a sum is off, where that
-    is the mark."""
+    """How much of a day meets a mark. share: 0 to 1; off: by which a sum is off, where that is the mark."""
 
     name: str
     share: float
     share_needed: float
-    of: int
+    judged_count: int
 
     @property
     def is_met(self) -> bool:
@@ -37,7 +36,7 @@ class Criterion:
 
     def share_text(self) -> str:
         """Its share, in percent, and of how many."""
-        return f"{100 * self.share:.0f} % of {self.of:,}"
+        return f"{100 * self.share:.0f} % of {self.judged_count:,}"
 
 
 def criteria_of(

@@ -22,7 +22,7 @@ TIME = ("time", "begin", "start", "from_time", "timestamp", "interval", "interva
 ENDS = ("end", "until", "to_time", "interval_end")
 SEGMENT = ("segment", "route", "section", "path")
 FROM = ("from", "from_edge", "origin", "start_reader", "reader_from", "from_reader")
-TO = ("to", "to_edge", "destination", "end_reader", "reader_to", "to_reader", "next_edge")
+TO_EDGE = ("to", "to_edge", "destination", "end_reader", "reader_to", "to_reader", "next_edge")
 MEAN = ("mean", "mean_s", "travel_time", "travel_time_s", "tt", "tt_s", "seconds", "duration", "duration_s")
 MINUTES = ("mean_min", "travel_time_min", "tt_min", "minutes", "duration_min")
 DEVIATION = ("sd", "sd_s", "std", "stdev", "std_dev")
@@ -58,7 +58,7 @@ class FieldQueue:
 
     edge: str
     mean: float
-    most: float
+    longest: float
 
 
 @dataclass(slots=True)
@@ -143,7 +143,7 @@ def times_of_table(path: str, notes: list[str]) -> list[TravelTime]:
         if end <= begin:
             raise Fault(f"{row.location}: the period ends at {end:,} s, and begins at {begin:,} s")
         spread = scale * row.get(deviation, not_negative) if deviation else 0.0
-        vehicles = row.get(count, whole)
+        vehicles = row.get(count, whole_number)
         if vehicles:
             seconds = scale * row.get(mean, positive)
             travel_times.append(TravelTime(edges_in(row), begin, end, seconds, spread, vehicles))
@@ -155,7 +155,7 @@ def way_of(table: Columns) -> Callable[[TableRow], tuple[str, ...]]:
     if (column := table.find(SEGMENT)) is not None:
         named: str = column
         return lambda row: row.get(named, edges_of)
-    source, target = table.need("a segment", SEGMENT, FROM), table.need("a segment", TO)
+    source, target = table.need("a segment", SEGMENT, FROM), table.need("a segment", TO_EDGE)
     return lambda row: (row.get(source, name_of), row.get(target, name_of))
 
 
@@ -183,7 +183,7 @@ def not_negative(text: str) -> float:
     return value
 
 
-def whole(text: str) -> int:
+def whole_number(text: str) -> int:
     """A whole number from 0 on; ValueError otherwise."""
     value = number(text)
     if value < 0 or value != int(value):
@@ -239,7 +239,8 @@ def read_lanes(path: str, limits_of: Mapping[str, int]) -> list[SurveyedLane]:
     for row in table.rows:
         name = row.get(street, name_of)
         lane = SurveyedLane(
-            name, row.get(flow, positive), row.get(full, positive), row.get(green, positive), row.get(greens, whole),
+            name, row.get(flow, positive), row.get(full, positive), row.get(green, positive),
+            row.get(greens, whole_number),
             limits_of.get(name, 2),
         )
         if not 300 <= lane.flow <= 3600:
@@ -285,7 +286,7 @@ def counts_as_demand(paths: Iterable[str], folder: str, notes: list[str]) -> lis
 def rewritten_counts(table: Columns, notes: list[str]) -> str:
     """A table of counts as text, with the columns of streetsim-demand."""
     time, edge, ends = table.need("time", TIME), table.need("an edge", EDGE), table.find(ENDS)
-    to, count = table.find(TO), table.need("a count", COUNT, HOURLY)
+    to_column, count = table.find(TO_EDGE), table.need("a count", COUNT, HOURLY)
     hourly = count in HOURLY
     notes.append(f"{table.path}: {count} as vehicles {'an hour' if hourly else 'of a period'}")
     period = period_in([row.get(time, clock_of) for row in table.rows])
@@ -298,7 +299,7 @@ def rewritten_counts(table: Columns, notes: list[str]) -> str:
         if end <= begin:
             raise Fault(f"{row.location}: the period ends at {end:,} s, and begins at {begin:,} s")
         vehicles = row.get(count, vehicle_number) * ((end - begin) / 3600 if hourly else 1)
-        write([begin, end, row.get(edge, name_of), row.text(to) if to else "", f"{vehicles:g}"])
+        write([begin, end, row.get(edge, name_of), row.text(to_column) if to_column else "", f"{vehicles:g}"])
     return text.getvalue()
 
 

@@ -34,24 +34,24 @@ class FittedValue:
     spread: float
     usual_spread: float
     step: float
-    least: float
-    most: float
+    lowest: float
+    highest: float
     street: str = ALL_STREETS  # class of street of a speed factor
 
 
 def values_of(day: FieldDay, classes: Sequence[str], free: Sequence[str]) -> list[FittedValue]:
     """The values that are fitted to a day: dawdle and cut where saturation was surveyed, and a speed factor for each of
     the classes. free: of dawdle, speed, lost, those that may move."""
-    values = []
+    fitted_values = []
     if day.lanes:
         dawdle, cut = surveyed_drivers(day.lanes)
         if "dawdle" in free:
-            values.append(FittedValue(DAWDLE, round(dawdle, 3), 0.03, 0.08, 0.03, 0.0, 0.45))
+            fitted_values.append(FittedValue(DAWDLE, round(dawdle, 3), 0.03, 0.08, 0.03, 0.0, 0.45))
         if "lost" in free:
-            values.append(FittedValue(CUT, round(cut, 2), 0.5, 1.5, 1.0, -3.0, 5.0))
+            fitted_values.append(FittedValue(CUT, round(cut, 2), 0.5, 1.5, 1.0, -3.0, 5.0))
     if "speed" in free:
-        values += [FittedValue(SPEED, 1.0, 0.1, 0.1, 0.04, 0.6, 1.4, street) for street in classes]
-    return values
+        fitted_values += [FittedValue(SPEED, 1.0, 0.1, 0.1, 0.04, 0.6, 1.4, street) for street in classes]
+    return fitted_values
 
 
 def classes_of(day: FieldDay, class_of: Mapping[str, str]) -> list[str]:
@@ -83,7 +83,7 @@ class FitResult:
     many were made."""
 
     drivers: FittedDrivers
-    values: list[FittedValue]
+    fitted_values: list[FittedValue]
     errors: list[float]
     unscaled_errors: list[float]
     correlations: list[list[float]]
@@ -95,10 +95,10 @@ class FitResult:
 class Fit:
     """A fit of values to a day."""
 
-    def __init__(self, day: FieldDay, start: FittedDrivers, measure: Measure, most: int, seeds: int) -> None:
-        """measure: makes runs; most: of them; seeds: runs of each trial."""
+    def __init__(self, day: FieldDay, start: FittedDrivers, measure: Measure, most_runs: int, seeds: int) -> None:
+        """measure: makes runs; most_runs: of them; seeds: runs of each trial."""
         self.field_times = {key: values for key, values in pooled(day.times).items() if values[2] >= LEAST_SEEN}
-        self.start, self.measure, self.most, self.seeds = start, measure, most, seeds
+        self.start, self.measure, self.most_runs, self.seeds = start, measure, most_runs, seeds
         self.measured_runs: dict[FittedDrivers, list[MeasuredRun]] = {}
         self.trials: list[tuple[int, FittedDrivers, float]] = []
 
@@ -110,7 +110,7 @@ class Fit:
     def run_missing(self, all_drivers: Sequence[FittedDrivers]) -> bool:
         """Makes the runs of drivers that are not known; gives whether their number allowed it."""
         missing = [drivers for drivers in dict.fromkeys(all_drivers) if drivers not in self.measured_runs]
-        if self.runs + self.seeds * len(missing) > self.most:
+        if self.runs + self.seeds * len(missing) > self.most_runs:
             return False
         self.measured_runs |= zip(missing, self.measure(missing), strict=True) if missing else ()
         return True
@@ -124,57 +124,59 @@ class Fit:
             residuals.append((model_times[key][0] - mean) / error if key in model_times else 0.0)
         return np.array(residuals)
 
-    def solve(self, values: Sequence[FittedValue]) -> FitResult:
+    def solve(self, all_values: Sequence[FittedValue]) -> FitResult:
         """Fits values, and then again without those that the data do not tell, which stay where they began."""
-        result = self.climb(values)
-        limits = [MAX_SHARE_OF_PRIOR * value.usual_spread for value in values]
-        untold = [value for value, error, most in zip(values, result.unscaled_errors, limits) if error > most]
-        if untold and len(untold) < len(values):
-            again = self.climb([value for value in values if value not in untold])
+        fit_result = self.climb(all_values)
+        limits = [MAX_SHARE_OF_PRIOR * value.usual_spread for value in all_values]
+        untold = [value for value, error, most in zip(all_values, fit_result.unscaled_errors, limits) if error > most]
+        if untold and len(untold) < len(all_values):
+            again = self.climb([value for value in all_values if value not in untold])
             return replace(again, untold=untold)
         if untold:
             return FitResult(self.start, [], [], [], [], untold, self.runs, self.trials)
-        return result
+        return fit_result
 
-    def climb(self, values: Sequence[FittedValue]) -> FitResult:
+    def climb(self, all_values: Sequence[FittedValue]) -> FitResult:
         """Gauss-Newton from where the values begin, with the covariance where it ends."""
-        x = np.array([value.center for value in values])
-        prior = np.diag([1 / value.spread**2 for value in values])
-        center, covariance, spread = x.copy(), np.diag([value.spread**2 for value in values]), 1.0
-        for _ in range(ROUNDS if values else 0):
-            moves = [step_value(x, values, index) for index in range(len(values))]
-            if not self.run_missing([self.drivers(values, point) for point in (x, *(moved_x for moved_x, _ in moves))]):
+        x = np.array([fitted.center for fitted in all_values])
+        prior = np.diag([1 / fitted.spread**2 for fitted in all_values])
+        center, covariance, spread = x.copy(), np.diag([fitted.spread**2 for fitted in all_values]), 1.0
+        for _ in range(ROUNDS if all_values else 0):
+            moves = [step_value(x, all_values, index) for index in range(len(all_values))]
+            points = (x, *(moved_x for moved_x, _ in moves))
+            if not self.run_missing([self.drivers(all_values, point) for point in points]):
                 break
-            residuals = self.residuals(self.drivers(values, x))
-            slopes = [(self.residuals(self.drivers(values, moved_x)) - residuals) / step for moved_x, step in moves]
-            jacobian = np.array(slopes).T.reshape(len(residuals), len(values))
+            residuals = self.residuals(self.drivers(all_values, x))
+            slopes = [(self.residuals(self.drivers(all_values, moved_x)) - residuals) / step for moved_x, step in moves]
+            jacobian = np.array(slopes).T.reshape(len(residuals), len(all_values))
             normal = jacobian.T @ jacobian + prior
-            spread = max(1.0, float(residuals @ residuals) / max(1, len(residuals) - len(values)))
+            spread = max(1.0, float(residuals @ residuals) / max(1, len(residuals) - len(all_values)))
             covariance = np.linalg.inv(normal)
             step = -np.linalg.solve(normal, jacobian.T @ residuals + prior @ (x - center))
-            best = self.best_part(values, x, step, center)
+            best = self.best_part(all_values, x, step, center)
             if best is None:
                 break
-            shift = np.abs(best - x) / [value.step for value in values]
+            shift = np.abs(best - x) / [fitted.step for fitted in all_values]
             x = best
             if shift.max() < ENOUGH:
                 break
-        self.run_missing([self.drivers(values, x)])
-        deviations = np.sqrt(np.diag(covariance)) if values else np.array([])
-        correlations = (covariance / np.outer(deviations, deviations)).tolist() if values else []
-        drivers, errors = self.drivers(values, x), (deviations * sqrt(spread)).tolist()
-        return FitResult(drivers, list(values), errors, deviations.tolist(), correlations, [], self.runs, self.trials)
+        self.run_missing([self.drivers(all_values, x)])
+        deviations = np.sqrt(np.diag(covariance)) if all_values else np.array([])
+        correlations = (covariance / np.outer(deviations, deviations)).tolist() if all_values else []
+        drivers, errors = self.drivers(all_values, x), (deviations * sqrt(spread)).tolist()
+        unscaled = deviations.tolist()
+        return FitResult(drivers, list(all_values), errors, unscaled, correlations, [], self.runs, self.trials)
 
     def best_part(
-        self, values: Sequence[FittedValue], x: Array, step: Array, center: Array
+        self, fitted_values: Sequence[FittedValue], x: Array, step: Array, center: Array
     ) -> Array | None:
         """The first part of a step by which the cost falls; none where no part does, or the runs are used up."""
-        before = self.cost(values, x, center)
+        before = self.cost(fitted_values, x, center)
         for part in PARTS:
-            candidate = clipped(values, x + part * step)
-            if not self.run_missing([self.drivers(values, candidate)]):
+            candidate = clipped(fitted_values, x + part * step)
+            if not self.run_missing([self.drivers(fitted_values, candidate)]):
                 return None
-            if self.cost(values, candidate, center) < before:
+            if self.cost(fitted_values, candidate, center) < before:
                 return candidate
         return None
 
@@ -188,22 +190,22 @@ class Fit:
             self.trials.append((self.runs, drivers, total))
         return total
 
-    def drivers(self, values: Sequence[FittedValue], x: Array) -> FittedDrivers:
+    def drivers(self, fitted_values: Sequence[FittedValue], x: Array) -> FittedDrivers:
         """The drivers with some values; all others are those before any run."""
-        result, speeds = self.start, dict(self.start.speeds)
-        for fitted, value in zip(values, np.round(x, 3).tolist(), strict=True):
+        drivers, speeds = self.start, dict(self.start.speeds)
+        for fitted, number in zip(fitted_values, np.round(x, 3).tolist(), strict=True):
             if fitted.name == DAWDLE:
-                result = replace(result, dawdle=value)
+                drivers = replace(drivers, dawdle=number)
             elif fitted.name == CUT:
-                result = replace(result, cut=value)
+                drivers = replace(drivers, cut=number)
             else:
-                speeds[fitted.street] = value
-        return replace(result, speeds=tuple(sorted(speeds.items())))
+                speeds[fitted.street] = number
+        return replace(drivers, speeds=tuple(sorted(speeds.items())))
 
 
 def step_value(x: Array, values: Sequence[FittedValue], index: int) -> tuple[Array, float]:
     """(values with one of them a step away, the step): upward, where its range allows it."""
-    step = values[index].step if x[index] + values[index].step <= values[index].most else -values[index].step
+    step = values[index].step if x[index] + values[index].step <= values[index].highest else -values[index].step
     moved_x = x.copy()
     moved_x[index] += step
     return moved_x, step
@@ -211,7 +213,7 @@ def step_value(x: Array, values: Sequence[FittedValue], index: int) -> tuple[Arr
 
 def clipped(values: Sequence[FittedValue], x: Array) -> Array:
     """Values within their ranges, with three decimals."""
-    return np.round(np.clip(x, [value.least for value in values], [value.most for value in values]), 3)
+    return np.round(np.clip(x, [value.lowest for value in values], [value.highest for value in values]), 3)
 
 
 def data_behind(value: FittedValue, day: FieldDay) -> str:
@@ -228,13 +230,13 @@ def value_in(drivers: FittedDrivers, value: FittedValue) -> float:
     return drivers.cut if value.name == CUT else dict(drivers.speeds).get(value.street, 1.0)
 
 
-def lines_of(result: FitResult, day: FieldDay) -> Iterator[str]:
+def lines_of(fit_result: FitResult, day: FieldDay) -> Iterator[str]:
     """What a fit found, a line for each value."""
-    for value, error in zip(result.values, result.errors, strict=True):
+    for value, error in zip(fit_result.fitted_values, fit_result.errors, strict=True):
         street = f" of {value.street} km/h" if value.street else ""
-        fitted = f"{value_in(result.drivers, value):.3f} +- {error:.3f}"
+        fitted = f"{value_in(fit_result.drivers, value):.3f} +- {error:.3f}"
         yield f"{value.name}{street}: {fitted}, told by {data_behind(value, day)}"
-    for value in result.untold:
-        yield f"{value.name}: not told by these data; it stays at {value_in(result.drivers, value):.3f}"
+    for value in fit_result.untold:
+        yield f"{value.name}: not told by these data; it stays at {value_in(fit_result.drivers, value):.3f}"
     if not day.lanes:
         yield "saturation was not surveyed: dawdle and cut stay as they are, and capacity is not calibrated"

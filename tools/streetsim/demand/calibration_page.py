@@ -51,7 +51,7 @@ class JudgedDay:
 class Calibration:
     """All that a calibration gave. sums: SHA-256 of its inputs, by path; shares: permissive ones that were given."""
 
-    result: FitResult
+    fit_result: FitResult
     days: list[JudgedDay]
     seeds: str
     check: str
@@ -72,7 +72,7 @@ class Calibration:
     def drivers(self) -> Json:
         """What the file of --drivers gets."""
         shares = {"shares": dict(self.shares)} if self.shares else {}
-        return {**self.result.drivers.written(), **shares}
+        return {**self.fit_result.drivers.written(), **shares}
 
 
 def sum_of_input(path: str) -> str:
@@ -83,7 +83,7 @@ def sum_of_input(path: str) -> str:
 def write_calibration(folder: str, calibration: Calibration) -> None:
     """Writes all files but the drivers into a folder."""
     write_table(f"{folder}/segments.csv", SEGMENTS, segment_rows(calibration.days))
-    write_table(f"{folder}/runs.csv", RUNS, map(trial_row, calibration.result.trials))
+    write_table(f"{folder}/runs.csv", RUNS, map(trial_row, calibration.fit_result.trials))
     with whole_file(f"{folder}/report.html") as file:
         file.write(page_of(calibration))
     write_table(f"{folder}/{LAST_FILE}", CRITERIA, criteria_rows(calibration.days))
@@ -110,7 +110,7 @@ def criteria_rows(days: Iterable[JudgedDay]) -> Iterator[Entry]:
             for criterion in criteria:
                 share, share_needed = f"{100 * criterion.share:.1f}", f"{100 * criterion.share_needed:.0f}"
                 is_met = "yes" if criterion.is_met else "no"
-                yield criterion.name, day.name, drivers, share, criterion.of, share_needed, is_met
+                yield criterion.name, day.name, drivers, share, criterion.judged_count, share_needed, is_met
 
 
 def way_name(key: Sequence[str]) -> str:
@@ -202,17 +202,17 @@ def segments_table(days: Sequence[JudgedDay]) -> str:
 
 def values_table(calibration: Calibration) -> str:
     """The values that were fitted, with their errors, by which data each is told, and how they go together, as HTML."""
-    result, day = calibration.result, calibration.days[0].day
+    fit_result, day = calibration.fit_result, calibration.days[0].day
     rows = []
-    for index, (fitted, error) in enumerate(zip(result.values, result.errors, strict=True)):
-        pairs = zip(result.values, result.correlations[index], strict=True)
+    for index, (fitted, error) in enumerate(zip(fit_result.fitted_values, fit_result.errors, strict=True)):
+        pairs = zip(fit_result.fitted_values, fit_result.correlations[index], strict=True)
         together = ", ".join(f"{other.name} {value:+.2f}" for other, value in pairs if other is not fitted)
-        cells = [value_name(fitted.name, fitted.street), f"{value_in(result.drivers, fitted):.3f}", f"{error:.3f}"]
+        cells = [value_name(fitted.name, fitted.street), f"{value_in(fit_result.drivers, fitted):.3f}", f"{error:.3f}"]
         cells += [f"{fitted.center:g} ± {fitted.spread:g}", data_behind(fitted, day), together]
         rows.append([escape(text) for text in cells])
-    for fitted in result.untold:
+    for fitted in fit_result.untold:
         name, known = value_name(fitted.name, fitted.street), f"{fitted.center:g}"
-        cells = [name, f"{value_in(result.drivers, fitted):.3f}", "", known]
+        cells = [name, f"{value_in(fit_result.drivers, fitted):.3f}", "", known]
         rows.append([escape(text) for text in (*cells, "not told by these data", "")])
     if not day.lanes:
         rows.append(["dawdle, seconds cut", "as they are", "", "", "not surveyed: capacity is not calibrated", ""])
@@ -227,7 +227,7 @@ def value_name(name: str, street: str) -> str:
 
 def run_facts(calibration: Calibration) -> Iterator[tuple[str, str]]:
     """What was run, of which files, as HTML."""
-    yield "runs of the fit", f"{calibration.result.runs:,}, seeds {escape(calibration.seeds)}"
+    yield "runs of the fit", f"{calibration.fit_result.runs:,}, seeds {escape(calibration.seeds)}"
     if calibration.last_day().name == OTHER:
         yield "runs of the other day", f"seeds {escape(calibration.check)}"
     yield "departures", "as counted on each day"

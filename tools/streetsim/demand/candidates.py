@@ -106,44 +106,44 @@ def pairs_of_zones(graph: Graph, zones: Mapping[str, Zone], zone_pairs: Iterable
     ]
 
 
-def thinned_pairs(pairs: Sequence[Pair], most_each: int, most: int, seed: int) -> tuple[list[Pair], int]:
+def thinned_pairs(pairs: Sequence[Pair], most_each: int, most_ways: int, seed: int) -> tuple[list[Pair], int]:
     """(pairs to search, how many ways from each first to each last edge of a pair: at most `most_each`), so that there
-    are about `most` ways in all. First there are fewer ways of each, as pairs that are left out cost more; where even
+    are about `most_ways` in all. First there are fewer ways of each, as pairs that are left out cost more; where even
     one way of each is too many, a seed draws some pairs. One pair of those given, and one way, are kept at least."""
     count = sum(len(pair.sources) * len(pair.sinks) for pair in pairs)
-    number_each = max(1, min(most_each, most // max(1, count)))
-    if count <= most:
+    number_each = max(1, min(most_each, most_ways // max(1, count)))
+    if count <= most_ways:
         return list(pairs), number_each
-    drawn = sorted(random.Random(f"pairs {seed}").sample(range(len(pairs)), max(1, most * len(pairs) // count)))
+    drawn = sorted(random.Random(f"pairs {seed}").sample(range(len(pairs)), max(1, most_ways * len(pairs) // count)))
     return [pairs[index] for index in drawn], number_each
 
 
 @dataclass(frozen=True, slots=True)
 class Times:
-    """Seconds of each movement without other traffic, and without what turning back costs: whole with the mean waits at
-    signals, driven without them."""
+    """Seconds of each movement without other traffic, and without what turning back costs: with the mean waits at
+    signals, and driven, without them."""
 
-    whole: Sequence[float]
+    with_waits: Sequence[float]
     driven: Sequence[float]
 
 
-def ways_between(graph: Graph, pairs: Sequence[Pair], times: Times, most: int, seed: int) -> list[Way]:
-    """At most `most` ways from each first to each last edge of the pairs, with their shares: the shortest by time with
+def ways_between(graph: Graph, pairs: Sequence[Pair], times: Times, most_ways: int, seed: int) -> list[Way]:
+    """At most `most_ways` from each first to each last edge of the pairs, with their shares: the shortest by time with
     the waits at signals, then without, and further ones that draws (by the seed) of these seconds find. One that takes
     more than 1.5 times the seconds of the first, both with the waits, is left out. What turning back costs is in all
     seconds."""
     numpy, _ = numpy_and_scipy()
-    mean_seconds = [numpy.array(flat_costs(graph, values).means) for values in (times.whole, times.driven)]
+    mean_seconds = [numpy.array(flat_costs(graph, values).means) for values in (times.with_waits, times.driven)]
     paths_by_ends: dict[tuple[int, int], dict[Path, float]] = {}
     targets = ends_wanted(pairs)
     generator = numpy.random.default_rng(seed)
-    for draw in range(1 + DRAWS * (most - 1)):
+    for draw in range(1 + DRAWS * (most_ways - 1)):
         noise = numpy.exp(SPREAD * generator.standard_normal(len(graph.edges)))
         seconds = mean_seconds[draw % 2]
         drawn = seconds if draw < 2 else seconds * noise[[edge for edge, _ in graph.movements]]
         for origin, target, path in shortest_paths(graph, drawn, targets):
             paths = paths_by_ends.setdefault((origin, target), {})
-            if path not in paths and len(paths) < most:
+            if path not in paths and len(paths) < most_ways:
                 time = path_seconds(graph, mean_seconds[0], path)
                 if not paths or time <= LONGEST * next(iter(paths.values())):
                     paths[path] = time
@@ -206,13 +206,13 @@ def shortest_paths(graph: Graph, costs: Array, targets: Mapping[int, Sequence[in
                     yield origin, target, path
 
 
-def traced_path(before: Sequence[int], origin: int, target: int) -> Path:
+def traced_path(edge_before: Sequence[int], origin: int, target: int) -> Path:
     """The path from origin to target, of the edge before each that a search found (below 0: none); empty where none
     leads there, or both are one edge."""
-    path, edge = [target], before[target]
+    path, edge = [target], edge_before[target]
     while edge >= 0:
         path.append(edge)
-        edge = before[edge]
+        edge = edge_before[edge]
     return tuple(reversed(path)) if path[-1] == origin and len(path) > 1 else ()
 
 
@@ -246,7 +246,7 @@ def with_given_routes(
     routes of files have half of their pair's vehicles together, or all where it had no way: each in proportion to how
     often it stands in the files. free: seconds of each movement, without what turning back costs."""
     occurrences = Counter(tuple(graph.number[name] for name in edges) for edges in routes)
-    all_pairs, known = list(pairs), {way.path for way in ways}
+    all_pairs, known_paths = list(pairs), {way.path for way in ways}
     pair_of = {
         (source, sink): pair_index
         for pair_index, pair in enumerate(pairs) for source in pair.sources for sink in pair.sinks
@@ -257,7 +257,7 @@ def with_given_routes(
         if ends not in pair_of:
             pair_of[ends] = len(all_pairs)
             all_pairs.append(Pair(graph.edges[ends[0]], graph.edges[ends[1]], {ends[0]: 1.0}, {ends[1]: 1.0}))
-        if path not in known:
+        if path not in known_paths:
             routes_of_pair[pair_of[ends]].append((path, count))
     has, costs = {way.pair for way in ways}, flat_costs(graph, free).means
     halved = [replace(way, share=way.share / 2) if way.pair in routes_of_pair else way for way in ways]

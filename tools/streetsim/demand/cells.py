@@ -12,7 +12,7 @@ from streetsim.base.files import Fault, FilePath, at_least_zero, number, open_by
 from streetsim.base.unpacking import CHUNK, lines_of
 from streetsim.model.tables import unguarded
 
-Value = TypeVar("Value")
+Converted = TypeVar("Converted")
 SEPARATORS = (";", "\t", ",")
 MOST_SECONDS = 1_000_000_000
 
@@ -30,7 +30,7 @@ class TableRow:
         """The file and its line, as faults name it."""
         return f"{self.path}: line {self.line}"
 
-    def get(self, name: str, convert: Callable[[str], Value]) -> Value:
+    def get(self, name: str, convert: Callable[[str], Converted]) -> Converted:
         """What a column has, without blanks around it, converted; Fault where `convert` raises ValueError, whose words
         it tells; KeyError where the table does not have the column."""
         text = self.cells[name].strip()
@@ -44,18 +44,18 @@ class TableRow:
         return self.cells.get(name, "").strip()
 
 
-def table_rows(path: FilePath, needed: Sequence[str], more: Collection[str] = ()) -> Iterator[TableRow]:
-    """The rows of a table whose first row has the columns `needed`, and maybe those of `more` (given in small letters;
-    the file may have capital ones). Blank rows, and those that begin with #, are left out. Fault where the file cannot
-    be read or is no such table: a column is missing, stands there twice or is none of these, or a row has more or fewer
-    values than the first."""
+def table_rows(path: FilePath, required: Sequence[str], optional: Collection[str] = ()) -> Iterator[TableRow]:
+    """The rows of a table whose first row has the columns `required`, and maybe those of `optional` (given in small
+    letters; the file may have capital ones). Blank rows, and those that begin with #, are left out. Fault where the
+    file cannot be read or is no such table: a column is missing, stands there twice or is none of these, or
+    a row has more or fewer values than the first."""
     with reading(path), open_text(path) as file:
         rows = values_in(path, file)
         line, head = next(rows, (0, []))
         if not head:
-            raise Fault(f"{path}: nothing is in it; expected the columns {','.join(needed)}")
+            raise Fault(f"{path}: nothing is in it; expected the columns {','.join(required)}")
         names = [name.strip().lower() for name in head]
-        check_columns(f"{path}: line {line}", names, needed, more)
+        check_columns(f"{path}: line {line}", names, required, optional)
         for line, values in rows:
             if len(values) != len(names):
                 raise Fault(f"{path}: line {line}: {len(values)} values, and the first line has {len(names)} columns")

@@ -84,15 +84,15 @@ def contradictions(counts: Sequence[Count], graph: Graph, begins: Set[int], ends
     sums: defaultdict[Key, dict[tuple[str, ...], Count]] = defaultdict(dict)
     for count in counts:
         sums[count.begin, count.end, count.kind][count.edges] = count
-    result = []
+    found_pairs = []
     for (begin, end, _), by_edges in sums.items():
         sides = *sides_of_edges(by_edges, graph, begins, ends), *sides_of_junctions(by_edges, graph, begins, ends)
         for street, text, first, second in sides:
             first_sum, second_sum = sum(count.vehicles for count in first), sum(count.vehicles for count in second)
             if abs(first_sum - second_sum) > max(LEAST_APART, APART * max(first_sum, second_sum)):
                 lines = locations_of([*first, *second])
-                result.append(Contradiction(street, begin, end, text, first_sum, second_sum, lines))
-    return result
+                found_pairs.append(Contradiction(street, begin, end, text, first_sum, second_sum, lines))
+    return found_pairs
 
 
 Sides = tuple[str, str, list[Count], list[Count]]  # street, words with two {}, and counts whose sums should be equal
@@ -103,30 +103,30 @@ def sides_of_edges(by_edges: CountByEdges, graph: Graph, begins: Set[int], ends:
     """Of each edge what should be equal: its count and all its turns, its count and all turns into it, or these two
     where it has no count; as far as all of a side are counted. begins, ends: as `contradictions` has them."""
     for edge, name in enumerate(graph.edges):
-        out = counts_of_all(by_edges, ((name, graph.edges[following]) for following, _ in graph.outgoing[edge]))
+        turns_out = counts_of_all(by_edges, ((name, graph.edges[following]) for following, _ in graph.outgoing[edge]))
         into = counts_of_all(by_edges, ((graph.edges[before], name) for before, _ in graph.incoming[edge]))
         whole = [by_edges[(name,)]] if (name,) in by_edges else []
-        if whole and out and edge not in ends:
-            yield f"edge {name}", "{} counted on it, {} turn at its end", whole, out
+        if whole and turns_out and edge not in ends:
+            yield f"edge {name}", "{} counted on it, {} turn at its end", whole, turns_out
         if whole and into and edge not in begins:
             yield f"edge {name}", "{} counted on it, {} turn into it", whole, into
-        if into and out and not whole and edge not in begins and edge not in ends:
-            yield f"edge {name}", "{} turn into it, {} turn at its end", into, out
+        if into and turns_out and not whole and edge not in begins and edge not in ends:
+            yield f"edge {name}", "{} turn into it, {} turn at its end", into, turns_out
 
 
 def sides_of_junctions(by_edges: CountByEdges, graph: Graph, begins: Set[int], ends: Set[int]) -> Iterator[Sides]:
     """Of junctions all of whose edges are counted (by themselves, not by turns) what comes in and what goes out; those
     where trips end on an edge that comes in, or begin on one that goes out (ends, begins), are left out. A junction is
     known by the edges that lead to the same ones."""
-    known = set()
+    known_sources = set()
     for edge in range(len(graph.edges)):
         targets = {following for following, _ in graph.outgoing[edge]}
         sources = {before for target in targets for before, _ in graph.incoming[target]}
         targets = {following for source in sources for following, _ in graph.outgoing[source]}
         key = frozenset(sources)
-        if not targets or key in known or sources & ends or targets & begins:
+        if not targets or key in known_sources or sources & ends or targets & begins:
             continue
-        known.add(key)
+        known_sources.add(key)
         names = (((graph.edges[number],) for number in sorted(edges)) for edges in (sources, targets))
         first, second = (counts_of_all(by_edges, edges) for edges in names)
         if first and second:

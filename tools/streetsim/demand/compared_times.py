@@ -12,7 +12,7 @@ from streetsim.base.files import Fault, attribute, elements, number, optional, r
 from streetsim.demand.calibration_field import TRIP, TravelTime, pooled, read_times
 from streetsim.demand.calibration_page import way_name
 from streetsim.demand.cells import begins_with
-from streetsim.model.folder import KEPT, NAME, Folder
+from streetsim.model.folder import RUN_LINES, NAME, Folder
 from streetsim.model.runs import read_run
 from streetsim.model.tables import ROUTES, ROUTES_FILE, SEGMENTS, read_table
 
@@ -38,7 +38,7 @@ class ComparedTime:
         return {1: EDGE, 2: SEGMENT}.get(len(self.key), ROUTE)
 
     @property
-    def off(self) -> float:
+    def deviation(self) -> float:
         """By which share the run is off."""
         return self.model_seconds / self.field_seconds - 1
 
@@ -108,9 +108,9 @@ def trips_of_folder(
     """(way, clock of its arrival, seconds, 1) of each trip that is wanted, from its first edge to its last. Fault where
     the folder does not keep the lines of its run."""
     above = Path(folder.path).resolve().parent
-    run_path = next((path for path in (Path(folder.path) / KEPT, above / KEPT) if path.exists()), None)
+    run_path = next((path for path in (Path(folder.path) / RUN_LINES, above / RUN_LINES) if path.exists()), None)
     if run_path is None:
-        raise Fault(f"{folder.path}: keeps no {KEPT}, which tells from where to where trips go")
+        raise Fault(f"{folder.path}: keeps no {RUN_LINES}, which tells from where to where trips go")
     listed = read_json(f"{folder.path}/{NAME}", ()).get("listed", {})  # of drawn departures the vehicles of the file
     names, ends = listed.get("cars") or folder.mapping.cars, dict[str, tuple[str, ...]]()
     for name, line in zip(names, read_run(str(run_path)).enters):
@@ -130,13 +130,13 @@ def lines_of_times(times: list[ComparedTime]) -> Iterator[str]:
             good = fmean(abs(model - field) <= max(MARK * field, minute) for model, field in pairs)
             mark = "within 15 %" + (" or a minute" if minute else "")
             held = "held" if good >= SHARE else "not held"
-            rms = fmean(time.off**2 for time in of_kind) ** 0.5
+            rms = fmean(time.deviation**2 for time in of_kind) ** 0.5
             within = f"{100 * good:.0f} % of {len(of_kind):,} {mark} ({held} by 85 %)"
             yield f"{name}: {within}, off by {100 * rms:.1f} % (rms)"
-    worst = sorted(times, key=lambda time: -abs(time.off))[:MOST_TOLD]
+    worst = sorted(times, key=lambda time: -abs(time.deviation))[:MOST_TOLD]
     for time in worst:
         both = f"{time.model_seconds:.1f} s here, {time.field_seconds:.1f} s there"
-        yield f"{way_name(time.key)}: {both} ({100 * time.off:+.1f} %)"
+        yield f"{way_name(time.key)}: {both} ({100 * time.deviation:+.1f} %)"
 
 
 def are_close(times: list[ComparedTime]) -> bool:

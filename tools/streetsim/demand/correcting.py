@@ -21,14 +21,14 @@ from streetsim.sumo.way_graph import Graph
 
 HALF = 0.5  # of what a run and the fit differ by, that the next fit makes up for
 FULL_DELAY_S = 120.0  # seconds of delay on an edge, from which on it is taken to be full: more than a cycle
-AFTER = 7200  # seconds that a run may last after the last departure
+LONGEST_AFTER = 7200  # seconds that a run may last after the last departure
 LATE = 0.1  # of a count, that does not pass though the vehicles for it are there
 
 
 @dataclass(frozen=True, slots=True)
 class Attempt:
-    """A demand and what its run gave. number: of the run, from 1; passed: vehicles that passed, by count; full: the
-    edges that were full in the run, as `full_edges` gives them."""
+    """A demand and what its run gave. number: of the run, from 1; counts_passed: vehicles that passed, by count; full:
+    the edges that were full in the run, as `full_edges` gives them."""
 
     number: int
     trips: list[Trip]
@@ -36,7 +36,7 @@ class Attempt:
     judged: JudgedCounts
     loaded: LoadedRun
     ran: Ran
-    passed: list[int]
+    counts_passed: list[int]
     full: dict[int, float]
 
     @property
@@ -65,7 +65,7 @@ def try_demands(
     fit on paper (fitted), the others of what the run before corrects. Ends after one that fits. Fault where a fit has
     no vehicle, or a run cannot be made."""
     graph = basis.town.graph
-    counted = made_up = counted_vehicles(basis.counts)
+    vehicles_counted = made_up = counted_vehicles(basis.counts)
     for number in range(1, runs + 1):
         report_stage(f"run {number} of {runs}")
         attempt = try_demand(basis, inputs, ground, number, fitted)
@@ -74,7 +74,7 @@ def try_demands(
             return
         costs = costs_of(graph, list(attempt.loaded.free), attempt.ran.observed, ground.width)
         report_stage(f"fit after run {number} of {runs}")
-        made_up = corrected_counts(basis, attempt, costs, counted, made_up)
+        made_up = corrected_counts(basis, attempt, costs, vehicles_counted, made_up)
         fitted = fit_to_counts(basis, inputs, costs, made_up)
 
 
@@ -90,15 +90,19 @@ def try_demand(basis: Basis, inputs: DemandInputs, ground: RunGround, number: in
     return Attempt(number, trips, fitted, judge_counts(basis.counts, passed), loaded, ran, passed, full)
 
 
-def corrected_counts(basis: Basis, attempt: Attempt, costs: Costs, counted: Array, before: Array) -> Array:
-    """What the next fit is to meet, an array by count: the mean of what the last fit was to meet (before) and of what
-    was counted, less half of what passed in the run beyond what would pass by the seconds that it showed (costs); 0 at
-    least. At full edges and next after them it is what was counted: more demand would only make the queue longer."""
+def corrected_counts(
+    basis: Basis, attempt: Attempt, costs: Costs, vehicles_counted: Array, earlier_target: Array
+) -> Array:
+    """What the next fit is to meet, an array by count: the mean of what the last fit was to meet, earlier_target, and
+    of what was counted, less half of what passed in the run beyond what would pass by the seconds that it showed
+    (costs); 0 at least. At full edges and next after them it is what was counted: more demand would only make the
+    queue longer."""
     numpy, _ = numpy_and_scipy()
-    shown = passing_by_class(basis, costs) @ attempt.fitted.whole
-    apart = numpy.array(attempt.passed) - shown
+    shown = passing_by_class(basis, costs) @ attempt.fitted.whole_vehicles
+    apart = numpy.array(attempt.counts_passed) - shown
     behind = numpy.array([is_at_or_after_full(count, attempt.full, basis.town.graph) for count in basis.counts])
-    return numpy.where(behind, counted, numpy.maximum(0.0, 0.5 * (before + counted) - HALF * apart))
+    mean = 0.5 * (earlier_target + vehicles_counted)
+    return numpy.where(behind, vehicles_counted, numpy.maximum(0.0, mean - HALF * apart))
 
 
 def full_edges(graph: Graph, lost: Sequence[float]) -> dict[int, float]:
@@ -123,7 +127,7 @@ def misfit_lines(basis: Basis, attempt: Attempt) -> Iterator[str]:
     edges, which do not tell how many want to pass."""
     graph = basis.town.graph
     for misfit in worst_fits(attempt.judged):
-        figures = f"{misfit.passed:,.0f} passed of {misfit.counted:,.0f}, GEH {misfit.geh:.1f}"
+        figures = f"{misfit.vehicles_passed:,.0f} passed of {misfit.vehicles_counted:,.0f}, GEH {misfit.geh:.1f}"
         street = " to ".join((*misfit.edges[:1], *misfit.edges[1:][-1:]))
         yield f"{street}, {misfit.begin:,} to {misfit.end:,} s: {figures}{why_misfit(basis, attempt, misfit)}"
     if behind := [count for count in basis.counts if is_at_or_after_full(count, attempt.full, graph)]:
@@ -143,9 +147,9 @@ def why_misfit(basis: Basis, attempt: Attempt, misfit: ComparedCount) -> str:
         for count, value in zip(basis.counts, attempt.fitted.passed_by_count(), strict=True)
         if count.edges == misfit.edges and count.kind == misfit.kind and misfit.begin <= count.begin < misfit.end
     )
-    if misfit.passed < misfit.counted and planned > (1 + LATE) * misfit.passed:
+    if misfit.vehicles_passed < misfit.vehicles_counted and planned > (1 + LATE) * misfit.vehicles_passed:
         return f": {planned:,.0f} were on their way there, and a queue holds them"
-    if abs(planned - misfit.counted) > abs(misfit.passed - misfit.counted) / 2:
+    if abs(planned - misfit.vehicles_counted) > abs(misfit.vehicles_passed - misfit.vehicles_counted) / 2:
         return ": other counts speak against it, or no way fits"
     return ""
 

@@ -76,16 +76,16 @@ class Basis:
 class Fitted:
     """A fit on paper. Vehicles are arrays in one row, at index (class * ways + way) * slices + slice. passing: the
     matrix of the counts, a row for each count and a column for each index; expected: vehicles before anything was
-    counted; vehicles: of the fit; whole: the same in whole vehicles."""
+    counted; vehicles: of the fit; whole_vehicles: the same in whole vehicles."""
 
     passing: Sparse
     expected: Array
     vehicles: Array
-    whole: Array
+    whole_vehicles: Array
 
     def passed_by_count(self) -> list[float]:
         """How many of the whole vehicles would pass each count, by the seconds of the fit."""
-        return (self.passing @ self.whole).tolist()
+        return (self.passing @ self.whole_vehicles).tolist()
 
 
 def basis_of(town: RouteTown, inputs: DemandInputs, report_stage: ReportStage) -> Basis:
@@ -200,7 +200,7 @@ def ways_of_pairs(
     ways = candidates.ways_between(graph, kept_pairs, times, count, inputs.seed) if count else []
     if inputs.candidates:
         routes = given_routes(town, inputs)
-        kept_pairs, ways = candidates.with_given_routes(graph, kept_pairs, ways, routes, times.whole)
+        kept_pairs, ways = candidates.with_given_routes(graph, kept_pairs, ways, routes, times.with_waits)
     return kept_pairs, ways, (len(kept_pairs), max(len(pairs), len(kept_pairs)))
 
 
@@ -298,29 +298,29 @@ def passing_by_class(basis: Basis, costs: Costs) -> Sparse:
     return scipy.sparse.hstack([scipy.sparse.diags(mask) @ base for mask in masks]).tocsr()
 
 
-def fit_to_counts(basis: Basis, inputs: DemandInputs, costs: Costs, counted: Array = None) -> Fitted:
+def fit_to_counts(basis: Basis, inputs: DemandInputs, costs: Costs, targets: Array = None) -> Fitted:
     """The vehicles that fit the counts best; without counts those that are expected. costs: seconds of movements, by
-    which it is known who passes when; counted: an array of the vehicles to be met, by count, where a run has corrected
+    which it is known who passes when; targets: an array of the vehicles to be met, by count, where a run has corrected
     them; None: what was counted. Fault where there are counts, and too many ways and slices (passing_matrix)."""
     numpy, scipy = numpy_and_scipy()
     size = len(basis.ways) * len(basis.slices)
     passing = passing_by_class(basis, costs) if basis.counts else scipy.sparse.csr_matrix((0, len(basis.kinds) * size))
-    counted = counted_vehicles(basis.counts) if counted is None else counted
+    targets = counted_vehicles(basis.counts) if targets is None else targets
     parts = [
-        expected_vehicles(basis, inputs, kind, passing[:, number * size : (number + 1) * size], counted)
+        expected_vehicles(basis, inputs, kind, passing[:, number * size : (number + 1) * size], targets)
         for number, kind in enumerate(basis.kinds)
     ]
     vehicles = expected = numpy.concatenate(parts)
     if basis.counts:
-        deviation = deviations(counted, inputs.error) / fitting.FIRM**0.5
-        vehicles, _ = fitting.least_squares(Problem(passing, expected, counted, deviation))
+        deviation = deviations(targets, inputs.error) / fitting.FIRM**0.5
+        vehicles, _ = fitting.least_squares(Problem(passing, expected, targets, deviation))
     return Fitted(passing, expected, vehicles, whole_vehicles(vehicles, passing, inputs.seed, inputs.error))
 
 
-def expected_vehicles(basis: Basis, inputs: DemandInputs, kind: str, base: Sparse, counted: Array) -> Array:
+def expected_vehicles(basis: Basis, inputs: DemandInputs, kind: str, base: Sparse, targets: Array) -> Array:
     """The vehicles of a class that are expected of each way and slice, an array in one row: of a matrix or of ratios,
     else by the counts of the class; for the empty class by those of all vehicles, less those of classes that are
-    counted there in that time; else 0. base: the class's columns of passing_by_class; counted: vehicles by count."""
+    counted there in that time; else 0. base: the class's columns of passing_by_class; targets: vehicles by count."""
     numpy, _ = numpy_and_scipy()
     if kind in basis.given_vehicles:
         return basis.given_vehicles[kind]
@@ -336,13 +336,13 @@ def expected_vehicles(basis: Basis, inputs: DemandInputs, kind: str, base: Spars
         sum(part.vehicles * share_between(part, count.begin, count.end) for part in of_classes[count.edges])
         for count in whole
     ]
-    remaining = numpy.maximum(counted[rows] - numpy.array(less), 0.0)
+    remaining = numpy.maximum(targets[rows] - numpy.array(less), 0.0)
     return Expecting(basis.ways, basis.pairs, basis.slices, inputs.error).vehicles_by_counts(base[rows], remaining)
 
 
 def trips_of_fit(basis: Basis, inputs: DemandInputs, fitted: Fitted) -> list[Trip]:
     """The trips of a fit, by departure; Fault where it has no vehicle."""
-    trips = trips_of(fitted.whole, basis.kinds, basis.ways, basis.slices, inputs.seed)
+    trips = trips_of(fitted.whole_vehicles, basis.kinds, basis.ways, basis.slices, inputs.seed)
     if not trips:
         raise Fault("nobody drives: the fit has no vehicle")
     return trips

@@ -10,18 +10,18 @@ from streetsim.sumo.trips import Trip
 from streetsim.sumo.types import DEFAULT
 
 
-def trips_of(whole: Array, kinds: Sequence[str], ways: Sequence[Way], slices: Slices, seed: int) -> list[Trip]:
+def trips_of(vehicle_counts: Array, kinds: Sequence[str], ways: Sequence[Way], slices: Slices, seed: int) -> list[Trip]:
     """Trips by departure, with numbers as names. Those of a slice that begin on one edge are spread over all of it, one
-    after another in random order, each at a random moment of its part. whole: numbers of vehicles in one row, at
+    after another in random order, each at a random moment of its part. vehicle_counts: in one row, at
     index (class * ways + way) * slices + slice; kinds: the classes, an empty text for the usual one."""
     count = len(slices)
-    begun: defaultdict[tuple[int, int], list[tuple[str, Way]]] = defaultdict(list)
-    for index in whole.nonzero()[0].tolist():
+    departing: defaultdict[tuple[int, int], list[tuple[str, Way]]] = defaultdict(list)
+    for index in vehicle_counts.nonzero()[0].tolist():
         kind, way = kinds[index // (len(ways) * count)], ways[index // count % len(ways)]
-        begun[index % count, way.path[0]] += [(kind, way)] * int(whole[index])
+        departing[index % count, way.path[0]] += [(kind, way)] * int(vehicle_counts[index])
     draws = random.Random(f"departures {seed}")
     departures: list[tuple[float, str, Way]] = []
-    for (slice_, _), group in sorted(begun.items()):
+    for (slice_, _), group in sorted(departing.items()):
         draws.shuffle(group)
         width = (slices.bounds[slice_ + 1] - slices.bounds[slice_]) / len(group)
         for index, (kind, way) in enumerate(group):

@@ -21,20 +21,20 @@ STEPS = 500  # of the search for the least squares, at most
 @dataclass(frozen=True, slots=True)
 class Problem:
     """What is to be fitted. passing: the share of the vehicles of each way and slice (columns) that pass each count
-    (rows); expected: vehicles of each column before anything was counted; counted: vehicles of each row; deviation: by
+    (rows); expected: vehicles of each column before anything was counted; targets: vehicles of each row; deviation: by
     how many vehicles each of these is taken to be wrong."""
 
     passing: Sparse
     expected: Array
-    counted: Array
+    targets: Array
     deviation: Array
 
 
-def deviations(counted: Array, error: float) -> Array:
-    """How far off counts are taken to be, in vehicles, as an array: the root of CHANCE + (error * count)^2. counted: an
+def deviations(targets: Array, error: float) -> Array:
+    """How far off counts are taken to be, in vehicles, as an array: the root of CHANCE + (error * count)^2. targets: an
     array of vehicles; error: share of a count."""
     numpy, _ = numpy_and_scipy()
-    return numpy.sqrt(CHANCE + (error * counted) ** 2)
+    return numpy.sqrt(CHANCE + (error * targets) ** 2)
 
 
 def least_squares(problem: Problem) -> tuple[Array, float]:
@@ -46,7 +46,7 @@ def least_squares(problem: Problem) -> tuple[Array, float]:
     root = numpy.sqrt(numpy.maximum(problem.expected, LEAST_EXPECTED))
     scaled = (scipy.sparse.diags(1 / problem.deviation) @ problem.passing @ scipy.sparse.diags(root)).tocsr()
     across = scaled.T.tocsr()
-    target = problem.counted / problem.deviation
+    target = problem.targets / problem.deviation
 
     def half_squares(of: Array) -> tuple[float, Array]:
         """(half the sum of squares, its slope), for vehicles over the root of those that are expected (of)."""
@@ -98,36 +98,36 @@ class Expecting:
         outside = (ends.outside[ends.of_way] for ends in (self.begins, self.ends))
         self.outside = 2.0 ** sum(outside)  # doubles for each end of a way that lies outside
 
-    def vehicles_by_counts(self, passing: Sparse, counted: Array) -> Array:
+    def vehicles_by_counts(self, passing: Sparse, targets: Array) -> Array:
         """The vehicles of each way and slice, an array in one row at index way * slices + slice, by counts alone:
         at first by the habit of drivers (none is tried where a way's share is given), and by what ends outside have
         more, that fit the counts best; then half by how many begin and end where it does, and half by what the counts
-        have shown of each way. passing, counted: as `Problem` has them."""
+        have shown of each way. passing, targets: as `Problem` has them."""
         numpy, _ = numpy_and_scipy()
-        deviation, share = deviations(counted, self.error), numpy.array([way.share for way in self.ways])
+        deviation, share = deviations(targets, self.error), numpy.array([way.share for way in self.ways])
         if all(way.ends_share is not None for way in self.ways):
             habits = [shares_by_habit(self.ways, habit) for habit in HABITS]
-            share = min(habits, key=lambda shares: self.misfit(passing, counted, self.vehicles_by_ends(shares, shares)))
+            share = min(habits, key=lambda shares: self.misfit(passing, targets, self.vehicles_by_ends(shares, shares)))
         starts = [self.vehicles_by_ends(share * self.outside**exponent, share) for exponent in OUTSIDE]
-        start = min(starts, key=lambda vehicles: self.misfit(passing, counted, vehicles))
-        base, rates = self.ways_and_slices(passing, counted, start)
+        start = min(starts, key=lambda vehicles: self.misfit(passing, targets, vehicles))
+        base, rates = self.ways_and_slices(passing, targets, start)
         for _ in range(ENDS_ROUNDS):
-            fitted = least_squares(Problem(pooled_columns(passing, rates), base, counted, deviation))[0]
+            fitted = least_squares(Problem(pooled_columns(passing, rates), base, targets, deviation))[0]
             mixed = HALF * self.vehicles_by_ends(fitted, share) + (1 - HALF) * fitted
-            base, rates = self.ways_and_slices(passing, counted, mixed)
-        base = least_squares(Problem(pooled_columns(passing, rates), base, counted, deviation))[0]
+            base, rates = self.ways_and_slices(passing, targets, mixed)
+        base = least_squares(Problem(pooled_columns(passing, rates), base, targets, deviation))[0]
         return numpy.outer(numpy.maximum(base, LEAST_EXPECTED), rates).ravel()
 
-    def misfit(self, passing: Sparse, counted: Array, base: Array) -> float:
+    def misfit(self, passing: Sparse, targets: Array, base: Array) -> float:
         """How far counts and what is expected stay apart in a fit, by the sum of squares, so that the best of several
         can be taken; base: as of `ways_and_slices`."""
-        base, rates = self.ways_and_slices(passing, counted, base)
-        return least_squares(Problem(pooled_columns(passing, rates), base, counted, deviations(counted, self.error)))[1]
+        base, rates = self.ways_and_slices(passing, targets, base)
+        return least_squares(Problem(pooled_columns(passing, rates), base, targets, deviations(targets, self.error)))[1]
 
-    def ways_and_slices(self, passing: Sparse, counted: Array, base: Array) -> tuple[Array, Array]:
+    def ways_and_slices(self, passing: Sparse, targets: Array, base: Array) -> tuple[Array, Array]:
         """(vehicles of each way over all slices, share, 0 to 1, that each slice has of them), arrays that fit all
         counts together best; base: any numbers in whose proportion ways have vehicles."""
-        rates = self.slice_rates(passing, counted, base)
+        rates = self.slice_rates(passing, targets, base)
         total = float(rates.sum())
         return base * total, rates / total
 
@@ -137,7 +137,7 @@ class Expecting:
         weighted = self.begins.vehicles_at(vehicles) * self.ends.vehicles_at(vehicles) * share
         return weighted * (vehicles.sum() / max(weighted.sum(), LEAST_EXPECTED))
 
-    def slice_rates(self, passing: Sparse, counted: Array, base: Array) -> Array:
+    def slice_rates(self, passing: Sparse, targets: Array, base: Array) -> Array:
         """By slice, as an array, how many vehicles it has for one vehicle of `base`, which has a number for each way.
         The slice that leads in, if there is one, has as many a second as the next; each other one has a thousandth of
         the greatest number at least."""
@@ -150,8 +150,8 @@ class Expecting:
         if self.slices.leads_in:
             table[:, 1] += table[:, 0] * widths[0] / widths[1]
             table = table[:, 1:]
-        deviation = deviations(counted, self.error)[:, None]
-        rates, _ = scipy.optimize.nnls(table / deviation, counted / deviation[:, 0])
+        deviation = deviations(targets, self.error)[:, None]
+        rates, _ = scipy.optimize.nnls(table / deviation, targets / deviation[:, 0])
         rates = numpy.maximum(rates, 1e-3 * max(rates.max(), LEAST_EXPECTED))
         return numpy.concatenate(([rates[0] * widths[0] / widths[1]], rates)) if self.slices.leads_in else rates
 

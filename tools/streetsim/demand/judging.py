@@ -31,15 +31,15 @@ class ComparedCount:
     edges: tuple[str, ...]
     kind: str  # the vehicle class; empty: all vehicles
     group: str  # the screen line; empty: none
-    counted: float
-    passed: float
+    vehicles_counted: float
+    vehicles_passed: float
     seconds: int  # of the period, in which was counted
 
     @property
     def volumes(self) -> tuple[float, float]:
         """(counted, passed), vehicles an hour."""
         per_hour = HOUR / self.seconds
-        return self.counted * per_hour, self.passed * per_hour
+        return self.vehicles_counted * per_hour, self.vehicles_passed * per_hour
 
     @property
     def geh(self) -> float:
@@ -50,7 +50,7 @@ class ComparedCount:
         """The row of fit.csv that stands for it, as FIT has the columns."""
         source, *later_edges = self.edges
         ends = source, " ".join(later_edges)
-        values = f"{self.counted:g}", f"{self.passed:g}", f"{self.geh:.2f}"
+        values = f"{self.vehicles_counted:g}", f"{self.vehicles_passed:g}", f"{self.geh:.2f}"
         return (self.begin, self.end, *ends, self.kind, self.group, *values)
 
 
@@ -63,8 +63,8 @@ class CountSums:
     group: str  # the screen line; empty: all counts
     counts: int  # how many
     good: int  # counts whose GEH is below 5
-    counted: float
-    passed: float
+    vehicles_counted: float
+    vehicles_passed: float
     geh: float  # of both sums, as vehicles an hour
 
     @property
@@ -76,7 +76,9 @@ class CountSums:
     def relative_difference(self) -> float:
         """What passed beyond what was counted, as a share of what was counted; less than 0 where fewer passed. Where
         nothing was counted 1 if anything passed, else 0."""
-        return self.passed / self.counted - 1 if self.counted else float(self.passed > 0)
+        if self.vehicles_counted:
+            return self.vehicles_passed / self.vehicles_counted - 1
+        return float(self.vehicles_passed > 0)
 
     @property
     def meets_criteria(self) -> bool:
@@ -91,7 +93,7 @@ class CountSums:
 
     def totals(self) -> tuple[str, str, str]:
         """Its cells in the columns TOTALS."""
-        return f"{self.counted:g}", f"{self.passed:g}", f"{100 * self.relative_difference:.1f}"
+        return f"{self.vehicles_counted:g}", f"{self.vehicles_passed:g}", f"{100 * self.relative_difference:.1f}"
 
     def hour_row(self) -> tuple[object, ...]:
         """The row of hours.csv that stands for it, as HOURS has the columns."""
@@ -135,26 +137,27 @@ class JudgedCounts:
             yield (
                 f"{sums.begin:,} to {sums.end:,} s: "
                 f"GEH below 5 for {100 * sums.good_share:.1f} % of {sums.counts:,} counts, "
-                f"{sums.passed:,.0f} passed of {sums.counted:,.0f} counted ({100 * sums.relative_difference:+.1f} %): "
+                f"{sums.vehicles_passed:,.0f} passed of {sums.vehicles_counted:,.0f} counted "
+                f"({100 * sums.relative_difference:+.1f} %): "
                 f"{'fits' if sums.meets_criteria else f'does not fit ({sums.criteria_missed()})'}"
             )
         for sums in self.groups:
             yield (
-                f"screen line {sums.group}, {sums.begin:,} to {sums.end:,} s: {sums.passed:,.0f} passed of "
-                f"{sums.counted:,.0f} counted ({100 * sums.relative_difference:+.1f} %)"
+                f"screen line {sums.group}, {sums.begin:,} to {sums.end:,} s: {sums.vehicles_passed:,.0f} passed of "
+                f"{sums.vehicles_counted:,.0f} counted ({100 * sums.relative_difference:+.1f} %)"
             )
         if (line := correlation_and_slope(self.compared)) is not None:
             yield f"all {len(self.compared):,} counts: r = {line[0]:.3f}, slope {line[1]:.3f}"
 
 
-def judge_counts(counts: Sequence[Count], passed: Sequence[float]) -> JudgedCounts:
+def judge_counts(counts: Sequence[Count], vehicles_passed: Sequence[float]) -> JudgedCounts:
     """How well numbers of vehicles that passed, one for each count, meet the counts, of which there must be one at
     least."""
     compared = [
         ComparedCount(
             count.begin, count.end, count.edges, count.kind, count.group, count.vehicles, value, count.end - count.begin
         )
-        for count, value in zip(counts, passed, strict=True)
+        for count, value in zip(counts, vehicles_passed, strict=True)
     ]  # fmt: skip
     hourly = merged_by_hour(compared)
     hours = sums_by_hour(replace(count, group="") for count in hourly)
@@ -170,7 +173,8 @@ def merged_by_hour(compared: Iterable[ComparedCount]) -> list[ComparedCount]:
     merged = (
         replace(
             group[0], begin=min(count.begin for count in group), end=max(count.end for count in group),
-            counted=sum(count.counted for count in group), passed=sum(count.passed for count in group),
+            vehicles_counted=sum(count.vehicles_counted for count in group),
+            vehicles_passed=sum(count.vehicles_passed for count in group),
             seconds=sum(count.seconds for count in group),
         )
         for group in groups.values()
@@ -186,8 +190,8 @@ def sums_by_hour(hourly: Iterable[ComparedCount]) -> list[CountSums]:
     return [
         CountSums(
             min(count.begin for count in members), max(count.end for count in members), group, len(members),
-            sum(count.geh < GOOD for count in members), sum(count.counted for count in members),
-            sum(count.passed for count in members),
+            sum(count.geh < GOOD for count in members), sum(count.vehicles_counted for count in members),
+            sum(count.vehicles_passed for count in members),
             geh(*(sum(volumes) for volumes in zip(*(count.volumes for count in members)))),
         )
         for (_, group), members in sorted(groups.items())
@@ -197,7 +201,7 @@ def sums_by_hour(hourly: Iterable[ComparedCount]) -> list[CountSums]:
 def correlation_and_slope(compared: Sequence[ComparedCount]) -> tuple[float, float] | None:
     """(Pearson's r of what passed with what was counted, slope of the regression of the former on the latter); none
     where one of both does not vary. compared: one at least."""
-    counted, passed = [count.counted for count in compared], [count.passed for count in compared]
+    counted, passed = [count.vehicles_counted for count in compared], [count.vehicles_passed for count in compared]
     r = correlation(counted, passed)
     return None if r is None else (r, r * pstdev(passed) / pstdev(counted))
 
@@ -226,13 +230,13 @@ def without_parts(hourly: Iterable[ComparedCount]) -> list[ComparedCount]:
     ]
 
 
-def is_part_of(count: ComparedCount, other: ComparedCount) -> bool:
-    """Whether `count` is left out beside `other`, with a time and, as far as both go, the edges in common: if it is of
-    a class and `other` of all vehicles, even along more edges, or both are of the same and `other` has fewer edges."""
-    size = min(len(count.edges), len(other.edges))
-    if count.edges[:size] != other.edges[:size] or count.end <= other.begin or other.end <= count.begin:
+def is_part_of(count: ComparedCount, rival: ComparedCount) -> bool:
+    """Whether `count` is left out beside `rival`, with a time and, as far as both go, the edges in common: if it is of
+    a class and `rival` of all vehicles, even along more edges, or both are of the same and `rival` has fewer edges."""
+    size = min(len(count.edges), len(rival.edges))
+    if count.edges[:size] != rival.edges[:size] or count.end <= rival.begin or rival.end <= count.begin:
         return False
-    return len(other.edges) < len(count.edges) if other.kind == count.kind else not other.kind
+    return len(rival.edges) < len(count.edges) if rival.kind == count.kind else not rival.kind
 
 
 def counted_seconds(hourly: Iterable[ComparedCount]) -> int:
@@ -251,7 +255,7 @@ def differences_of(hourly: Sequence[ComparedCount]) -> dict[str, float]:
     differences: defaultdict[str, float] = defaultdict(float)
     hours = counted_seconds(hourly) / HOUR
     for count in without_parts(hourly):
-        differences[count.edges[0]] += (count.passed - count.counted) / hours
+        differences[count.edges[0]] += (count.vehicles_passed - count.vehicles_counted) / hours
     return dict(differences)
 
 

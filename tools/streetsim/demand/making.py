@@ -64,7 +64,7 @@ def run_attempts(
     """Runs until the demand fits, all runs are used up, or the user asks for an end (which `ends` tells); prints a line
     on standard error after each, and gives them all. Each run ends correcting.AFTER seconds after the last slice at the
     latest. Fault where a run cannot be made."""
-    until = min(limits.CLOCK, basis.slices.bounds[-1] + correcting.AFTER)
+    until = min(limits.CLOCK, basis.slices.bounds[-1] + correcting.LONGEST_AFTER)
     digest = program_digest(settings.program)
     ground = RunGround(settings.program, digest, basis.town.graph, SLICE, until, settings.rounds)
     attempts: list[Attempt] = []

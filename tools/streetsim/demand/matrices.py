@@ -157,15 +157,15 @@ def cells_by_row(lines: MatrixLines) -> Iterator[MatrixCell]:
 def next_words(lines: MatrixLines, count: int, noun: str) -> list[str]:
     """The next `count` words, over as many lines as they need; Fault where there are fewer or more. noun: their name in
     faults."""
-    words: list[str] = []
-    while len(words) < count:
+    row_words: list[str] = []
+    while len(row_words) < count:
         row = lines.next_line()
         if not row:
-            raise Fault(f"{lines.path}: ends after {len(words)} of {count} {noun}")
-        words += row
-    if len(words) > count:
-        raise Fault(f"{lines.location}: {len(words)} {noun}, and there are {count} districts")
-    return words
+            raise Fault(f"{lines.path}: ends after {len(row_words)} of {count} {noun}")
+        row_words += row
+    if len(row_words) > count:
+        raise Fault(f"{lines.location}: {len(row_words)} {noun}, and there are {count} districts")
+    return row_words
 
 
 def check_zones(cells: Iterable[MatrixCell], zones: Mapping[str, Zone]) -> None:

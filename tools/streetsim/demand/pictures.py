@@ -31,13 +31,13 @@ def scatter_figure(pyplot: Pyplot, hourly: Sequence[ComparedCount], how_passed: 
         volumes = [count.volumes for count in hourly if (count.geh < GOOD) is good]
         label = f"{len(volumes):,} with GEH {'below 5' if good else '5 and more'}"
         axes.plot(*(zip(*volumes) if volumes else ([], [])), mark, color=colour, markersize=4, alpha=0.7, label=label)
-    most = 1.08 * max([1.0, *(max(count.volumes) for count in hourly)])
-    axes.plot((0, most), (0, most), color="black", linewidth=0.8)
-    counted = [most * step / POINTS for step in range(POINTS + 1)]
+    greatest_volume = 1.08 * max([1.0, *(max(count.volumes) for count in hourly)])
+    axes.plot((0, greatest_volume), (0, greatest_volume), color="black", linewidth=0.8)
+    counted = [greatest_volume * step / POINTS for step in range(POINTS + 1)]
     for sign in (1, -1):
         axes.plot(counted, [volume_at_geh_5(value, sign) for value in counted], "--", color="#777777", linewidth=0.9)
     axes.plot([], [], "--", color="#777777", linewidth=0.9, label="GEH = 5")
-    axes.set(xlim=(0, most), ylim=(0, most), aspect="equal")
+    axes.set(xlim=(0, greatest_volume), ylim=(0, greatest_volume), aspect="equal")
     axes.set(xlabel="counted (vehicles/h)", ylabel=f"{how_passed} (vehicles/h)", title="Counts by place and hour")
     axes.legend(frameon=False, fontsize=8, loc="upper left")
     return figure

@@ -24,7 +24,7 @@ def read_inflows(paths: Iterable[FilePath], seed: int, report: Report) -> list[I
     inflows: list[Inflow] = []
     draws = random.Random(f"inflows {seed}")
     for path in paths:
-        before = len(inflows)
+        earlier_count = len(inflows)
         for element in route_elements(path, FLOWS):
             if element.tag in TAGS:
                 report.ignored[f"<{element.tag}> of files of flows"] += 1
@@ -38,7 +38,7 @@ def read_inflows(paths: Iterable[FilePath], seed: int, report: Report) -> list[I
                 report.ignored[f"{name} of flows"] += 1
             times = departs(path, element, draws)
             inflows.append(Inflow(element.get("from", ""), times, element_told(path, element)))
-        if len(inflows) == before:
+        if len(inflows) == earlier_count:
             raise Fault(f"{path}: no flow is in it")
     return inflows
 
@@ -49,7 +49,7 @@ def read_ratios(paths: Iterable[FilePath]) -> tuple[list[Ratio], set[str]]:
     ratios: list[Ratio] = []
     sinks: set[str] = set()
     for path in paths:
-        before = len(ratios)
+        earlier_count = len(ratios)
         source = ""
         for tag in read_tags(path, TURNS):
             if "interval" not in tag.inside:
@@ -68,7 +68,7 @@ def read_ratios(paths: Iterable[FilePath]) -> tuple[list[Ratio], set[str]]:
             else:
                 expected = "<edgeRelation>, or <toEdge> in a <fromEdge>"
                 raise Fault(f"{tag.location}: <{tag.name}> is no turn ratio: {expected}")
-        if len(ratios) == before:
+        if len(ratios) == earlier_count:
             raise Fault(f"{path}: no turn ratio is in it")
     return ratios, sinks
 

@@ -35,7 +35,7 @@ def hours_table(fit: JudgedCounts) -> str:
     rows = [
         [
             f"{time_of_day(sums.begin)} to {time_of_day(sums.end)}", str(sums.counts), f"{100 * sums.good_share:.1f}",
-            f"{sums.counted:,.0f}", f"{sums.passed:,.0f}", f"{100 * sums.relative_difference:+.1f}",
+            f"{sums.vehicles_counted:,.0f}", f"{sums.vehicles_passed:,.0f}", f"{100 * sums.relative_difference:+.1f}",
             "passed" if sums.meets_criteria else "not passed",
         ]
         for sums in fit.hours
@@ -48,8 +48,9 @@ def groups_table(fit: JudgedCounts) -> str:
     """A table of the screen lines by hour, as HTML; empty where there are none."""
     rows = [
         [
-            escape(sums.group), f"{time_of_day(sums.begin)} to {time_of_day(sums.end)}", f"{sums.counted:,.0f}",
-            f"{sums.passed:,.0f}", f"{100 * sums.relative_difference:+.1f}",
+            escape(sums.group), f"{time_of_day(sums.begin)} to {time_of_day(sums.end)}",
+            f"{sums.vehicles_counted:,.0f}",
+            f"{sums.vehicles_passed:,.0f}", f"{100 * sums.relative_difference:+.1f}",
         ]
         for sums in fit.groups
     ]
@@ -61,7 +62,7 @@ def worst_table(fit: JudgedCounts, names: Names) -> str:
     rows = []
     for count in worst_fits(fit):
         called = names.approach(count.edges[0]) if len(count.edges) == 1 else names.movement(*count.edges[:2])
-        numbers = f"{count.counted:,.0f}", f"{count.passed:,.0f}", f"{count.geh:.1f}"
+        numbers = f"{count.vehicles_counted:,.0f}", f"{count.vehicles_passed:,.0f}", f"{count.geh:.1f}"
         rows.append([escape(called), escape(" to ".join(count.edges)), time_of_day(count.begin), *numbers])
     return table(["fits worst", "edges", "from", "counted", "passed in the run", "GEH"], rows, 2) if rows else ""
 
@@ -70,27 +71,27 @@ def scatter(fit: JudgedCounts) -> str:
     """A picture (SVG) of passed over counted, vehicles an hour, by edges and hour, with the curves on which GEH is
     5."""
     points = [(*count.volumes, count.geh < GOOD) for count in fit.hourly]
-    most = 1.08 * max([1.0, *(max(counted, passed) for counted, passed, _ in points)])
-    scale = (SIDE - EDGE - 10) / most
+    top_volume = 1.08 * max([1.0, *(max(volumes[:2]) for volumes in points)])
+    scale = (SIDE - EDGE - 10) / top_volume
 
     def pixel(counted: float, passed: float) -> str:
         """The pixels across and down of a point, as the text X,Y."""
         return f"{EDGE + counted * scale:.1f},{SIDE - EDGE - passed * scale:.1f}"
 
-    parts = [f'<polyline points="{pixel(0, 0)} {pixel(most, most)}" stroke="#000" fill="none"/>']
+    parts = [f'<polyline points="{pixel(0, 0)} {pixel(top_volume, top_volume)}" stroke="#000" fill="none"/>']
     for sign in (1, -1):
-        curve = (most * step / POINTS for step in range(POINTS + 1))
-        line_points = " ".join(pixel(counted, min(volume_at_geh_5(counted, sign), most)) for counted in curve)
+        curve = (top_volume * step / POINTS for step in range(POINTS + 1))
+        line_points = " ".join(pixel(volume, min(volume_at_geh_5(volume, sign), top_volume)) for volume in curve)
         parts.append(f'<polyline points="{line_points}" stroke="#777" stroke-dasharray="4 3" fill="none"/>')
-    for counted, passed, good in points:
-        x, y = pixel(counted, passed).split(",")
+    for hourly_counted, hourly_passed, good in points:
+        x, y = pixel(hourly_counted, hourly_passed).split(",")
         square = f'<rect x="{float(x) - 3:.1f}" y="{float(y) - 3:.1f}" width="6" height="6" fill="{OTHER_LINE}"/>'
         parts.append(f'<circle cx="{x}" cy="{y}" r="3" fill="{LINE}"/>' if good else square)
     low = SIDE - EDGE
     parts += [
         f'<line x1="{EDGE}" x2="{SIDE - 10}" y1="{low}" y2="{low}" stroke="#666"/>',
         f'<line x1="{EDGE}" x2="{EDGE}" y1="10" y2="{low}" stroke="#666"/>',
-        f'<text x="{SIDE - 10}" y="{low + 15}" text-anchor="end">counted: {most:.0f} vehicles/h</text>',
+        f'<text x="{SIDE - 10}" y="{low + 15}" text-anchor="end">counted: {top_volume:.0f} vehicles/h</text>',
         f'<text x="{EDGE + 4}" y="16">passed in the run; broken: GEH is 5; squares: above</text>',
     ]
     shape = f'viewBox="0 0 {SIDE} {SIDE}" style="max-width: 420px" role="img" aria-label="Passed over counted"'

@@ -18,27 +18,27 @@ def whole_vehicles(vehicles: Array, passing: Sparse, seed: int, error: float) ->
     return swapped_to_fit(whole, vehicles, passing, error) if passing.shape[0] else whole
 
 
-def swapped_to_fit(whole: Array, vehicles: Array, passing: Sparse, error: float) -> Array:
-    """The rounded numbers (whole) after swaps of one that was rounded up with one that was rounded down, as long as
+def swapped_to_fit(whole_numbers: Array, vehicles: Array, passing: Sparse, error: float) -> Array:
+    """The rounded numbers after swaps of one that was rounded up with one that was rounded down, as long as
     what passes the counts comes nearer to that of `vehicles`, at most SWAPS times. passing,
     error: as of `whole_vehicles`."""
     numpy, scipy = numpy_and_scipy()
-    targets, whole = passing @ vehicles, whole.copy()
+    targets, whole_numbers = passing @ vehicles, whole_numbers.copy()
     scaled = (scipy.sparse.diags(1 / deviations(targets, error)) @ passing).tocsc()
     across, squares = scaled.T.tocsr(), numpy.asarray(scaled.multiply(scaled).sum(axis=0)).ravel()
     low = numpy.floor(vehicles)
     open_ = vehicles > low
-    apart = scaled @ (whole - vehicles)
+    apart = scaled @ (whole_numbers - vehicles)
     for _ in range(SWAPS):
         slope = across @ apart
-        more = numpy.where(open_ & (whole == low), slope + 0.5 * squares, numpy.inf)
-        less = numpy.where(open_ & (whole > low), -slope + 0.5 * squares, numpy.inf)
+        more = numpy.where(open_ & (whole_numbers == low), slope + 0.5 * squares, numpy.inf)
+        less = numpy.where(open_ & (whole_numbers > low), -slope + 0.5 * squares, numpy.inf)
         up, down = int(more.argmin()), int(less.argmin())
         change = scaled[:, up] - scaled[:, down]
         possible = numpy.isfinite(more[up] + less[down])
         if not possible or float((change.T @ apart)[0] + 0.5 * change.multiply(change).sum()) >= -LEAST_GAIN:
             break
-        whole[up] += 1
-        whole[down] -= 1
+        whole_numbers[up] += 1
+        whole_numbers[down] -= 1
         apart = apart + change.toarray().ravel()
-    return whole
+    return whole_numbers

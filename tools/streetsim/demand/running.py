@@ -42,14 +42,14 @@ def passed_by_count(
 ) -> list[int]:
     """How many vehicles passed in each count's period (its end belongs to it, its begin does not), of its class, in the
     counts' order. paths, kinds, exit_clocks: the way, class and clocks (of leaving each edge) of each vehicle."""
-    passed = [0] * len(by_edges.counts)
+    passed_counts = [0] * len(by_edges.counts)
     for path, kind, clocks in zip(paths, kinds, exit_clocks, strict=True):
         for indices, edge in by_edges.counts_along(path):
             if edge < len(clocks):
                 for index in indices:
                     count = by_edges.counts[index]
-                    passed[index] += count.begin < clocks[edge] <= count.end and count.kind in ("", kind)
-    return passed
+                    passed_counts[index] += count.begin < clocks[edge] <= count.end and count.kind in ("", kind)
+    return passed_counts
 
 
 def movement_delays(graph: Graph, observed: Observed, free: Sequence[float]) -> list[float]:

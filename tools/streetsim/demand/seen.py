@@ -94,7 +94,7 @@ class Visits:
 
     vehicle: Array
     edge: Array
-    passed: Array
+    passing_clock: Array
 
     def clocks_of(self, edges: Sequence[int]) -> tuple[Array, Array]:
         """(vehicles, clocks) of those who pass the end of an edge, or of those who drive over two edges or more, by
@@ -105,7 +105,7 @@ class Visits:
         for step, edge in enumerate(edges):
             fits &= self.edge[first_row + step] == edge
         rows = (last_row if len(edges) == 1 else last_row - 1)[fits]
-        return self.vehicle[rows], self.passed[rows]
+        return self.vehicle[rows], self.passing_clock[rows]
 
 
 def passed_by_rows(folder: Folder, counts: Sequence[Count]) -> Iterator[int]:
@@ -129,7 +129,7 @@ def passed_by_rows(folder: Folder, counts: Sequence[Count]) -> Iterator[int]:
 
 def words_of(folder: Folder) -> Sequence[str]:
     """The words by which a run was made, as far as its setting has them."""
-    arguments = folder.made.get("words", ())
+    arguments = folder.setting.get("words", ())
     return [str(word) for word in arguments] if isinstance(arguments, list) else ()
 
 

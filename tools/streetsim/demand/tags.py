@@ -8,7 +8,7 @@ from xml.parsers import expat
 from streetsim.base.files import Fault, FilePath, open_bytes, reading
 from streetsim.base.unpacking import Chunks, Nesting
 
-Value = TypeVar("Value")
+Converted = TypeVar("Converted")
 
 
 @dataclass(frozen=True, slots=True)
@@ -26,7 +26,7 @@ class Tag:
         """The file and its line, as faults name it."""
         return f"{self.path}: line {self.line}"
 
-    def get(self, name: str, convert: Callable[[str], Value]) -> Value:
+    def get(self, name: str, convert: Callable[[str], Converted]) -> Converted:
         """An attribute, converted; Fault where it is absent or where `convert` raises ValueError, whose words it
         tells."""
         text = self.attributes.get(name)
@@ -64,11 +64,11 @@ def read_tags(path: FilePath, roots: Collection[str]) -> Iterator[Tag]:
     parser.EndElementHandler = end
     with reading(path), open_bytes(path) as file:
         for chunk in chain(chunks := Chunks(file), (b"",)):
-            before = nesting.passed
+            before = nesting.tag_count
             try:
                 parser.Parse(chunk, not chunk)
             except expat.ExpatError as fault:
                 raise Fault(f"{path}: not XML: {fault}") from None
-            chunks.stretch, chunks.kept = chunks.stretch if nesting.passed == before else 0, 0
+            chunks.stretch, chunks.kept_bytes = chunks.stretch if nesting.tag_count == before else 0, 0
             yield from tags
             tags.clear()

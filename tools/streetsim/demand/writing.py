@@ -44,9 +44,9 @@ def pair_rows(basis: Basis, fitted: Fitted) -> Iterator[tuple[object, ...]]:
     takes."""
     totals: Counter[tuple[int, int, int]] = Counter()
     count, size = len(basis.slices), len(basis.ways) * len(basis.slices)
-    for index in fitted.whole.nonzero()[0].tolist():
+    for index in fitted.whole_vehicles.nonzero()[0].tolist():
         pair = basis.ways[index // count % len(basis.ways)].pair
-        totals[index // size, index % count, pair] += int(fitted.whole[index])
+        totals[index // size, index % count, pair] += int(fitted.whole_vehicles[index])
     bounds = list(pairwise(basis.slices.bounds))
     for (kind, slice_, pair), vehicles in sorted(totals.items()):
         ends = basis.pairs[pair].source, basis.pairs[pair].target

@@ -195,7 +195,7 @@ class Kernel:
     def enter_due(self, target: int) -> None:
         """Tells the program of the vehicles that depart before a clock, and of those before them in the file."""
         first_new, run = self.entered, self.run
-        while self.entered < len(run.enters) and run.needed[self.entered] < target:
+        while self.entered < len(run.enters) and run.least_departs[self.entered] < target:
             self.entered += 1
         if first_new < self.entered:
             lines = run.enters[first_new : self.entered]

@@ -8,7 +8,7 @@ from streetsim.control.merging_links import CLOSING
 from streetsim.kernel import loop
 from streetsim.kernel.loop import NEVER, Controller, Kernel, own_line
 from streetsim.kernel.seconds import Block
-from streetsim.model.runs import Command, Sent
+from streetsim.model.runs import Command, TimedCommand
 
 CHANGING = ("signal", *CLOSING, "takeout")  # commands that change what traffic does
 HAND_COMMANDS = (*CHANGING, "meter")
@@ -17,7 +17,7 @@ HAND_COMMANDS = (*CHANGING, "meter")
 class Hand(Controller):
     """Sends commands by hand. It acts last, as a user does who has seen what the second left."""
 
-    def __init__(self, merging: Merging | None, later: Iterable[Sent]) -> None:
+    def __init__(self, merging: Merging | None, later: Iterable[TimedCommand]) -> None:
         """merging: of the same run, none where nobody merges by turns; later: commands with the clocks at which they
         are sent."""
         self.merging, self.later = merging, sorted(later, key=lambda sent: sent[0])
@@ -32,7 +32,7 @@ class Hand(Controller):
         """That of the next command."""
         return self.later[0][0] if self.later else NEVER
 
-    def add(self, later: Iterable[Sent]) -> None:
+    def add(self, later: Iterable[TimedCommand]) -> None:
         """Has further commands sent at clocks to come."""
         self.later = sorted([*self.later, *later], key=lambda sent: sent[0])
 

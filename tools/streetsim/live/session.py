@@ -15,7 +15,7 @@ from streetsim.live.hand import CHANGING
 from streetsim.live.page_texts import gain_of, gain_text
 from streetsim.live.session_files import SessionFiles
 from streetsim.live.world import PageRun, World
-from streetsim.model.runs import Command, Sent
+from streetsim.model.runs import Command, TimedCommand
 
 SLOW = 0.1  # seconds that a second of traffic may take where two are run by themselves
 SHARE = 8  # of the last measurement in the pace, an eighth
@@ -270,7 +270,7 @@ class PageSession:
         return b"".join([len(head).to_bytes(4, "little"), head, *rows])
 
 
-def commands_of(change: Json) -> list[Sent]:
+def commands_of(change: Json) -> list[TimedCommand]:
     """The commands of a change with the clocks at which they are sent, its making at the earliest."""
     return [(max(change["made"], entry["clock"]), entry["command"]) for entry in change["commands"]]
 

@@ -18,7 +18,7 @@ from streetsim.live.hand import Hand
 from streetsim.live.ledger import Ledger
 from streetsim.live.logged_program import LoggedProgram
 from streetsim.model.mapping import Map
-from streetsim.model.runs import Command, Run, Sent
+from streetsim.model.runs import Command, Run, TimedCommand
 
 
 @dataclass(frozen=True)
@@ -53,7 +53,7 @@ class PageRun:
 class World:
     """One traffic of a page."""
 
-    def __init__(self, page_run: PageRun, later: Iterable[Sent] = (), node: int | None = None) -> None:
+    def __init__(self, page_run: PageRun, later: Iterable[TimedCommand] = (), node: int | None = None) -> None:
         """later: what is done by hand, with its clocks; node: the junction before which those who stand are counted.
         Fault or ProgramEnded where it cannot be begun; nothing runs then."""
         self.page_run, steering = page_run, Steering(page_run.run, page_run.mapping, page_run.settings)

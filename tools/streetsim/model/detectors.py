@@ -28,7 +28,7 @@ class Area:
 
     samples: int = 0
     vehicles: int = 0  # sum over samples
-    most: int = 0  # in one sample
+    most_vehicles: int = 0  # in one sample
     speeds: int = 0  # of vehicles, sum over samples, cells a step
     covered: float = 0.0  # metres, without gaps
     jams: int = 0  # vehicles, sum over samples of the longest
@@ -53,7 +53,7 @@ class Areas:
             inside = [entry for entry in cells if detector.first <= entry[1] <= detector.last]
             jam = longest_jam(inside)
             area.samples, area.vehicles, area.jams = area.samples + 1, area.vehicles + len(inside), area.jams + jam
-            area.most, area.longest = max(area.most, len(inside)), max(area.longest, jam)
+            area.most_vehicles, area.longest = max(area.most_vehicles, len(inside)), max(area.longest, jam)
             area.speeds += sum(entry[2] for entry in inside)
             area.covered += sum(metres_in(entry, detector.first, detector.cell_metres) for entry in inside)
 

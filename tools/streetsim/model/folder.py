@@ -11,12 +11,12 @@ from streetsim.model import tables
 from streetsim.model.mapping import Map, map_from
 from streetsim.model.rows import NAME as ROWS
 from streetsim.model.rows import frames_in
-from streetsim.model.runs import Sent
+from streetsim.model.runs import TimedCommand
 
 NAME = "setting.json"
 LIGHTS = "lights.json"  # what its lights show at the road, of a run with --junctions, as model.timing has it
 POLLS = "lanes.jsonl.gz"  # what stood on the lanes at polls, as text
-KEPT = "run.jsonl.gz"  # the lines of the run, beside the folders of its seeds where there are several
+RUN_LINES = "run.jsonl.gz"  # the lines of the run, beside the folders of its seeds where there are several
 Frame = Json  # what stood on lanes at a clock: {"clock", "lanes"}, as `polls` says
 
 
@@ -27,18 +27,18 @@ class Folder:
 
     path: str
     mapping: Map
-    signals: list[Sent]
+    signals: list[TimedCommand]
     dawdle: int  # of 1,000
     every: int  # seconds between polls; 0: none
     period: int  # seconds of a count
-    # Of what the folder was made: run, seed, start, until, rescue, program.
-    made: Json = field(default_factory=dict)
+    # Of what the folder was setting: run, seed, start, until, rescue, program.
+    setting: Json = field(default_factory=dict)
     doubts: list[str] = field(default_factory=list)  # why the run is not to be trusted
 
     @property
     def unproved(self) -> str:
         """What is to be said of a run of a program without proofs; empty of any other."""
-        return str(self.made.get("unproved", ""))
+        return str(self.setting.get("unproved", ""))
 
     @property
     def notes(self) -> list[str]:
@@ -48,7 +48,7 @@ class Folder:
     @property
     def vehicles(self) -> int:
         """How many vehicles the run had."""
-        return int(self.made.get("vehicles", len(self.mapping.cars)))
+        return int(self.setting.get("vehicles", len(self.mapping.cars)))
 
     def trips(self) -> list[dict[str, str]]:
         """The rows of trips.csv (tables.TRIPS), in the order of the vehicles' numbers."""
@@ -120,4 +120,4 @@ def read_folder(path: str) -> Folder:
     value = read_json(f"{path}/{NAME}", ("map", "signals", "dawdle", "every", "period"))
     own = {key: value[key] for key in ("signals", "dawdle", "every", "period")}
     made, doubts = value.get("made", {}), value.get("not_trusted", [])
-    return Folder(path, map_from(path, value["map"]), **own, made=made, doubts=doubts)
+    return Folder(path, map_from(path, value["map"]), **own, setting=made, doubts=doubts)

@@ -28,13 +28,14 @@ def forecast_doubts(
     """What speaks against a variant by its nearly full lanes and those of the base: lefts that it loads above LOADED
     and the base does not, and growth (times the vehicles of the base) where lanes are above NEARLY_FULL."""
     lefts = [
-        one for lane, one in variant_lanes.items()
-        if one.way == LEFT and one.demand > LOADED and (lane not in base_lanes or base_lanes[lane].demand <= LOADED)
+        full_lane for lane, full_lane in variant_lanes.items()
+        if full_lane.way == LEFT and full_lane.demand > LOADED
+        and (lane not in base_lanes or base_lanes[lane].demand <= LOADED)
     ]
     if lefts:
-        told = first_few([one.in_words() for one in lefts], 3)
+        told = first_few([full_lane.in_words() for full_lane in lefts], 3)
         yield f"lefts that give way, which no survey told (streetsim-import --permissive EDGE=SHARE): {told}"
-    full = [one for one in variant_lanes.values() if one.demand > NEARLY_FULL]
+    full = [full_lane for full_lane in variant_lanes.values() if full_lane.demand > NEARLY_FULL]
     if growth > GROWTH and full:
-        told = first_few([one.in_words() for one in full], 3)
+        told = first_few([full_lane.in_words() for full_lane in full], 3)
         yield f"growth above 0.9 of what passes, where forecasts came out too small: {told}"

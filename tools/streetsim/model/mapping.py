@@ -116,7 +116,7 @@ class Map:
     options: Json
     warnings: list[str]  # as the import said them
     detectors: list[Detector] = field(default_factory=list)  # of additional files
-    told: list[list[str]] = field(default_factory=list)  # the same as a table, base.report.Report.rows
+    warning_rows: list[list[str]] = field(default_factory=list)  # the same as a table, base.report.Report.rows
     yields: list[GivingWay] = field(default_factory=list)  # who gives way without a light
     links_of: dict[str, list[int]] = field(default_factory=dict, init=False)  # edge: links
     sources: Json = field(default_factory=dict)  # the files of the import, as model.sources keeps them
@@ -175,7 +175,7 @@ class Map:
             "cars": self.cars,
             "options": self.options,
             "warnings": self.warnings,
-            "told": self.told,
+            "told": self.warning_rows,
             "yields": [*map(asdict, self.yields)],
             "detectors": columns_of(Detector, self.detectors),
             "sources": self.sources,
@@ -206,25 +206,26 @@ def refuse_outside(nodes: Sequence[Sequence[object]], links: Sequence[MapLink], 
         raise ValueError("a turn has a link that is not there")
 
 
-def map_from(path: FilePath, value: Json) -> Map:
+def map_from(path: FilePath, content: Json) -> Map:
     """The map of the content of its file, as `Map.written` gives it; path: for the Fault where it is no map, or one of
     a later version."""
-    if (version := value.get("version", 1)) not in (1, VERSION):
+    if (version := content.get("version", 1)) not in (1, VERSION):
         raise Fault(f"{path}: a map of version {version}, and these tools read 1 and {VERSION}: import the run anew")
     try:
-        more: Json = {key: value[key] for key in ("cars", "options", "warnings")}
-        more["nodes"], more["signals"] = rows_of(MapNode, value["nodes"]), rows_of(MapSignal, value["signals"])
-        more["links"], more["turns"] = rows_of(MapLink, value["links"]), rows_of(MapTurn, value["turns"])
-        more |= {name: value.get(name, []) for name in ("told", "actuated", "rings", "programs", "fixed", "timings")}
-        more |= {name: value.get(name, {}) for name in ("location", "names", "sources")}
-        more |= {"kinds": value.get("vehicles", {}), "yields": giving_way_of(value.get("yields", ()))}
-        more["full"] = fullness_of(value.get("full", {}))
-        more["end"] = value.get("end", 0)
-        more["starts"] = one_of(SlowStarts, value["starts"]) if "starts" in value else None
-        more["reserved"] = one_of(ReservedLanes, value["reserved"]) if "reserved" in value else None
+        fields: Json = {key: content[key] for key in ("cars", "options", "warnings")}
+        fields["nodes"], fields["signals"] = rows_of(MapNode, content["nodes"]), rows_of(MapSignal, content["signals"])
+        fields["links"], fields["turns"] = rows_of(MapLink, content["links"]), rows_of(MapTurn, content["turns"])
+        fields |= {name: content.get(name, []) for name in ("actuated", "rings", "programs", "fixed", "timings")}
+        fields["warning_rows"] = content.get("told", [])
+        fields |= {name: content.get(name, {}) for name in ("location", "names", "sources")}
+        fields |= {"kinds": content.get("vehicles", {}), "yields": giving_way_of(content.get("yields", ()))}
+        fields["full"] = fullness_of(content.get("full", {}))
+        fields["end"] = content.get("end", 0)
+        fields["starts"] = one_of(SlowStarts, content["starts"]) if "starts" in content else None
+        fields["reserved"] = one_of(ReservedLanes, content["reserved"]) if "reserved" in content else None
         for name, kind in (("detectors", Detector), ("visits", Visit), ("switches", Switch)):
-            more[name] = rows_of(kind, value.get(name, ()))
-        refuse_outside(more["nodes"], more["links"], more["turns"])
-        return Map(**more)
+            fields[name] = rows_of(kind, content.get(name, ()))
+        refuse_outside(fields["nodes"], fields["links"], fields["turns"])
+        return Map(**fields)
     except (AttributeError, KeyError, TypeError, ValueError) as fault:
         raise Fault(f"{path}: not a map that streetsim-import wrote: {fault}") from None

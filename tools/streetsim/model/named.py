@@ -25,10 +25,10 @@ def rows_of(kind: Callable[..., Row], table: Json) -> list[Row]:
     return [kind(*row) for row in table]
 
 
-def one_of(kind: Callable[..., Row], value: object) -> Row:
+def one_of(kind: Callable[..., Row], entry: object) -> Row:
     """What has its values by name, or in a list. TypeError for anything else."""
-    if isinstance(value, dict):
-        return kind(**value)
-    if isinstance(value, list):
-        return kind(*value)
-    raise TypeError(f"{value!r} has no fields")
+    if isinstance(entry, dict):
+        return kind(**entry)
+    if isinstance(entry, list):
+        return kind(*entry)
+    raise TypeError(f"{entry!r} has no fields")

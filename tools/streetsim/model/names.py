@@ -109,13 +109,13 @@ def open_named(path: FilePath, header: Sequence[str], names: Names) -> Iterator[
     columns = {at: names.columns()[name] for at, name in enumerate(header) if name in names.columns() and names}
     head = [text for at, name in enumerate(header) for text in ([name, name + SUFFIX] if at in columns else [name])]
 
-    def named(row: Iterable[object]) -> list[object]:
+    def with_names(row: Iterable[object]) -> list[object]:
         """A row with its names."""
         cells = ([cell, columns[at](str(cell))] if at in columns else [cell] for at, cell in enumerate(row))
         return [one for those in cells for one in those]
 
     with open_table(path, head) as write:
-        yield (lambda rows: write(map(named, rows))) if columns else write
+        yield (lambda rows: write(map(with_names, rows))) if columns else write
 
 
 def write_named(path: FilePath, header: Sequence[str], rows: Iterable[Entry], names: Names) -> None:
@@ -147,8 +147,9 @@ def junctions_of(mapping: Map) -> dict[str, list[str]]:
     return found
 
 
-def own_rows(path: FilePath, known: Container[str]) -> dict[str, str]:
-    """{id: name, without blanks around it} of a file of one's own names; Faults as read_own has them. known: ids."""
+def own_rows(path: FilePath, known_ids: Container[str]) -> dict[str, str]:
+    """{id: name, without blanks around it} of a file of one's own names; Faults as read_own has them. known_ids: of
+    edges, junctions and lights."""
     names: dict[str, str] = {}
     with reading(path), open_text(path) as file:
         rows = csv.DictReader(lines_of(file))
@@ -161,7 +162,7 @@ def own_rows(path: FilePath, known: Container[str]) -> dict[str, str]:
             name_id, name = unguarded(name_id), unguarded(name)
             if name_id in names:
                 raise Fault(f"{path}: line {rows.line_num}: {name_id!r} twice")
-            if name_id not in known:
+            if name_id not in known_ids:
                 raise Fault(f"{path}: line {rows.line_num}: the map has no edge or junction {name_id!r}")
             names[name_id] = name.strip()
     return names

@@ -88,7 +88,7 @@ class RecordReader:
         """file: unbuffered, as `open_record` gives it; name: by which faults tell it. Fault where NumPy is missing."""
         self.numpy = numpy_module()
         self.file, self.name = file, name
-        self.ahead = memoryview(b"")  # what was read of blocks that were not asked for yet
+        self.read_ahead = memoryview(b"")  # what was read of blocks that were not asked for yet
         self.blocks = 0  # given so far
         self.last_block: RecordedStep | None = None
 
@@ -102,37 +102,37 @@ class RecordReader:
         many vehicles the caller has entered, where it knows. TooManyRows for a head with more rows than these or than
         1,000,000; TornBlock where the record ends inside the block; BadRecord for a head, or the number of a vehicle,
         that cannot be; Fault where it cannot be read."""
-        if not self.holds(HEAD.size):
-            if self.ahead:
+        if not self.read_until(HEAD.size):
+            if self.read_ahead:
                 raise self.torn(HEAD.size)
             return None
-        clock, rows, arrived, taken_out = HEAD.unpack_from(self.ahead)
+        clock, rows, arrived, taken_out = HEAD.unpack_from(self.read_ahead)
         self.check(clock, rows, arrived + taken_out, min(entered, VEHICLES))
         size = HEAD.size + ROW * rows
-        if not self.holds(size):
+        if not self.read_until(size):
             raise self.torn(size)
         block = RecordedStep(clock, arrived, taken_out, self.columns(rows))
         if rows and (most := int(block.car.max())) >= min(entered, VEHICLES):
             raise self.bad(f"has vehicle {most:,}, which was not entered")
-        self.ahead = self.ahead[size:]
+        self.read_ahead = self.read_ahead[size:]
         self.blocks, self.last_block = self.blocks + 1, block
         return block
 
     def columns(self, rows: int) -> Array:
         """So many rows of what is read ahead, behind the head, as they lie there."""
-        return self.numpy.frombuffer(self.ahead, "<u4", 4 * rows, HEAD.size).reshape(-1, 4)
+        return self.numpy.frombuffer(self.read_ahead, "<u4", 4 * rows, HEAD.size).reshape(-1, 4)
 
-    def holds(self, size: int) -> bool:
+    def read_until(self, size: int) -> bool:
         """Reads until so many bytes are there, or to the end: whether they are there."""
-        parts, count = ([self.ahead] if self.ahead else []), len(self.ahead)
-        while count < size and (more := self.more()):
-            parts.append(memoryview(more))
-            count += len(more)
+        parts, count = ([self.read_ahead] if self.read_ahead else []), len(self.read_ahead)
+        while count < size and (chunk := self.read_chunk()):
+            parts.append(memoryview(chunk))
+            count += len(chunk)
         if parts:
-            self.ahead = parts[0] if len(parts) == 1 else memoryview(b"".join(parts))
+            self.read_ahead = parts[0] if len(parts) == 1 else memoryview(b"".join(parts))
         return count >= size
 
-    def more(self) -> bytes:
+    def read_chunk(self) -> bytes:
         """The next bytes of the file, empty at its end; Fault where it cannot be read."""
         try:
             return self.file.read(CHUNK)
@@ -154,7 +154,7 @@ class RecordReader:
 
     def torn(self, size: int) -> TornBlock:
         """The fault of a record that ends inside the block that is read, of so many bytes."""
-        return TornBlock(f"{self.block_name()} is torn: {len(self.ahead):,} of {size:,} bytes")
+        return TornBlock(f"{self.block_name()} is torn: {len(self.read_ahead):,} of {size:,} bytes")
 
     def block_name(self) -> str:
         """The block that is read, as faults tell it."""

@@ -17,7 +17,7 @@ from streetsim.model.stops import bus_lines_of
 DRAWN, LISTED = "drawn", "listed"
 WORD = f"--departures={DRAWN}"  # as a folder keeps the words of its run
 QUARTER = 900  # seconds within which a way keeps its mean number of vehicles
-MOST = 12  # copies of one vehicle: more have a chance below 1e-10
+MOST_COPIES = 12  # copies of one vehicle: more have a chance below 1e-10
 STEP, FIRST, SECOND = 0x9E3779B97F4A7C15, 0xBF58476D1CE4E5B9, 0x94D049BB133111EB  # of splitmix64
 
 
@@ -92,7 +92,7 @@ def uniform(keys: Array, position: int | Array) -> Array:
 
 def poisson_of(shares: Array) -> Array:
     """Poisson numbers with the mean 1, MOST at most, of uniform shares from 0 to below 1."""
-    parts = np.exp(-1.0) / np.cumprod([1.0, *range(1, MOST)])
+    parts = np.exp(-1.0) / np.cumprod([1.0, *range(1, MOST_COPIES)])
     return np.searchsorted(np.cumsum(parts), shares, side="right")
 
 
@@ -102,7 +102,7 @@ def copies_named(names: Sequence[str], draw: Draw) -> list[str]:
     for number, copy in zip(draw.number.tolist(), draw.copy.tolist()):
         name, at = names[number], copy
         while copy > 1 and (name := f"{names[number]}#{at}") in known:
-            at += MOST
+            at += MOST_COPIES
         copies.append(name)
     return copies
 

@@ -21,7 +21,7 @@ HEAD = struct.Struct("<6I")
 # the next, and so on) and its speed in cells a second; and by stretch its clock, lane, first and last cell: from a
 # clock that stands there on, these are the closed stretches of the lane, none where its last cell is below its first.
 STAYS, ROWS, CLOSED = ("<u4",) * 4, ("<u2", "<i4", "u1"), ("<u4",) * 4
-MOST = 2_000_000  # seconds, stays, rows or stretches in a part: more than a run writes at once
+MOST_ENTRIES = 2_000_000  # seconds, stays, rows or stretches in a part: more than a run writes at once
 Stretch = tuple[int, int]  # the first and the last cell
 Stretches = dict[int, list[list[int]]]  # closed ones, by lane
 
@@ -67,14 +67,14 @@ def parts_of(file: IO[bytes], path: FilePath, every: int = 1) -> Iterator[RowsPa
     every: rows are those of clocks that are whole multiples of so many seconds."""
     try:
         while head := file.read(HEAD.size):
-            size, clock, seconds, stays, rows, closed = HEAD.unpack(head)
-            if max(seconds, stays, rows, closed) > MOST and not lifted():
-                raise TooMuch(f"has more than {MOST:,} rows or seconds in one part")
+            size, clock, seconds, stay_count, rows, closed = HEAD.unpack(head)
+            if max(seconds, stay_count, rows, closed) > MOST_ENTRIES and not lifted():
+                raise TooMuch(f"has more than {MOST_ENTRIES:,} rows or seconds in one part")
             if len(packed_data := file.read(size)) < size:
                 raise ValueError("cut off")
-            data = inflate(packed_data, 16 * (stays + closed) + 7 * rows)
+            data = inflate(packed_data, 16 * (stay_count + closed) + 7 * rows)
             at, columns = 0, []
-            for kinds, count in ((STAYS, stays), (ROWS, rows), (CLOSED, closed)):
+            for kinds, count in ((STAYS, stay_count), (ROWS, rows), (CLOSED, closed)):
                 for kind in kinds:
                     columns.append(np.frombuffer(data, kind, count, at))
                     at += columns[-1].nbytes
@@ -92,15 +92,15 @@ def part_of(clock: int, seconds: int, columns: Sequence[Array], every: int) -> R
     slot, cell, speed = columns[4:7]
     if count.sum() != len(slot):
         raise ValueError("stays of other lengths")
-    stay = np.repeat(np.arange(len(count)), count)
+    stay_index = np.repeat(np.arange(len(count)), count)
     if np.any(begin + count > seconds):
         raise ValueError("stays of other lengths")
-    second = np.arange(len(stay)) - (np.cumsum(count) - count - begin)[stay]
+    second = np.arange(len(stay_index)) - (np.cumsum(count) - count - begin)[stay_index]
     wanted = np.flatnonzero((clock + second) % every == 0)
     order = wanted[np.lexsort((-cell[wanted], slot[wanted], second[wanted]))]
     first = np.append(0, np.cumsum(np.bincount(second[order], minlength=seconds)))
-    stay = stay[order]
-    return RowsPart(clock, first, vehicle[stay], slot[order], cell[order], speed[order], size[stay], columns[7:])
+    of_stay = stay_index[order]
+    return RowsPart(clock, first, vehicle[of_stay], slot[order], cell[order], speed[order], size[of_stay], columns[7:])
 
 
 def frames_in(path: FilePath, every: int) -> Iterator[Json]:

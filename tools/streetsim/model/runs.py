@@ -15,11 +15,11 @@ from streetsim.model.sources import sum_of_lines
 
 MARK = "works"  # a field of lines that a tool made of --close, where they are kept; the program ignores it
 SPAN = ("link", "lane", "first", "last")
-NEEDED = {"enter": ("depart",), "close": SPAN, "reopen": SPAN, "signal": ("node",)}  # whole numbers, by command
+NEEDED_FIELDS = {"enter": ("depart",), "close": SPAN, "reopen": SPAN, "signal": ("node",)}  # whole numbers, by command
 MAY_HAVE = ("at", "start", "dawdle")  # whole numbers too
 SHARED = {number: number for number in range(limits.LINKS)}  # one object for each link, for the plans of all vehicles
 Command = dict[str, Any]
-Sent = tuple[int, Command]  # the clock at which a command is sent
+TimedCommand = tuple[int, Command]  # the clock at which a command is sent
 
 
 @dataclass(slots=True)
@@ -40,13 +40,13 @@ class Run:
     first: list[Line] = field(default_factory=list)  # sent after the load, before the first step
     timed: list[tuple[int, Line]] = field(default_factory=list)  # by clock
     enters: list[Line] = field(default_factory=list)  # vehicles, by the order of lines
-    needed: list[int] = field(default_factory=list)  # by enter: least depart of it and those after it in the file
+    least_departs: list[int] = field(default_factory=list)  # by enter: of it and those after it in the file
 
     def start(self) -> int:
         """The clock at its begin, which its load gives; 0 where it gives none."""
         return self.load.command.get("start", 0)
 
-    def signals(self) -> list[Sent]:
+    def signals(self) -> list[TimedCommand]:
         """The signal plans of the run, (clock at which it is sent, command), in the order of sending."""
         lines = [*((self.start(), line) for line in self.first), *self.timed]
         return [(clock, line.command) for clock, line in lines if line.command["cmd"] == "signal"]
@@ -114,7 +114,7 @@ def run_of(path: FilePath, lines: Sequence[Line]) -> Run:
             run.first.append(line)
     run.timed.sort(key=lambda pair: pair[0])
     least: Iterator[int] = accumulate((line.command["depart"] for line in reversed(run.enters)), min)
-    run.needed = [*least][::-1]
+    run.least_departs = [*least][::-1]
     return run
 
 
@@ -154,7 +154,7 @@ def line_of(path: FilePath, number: int, text: str) -> Line:
         kind = command["cmd"]
         if kind in ("advance", "takeout", "meter", "read"):
             raise ValueError(f"{kind} is sent by streetsim-run itself")
-        wrong = [name for name in NEEDED.get(kind, ()) if type(command[name]) is not int]
+        wrong = [name for name in NEEDED_FIELDS.get(kind, ()) if type(command[name]) is not int]
         wrong += [name for name in MAY_HAVE if type(command.get(name, 0)) is not int]
         if wrong:
             raise ValueError(f"{wrong[0]} is no whole number")

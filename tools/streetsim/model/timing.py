@@ -34,7 +34,7 @@ class Timing:
     movements: list[SignalMovement]
     conflicts: set[frozenset[int]]  # pairs of indexes in the states whose ways cross or join
     # What each phase must keep: least, most and pedestrians' seconds, None: not written; empty: nothing is.
-    kept: Sequence[Sequence[int | None]] = ()
+    phase_limits: Sequence[Sequence[int | None]] = ()
 
     def states(self) -> list[str]:
         """The state in each second of the cycle, as `states_of` gives it."""
@@ -75,7 +75,7 @@ class Timing:
             "phases": [[*phase] for phase in self.phases],
             "kind": self.kind, "movements": [[one.edge, one.to, list(one.indexes)] for one in self.movements],
             "conflicts": sorted(sorted(pair) for pair in self.conflicts),
-            **({"kept": [[*one] for one in self.kept]} if self.kept else {}),
+            **({"kept": [[*one] for one in self.phase_limits]} if self.phase_limits else {}),
         }
 
 

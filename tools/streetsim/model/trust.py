@@ -27,7 +27,7 @@ MOST_OVERFULL = 0.1  # of the vehicles, that pass lanes whose queue grows all th
 MOST_SLOW = 0.15  # of the vehicles, that start slowly at lights
 MOST_RESERVED = 0.05  # of the vehicles, that drive on lanes of their own class
 MOST_CROWDED = 0.1  # of the vehicles, that pass nearly full streets which give way
-NAMED = 3  # edges, or lights
+MOST_NAMED = 3  # edges, or lights
 RESCUED = "(who stood too long and were put down on the next link)"
 RESERVED_OFF = "8 to 13 %"  # of trips of buses in SUMO that drive so (tools/CLOSENESS.md)
 SLOW_OFF = "4 to 15 %"  # of mean trips in SUMO where many start slowly (tools/CLOSENESS.md)
@@ -177,7 +177,7 @@ def actuated_doubts(clock: int, run: Run, mapping: Map, lights: Sequence[str]) -
     plans = plans_before(clock, run) if ways else []
     passed = [{ways[pair] for pair in pairwise(plan) if pair in ways} for plan in plans]
     if (count := sum(map(bool, passed))) > MOST_ACTUATED * len(plans):
-        most = [light for light, _ in Counter(light for met in passed for light in sorted(met)).most_common(NAMED)]
+        most = [light for light, _ in Counter(light for met in passed for light in sorted(met)).most_common(MOST_NAMED)]
         told = f"{count:,} of {count_told(len(plans), 'vehicle')} {'passes' if count == 1 else 'pass'} lights that are"
         yield f"{told} actuated in SUMO and show their listed seconds here: most of all {', '.join(most)}"
 
@@ -186,7 +186,7 @@ def crowding_doubts(vehicles: int, crowded: Mapping[str, int]) -> Iterator[str]:
     """A doubt where streets that give way without a light were nearly full, and were passed then more than a tenth as
     often as there are vehicles. vehicles: how many there are; crowded: {edge: how many pass it then}."""
     if (count := sum(crowded.values())) > MOST_CROWDED * vehicles:
-        most_passed = ", ".join(sorted(crowded, key=lambda edge: (-crowded[edge], edge))[:NAMED])
+        most_passed = ", ".join(sorted(crowded, key=lambda edge: (-crowded[edge], edge))[:MOST_NAMED])
         is_one = len(crowded) == 1
         give = "gives way without a light is" if is_one else "give way without a light are"
         yield (
@@ -201,8 +201,8 @@ def full_doubts(mapping: Map) -> Iterator[str]:
     whose queue grows all the time."""
     full = mapping.full
     if full.share > MOST_FULL or full.overfull_share > MOST_OVERFULL:
-        first = "; ".join(one.in_words() for one in full.lanes[:NAMED])
-        most = f", most of all {first}" if len(full.lanes) > NAMED else f": {first}"
+        first = "; ".join(one.in_words() for one in full.lanes[:MOST_NAMED])
+        most = f", most of all {first}" if len(full.lanes) > MOST_NAMED else f": {first}"
         yield (
             f"{full.vehicles:,} of {count_told(full.of, 'vehicle')} pass lanes that are nearly full by the demand, and "
             f"their queues may be other than in SUMO{most}"
@@ -233,7 +233,7 @@ def length_doubts(clock: int, run: Run, mapping: Map) -> Iterator[str]:
     if abs(metres[0] - metres[1]) > OTHER_LENGTH * metres[1]:
         used = {link for plan in plans for link in plan if cell_metres[link] != sumo_metres[link]}
         order = sorted(used, key=lambda link: (-abs(cell_metres[link] - sumo_metres[link]), link))
-        edges = ", ".join(dict.fromkeys(mapping.links[link].edge for link in order[:NAMED]))
+        edges = ", ".join(dict.fromkeys(mapping.links[link].edge for link in order[:MOST_NAMED]))
         share = 100 * (metres[0] / metres[1] - 1)
         how = f"{abs(share):.0f} % {'longer' if share > 0 else 'shorter'} here than in SUMO"
         yield f"routes are {how}, as edges are whole cells: most of all {edges}"

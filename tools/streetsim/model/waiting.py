@@ -22,7 +22,7 @@ class Gap:
     after: float = 1.0  # seconds after a foe passed its stop line, until it is out of the way
     rolling: float = 3.5  # seconds that have to be free for one who comes while nobody stands there, at any flow
 
-    def before(self, lane: float, street: float, every: float) -> float:
+    def seconds_needed(self, lane: float, street: float, every: float) -> float:
         """Seconds that have to be free, by vehicles an hour of the foe's lane, its street, and all who go first."""
         hourly = lane + self.beside * (street - lane) + self.others * (every - street)
         return max(self.least, self.seconds - self.less * hourly / 1000)

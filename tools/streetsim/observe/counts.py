@@ -30,7 +30,7 @@ class PeriodSums:
             sums = np.append(sums, np.zeros(rows * self.columns - len(sums)))
             self.table[low : low + rows] += sums.reshape(rows, -1).astype(np.int64)
 
-    def of(self, period: int) -> Array:
+    def sums_of(self, period: int) -> Array:
         """The sums of a period, 0 where none was added to."""
         return self.table[period] if period < len(self.table) else np.zeros(self.columns, np.int64)
 
@@ -53,7 +53,7 @@ class Counts(Observer):
         """Nobody has passed."""
         self.kernel, self.links, self.start = kernel, kernel.map.links, kernel.start
         self.last_cell = np.repeat(np.array([link.cells - 1 for link in self.links], np.int32), 2)
-        self.stay = np.repeat([kernel.map.nodes[link.end][3] for link in self.links], 2)
+        self.residence = np.repeat([kernel.map.nodes[link.end][3] for link in self.links], 2)
         self.passes, self.speeds, self.covered = (PeriodSums(2 * len(self.links)) for _ in range(3))
         self.sampled, self.present, self.moved, self.taken_out = (PeriodSums(len(self.links)) for _ in range(4))
         self.standing = {self.start: np.zeros(len(self.links), np.int64)}  # by clock: vehicles on the cells of links
@@ -61,13 +61,13 @@ class Counts(Observer):
     def see(self, seconds: Seconds) -> None:
         """Takes some seconds."""
         periods = (seconds.clocks - 1 - self.start) // self.period
-        into, over = seconds.joined_buffer(self.stay), seconds.arrivals
-        for at, slot, speed in (
+        into, over = seconds.joined_buffer(self.residence), seconds.arrivals
+        for second, slot, speed in (
             (seconds.second[into], seconds.slot[into], seconds.speed[into]),
             (over.second, over.slot, over.speed),
         ):
-            self.passes.add(periods[at], slot)
-            self.speeds.add(periods[at], slot, speed)
+            self.passes.add(periods[second], slot)
+            self.speeds.add(periods[second], slot, speed)
         begin = int(seconds.first[1])
         rows = np.flatnonzero(seconds.cell[begin:] == self.last_cell[seconds.slot[begin:]]) + begin
         self.covered.add(periods[seconds.second[rows]], seconds.slot[rows])
@@ -102,10 +102,10 @@ class Counts(Observer):
         for sums in (self.passes, self.speeds, self.covered, self.sampled, self.present, self.moved, self.taken_out):
             sums.grow(self.periods)
 
-    def row(self, lane_key: Place, at: int) -> Row:
+    def row(self, lane_key: Place, period: int) -> Row:
         """What a lane counted in a period, by its number from 0."""
-        slot, begin = 2 * lane_key[0] + lane_key[1], self.start + at * self.period
-        figures = (int(sums.table[at, slot]) for sums in (self.passes, self.speeds, self.covered))
+        slot, begin = 2 * lane_key[0] + lane_key[1], self.start + period * self.period
+        figures = (int(sums.table[period, slot]) for sums in (self.passes, self.speeds, self.covered))
         return Row(begin, min(self.period, self.clock - begin), *figures)
 
     def count_rows(self) -> Iterator[Entry]:
@@ -114,8 +114,8 @@ class Counts(Observer):
         passed."""
         for lane_key in self.kernel.map.lanes():
             link = self.links[lane_key[0]]
-            for at in range(self.periods):
-                row = self.row(lane_key, at)
+            for period in range(self.periods):
+                row = self.row(lane_key, period)
                 measures = f"{row.flow * 3600:.1f}", row.kmh(link.cell_metres), f"{row.density * 100:.1f}"
                 head = row.start, row.start + row.steps, link.edge, lane_key[0], link.lanes[lane_key[1]]
                 yield *head, row.passes, *measures
@@ -128,25 +128,27 @@ class Counts(Observer):
         mapping = self.kernel.map
         of_edges = mapping.links_of.items()
         slots = {edge: [2 * link + lane for link, lane in mapping.lanes(links)] for edge, links in of_edges}
-        for at in range(self.periods):
-            begin = self.start + at * self.period
+        for period in range(self.periods):
+            begin = self.start + period * self.period
             end = min(begin + self.period, self.clock)
-            change = self.standing[end] - self.standing[begin] + self.taken_out.table[at]
+            change = self.standing[end] - self.standing[begin] + self.taken_out.table[period]
             for edge, links in mapping.links_of.items():
-                exited = int(self.passes.table[at, slots[edge]].sum())
+                exited = int(self.passes.table[period, slots[edge]].sum())
                 entered = exited + int(change[links].sum()) if self.samples.has_samples else ""
-                texts = ("" if value is None else f"{value:.2f}" for value in self.seen_on(mapping, links, at))
+                texts = ("" if value is None else f"{value:.2f}" for value in self.seen_on(mapping, links, period))
                 yield begin, end, edge, entered, exited, *texts
 
-    def seen_on(self, mapping: Map, links: Sequence[int], at: int) -> tuple[float | None, float | None, float | None]:
+    def seen_on(
+        self, mapping: Map, links: Sequence[int], period: int
+    ) -> tuple[float | None, float | None, float | None]:
         """(vehicles a kilometre, km/h, seconds of travel) of an edge, by its links, in a period by its number, by the
         mean speed of all who were seen; None for each that is not known."""
-        count = int(self.sampled.table[at, 0])
+        count = int(self.sampled.table[period, 0])
         if not count:
             return None, None, None
         edge_links = sorted(set(links))
         tables = self.present.table, self.moved.table
-        vehicles, speeds = (sum(int(table[at, link]) / count for link in edge_links) for table in tables)
+        vehicles, speeds = (sum(int(table[period, link]) / count for link in edge_links) for table in tables)
         first_link = mapping.links[links[0]]
         density = vehicles / (first_link.metres / 1000)
         if not speeds:

@@ -55,7 +55,7 @@ class PlanPlaces:
         self.movements, self.plans, count = movements, plans, len(plans.first_places)
         # By vehicle, then by edge: keys of both, places of plans, and how often each was passed, by the key's first.
         self.keys = np.zeros(len(plans.links), np.int64)
-        self.positions, self.passed = (np.zeros(len(plans.links), np.int32) for _ in range(2))
+        self.positions, self.passage_counts = (np.zeros(len(plans.links), np.int32) for _ in range(2))
         for begin, end in pairwise((*range(0, count, PLANS_AT_ONCE), count)):
             part = slice(plans.first_places[begin], plans.end_places[end - 1])
             keys = plans.vehicles(begin, end) * len(movements.edges) + movements.edge_of[plans.links[part]]
@@ -68,37 +68,38 @@ class PlanPlaces:
         of this one. edge: by number of an approach. Passages are given once, in the order of their ends."""
         wanted_keys = owner.astype(np.int64) * len(self.movements.edges) + self.movements.approach_edges[edge]
         low, high = (np.searchsorted(self.keys, wanted_keys, side) for side in ("left", "right"))
-        at, several = low.copy(), np.flatnonzero(high - low > 1)
+        place, several = low.copy(), np.flatnonzero(high - low > 1)
         several = several[np.argsort(wanted_keys[several], kind="stable")]
         begins, group = groups_of(wanted_keys[several])
-        rank = self.passed[low[several]] + np.arange(len(several)) - begins[group]
-        at[several] = np.minimum(low[several] + rank, high[several] - 1)
-        np.add.at(self.passed, low[several], 1)
-        return self.positions[np.minimum(at, len(self.positions) - 1)], high > low
+        rank = self.passage_counts[low[several]] + np.arange(len(several)) - begins[group]
+        place[several] = np.minimum(low[several] + rank, high[several] - 1)
+        np.add.at(self.passage_counts, low[several], 1)
+        return self.positions[np.minimum(place, len(self.positions) - 1)], high > low
 
 
 class Crossings:
     """Passages of approaches, as columns: movement by its number, slot, following link, end, line, delay, stops, stood,
-    alone, before. Those whose plan ends on the approach or does not have its edge are left out, and those that left it
-    from an edge before: they arrived, turned back or were rescued there."""
+    alone, stood_before. Those whose plan ends on the approach or does not have its edge are left out, and those that
+    left it from an edge before: they arrived, turned back or were rescued there."""
 
-    def __init__(self, planned: PlanPlaces, ended: Columns) -> None:
-        """ended: as `Passages.done` gives them; they follow those of the Crossings before."""
+    def __init__(self, planned: PlanPlaces, columns: Columns) -> None:
+        """columns: as `Passages.ended_passages` gives them; they follow those of the Crossings before."""
         plans, movements = planned.plans, planned.movements
-        rows = np.flatnonzero(movements.edge_of[ended["slot"] // 2] == movements.approach_edges[ended["edge"]])
-        at, is_planned = planned.places_of(ended["owner"][rows], ended["edge"][rows])
-        going_on = is_planned & (at + 1 < plans.end_places[ended["owner"][rows]])
-        ended, at = {name: values[rows[going_on]] for name, values in ended.items()}, at[going_on]
-        first_place, floor = at.copy(), plans.first_places[ended["owner"]]
-        while (off := (plans.links[first_place] != ended["first"]) & (first_place > floor)).any():
+        rows = np.flatnonzero(movements.edge_of[columns["slot"] // 2] == movements.approach_edges[columns["edge"]])
+        place, is_planned = planned.places_of(columns["owner"][rows], columns["edge"][rows])
+        going_on = is_planned & (place + 1 < plans.end_places[columns["owner"][rows]])
+        columns, place = {name: values[rows[going_on]] for name, values in columns.items()}, place[going_on]
+        first_place, floor = place.copy(), plans.first_places[columns["owner"]]
+        while (off := (plans.links[first_place] != columns["first"]) & (first_place > floor)).any():
             first_place[off] -= 1
-        first_place = np.where(plans.links[first_place] == ended["first"], first_place, at)
-        self.following = plans.links[at + 1]
-        edge = movements.approach_edges[ended["edge"]]
+        first_place = np.where(plans.links[first_place] == columns["first"], first_place, place)
+        self.following = plans.links[place + 1]
+        edge = movements.approach_edges[columns["edge"]]
         self.movement = edge * len(movements.edges) + movements.edge_of[self.following]
-        self.delay = ended["end"] - ended["begin"] - plans.seconds_between(first_place, at) - ended["dwell"]
-        self.slot, self.end, self.line, self.before = (ended[name] for name in ("slot", "end", "line", "before"))
-        self.stops, self.stood, self.alone = (ended[name] for name in ("stops", "stood", "alone"))
+        self.delay = columns["end"] - columns["begin"] - plans.seconds_between(first_place, place) - columns["dwell"]
+        self.slot, self.end = columns["slot"], columns["end"]
+        self.line, self.stood_before = columns["line"], columns["before"]
+        self.stops, self.stood, self.alone = (columns[name] for name in ("stops", "stood", "alone"))
         distinct, group = np.unique(self.movement, return_inverse=True)
         losses = [movements.losses_of(number) for number in distinct.tolist()]
         of_stop, of_all = np.array(losses, float).reshape(-1, 2).T
@@ -110,24 +111,24 @@ class Crossed:
     """What the crossings of a run come to: by interval what movements lost, and by lane who passed the stop line."""
 
     def __init__(
-        self, passages: Passages, plans: Plans, interval: int, stopped: Mapping[int, Sequence[Dwell]]
+        self, passages: Passages, plans: Plans, interval: int, dwells_of: Mapping[int, Sequence[Dwell]]
     ) -> None:
-        """plans: of the vehicles; interval, stopped: as of `done` of the passages, which are let go."""
+        """plans: of the vehicles; interval, dwells_of: as of `ended_passages` of the passages, which are let go."""
         self.movements, lanes, start = Movements(passages), len(passages.lane_keys), passages.kernel.start
         self.lost: dict[int, tuple[Array, ...]] = {}  # by interval
         self.log = Log({"line": "i4", "slot": "u2", "before": "i2", "stood": "?"})
-        self.passed, self.alone = PeriodSums(lanes), PeriodSums(lanes)  # by interval and lane
+        self.passes, self.alone = PeriodSums(lanes), PeriodSums(lanes)  # by interval and lane
         self.lane_links = np.zeros(0, np.int64)  # SLOTS times the lane, and the link to which they go, each pair once
         planned = PlanPlaces(self.movements, plans)
-        for number, part in passages.ended_passages(interval, stopped):
+        for number, part in passages.ended_passages(interval, dwells_of):
             crossings = Crossings(planned, part)
             self.lost[number] = tuple(self.sums_of(crossings))
             lane, at = passages.column[crossings.slot], (crossings.line - 1 - start) // interval
             alone = (crossings.stood == 0) & (crossings.alone > 0)
-            self.passed.add(at, lane)
+            self.passes.add(at, lane)
             self.alone.add(at[alone], lane[alone])
             self.lane_links = np.union1d(self.lane_links, crossings.slot.astype(np.int64) * SLOTS + crossings.following)
-            columns = {"line": crossings.line, "slot": crossings.slot, "before": crossings.before}
+            columns = {"line": crossings.line, "slot": crossings.slot, "before": crossings.stood_before}
             self.log.add({**columns, "stood": crossings.stood > 0})
 
     def sums_of(self, crossings: Crossings) -> Iterator[Array]:

@@ -82,7 +82,7 @@ class Detectors(Observer):
             periods = (item for item in self.areas.by_period.items() if item[0][0] == detector.name)
             for (_, begin), area in sorted(periods):
                 metres = (detector.last - detector.first + 1) * detector.cell_metres
-                vehicles = f"{area.vehicles / area.samples:.2f}", area.most
+                vehicles = f"{area.vehicles / area.samples:.2f}", area.most_vehicles
                 speed = f"{area.speeds / area.vehicles * 3.6 * detector.cell_metres:.1f}" if area.vehicles else ""
                 occupancy = f"{area.covered / area.samples / metres * 100:.1f}"
                 jam = f"{area.jams / area.samples:.2f}", area.longest

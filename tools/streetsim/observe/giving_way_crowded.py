@@ -30,15 +30,15 @@ def crowded_edges(mapping: Map, reds: Reds, passed: StopLinePassings, start: int
     return dict(vehicles_of)
 
 
-def used_shares(reds: Reds, passed: StopLinePassings, start: int) -> Iterator[tuple[Place, int, float]]:
+def used_shares(reds: Reds, passings: StopLinePassings, start: int) -> Iterator[tuple[Place, int, float]]:
     """(lane, how many vehicles pass, the share of the lane's time that they take) for each lane that gives way and each
     part of PART_S in which any pass; above 1: more than a queue could. Arguments: as of crowded_edges."""
     room: dict[TurnKey, list[float]] = {}
     for yielding, red in reds:
         room.update(dict.fromkeys(yielding.turns, list(could_pass(red))))
     lanes: defaultdict[tuple[Place, int], Counter[int]] = defaultdict(Counter)
-    for lane_key in {(link, lane) for link, lane, _ in room} & passed.keys():
-        for second, following, _ in passed[lane_key]:
+    for lane_key in {(link, lane) for link, lane, _ in room} & passings.keys():
+        for second, following, _ in passings[lane_key]:
             lanes[lane_key, int(second - start) // PART_S][following] += 1
     for (lane_key, part), counts in sorted(lanes.items()):
         shares = (share_taken(count, room.get((*lane_key, following)), part) for following, count in counts.items())

@@ -37,33 +37,33 @@ def gap_lines(mapping: Map, passed: StopLinePassings, start: int) -> list[tuple[
     return signal_lines(mapping, shown_reds(mapping, reds, passed, start), start)
 
 
-def reds_of(mapping: Map, passed: StopLinePassings, start: int) -> list[tuple[GivingWay, bytearray]]:
+def reds_of(mapping: Map, passings: StopLinePassings, start: int) -> list[tuple[GivingWay, bytearray]]:
     """(one who gives way, a byte for each second from start to TAIL_S after the last passing, 1: red) for each
     GivingWay of a map; those before whom nobody comes, and that have no pace, are left out. Arguments: as of
     gap_lines."""
-    seconds = (second for lane_passings in passed.values() for second, *_ in lane_passings)
+    seconds = (second for lane_passings in passings.values() for second, *_ in lane_passings)
     end = int(max(seconds, default=start)) + TAIL_S
-    times = by_turn(passed)
-    stands = stands_of(passed, {turn for yielding in mapping.yields for turn in yielding.turns}, UNSEEN)
+    times = by_turn(passings)
+    stands = stands_of(passings, {turn for yielding in mapping.yields for turn in yielding.turns}, UNSEEN)
     reds = ((yielding, red_seconds(yielding, times, start, end, stands)) for yielding in mapping.yields)
     return [(yielding, red) for yielding, red in reds if red is not None]
 
 
 def shown_reds(
-    mapping: Map, reds: Iterable[tuple[GivingWay, bytearray]], passed: StopLinePassings, start: int
+    mapping: Map, reds: Iterable[tuple[GivingWay, bytearray]], passings: StopLinePassings, start: int
 ) -> list[tuple[GivingWay, bytearray]]:
     """What reds_of gave, with those seconds alone red in which somebody stands at the line, or in which one would have
     to stop who comes to it. Arguments: as of gap_lines."""
-    times, shown_by = by_turn(passed), []
-    stands = stands_of(passed, {turn for yielding in mapping.yields for turn in yielding.turns}, 0.0)
+    times, shown_by = by_turn(passings), []
+    stands = stands_of(passings, {turn for yielding in mapping.yields for turn in yielding.turns}, 0.0)
     signals: dict[TurnKey, Signals] = {}
     for yielding, standing in reds:
         rolling = standing if yielding.pace else rolling_seconds(yielding, times, start, len(standing), stands)
         shown = bytearray(rolling)
         signals.update(dict.fromkeys(yielding.turns, (standing, rolling, shown)))
         shown_by.append((yielding, shown))
-    for lane_key in passed.keys() & {(link, lane) for link, lane, _ in signals}:
-        show_to_standing(lane_key, passed[lane_key], signals, start)
+    for lane_key in passings.keys() & {(link, lane) for link, lane, _ in signals}:
+        show_to_standing(lane_key, passings[lane_key], signals, start)
     return shown_by
 
 
@@ -123,15 +123,15 @@ def node_lines(node: int, turns: Sequence[TurnKey], groups: Sequence[Group], sta
         return turns, ",".join(f"[{link},{lane},{following}]" for link, lane, following in turns)
 
     phases, open_ = phases_of_reds([red for _, red in groups]), (limits.PHASE_STEPS, (0,) * len(groups))
-    shown = {state: green(state) for state in {state for _, state in [*phases, open_]}}
+    greens_of_state = {state: green(state) for state in {state for _, state in [*phases, open_]}}
     parts = [phases[begin : begin + limits.PHASES] for begin in range(0, len(phases), limits.PHASES)]
     clock = start
     for part in [*parts, [open_]]:
-        listed = ",".join(f"[{length},[{shown[state][1]}]]" for length, state in part)
+        listed = ",".join(f"[{length},[{greens_of_state[state][1]}]]" for length, state in part)
         seconds = sum(length for length, _ in part)
         offset = -clock % seconds
         text = f'{{"cmd":"signal","node":{node},"offset":{offset},"phases":[{listed}]}}'
-        shown_phases = [(length, shown[state][0]) for length, state in part]
+        shown_phases = [(length, greens_of_state[state][0]) for length, state in part]
         yield clock, Line(0, text, {"cmd": "signal", "node": node, "offset": offset, "phases": shown_phases})
         clock += seconds
 
@@ -152,20 +152,20 @@ def red_seconds(waiting: GivingWay, times: Times, start: int, end: int, stands: 
     """For the turns of one GivingWay a byte for each second from start to before end, 1: red, as somebody comes
     who goes first, so that they use a gap slowly, or to keep their pace; be_patient makes some green. None where nobody
     comes and they have no pace. times: when vehicles pass, by turn; stands: as stands_of gives them."""
-    comes = [(second, foe) for foe in waiting.foes for second in times.get((foe.link, foe.lane, foe.next), ())]
-    comes.sort(key=lambda coming: coming[0])
-    if not comes and waiting.pace is None:
+    arrivals = [(second, foe) for foe in waiting.foes for second in times.get((foe.link, foe.lane, foe.next), ())]
+    arrivals.sort(key=lambda coming: coming[0])
+    if not arrivals and waiting.pace is None:
         return None
-    red, owed, counts = bytearray(end - start), 0.5, GapCounts(comes)
-    for second, foe in comes:
+    red, owed, counts = bytearray(end - start), 0.5, GapCounts(arrivals)
+    for second, foe in arrivals:
         if not foe.gap.seconds:  # all stop, and go in turn
             continue
         stood = stands.get(((foe.link, foe.lane, foe.next), second), 0.0)
-        length = foe.gap.before(*counts.flows_around(second, foe)) + stood + foe.gap.after + owed
+        length = foe.gap.seconds_needed(*counts.flows_around(second, foe)) + stood + foe.gap.after + owed
         owed = length % 1
         red_end = round(second + foe.gap.after) - start
         mark(red, red_end - int(length), red_end)
-    if any(foe.slow for _, foe in comes):
+    if any(foe.slow for _, foe in arrivals):
         for sooner, later in followings(sorted(second for turn in waiting.turns for second in times.get(turn, ()))):
             slow_down(red, int(sooner) - start, int(later) - start)
     if waiting.pace is not None:
@@ -198,15 +198,15 @@ def show_to_standing(
     previous = -int(FOLLOWING_S)
     for _, following, due in sorted(passing):
         due_byte = max(0, int(due) - start)
-        at = max(due_byte, previous + int(FOLLOWING_S))
+        second = max(due_byte, previous + int(FOLLOWING_S))
         if turn_signals := signals.get((*lane_key, following)):
             standing, rolling, shown = turn_signals
-            if at > due_byte or rolling[at : at + 1] == b"\1":
-                begin = previous + 1 if at > due_byte else at
-                free = standing.find(0, at)
-                at = len(shown) if free < 0 else free
-                shown[max(0, begin) : at + CLOSE_S] = standing[max(0, begin) : at + CLOSE_S]
-        previous = at
+            if second > due_byte or rolling[second : second + 1] == b"\1":
+                begin = previous + 1 if second > due_byte else second
+                free = standing.find(0, second)
+                second = len(shown) if free < 0 else free
+                shown[max(0, begin) : second + CLOSE_S] = standing[max(0, begin) : second + CLOSE_S]
+        previous = second
 
 
 def near_passings(waiting: GivingWay, times: Times, start: int, length: int) -> bytearray:
@@ -220,17 +220,17 @@ def near_passings(waiting: GivingWay, times: Times, start: int, length: int) -> 
     return near
 
 
-def keep_pace(red: bytearray, pace: Pace, comes: Sequence[float], near: Sequence[int], start: int) -> None:
+def keep_pace(red: bytearray, pace: Pace, arrivals: Sequence[float], near: Sequence[int], start: int) -> None:
     """Makes seconds of red red so that those who have to stop follow each other as slowly as in SUMO, where somebody is
-    near (a byte a second, by near_passings). comes: the seconds at which others come, rising; start: the clock of the
-    first byte."""
-    at, owed = 0, 0.0
-    while at < len(red):
-        period = pace.period(hourly_around(comes, at + start)) + owed
+    near (a byte a second, by near_passings). arrivals: the seconds at which others come, rising; start: the clock of
+    the first byte."""
+    cycle_begin, owed = 0, 0.0
+    while cycle_begin < len(red):
+        period = pace.period(hourly_around(arrivals, cycle_begin + start)) + owed
         owed = period % 1
-        for second in range(at + pace.shown, min(len(red), at + int(period))):
+        for second in range(cycle_begin + pace.shown, min(len(red), cycle_begin + int(period))):
             red[second] |= near[second]
-        at += int(period)
+        cycle_begin += int(period)
 
 
 class GapCounts:

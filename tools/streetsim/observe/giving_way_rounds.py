@@ -48,7 +48,7 @@ def run_round(
     passings, controllers = Passings(), Steering(run, mapping, settings, True).controllers
     with start_program() as program:
         Kernel(program, run, mapping, controllers, [passings, ProgressReports(report_progress)]).go(settings.until)
-    return passings.passed()
+    return passings.stop_line_passings()
 
 
 def giving_way(

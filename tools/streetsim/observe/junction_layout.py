@@ -8,7 +8,7 @@ from math import atan2, degrees
 from typing import Any
 
 from streetsim.model.mapping import Map, Place, Shape
-from streetsim.model.runs import Sent
+from streetsim.model.runs import TimedCommand
 from streetsim.model.service import PRIORITY, ROUNDABOUT, SIGNALS
 
 STRAIGHT, BACK = 45, 150  # degrees: less is straight on, more is a turn back
@@ -26,13 +26,13 @@ class Approach:
     lanes: list[Place] = field(default_factory=list)  # (link, lane) of its edge
     movements: dict[str, str] = field(default_factory=dict)  # next edge: L, T, R or U
     # Links of each edge before, the nearest first, turning back apart.
-    before: list[list[int]] = field(default_factory=list)
-    whole: float = 0.0  # metres, with the edges before
+    edges_before: list[list[int]] = field(default_factory=list)
+    whole_metres: float = 0.0  # metres, with the edges before
 
     @property
     def all_links(self) -> list[int]:
         """The links of its edge, then those of the edges before, the nearest first."""
-        return [*self.links, *(link for links in self.before for link in links)]
+        return [*self.links, *(link for links in self.edges_before for link in links)]
 
 
 def approaches_of(mapping: Map) -> dict[str, Approach]:
@@ -71,35 +71,36 @@ def junction_nodes(mapping: Map) -> set[int]:
 
 def rings_of(mapping: Map) -> dict[int, int]:
     """By node of a roundabout the least number of a node of the same roundabout."""
-    least: dict[int, int] = {}
+    least_number: dict[int, int] = {}
     edges = [link for link in mapping.links if link.edge in mapping.rings]
     for link in edges:
         for node in (link.begin, link.end):
-            least.setdefault(node, node)
+            least_number.setdefault(node, node)
     for _ in edges:  # as often as a ring may be long
         for link in edges:
-            least[link.begin] = least[link.end] = min(least[link.begin], least[link.end])
-    return least
+            least_number[link.begin] = least_number[link.end] = min(least_number[link.begin], least_number[link.end])
+    return least_number
 
 
 def set_edges_before(mapping: Map, approaches: Mapping[str, Approach], junctions: Collection[int]) -> None:
-    """Sets before and whole of new approaches; edges before go back at most to the next of some junctions (nodes)."""
-    before, after = defaultdict(set), defaultdict(set)
+    """Sets edges_before and whole_metres of new approaches; the edges go back at most to the next of some junctions
+    (nodes)."""
+    sources, targets = defaultdict(set), defaultdict(set)
     for turn in mapping.turns:
         source, target = mapping.links[turn.link], mapping.links[turn.next]
         if turn_name(source.shape, target.shape) != "U":
-            before[target.edge].add(source.edge)
-            after[source.edge].add(target.edge)
+            sources[target.edge].add(source.edge)
+            targets[source.edge].add(target.edge)
     for approach in approaches.values():
-        edge, passed = approach.edge, {approach.edge}
-        approach.whole = approach.metres
-        while mapping.links[mapping.links_of[edge][0]].begin not in junctions and len(before[edge]) == 1:
-            (sooner,) = before[edge]
-            if after[sooner] != {edge} or sooner in passed:
+        edge, passed_edges = approach.edge, {approach.edge}
+        approach.whole_metres = approach.metres
+        while mapping.links[mapping.links_of[edge][0]].begin not in junctions and len(sources[edge]) == 1:
+            (sooner,) = sources[edge]
+            if targets[sooner] != {edge} or sooner in passed_edges:
                 break
-            approach.before.append(mapping.links_of[sooner])
-            approach.whole += mapping.links[mapping.links_of[sooner][0]].metres
-            edge, passed = sooner, passed | {sooner}
+            approach.edges_before.append(mapping.links_of[sooner])
+            approach.whole_metres += mapping.links[mapping.links_of[sooner][0]].metres
+            edge, passed_edges = sooner, passed_edges | {sooner}
 
 
 def movements_that_stop(mapping: Map) -> set[tuple[str, str]]:
@@ -136,17 +137,17 @@ class Greens:
     """What the signals of a run show to each lane; steps are clocks at their begin. A node without a light always shows
     green to all."""
 
-    def __init__(self, mapping: Map, signals: Iterable[Sent]) -> None:
+    def __init__(self, mapping: Map, signals: Iterable[TimedCommand]) -> None:
         """signals: (clock at which it is sent, command), in any order."""
         self.mapping = mapping
         # By node: (clock from which it holds, command).
-        self.plans: dict[int, list[Sent]] = {node: [] for _, node in mapping.signals}
+        self.plans: dict[int, list[TimedCommand]] = {node: [] for _, node in mapping.signals}
         self.clocks: dict[int, list[int]] = {node: [] for node in self.plans}
         # By the list of a plan's phases, which its command keeps: the ends of these, and by lane what is green in each.
-        self.shown: dict[int, tuple[list[int], dict[Place, list[frozenset[int]]]]] = {}
+        self.greens_by_plan: dict[int, tuple[list[int], dict[Place, list[frozenset[int]]]]] = {}
         self.add(signals)
 
-    def add(self, signals: Iterable[Sent]) -> None:
+    def add(self, signals: Iterable[TimedCommand]) -> None:
         """Adds signals, in any order, none of which is sent before those that are known."""
         for clock, command in sorted(signals, key=lambda pair: pair[0]):
             if command["node"] in self.plans:
@@ -186,9 +187,9 @@ class Greens:
     def ends_and_greens_of(self, node: int, number: int) -> tuple[list[int], dict[Place, list[frozenset[int]]]]:
         """What `ends_and_greens` gives of a plan, by its number among those of the node."""
         phases = self.plans[node][number][1]["phases"]
-        if id(phases) not in self.shown:
-            self.shown[id(phases)] = ends_and_greens(phases)
-        return self.shown[id(phases)]
+        if id(phases) not in self.greens_by_plan:
+            self.greens_by_plan[id(phases)] = ends_and_greens(phases)
+        return self.greens_by_plan[id(phases)]
 
 
 def ends_and_greens(phases: Sequence[Sequence[Any]]) -> tuple[list[int], dict[Place, list[frozenset[int]]]]:

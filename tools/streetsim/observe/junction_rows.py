@@ -58,7 +58,7 @@ class JunctionTables:
         lane_queues = [queues[lane_key] for lane_key in approach.lanes]
         head = interval.begin, interval.end, approach.junction, approach.control, approach.edge
         ratio_columns = f"{max(ratios):.2f}", level(lost.delay, approach.control)
-        queued = queue_columns(lane_queues, approach.whole)
+        queued = queue_columns(lane_queues, approach.whole_metres)
         if fills(float(queued[2]), float(queued[3])):
             self.filled.add(approach.edge)
         self.approaches.append((*head, *loss_columns(lost, interval), *queued, *ratio_columns))
@@ -79,7 +79,7 @@ class JunctionTables:
         head = interval.begin, interval.end, approach.junction, approach.control, approach.edge, target, name
         flow_columns = f"{flow:.0f}", f"{capacity:.0f}" if capacity else "", f"{ratio:.2f}"
         letter = level(lost.delay, approach.control, ratio)
-        columns = *loss_columns(lost, interval), *queue_columns(used, approach.whole)
+        columns = *loss_columns(lost, interval), *queue_columns(used, approach.whole_metres)
         self.movements.append((*head, *columns, *flow_columns, letter))
         return ratio
 

@@ -33,37 +33,37 @@ class Junctions(Passages):
     def begin(self, kernel: Kernel) -> None:
         """Nothing is kept."""
         super().begin(kernel)
-        self.begun: list[tuple[Array, Array]] = []  # of the interval under way: queues, who had stood
+        self.begun_interval: list[tuple[Array, Array]] = []  # of the interval under way: queues, who had stood
         self.packed_intervals: list[bytes] = []  # of each interval a packed ShownInterval
         # Begin, and seconds to come, of the interval under way.
         self.clock, self.seconds_left = kernel.start, self.interval
         signals = [(kernel.start, line.command) for line in kernel.run.first if line.command["cmd"] == "signal"]
-        self.shown, self.sent = ShownPlans(kernel.map, signals), 0  # sent: lines that are in it
+        self.shown_plans, self.sent_count = ShownPlans(kernel.map, signals), 0  # sent_count: lines in them
 
     def log_lanes(self, seconds: Seconds, back: Array, stood: Array) -> None:
         """Takes what lanes showed in some seconds."""
         while len(back) and self.lane_keys:
-            self.begun.append((back[: self.seconds_left], stood[: self.seconds_left].astype(COUNT)))
-            count = len(self.begun[-1][0])
+            self.begun_interval.append((back[: self.seconds_left], stood[: self.seconds_left].astype(COUNT)))
+            count = len(self.begun_interval[-1][0])
             back, stood, self.seconds_left = back[count:], stood[count:], self.seconds_left - count
             if not self.seconds_left:
                 self.keep_interval()
 
     def keep_interval(self) -> None:
         """Sums up the interval under way, which is over."""
-        sent = self.kernel.sent[self.sent :]
+        sent = self.kernel.sent[self.sent_count :]
         lines = ((following.clock, following.line.command) for following in sent)
-        self.shown.plans.add((clock, command) for clock, command in lines if command["cmd"] == "signal")
-        self.sent += len(sent)
-        back, stood = (np.concatenate(parts) for parts in zip(*self.begun, strict=True))
-        shown_interval = make_shown_interval(self.shown, self.lanes, self.lane_keys, self.clock, back, stood)
+        self.shown_plans.plans.add((clock, command) for clock, command in lines if command["cmd"] == "signal")
+        self.sent_count += len(sent)
+        back, stood = (np.concatenate(parts) for parts in zip(*self.begun_interval, strict=True))
+        shown_interval = make_shown_interval(self.shown_plans, self.lanes, self.lane_keys, self.clock, back, stood)
         self.packed_intervals.append(zlib.compress(pickle.dumps(shown_interval), 1))
-        self.begun, self.clock, self.seconds_left = [], self.clock + len(back), self.interval
+        self.begun_interval, self.clock, self.seconds_left = [], self.clock + len(back), self.interval
 
     def end(self, clock: int) -> None:
         """Sums up the last interval, which may be shorter."""
         self.until = clock
-        if self.begun:
+        if self.begun_interval:
             self.keep_interval()
 
     def write(self, folder: str, stops: Iterable[Done]) -> tuple[list[str], list[str]]:
@@ -73,7 +73,7 @@ class Junctions(Passages):
         kernel = self.kernel
         run, mapping, start = kernel.run, kernel.map, kernel.start
         crossed = Crossed(self, kernel.plans, self.interval, dwells(stops))
-        calculator = UtilisationCalculator(self, self.shown, crossed, run.load.command["dawdle"])
+        calculator = UtilisationCalculator(self, self.shown_plans, crossed, run.load.command["dawdle"])
         tables = JunctionTables(self.approaches, mapping.full.junctions())
         shown = map(pickle.loads, map(zlib.decompress, self.packed_intervals))
         intervals = itertools.starmap(calculator.interval_measures, enumerate(shown))

@@ -5,7 +5,7 @@ import os
 from collections.abc import Sequence
 
 from streetsim.base.files import Fault, FilePath, Json, whole_file
-from streetsim.model.folder import KEPT, LIGHTS
+from streetsim.model.folder import RUN_LINES, LIGHTS
 from streetsim.model.mapping import Map
 from streetsim.model.runs import Run, texts_of
 from streetsim.model.sources import sum_of, sum_of_lines
@@ -13,7 +13,7 @@ from streetsim.model.sources import sum_of, sum_of_lines
 
 def write_kept(folder: str, run: Run) -> None:
     """Writes run.jsonl.gz, the lines of a run with those of its works, to a folder; Fault where that fails."""
-    with whole_file(f"{folder}/{KEPT}") as file:
+    with whole_file(f"{folder}/{RUN_LINES}") as file:
         file.writelines(line + "\n" for line in texts_of(run))
 
 

@@ -34,7 +34,7 @@ class UtilisationCalculator:
 
     def __init__(self, passages: Passages, shown: ShownPlans, crossed: Crossed, dawdle: float) -> None:
         """dawdle: of 1,000."""
-        self.passages, self.shown, self.crossed = passages, shown, crossed
+        self.passages, self.shown_plans, self.crossed = passages, shown, crossed
         slots = {(link, lane): 2 * link + lane for link, lane in passages.lane_keys}
         self.used_links: dict[Place, set[int]] = {key: set() for key in slots}  # the links to which vehicles go from it
         for slot, link in zip(*(column.tolist() for column in np.divmod(crossed.lane_links, SLOTS)), strict=True):
@@ -72,19 +72,19 @@ class UtilisationCalculator:
             end = min(end, begin + int(before[begin]))
             if end - begin >= QUEUE and stood[begin:end].all():
                 first, fourth, last = (int(lines[at]) for at in (begin, begin + 3, end - 1))
-                if (green := self.shown.plans.begin_of(*lane_key, first - 1)) is not None:
+                if (green := self.shown_plans.plans.begin_of(*lane_key, first - 1)) is not None:
                     headway = (last - fourth) / (end - begin - 4)
                     yield Discharge(headway, fourth - green - 4 * headway)
 
-    def interval_measures(self, number: int, shown: ShownInterval) -> Interval:
+    def interval_measures(self, number: int, shown_interval: ShownInterval) -> Interval:
         """What vehicles lost whose passages ended in an interval, by its number from 0, and the queues and the use of
         lanes then."""
-        interval = Interval(shown.begin, shown.end)
+        interval = Interval(shown_interval.begin, shown_interval.end)
         interval.lost, interval.lanes = self.crossed.losses_in(number)
-        ends = np.cumsum(shown.cycles).tolist()
-        queues = shown.queues.astype(np.float64).tolist()
+        ends = np.cumsum(shown_interval.cycles).tolist()
+        queues = shown_interval.queues.astype(np.float64).tolist()
         interval.queues = {key: queues[begin:end] for key, begin, end in zip(self.lane_keys, [0, *ends], ends)}
-        self.add_uses(interval, number, shown)
+        self.add_uses(interval, number, shown_interval)
         return interval
 
     def greens_of(self, node: int, phases: tuple[int, ...]) -> LaneGreens:
@@ -92,7 +92,7 @@ class UtilisationCalculator:
         if (node, phases) not in self.greens:
             lane_keys = [self.passages.lane_keys[lane] for lane in self.passages.lanes[node]]
             used = [self.used_links[lane_key] for lane_key in lane_keys]
-            lanes = list(zip(self.shown.greens(node, lane_keys, phases), used, strict=True))
+            lanes = list(zip(self.shown_plans.greens(node, lane_keys, phases), used, strict=True))
             self.greens[node, phases] = LaneGreens(
                 np.array([[shown is None or bool(shown & links) for shown in greens] for greens, links in lanes]),
                 np.array([all_have_same_green(greens, links) for greens, links in lanes]),
@@ -109,24 +109,24 @@ class UtilisationCalculator:
             parts.append((greens.has_green[:, [column_of[phase] for phase in phases]].ravel(), greens.same_green))
         return LaneGreens(*(np.concatenate(arrays) for arrays in zip(*parts, strict=True)))
 
-    def add_uses(self, interval: Interval, number: int, shown: ShownInterval) -> None:
+    def add_uses(self, interval: Interval, number: int, shown_interval: ShownInterval) -> None:
         """Adds the v/c of lanes, 0 where nobody passed or nothing was green. Those by whom a queue grew are in it."""
-        greens = self.greens_in(shown)
+        greens = self.greens_in(shown_interval)
         counts = [len(lanes) for lanes in self.passages.lanes.values()]
-        node = np.repeat(np.arange(len(shown.spans)), counts)  # by lane
-        spans = shown.spans[node]
+        node = np.repeat(np.arange(len(shown_interval.spans)), counts)  # by lane
+        spans = shown_interval.spans[node]
         lasts = np.cumsum(spans)
         firsts = lasts - spans  # of each lane the first of its spans
-        of_node = (np.cumsum(shown.spans) - shown.spans)[node]
-        seconds = shown.seconds[np.arange(lasts[-1]) - np.repeat(firsts - of_node, spans)]
+        of_node = (np.cumsum(shown_interval.spans) - shown_interval.spans)[node]
+        seconds = shown_interval.seconds[np.arange(lasts[-1]) - np.repeat(firsts - of_node, spans)]
         before = np.append(False, greens.has_green[:-1])
         before[firsts] = False
-        parts = greens.has_green * seconds, greens.has_green * shown.waiting, greens.has_green & ~before
+        parts = greens.has_green * seconds, greens.has_green * shown_interval.waiting, greens.has_green & ~before
         green, waiting, begins = (np.add.reduceat(part, firsts, dtype=np.int64) for part in parts)
-        count, alone = (sums.of(number)[self.lanes] for sums in (self.crossed.passed, self.crossed.alone))
+        count, alone = (sums.sums_of(number)[self.lanes] for sums in (self.crossed.passes, self.crossed.alone))
         by_green = count / (self.flow * np.maximum(1.0, green - self.lost * begins) / 3600)
         ratio = np.where(greens.same_green, by_green, self.by_busy_seconds(alone, waiting, green))
-        ratio *= 1 + grown(shown, greens.has_green, firsts, lasts) / np.maximum(1, count)
+        ratio *= 1 + grown(shown_interval, greens.has_green, firsts, lasts) / np.maximum(1, count)
         interval.uses = dict(zip(self.lane_keys, np.where((count > 0) & (green > 0), ratio, 0.0).tolist(), strict=True))
         interval.flows = dict(zip(self.lane_keys, self.flow.tolist(), strict=True))
 
@@ -137,7 +137,7 @@ class UtilisationCalculator:
         return np.minimum(1.0, (waiting + alone * 3600 / self.flow) / np.maximum(1, green))
 
 
-def grown(shown: ShownInterval, open_: Array, firsts: Array, lasts: Array) -> Array:
+def grown(interval: ShownInterval, open_: Array, firsts: Array, lasts: Array) -> Array:
     """By lane how many more had stood at the last end of green than at the first, or, where no green ends, in the last
     second than in the first; 0 for fewer. open_: by lane and span whether it is green; firsts, lasts: of each lane the
     first of its spans, and the one behind its last."""
@@ -145,6 +145,6 @@ def grown(shown: ShownInterval, open_: Array, firsts: Array, lasts: Array) -> Ar
     following[lasts - 1] = True
     ends = np.append(np.flatnonzero(open_ & ~following), lasts[-1])
     low, high = np.searchsorted(ends, firsts), np.searchsorted(ends, lasts) - 1
-    first = np.where(low <= high, shown.stood_last[np.minimum(ends[low], lasts - 1)], shown.stood_first)
-    last = shown.stood_last[np.where(low <= high, ends[high], lasts - 1)]
+    first = np.where(low <= high, interval.stood_last[np.minimum(ends[low], lasts - 1)], interval.stood_first)
+    last = interval.stood_last[np.where(low <= high, ends[high], lasts - 1)]
     return np.maximum(0, last.astype(np.int64) - first)

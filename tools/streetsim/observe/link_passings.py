@@ -13,18 +13,18 @@ from streetsim.observe.giving_way_gaps import StopLinePassings
 
 class Passings(Observer):
     """Notes when vehicles come to the links of their plans, which is when they are first in their first cell, and when
-    they pass stop lines. `came` and `passed` tell it behind the run's end."""
+    they pass stop lines. `link_arrivals` and `stop_line_passings` tell it behind the run's end."""
 
     def begin(self, kernel: Kernel) -> None:
         """Nobody has come anywhere."""
         self.kernel = kernel
-        self.stay = np.repeat([kernel.map.nodes[link.end][3] for link in kernel.map.links], 2)
+        self.residence = np.repeat([kernel.map.nodes[link.end][3] for link in kernel.map.links], 2)
         # Owners, clocks and slots of those who came or passed, and which of the two.
         self.parts: list[tuple[Array, Array, Array, Array]] = []
 
     def see(self, seconds: Seconds) -> None:
         """Takes some seconds."""
-        arrived, passed = first_in_cell_0(seconds), seconds.joined_buffer(self.stay)
+        arrived, passed = first_in_cell_0(seconds), seconds.joined_buffer(self.residence)
         rows = np.append(arrived, passed)
         owner, clocks = seconds.vehicles.owner[seconds.car[rows]], seconds.clocks[seconds.second[rows]]
         self.parts.append((owner, clocks, seconds.slot[rows], np.arange(len(rows)) < len(arrived)))
@@ -42,7 +42,7 @@ class Passings(Observer):
         ends = np.cumsum(np.bincount(owner, minlength=len(self.kernel.run.enters)))
         return [clocks.tolist() for clocks in np.split(clock, ends)[:-1]]
 
-    def passed(self) -> StopLinePassings:
+    def stop_line_passings(self) -> StopLinePassings:
         """When vehicles passed stop lines but those of their last links. A vehicle passes a line between the clock
         given here and the second before it."""
         plans, rows = self.kernel.plans, np.flatnonzero(~self.is_coming)

@@ -46,7 +46,7 @@ class Log:
 def by_period(parts: Iterable[Columns], start: int, seconds: int) -> Iterator[tuple[int, Columns]]:
     """(number from 0, rows by clock, equal ones as they stand) of each period of so many seconds that has any; it
     begins behind a clock, and ends with one. parts: as of a Log."""
-    begun: list[Columns] = []
+    period_parts: list[Columns] = []
     number = 0
     for part in parts:
         clocks = next(iter(part.values()))
@@ -54,13 +54,13 @@ def by_period(parts: Iterable[Columns], start: int, seconds: int) -> Iterator[tu
         numbers = (clocks[order] - 1 - start) // seconds
         bounds = np.flatnonzero(np.diff(numbers, prepend=-1, append=-1)).tolist() if len(order) else []
         for begin, end in pairwise(bounds):
-            if begun and int(numbers[begin]) > number:
-                yield number, joined(begun)
-                begun = []
+            if period_parts and int(numbers[begin]) > number:
+                yield number, joined(period_parts)
+                period_parts = []
             number = int(numbers[begin])
-            begun.append({name: column[order[begin:end]] for name, column in part.items()})
-    if begun:
-        yield number, joined(begun)
+            period_parts.append({name: column[order[begin:end]] for name, column in part.items()})
+    if period_parts:
+        yield number, joined(period_parts)
 
 
 def joined(parts: list[Columns]) -> Columns:

@@ -29,7 +29,7 @@ class Passages(Observer):
     # in the second before, the lane's first vehicles that passed then among them.
     FIELDS = "edge", "begin", "line", "slot", "first", "stops", "stood", "still", "alone", "before"
     # Of one that has ended: the clock from which on it was not there, the vehicle, and FIELDS.
-    ENDED = {
+    ENDED_FIELDS = {
         **{"end": "i4", "owner": "i4", "edge": "i2", "begin": "i4", "line": "i4", "slot": "u2", "first": "i2"},
         **{"stops": "i2", "stood": "i4", "alone": "i1", "before": "i2"},
     }
@@ -54,12 +54,12 @@ class Passages(Observer):
         self.edge, self.at_line = np.repeat(self.edge_of, 2), np.repeat(at_line, 2)
         self.cells = np.repeat(np.array([link.cells for link in links], np.int32), 2)
         self.slow = np.repeat(np.array([link.limit for link in links]) == 1, 2)
-        self.stay = np.repeat(np.array([mapping.nodes[link.end][3] for link in links], np.int32), 2)
+        self.residence = np.repeat(np.array([mapping.nodes[link.end][3] for link in links], np.int32), 2)
         self.column = np.full(2 * len(links), MISSING, np.int32)
         self.column[[2 * link + lane for link, lane in self.lane_keys]] = np.arange(len(self.lane_keys))
         self.under_way = {name: np.zeros(len(kernel.run.enters), np.int32) for name in self.FIELDS}
         self.under_way["edge"][:] = MISSING
-        self.log = Log(self.ENDED)
+        self.log = Log(self.ENDED_FIELDS)
         self.stood_last = np.zeros(len(self.lane_keys), np.int64)  # by lane of an approach: who had stood, a second ago
 
     def see(self, seconds: Seconds) -> None:
@@ -96,20 +96,20 @@ class Passages(Observer):
         link, cells = slot // 2, self.cells[slot]
         metres = self.metres[link] / cells
         ahead = (cells - 1 - seconds.cell[rows]) * metres
-        back = ahead + seconds.size[rows] * metres
+        rear = ahead + seconds.size[rows] * metres
         begins, group = groups_of(second * SLOTS + slot)
-        reach = np.append(REACH_M, back[:-1] + REACH_M)
+        reach = np.append(REACH_M, rear[:-1] + REACH_M)
         reach[begins] = REACH_M
         held = unbroken(ahead <= reach, begins, group)
         number = np.bincount(group[held], minlength=len(begins))
         occupied = np.flatnonzero(number)
         tail = begins[occupied] + number[occupied] - 1
         second, slot = second[tail], slot[tail]
-        metres = np.maximum(0.0, np.minimum(back[tail], self.metres[link[tail]]) - GAP_M)
+        metres = np.maximum(0.0, np.minimum(rear[tail], self.metres[link[tail]]) - GAP_M)
         metres_of = np.zeros((len(seconds.clocks), len(self.lane_keys)), np.float32)
         of_approach = self.column[slot] != MISSING
         metres_of[second[of_approach], self.column[slot[of_approach]]] = metres[of_approach]
-        if any(approach.before for approach in self.approaches.values()):
+        if any(approach.edges_before for approach in self.approaches.values()):
             queue = np.zeros((len(seconds.clocks), len(self.cells)))
             queue[second, slot] = metres
             self.add_edges_before(metres_of, queue)
@@ -120,7 +120,7 @@ class Passages(Observer):
         slot, of each lane alone."""
         for column, (link, lane) in enumerate(self.lane_keys):
             reach, full = queue[:, 2 * link + lane], self.metres[link]
-            for links in self.approaches[self.edges[self.edge_of[link]]].before:
+            for links in self.approaches[self.edges[self.edge_of[link]]].edges_before:
                 fills = reach >= full - GAP_M - 0.1
                 if not fills.any():
                     break
@@ -131,48 +131,48 @@ class Passages(Observer):
 
     def end_passages(self, seconds: Seconds, runs: FoundPassages) -> None:
         """Keeps the passages that have ended, and what goes on."""
-        under_way, last_second, shown = self.under_way, len(seconds.clocks) - 1, runs.columns
+        under_way, last_second, columns = self.under_way, len(seconds.clocks) - 1, runs.columns
         known = np.zeros(len(under_way["edge"]), bool)
-        known[shown["owner"][runs.goes_on]] = True
+        known[columns["owner"][runs.goes_on]] = True
         over = np.flatnonzero((under_way["edge"] != MISSING) & ~known)
         part = {name: under_way[name][over] for name in self.FIELDS}
         self.keep_ended({**part, "owner": over}, np.zeros(len(over), np.int64), seconds, runs)
         under_way["edge"][over] = MISSING
         ended = runs.end < last_second
-        part = {name: shown[name][ended] for name in (*self.FIELDS, "owner")}
+        part = {name: columns[name][ended] for name in (*self.FIELDS, "owner")}
         self.keep_ended(part, runs.end[ended], seconds, runs)
-        under_way["edge"][shown["owner"][ended]] = MISSING
+        under_way["edge"][columns["owner"][ended]] = MISSING
         for name in self.FIELDS:
-            under_way[name][shown["owner"][~ended]] = shown[name][~ended]
+            under_way[name][columns["owner"][~ended]] = columns[name][~ended]
 
     def keep_ended(self, part: Columns, last_seconds: Array, seconds: Seconds, runs: FoundPassages) -> None:
         """Keeps passages that have ended, with their ends, `end`; who was not seen behind its stop line counts as
         passing it then. last_seconds: the last second of each, 0: of the part before."""
-        before = runs.known[last_seconds, self.column[part["slot"]]]
+        before = runs.stood_by_second[last_seconds, self.column[part["slot"]]]
         part["before"] = np.where(part["line"] == 0, before, part["before"])
         part["end"] = seconds.clocks[last_seconds + 1]
         part["line"] = np.where(part["line"] == 0, part["end"], part["line"])
         self.log.add(part)
 
-    def ended_passages(self, interval: int, stopped: Mapping[int, Sequence[Dwell]]) -> Iterator[tuple[int, Columns]]:
+    def ended_passages(self, interval: int, dwells_of: Mapping[int, Sequence[Dwell]]) -> Iterator[tuple[int, Columns]]:
         """(number from 0, passages that ended, in the order in which they did) of each interval of so many seconds that
-        has any: ENDED, and `dwell`, seconds at stops of its own, which are in neither stops nor stood. Each is let go
-        where it is given. stopped: by vehicle the stops that it left."""
-        stopping = np.array(list(stopped), np.int64)
+        has any: ENDED_FIELDS, and `dwell`, seconds at stops of its own, which are in neither stops nor stood. Each is
+        let go where it is given. dwells_of: by vehicle the stops that it left."""
+        stopping = np.array(list(dwells_of), np.int64)
         for number, ended in by_period(self.log.take_parts(), self.kernel.start, interval):
             ended["dwell"] = np.zeros(len(ended["end"]), np.int32)
-            for row in np.flatnonzero(np.isin(ended["owner"], stopping)).tolist() if stopped else ():
-                self.take_stops_off(ended, row, stopped[int(ended["owner"][row])])
+            for row in np.flatnonzero(np.isin(ended["owner"], stopping)).tolist() if dwells_of else ():
+                self.take_stops_off(ended, row, dwells_of[int(ended["owner"][row])])
             yield number, ended
 
-    def take_stops_off(self, ended: Columns, row: int, stops: Iterable[Dwell]) -> None:
+    def take_stops_off(self, passages: Columns, row: int, stops: Iterable[Dwell]) -> None:
         """Takes the stops of its vehicle that lie in a passage, by its row, off what is found of it."""
         for stop in stops:
-            is_here = ended["edge"][row] == self.edge_of[stop.link]
-            if is_here and ended["begin"][row] <= stop.arrived <= ended["end"][row]:
-                ended["dwell"][row] += stop.seconds
-                ended["stood"][row] = max(0, ended["stood"][row] - stop.stood)
-                ended["stops"][row] = max(0, ended["stops"][row] - 1)
+            is_here = passages["edge"][row] == self.edge_of[stop.link]
+            if is_here and passages["begin"][row] <= stop.arrived <= passages["end"][row]:
+                passages["dwell"][row] += stop.seconds
+                passages["stood"][row] = max(0, passages["stood"][row] - stop.stood)
+                passages["stops"][row] = max(0, passages["stops"][row] - 1)
 
 
 class FoundPassages:
@@ -184,7 +184,7 @@ class FoundPassages:
         """rows: on approaches, by owner, then by second; standing: of them, who stand."""
         self.passages, self.clocks = passages, seconds.clocks.astype(np.int32)
         self.owner, self.second = seconds.owner[rows], seconds.second[rows]
-        self.slot, self.on = seconds.slot[rows], seconds.on[rows]
+        self.slot, self.on_cells = seconds.slot[rows], seconds.on[rows]
         owner, second, edge = self.owner, self.second, passages.edge[self.slot]
         fresh = np.ones(len(rows), bool)
         fresh[1:] = (owner[1:] != owner[:-1]) | (second[1:] != second[:-1] + 1) | (edge[1:] != edge[:-1])
@@ -208,18 +208,18 @@ class FoundPassages:
     def find_standing(self, standing: Array) -> None:
         """Sets how long each has stood now, and the stops. Who departs stands then, which is no stop; the junction
         between two edges of an approach does not end a stand. standing: by row who stands."""
-        first_rows, on = self.first_rows, self.on
+        first_rows, on_cells = self.first_rows, self.on_cells
         self.stands = standing.copy()
         self.stands[first_rows[~self.goes_on]] = False
-        position = np.cumsum(on, dtype=np.int32) - 1
-        base = position[first_rows] + ~on[first_rows] - 1 - self.carried("still", 0)
+        position = np.cumsum(on_cells, dtype=np.int32) - 1
+        base = position[first_rows] + ~on_cells[first_rows] - 1 - self.carried("still", 0)
         since = position.copy()  # where a stand may begin: the place of the last row before it
-        moved = on & ~self.stands
+        moved = on_cells & ~self.stands
         since[first_rows] = np.where(moved[first_rows], position[first_rows], base)
         moved[first_rows] = True
         since = since[latest(moved)]
         self.columns["still"] = position[self.last_rows] - since[self.last_rows]
-        self.still = np.where(on, position - since, 0)
+        self.still = np.where(on_cells, position - since, 0)
         halts = np.bincount(self.run[self.still == STILL_S], minlength=len(first_rows))
         self.columns["stops"] = self.carried("stops", 0) + halts.astype(np.int32)
 
@@ -228,8 +228,8 @@ class FoundPassages:
         stands; where vehicles move by a cell a step, from the one that makes it a stop on; and behind the line those
         for which it was there longer than one crosses."""
         first_rows, run, slot, passages = self.first_rows, self.run, self.slot, self.passages
-        off = np.flatnonzero(~self.on)
-        rows = off[passages.at_line[slot[off]]]
+        in_buffer = np.flatnonzero(~self.on_cells)
+        rows = in_buffer[passages.at_line[slot[in_buffer]]]
         line = self.carried("line", 0)
         self.is_new = np.zeros(len(first_rows), bool)
         self.is_new[run[rows]] = True
@@ -241,11 +241,11 @@ class FoundPassages:
         gained = self.stands.copy()
         slow = np.flatnonzero(gained & passages.slow[slot])
         gained[slow] = self.still[slow] >= STILL_S
-        gained[rows] = self.clocks[self.second[rows]] - line[run[rows]] > passages.stay[slot[rows]]
+        gained[rows] = self.clocks[self.second[rows]] - line[run[rows]] > passages.residence[slot[rows]]
         sums = np.cumsum(gained, dtype=np.int32)
         self.stood = sums + (self.carried("stood", 0) - sums[first_rows] + gained[first_rows])[run]
         is_valid = np.ones(len(run), bool)
-        is_valid[off], is_valid[rows] = False, True
+        is_valid[in_buffer], is_valid[rows] = False, True
         valid = latest(is_valid)[self.last_rows]
         self.columns.update(line=line, slot=np.where(valid >= first_rows, slot[valid], self.carried("slot", 0)))
         self.columns["stood"] = self.stood[self.last_rows]
@@ -255,13 +255,13 @@ class FoundPassages:
         and of those who passed the line what this was in the second before. count: seconds, with second 0."""
         passages, rows = self.passages, self.crossed
         lanes = len(passages.lane_keys)
-        stood_rows = np.flatnonzero(self.on & (self.stood > 0))
+        stood_rows = np.flatnonzero(self.on_cells & (self.stood > 0))
         column = passages.column[self.slot[stood_rows]]
         keys = self.second[stood_rows].astype(np.int64) * lanes + column
-        self.known = np.bincount(keys[column != MISSING], minlength=count * lanes).reshape(count, lanes)
-        self.known[0] = passages.stood_last
-        self.stood_on_lanes, passages.stood_last = self.known[1:], self.known[-1].copy()
-        before = self.known[self.second[rows] - 1, passages.column[self.slot[rows]]]
+        self.stood_by_second = np.bincount(keys[column != MISSING], minlength=count * lanes).reshape(count, lanes)
+        self.stood_by_second[0] = passages.stood_last
+        self.stood_on_lanes, passages.stood_last = self.stood_by_second[1:], self.stood_by_second[-1].copy()
+        before = self.stood_by_second[self.second[rows] - 1, passages.column[self.slot[rows]]]
         alone, stood_before = self.carried("alone", 1), self.carried("before", 0)
         alone[self.is_new], stood_before[self.is_new] = before <= (self.stood[rows] > 0), before
         self.columns.update(alone=alone, before=stood_before)

@@ -30,16 +30,16 @@ class ClosedLanes:
         """Those that are closed now, of polled lanes."""
         return {slot: stretches for slot, stretches in self.closed.stretches().items() if self.polled_slots[slot]}
 
-    def at(self, clock: int) -> Stretches:
+    def stretches_at(self, clock: int) -> Stretches:
         """By slot the stretches at a poll; clocks rise."""
-        sent, before = self.kernel.sent, self.next_sent
+        sent, earlier_next = self.kernel.sent, self.next_sent
         while self.next_sent < len(sent):
             following = sent[self.next_sent]
             if (following.clock, following.passed_on) > (clock, False):
                 break
             self.closed.note(following.line.command)
             self.next_sent += 1
-        if self.next_sent > before:
+        if self.next_sent > earlier_next:
             self.stretches = self.find_stretches()
         return self.stretches
 
@@ -55,7 +55,7 @@ class RowsWriter(Observer):
         """Nothing is written."""
         self.polled_slots = find_polled_slots(self.polled, 2 * len(kernel.map.links))
         self.closed = ClosedLanes(kernel, self.polled_slots)
-        self.before: Stretches = {}
+        self.earlier_stretches: Stretches = {}
 
     def see(self, seconds: Seconds) -> None:
         """Takes some seconds."""
@@ -76,12 +76,12 @@ class RowsWriter(Observer):
     def changes(self, clock: int) -> Iterator[tuple[int, int, int, int]]:
         """(clock, slot, first, last cell) of the closed stretches of each lane where these change at a clock; cells 1
         to 0 where there are none any more."""
-        before, stretches = self.before, self.closed.at(clock)
+        before, stretches = self.earlier_stretches, self.closed.stretches_at(clock)
         if stretches is not before:
             for slot in sorted({*before, *stretches}):
                 if before.get(slot) != stretches.get(slot):
                     yield from ((clock, slot, first, last) for first, last in stretches.get(slot, [(1, 0)]))
-        self.before = stretches
+        self.earlier_stretches = stretches
 
 
 def cells_of_rows(seconds: Seconds) -> Array:
@@ -117,7 +117,7 @@ class Polls(Observer):
         for number in np.flatnonzero(polled).tolist():
             if number:
                 clock, rows_of_clock = int(seconds.clocks[number]), slice(*at[number : number + 2])
-                closed = self.closed.at(clock)
+                closed = self.closed.stretches_at(clock)
                 shown = [f"{lane}[]]" for lane in lanes[rows_of_clock]]
                 if closed:
                     texts = dict(zip(slots[rows_of_clock], lanes[rows_of_clock], strict=True))

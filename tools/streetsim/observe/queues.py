@@ -52,13 +52,13 @@ class Queues(Observer):
         """The rows of queues.csv at stop lines, (clock, edge, SUMO's index of the lane, vehicles, metres that they
         cover, before what, empty), by clock and lane."""
         links = self.kernel.map.links
-        known: dict[tuple[int, int], tuple[str, int, float]] = {}
+        texts_known: dict[tuple[int, int], tuple[str, int, float]] = {}
         for part in self.log.parts:
             for clock, slot, count, covered in zip(*(column.tolist() for column in part.values()), strict=True):
-                if (slot, covered) not in known:
+                if (slot, covered) not in texts_known:
                     link = links[slot // 2]
-                    known[slot, covered] = link.edge, link.lanes[slot % 2], round(covered * link.cell_metres, 1)
-                edge, lane, metres = known[slot, covered]
+                    texts_known[slot, covered] = link.edge, link.lanes[slot % 2], round(covered * link.cell_metres, 1)
+                edge, lane, metres = texts_known[slot, covered]
                 yield clock, edge, lane, count, metres, STOP_LINE, ""
 
 
@@ -68,7 +68,7 @@ class Summary(Observer):
     def __init__(self, trips: TripsTable, looks: Collection[int] = ()) -> None:
         """trips: of the same run, which sees each second before; looks: further clocks, which may grow."""
         self.trips, self.looks = trips, looks
-        self.counted: list[tuple[int, int, int]] = []  # clock, vehicles on cells, in buffers
+        self.counts: list[tuple[int, int, int]] = []  # clock, vehicles on cells, in buffers
 
     def begin(self, kernel: Kernel) -> None:
         """Nothing is counted."""
@@ -81,20 +81,20 @@ class Summary(Observer):
             if second:
                 at = slice(*seconds.first[second : second + 2].tolist())
                 cells = int(np.count_nonzero(seconds.on[at]))
-                self.counted.append((int(seconds.clocks[second]), cells, at.stop - at.start - cells))
+                self.counts.append((int(seconds.clocks[second]), cells, at.stop - at.start - cells))
 
     def end(self, clock: int) -> None:
         """Counts who is there at the end."""
-        if not self.counted or self.counted[-1][0] != clock:
+        if not self.counts or self.counts[-1][0] != clock:
             cells = int(np.count_nonzero(self.kernel.last_second.cell >= 0))
-            self.counted.append((clock, cells, len(self.kernel.last_second.cell) - cells))
+            self.counts.append((clock, cells, len(self.kernel.last_second.cell) - cells))
 
     def censuses(self) -> Iterator[Census]:
         """The counts, without vehicles that wish to depart then or later."""
         arrival = np.sort(self.trips.arrival[self.trips.arrival > 0])
         taken_out = np.sort([takeout.clock for takeout in self.kernel.vehicles.takeouts])
         departs = np.array(self.kernel.departs, np.int64)
-        for clock, cells, buffers in self.counted:
+        for clock, cells, buffers in self.counts:
             arrived, out = int(np.searchsorted(arrival, clock, "right")), int(np.searchsorted(taken_out, clock))
             admitted = int(np.searchsorted(departs, clock)) + out
             waiting = admitted - arrived - out - cells - buffers

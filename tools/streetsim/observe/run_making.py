@@ -148,7 +148,7 @@ class RunTables:
         if self.along:
             of_routes = self.segments.route_rows(self.along, self.settings.period)
             write_table(f"{folder}/{tables.ROUTES_FILE}", tables.ROUTES, of_routes)
-        write_table(f"{folder}/warnings.csv", COLUMNS, mapping.told)
+        write_table(f"{folder}/warnings.csv", COLUMNS, mapping.warning_rows)
         if phases := self.steering.phases(clock):
             write_table(f"{folder}/{tables.PHASES_FILE}", tables.PHASES, phases)
         if stops := self.steering.stops():
@@ -267,9 +267,9 @@ def write_setting(
     """Writes setting.json: what a run was made of. given_run: the run without the signals by which its vehicles give
     way; doubts: why it is not to be trusted, empty where it is; clock: at the end."""
     command, settings = given_run.load.command, run_tables.settings
-    of = {"run": os.path.basename(given_run.path), "seed": command.get("seed", 0), "start": given_run.start()}
-    of.update(until=clock, rescue=settings.rescue, vehicles=len(given_run.enters))
-    of.update(program=program_digest(options.program), **proof_note(options.program), **options.again)
+    made_of = {"run": os.path.basename(given_run.path), "seed": command.get("seed", 0), "start": given_run.start()}
+    made_of.update(until=clock, rescue=settings.rescue, vehicles=len(given_run.enters))
+    made_of.update(program=program_digest(options.program), **proof_note(options.program), **options.again)
     content = {
         "map": replace(run_tables.mapping, timings=[]).written(),  # which lights.json has
         "signals": given_run.signals(),
@@ -278,7 +278,7 @@ def write_setting(
         "period": settings.period,
         "yielding": asdict(yielding),
         "not_trusted": doubts,
-        "made": of,
+        "made": made_of,
         **({"listed": options.listed} if options.listed else {}),
     }
     with whole_file(f"{folder}/{NAME}") as file:

@@ -29,7 +29,7 @@ class SegmentEnds:
     clock: Array
     edge: Array
     since: Array
-    before: Array
+    line_before: Array
 
 
 class Segments(Observer):
@@ -40,20 +40,20 @@ class Segments(Observer):
     def begin(self, kernel: Kernel) -> None:
         """Nobody has passed."""
         self.kernel, mapping = kernel, kernel.map
-        self.stay = np.repeat([mapping.nodes[link.end][3] for link in mapping.links], 2)
+        self.residence = np.repeat([mapping.nodes[link.end][3] for link in mapping.links], 2)
         self.edges = list(mapping.links_of)
         numbers = {edge: number for number, edge in enumerate(self.edges)}
         self.edge_of = np.array([numbers[link.edge] for link in mapping.links], EDGE)
-        self.log, self.noted_takeouts = Log(self.COLUMNS), 0  # taken: who was taken out and is in it
+        self.log, self.noted_takeouts = Log(self.COLUMNS), 0  # noted_takeouts: that are in it
         enters = kernel.run.enters
         self.departs = np.fromiter((line.command["depart"] for line in enters), np.int32, len(enters))
         # By vehicle, where its last segment ended.
-        self.since, self.before = self.departs.copy(), np.full(len(enters), NO_LINE, EDGE)
+        self.since, self.line_before = self.departs.copy(), np.full(len(enters), NO_LINE, EDGE)
         self.is_under_way = np.ones(len(enters), bool)  # or to depart, by vehicle
 
     def see(self, seconds: Seconds) -> None:
         """Takes some seconds."""
-        into, over = seconds.joined_buffer(self.stay), seconds.arrivals
+        into, over = seconds.joined_buffer(self.residence), seconds.arrivals
         second = np.append(seconds.second[into], over.second)
         owner = np.append(seconds.owner[into], seconds.vehicles.owner[over.car])
         slot = np.append(seconds.slot[into], over.slot)
@@ -80,9 +80,9 @@ class Segments(Observer):
         owner, clock, edge = owner[order], clock[order], edge[order]
         fresh = np.append(True, owner[1:] != owner[:-1])[: len(owner)]
         since, before = np.roll(clock, 1), np.roll(edge, 1)
-        since[fresh], before[fresh] = self.since[owner[fresh]], self.before[owner[fresh]]
+        since[fresh], before[fresh] = self.since[owner[fresh]], self.line_before[owner[fresh]]
         last_rows = np.roll(fresh, -1)
-        self.since[owner[last_rows]], self.before[owner[last_rows]] = clock[last_rows], edge[last_rows]
+        self.since[owner[last_rows]], self.line_before[owner[last_rows]] = clock[last_rows], edge[last_rows]
         self.log.add({"clock": clock, "owner": owner, "edge": edge, "since": since, "before": before})
 
     def ends(self) -> SegmentEnds:

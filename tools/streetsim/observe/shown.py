@@ -9,7 +9,7 @@ from typing import NamedTuple
 
 from streetsim.base.arrays import Array, numpy as np
 from streetsim.model.mapping import Map, Place
-from streetsim.model.runs import Sent
+from streetsim.model.runs import TimedCommand
 from streetsim.observe.junction_layout import CYCLE, Greens
 
 NO_PHASE = -1  # the phase before the first plan, and without a light
@@ -27,7 +27,7 @@ class Spans(NamedTuple):
 class ShownPlans:
     """What the lights of a run show, as far as it is known."""
 
-    def __init__(self, mapping: Map, signals: Iterable[Sent] = ()) -> None:
+    def __init__(self, mapping: Map, signals: Iterable[TimedCommand] = ()) -> None:
         """signals: (clock at which it is sent, command), in any order."""
         self.plans = Greens(mapping, signals)
 

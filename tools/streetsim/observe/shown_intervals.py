@@ -31,28 +31,28 @@ class ShownInterval:
 
 
 def make_shown_interval(
-    shown: ShownPlans, lanes: Mapping[int, Sequence[int]], lane_keys: Sequence[Place], begin: int, back: Array,
+    shown_plans: ShownPlans, lanes: Mapping[int, Sequence[int]], lane_keys: Sequence[Place], begin: int, metres: Array,
     stood: Array,
 ) -> ShownInterval:
     """What lanes showed in some seconds behind a clock. lanes: by node those that lead to it, by their positions among
-    the keys; back, stood: by second and lane the queue, in metres, and who had stood."""
-    back, stood, end = np.ascontiguousarray(back.T), np.ascontiguousarray(stood.T, COUNT), begin + len(back)
-    spans = {node: shown.spans(node, begin, end) for node in lanes}
+    the keys; metres, stood: by second and lane the queue, in metres, and who had stood."""
+    end, metres, stood = begin + len(metres), np.ascontiguousarray(metres.T), np.ascontiguousarray(stood.T, COUNT)
+    spans = {node: shown_plans.spans(node, begin, end) for node in lanes}
     alike: defaultdict[tuple[bytes, bytes], list[int]] = defaultdict(list)
     for node, node_spans in spans.items():
         alike[node_spans.begins.tobytes(), node_spans.turns.tobytes()].append(node)
     columns_by_node: dict[int, tuple[Any, ...]] = {}
     for nodes in alike.values():
         alike_lanes = [lane for node in nodes for lane in lanes[node]]
-        seconds, *alike_columns = columns_of(spans[nodes[0]], back[alike_lanes], stood[alike_lanes])
+        seconds, *alike_columns = columns_of(spans[nodes[0]], metres[alike_lanes], stood[alike_lanes])
         end_row = 0
         for node in nodes:
             begin_row, end_row = end_row, end_row + len(lanes[node])
             columns_by_node[node] = seconds, *(column[begin_row:end_row].ravel() for column in alike_columns)
     for node in lanes:
-        if not shown.has_one_plan(node):
-            greens = shown.greens(node, [lane_keys[lane] for lane in lanes[node]], spans[node].phases.tolist())
-            columns_by_node[node] = *columns_by_node[node][:4], *by_greens(spans[node], greens, back[lanes[node]])
+        if not shown_plans.has_one_plan(node):
+            greens = shown_plans.greens(node, [lane_keys[lane] for lane in lanes[node]], spans[node].phases.tolist())
+            columns_by_node[node] = *columns_by_node[node][:4], *by_greens(spans[node], greens, metres[lanes[node]])
     counts = np.array([len(node_spans.phases) for node_spans in spans.values()])
     phases = np.concatenate([node_spans.phases for node_spans in spans.values()]).astype(np.int32)
     columns = zip(*(columns_by_node[node] for node in lanes), strict=True)
@@ -69,12 +69,12 @@ def columns_of(spans: Spans, back: Array, stood: Array) -> tuple[Array, ...]:
 
 
 def by_greens(
-    spans: Spans, greens: Sequence[Sequence[frozenset[int] | None]], back: Array
+    spans: Spans, greens: Sequence[Sequence[frozenset[int] | None]], metres: Array
 ) -> tuple[list[int], Array]:
     """By lane how many cycles, and the longest queue in each, where a light has several plans, so that its cycles begin
-    with the greens of each lane; greens: as `ShownPlans.greens` gives them; back: by lane and second."""
+    with the greens of each lane; greens: as `ShownPlans.greens` gives them; metres: by lane and second."""
     queues = []
-    for lane_greens, metres in zip(greens, back, strict=True):
+    for lane_greens, lane_metres in zip(greens, metres, strict=True):
         rises = [True, *(bool(after) and not before for before, after in zip(lane_greens, lane_greens[1:]))]
-        queues.append(np.maximum.reduceat(metres, spans.begins[rises]))
+        queues.append(np.maximum.reduceat(lane_metres, spans.begins[rises]))
     return [len(cycles) for cycles in queues], np.concatenate(queues)

@@ -7,7 +7,7 @@ from streetsim.base.files import TextFile, quoteattr
 from streetsim.control.bus_fleet import Dwell
 from streetsim.model.mapping import Place
 from streetsim.observe.sumo_places import LanePlaces
-from streetsim.observe.sumo_seconds import At, Second, TripUnderWay
+from streetsim.observe.sumo_seconds import Spot, Second, TripUnderWay
 
 SCHEMAS = "http://sumo.dlr.de/xsd/"
 HALTING = 0.1  # metres a second, SUMO's: below it a vehicle stands
@@ -103,8 +103,8 @@ class SummaryOutput(XmlFile):
         """Adds a second to the sums, and writes its row; those in junctions count there, and in its speeds, too."""
         self.loaded = bisect_right(self.wished, second.time)
         self.count_changes(second)
-        speeds = [self.lane_places.metres_per_second(at) for at in second.positions.values()]
-        free = [at.speed / self.lane_places.mapping.links[at.link].limit for at in second.positions.values()]
+        speeds = [self.lane_places.metres_per_second(spot) for spot in second.positions.values()]
+        free = [spot.speed / self.lane_places.mapping.links[spot.link].limit for spot in second.positions.values()]
         row = attributes(
             time=float(second.time),
             loaded=max(self.loaded, self.inserted),
@@ -141,7 +141,7 @@ class Fcd(XmlFile):
     def __init__(self, file: TextFile, lane_places: LanePlaces) -> None:
         """lane_places: where cells lie in metres."""
         super().__init__(file, lane_places)
-        self.texts: dict[At, tuple[str, str]] = {}  # many vehicles come to each
+        self.texts: dict[Spot, tuple[str, str]] = {}  # many vehicles come to each
         self.names: dict[int, tuple[str, str]] = {}  # of vehicles and their types, quoted
 
     def add_second(self, second: Second) -> None:
@@ -149,21 +149,21 @@ class Fcd(XmlFile):
         trips = ((car, second.trips[car]) for car in second.departed)
         self.names.update((car, (quoteattr(trip.name), quoteattr(trip.kind))) for car, trip in trips)
         rows = [f'    <timestep time="{second.time:.2f}">\n']
-        for car, at in second.positions.items():
-            before, after = self.texts.get(at) or self.texts_at(at)
+        for car, spot in second.positions.items():
+            before, after = self.texts.get(spot) or self.texts_at(spot)
             name, kind = self.names[car]
             rows.append(f"        <vehicle id={name} {before} type={kind} {after}/>\n")
         self.file.write("".join([*rows, "    </timestep>\n"]))
 
-    def texts_at(self, at: At) -> tuple[str, str]:
+    def texts_at(self, spot: Spot) -> tuple[str, str]:
         """The attributes of where a vehicle is, (those that stand before its type, those after it); made once and then
         kept."""
-        x, y, angle = self.lane_places.point_and_angle(at)
-        lane = self.lane_places.names[at.link, at.lane]
-        speed, along = self.lane_places.metres_per_second(at), self.lane_places.metres_on_lane(at)
+        x, y, angle = self.lane_places.point_and_angle(spot)
+        lane = self.lane_places.names[spot.link, spot.lane]
+        speed, along = self.lane_places.metres_per_second(spot), self.lane_places.metres_on_lane(spot)
         after = attributes(speed=speed, pos=along, lane=lane, slope=0.0)
-        self.texts[at] = attributes(x=x, y=y, angle=angle), after
-        return self.texts[at]
+        self.texts[spot] = attributes(x=x, y=y, angle=angle), after
+        return self.texts[spot]
 
 
 class QueueOutput(XmlFile):
@@ -179,13 +179,13 @@ class QueueOutput(XmlFile):
 
     def add_second(self, second: Second) -> None:
         """Adds a second to the time of those who stand in cells, and writes the lanes on which any do."""
-        cars = [(car, at) for car, at in second.positions.items() if at.cell is not None and not at.speed]
+        cars = [(car, spot) for car, spot in second.positions.items() if spot.cell is not None and not spot.speed]
         self.standing = {car: self.standing.get(car, 0) + 1 for car, _ in cars}
         lengths: dict[Place, float] = {}
         waits: dict[Place, int] = {}
-        for car, at in cars:
-            lane_key, link = (at.link, at.lane), self.lane_places.mapping.links[at.link]
-            length = link.metres - max(0, at.front + 1 - at.size) * self.lane_places.cell_metres[at.link]
+        for car, spot in cars:
+            lane_key, link = (spot.link, spot.lane), self.lane_places.mapping.links[spot.link]
+            length = link.metres - max(0, spot.front + 1 - spot.size) * self.lane_places.cell_metres[spot.link]
             lengths[lane_key] = max(length, lengths.get(lane_key, 0.0))
             waits[lane_key] = max(self.standing[car], waits.get(lane_key, 0))
         self.file.write(f'    <data timestep="{second.time:.2f}">\n        <lanes>\n')
@@ -196,6 +196,6 @@ class QueueOutput(XmlFile):
         self.file.write("        </lanes>\n    </data>\n")
 
 
-def vehicle_metres(at: At) -> float:
+def vehicle_metres(spot: Spot) -> float:
     """Metres of a vehicle itself: of its cells, as if each had 7.5 m, without the gap to another one."""
-    return at.size * limits.CELL_METRES - limits.GAP_METRES
+    return spot.size * limits.CELL_METRES - limits.GAP_METRES

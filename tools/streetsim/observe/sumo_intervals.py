@@ -8,7 +8,7 @@ from streetsim.model.detectors import E1, E2, Detector, longest_jam
 from streetsim.model.mapping import Place
 from streetsim.observe.sumo_formats import XmlFile, attributes, vehicle_metres
 from streetsim.observe.sumo_places import LanePlaces
-from streetsim.observe.sumo_seconds import At, Second
+from streetsim.observe.sumo_seconds import Spot, Second
 
 Sums = Any  # of a kind of detector: its own
 
@@ -50,28 +50,28 @@ class Edgedata(XmlFile):
         if second.clock > self.begin + self.period:
             self.write_interval()
         self.clock = second.clock
-        for at in second.positions.values():
-            if at.cell is not None:
-                self.add_vehicle(at)
+        for spot in second.positions.values():
+            if spot.cell is not None:
+                self.add_vehicle(spot)
         for car in second.departed:
             self.sums_of(second.positions[car].link).departed += 1
         for _, link in second.entered:
             self.sums_of(link).entered += 1
-        for _, at in second.left:
-            self.sums_of(at.link).left += 1
-        for at in second.teleported.values():
-            self.sums_of(at.link).teleported += 1
+        for _, spot in second.exited:
+            self.sums_of(spot.link).left += 1
+        for spot in second.teleported.values():
+            self.sums_of(spot.link).teleported += 1
         for _, trip in second.arrived:
             self.sums_of(trip.last_position.link).arrived += 1
 
-    def add_vehicle(self, at: At) -> None:
+    def add_vehicle(self, spot: Spot) -> None:
         """Adds one vehicle in the cells of an edge for one second."""
-        sums, link = self.sums_of(at.link), self.links[at.link]
+        sums, link = self.sums_of(spot.link), self.links[spot.link]
         sums.seconds += 1
-        sums.metres += self.lane_places.metres_per_second(at)
-        sums.waiting += not at.speed
-        sums.loss += max(0.0, 1 - at.speed / link.limit)
-        sums.covered += vehicle_metres(at)
+        sums.metres += self.lane_places.metres_per_second(spot)
+        sums.waiting += not spot.speed
+        sums.loss += max(0.0, 1 - spot.speed / link.limit)
+        sums.covered += vehicle_metres(spot)
 
     def write_interval(self) -> None:
         """Writes the interval that has ended, all edges of the map, and begins the next."""
@@ -129,7 +129,7 @@ class DetectorOutput(XmlFile):
         """The sums with which an interval begins; before: those of the interval that has ended, None of the first."""
         raise NotImplementedError
 
-    def note_second(self, detector: Detector, sums: Sums, second: Second, vehicles: Sequence[tuple[int, At]]) -> None:
+    def note_second(self, detector: Detector, sums: Sums, second: Second, vehicles: Sequence[tuple[int, Spot]]) -> None:
         """Adds a second to the sums of a detector; vehicles: (car, where it is) of those on its lane in it, and of
         those in the junction behind that."""
         raise NotImplementedError
@@ -144,9 +144,9 @@ class DetectorOutput(XmlFile):
             if second.clock > self.begins[detector.name] + detector.period:
                 self.write_interval(detector)
         self.clock = second.clock
-        by_place: dict[Place, list[tuple[int, At]]] = {}
-        for car, at in second.positions.items():
-            by_place.setdefault((at.link, at.lane), []).append((car, at))
+        by_place: dict[Place, list[tuple[int, Spot]]] = {}
+        for car, spot in second.positions.items():
+            by_place.setdefault((spot.link, spot.lane), []).append((car, spot))
         for detector in self.detectors:
             vehicles = by_place.get((detector.link, detector.lane), ())
             self.note_second(detector, self.sums[detector.name], second, vehicles)
@@ -187,17 +187,18 @@ class InductionLoopOutput(DetectorOutput):
         return LoopSums()
 
     def note_second(
-        self, detector: Detector, sums: LoopSums, second: Second, vehicles: Sequence[tuple[int, At]]
+        self, detector: Detector, sums: LoopSums, second: Second, vehicles: Sequence[tuple[int, Spot]]
     ) -> None:
         """Adds a second to the sums of an e1: whether its cell is covered, and who has passed it."""
         first = detector.first
-        sums.occupied += any(at.cell is not None and at.cell - at.size < first <= at.cell for _, at in vehicles)
-        for car, previous in second.before.items():
+        spots = [spot for _, spot in vehicles]
+        sums.occupied += any(spot.cell is not None and spot.cell - spot.size < first <= spot.cell for spot in spots)
+        for car, previous in second.earlier_positions.items():
             on_edge = previous.link == detector.link and car not in second.teleported
             if on_edge and previous.cell is not None and previous.cell <= detector.first:
                 self.note_pass(detector, sums, previous, second.positions.get(car, replace(previous, cell=None)))
 
-    def note_pass(self, detector: Detector, sums: LoopSums, previous: At, current: At) -> None:
+    def note_pass(self, detector: Detector, sums: LoopSums, previous: Spot, current: Spot) -> None:
         """Adds to the sums of an e1 a vehicle that was on the loop or before it in the second before (previous), if it
         is beyond it now: in the cells of its lane or, in the junction or as one that has arrived, without a cell."""
         if current.lane == detector.lane and (current.cell is None or current.cell > detector.first):
@@ -223,20 +224,20 @@ class InductionLoopOutput(DetectorOutput):
 class AreaSums:
     """What an e2 saw in an interval; halts are by car."""
 
-    inside: dict[int, At] = field(default_factory=dict)  # by car, of the last second
+    inside: dict[int, Spot] = field(default_factory=dict)  # by car, of the last second
     vehicles_seen: set[int] = field(default_factory=set)
     entered: int = 0
-    left: int = 0
+    exited: int = 0
     seconds: int = 0
     metres: float = 0.0  # driven
     loss: float = 0.0
-    most: int = 0  # in one second
+    most_vehicles: int = 0  # in one second
     covered: list[float] = field(default_factory=list)  # share of the area, by second
     jams: list[int] = field(default_factory=list)  # vehicles in the longest jam, by second
     standing: int = 0  # vehicles, summed over seconds
     halts: dict[int, int] = field(default_factory=dict)  # going on: seconds in all
     interval_halts: dict[int, int] = field(default_factory=dict)  # going on: seconds of this interval
-    ended: list[tuple[int, int]] = field(default_factory=list)  # (seconds in all, of this interval)
+    ended_halts: list[tuple[int, int]] = field(default_factory=list)  # (seconds in all, of this interval)
     started: int = 0
 
 
@@ -252,29 +253,30 @@ class LaneAreaOutput(DetectorOutput):
         return AreaSums(inside=before.inside, halts=before.halts, interval_halts=dict.fromkeys(before.halts, 0))
 
     def note_second(
-        self, detector: Detector, sums: AreaSums, second: Second, vehicles: Sequence[tuple[int, At]]
+        self, detector: Detector, sums: AreaSums, second: Second, vehicles: Sequence[tuple[int, Spot]]
     ) -> None:
         """Adds a second to the sums of an e2."""
-        inside = {car: at for car, at in vehicles if at.cell is not None and detector.first <= at.cell <= detector.last}
+        on_cells = ((car, spot) for car, spot in vehicles if spot.cell is not None)
+        inside = {car: spot for car, spot in on_cells if detector.first <= spot.front <= detector.last}
         sums.entered += len(inside.keys() - sums.inside.keys())
-        sums.left += len(sums.inside.keys() - inside.keys())
+        sums.exited += len(sums.inside.keys() - inside.keys())
         sums.vehicles_seen.update(inside)
         sums.seconds += len(inside)
-        sums.most = max(sums.most, len(inside))
-        sums.metres += sum(self.lane_places.metres_per_second(at) for at in inside.values())
+        sums.most_vehicles = max(sums.most_vehicles, len(inside))
+        sums.metres += sum(self.lane_places.metres_per_second(spot) for spot in inside.values())
         links = self.lane_places.mapping.links
-        sums.loss += sum(max(0.0, 1 - at.speed / links[at.link].limit) for at in inside.values())
+        sums.loss += sum(max(0.0, 1 - spot.speed / links[spot.link].limit) for spot in inside.values())
         area = (detector.last - detector.first + 1) * self.lane_places.cell_metres[detector.link]
         sums.covered.append(min(1.0, sum(map(vehicle_metres, inside.values())) / area))
-        ranked = sorted(inside.values(), key=lambda at: -at.front)
-        sums.jams.append(longest_jam([(0, at.front, bool(at.speed), at.size) for at in ranked]))
+        ranked = sorted(inside.values(), key=lambda spot: -spot.front)
+        sums.jams.append(longest_jam([(0, spot.front, bool(spot.speed), spot.size) for spot in ranked]))
         sums.inside = inside
-        self.note_halts(sums, {car for car, at in inside.items() if not at.speed})
+        self.note_halts(sums, {car for car, spot in inside.items() if not spot.speed})
 
     def note_halts(self, sums: AreaSums, standing: set[int]) -> None:
         """Adds to the sums of an e2 the halts of a second; standing: the cars that stand in it."""
         for car in sums.halts.keys() - standing:
-            sums.ended.append((sums.halts.pop(car), sums.interval_halts.pop(car)))
+            sums.ended_halts.append((sums.halts.pop(car), sums.interval_halts.pop(car)))
         sums.started += len(standing - sums.halts.keys())
         sums.standing += len(standing)
         for car in standing:
@@ -284,13 +286,13 @@ class LaneAreaOutput(DetectorOutput):
     def attributes_of(self, detector: Detector, sums: AreaSums, seconds: int) -> str:
         """The attributes of an e2's interval; the mean speed and loss of nobody are -1, as SUMO writes."""
         car_metres = self.lane_places.cell_metres[detector.link]
-        halts = [halt for halt, _ in sums.ended] + list(sums.halts.values())
-        within = [halt for _, halt in sums.ended] + list(sums.interval_halts.values())
+        halts = [halt for halt, _ in sums.ended_halts] + list(sums.halts.values())
+        within = [halt for _, halt in sums.ended_halts] + list(sums.interval_halts.values())
         vehicles = len(sums.vehicles_seen)
         return attributes(
             sampledSeconds=float(sums.seconds),
             nVehEntered=sums.entered,
-            nVehLeft=sums.left,
+            nVehLeft=sums.exited,
             nVehSeen=vehicles,
             meanSpeed=sums.metres / sums.seconds if sums.seconds else -1.0,
             meanTimeLoss=sums.loss / vehicles if vehicles else -1.0,
@@ -310,5 +312,5 @@ class LaneAreaOutput(DetectorOutput):
             intervalHaltingDurationSum=float(sum(within)),
             startedHalts=float(sums.started),
             meanVehicleNumber=sums.seconds / seconds,
-            maxVehicleNumber=sums.most,
+            maxVehicleNumber=sums.most_vehicles,
         )

@@ -4,7 +4,7 @@ from itertools import accumulate
 from math import atan2, degrees, dist
 
 from streetsim.model.mapping import Map, Shape
-from streetsim.observe.sumo_seconds import At
+from streetsim.observe.sumo_seconds import Spot
 
 LANE_WIDTH = 3.2  # metres, SUMO's default
 
@@ -19,22 +19,22 @@ class LanePlaces:
         self.cell_metres = [link.metres / link.cells for link in mapping.links]
         self.lines = [Polyline(link.shape) for link in mapping.links]
 
-    def metres_on_lane(self, at: At) -> float:
+    def metres_on_lane(self, spot: Spot) -> float:
         """Metres from the lane's begin to the front of a vehicle; of one in the junction behind it, the lane's
         length."""
-        link = self.mapping.links[at.link]
-        return link.metres if at.cell is None else (at.cell + 1) * self.cell_metres[at.link]
+        link = self.mapping.links[spot.link]
+        return link.metres if spot.cell is None else (spot.cell + 1) * self.cell_metres[spot.link]
 
-    def metres_per_second(self, at: At) -> float:
+    def metres_per_second(self, spot: Spot) -> float:
         """Metres a second of a vehicle, by the length of its link's cells."""
-        return at.speed * self.cell_metres[at.link]
+        return spot.speed * self.cell_metres[spot.link]
 
-    def point_and_angle(self, at: At) -> tuple[float, float, float]:
+    def point_and_angle(self, spot: Spot) -> tuple[float, float, float]:
         """(x, y, angle) of a vehicle's front, on its lane beside the link's line: metres, and degrees clockwise from
         north."""
-        link = self.mapping.links[at.link]
-        side = ((len(link.lanes) - 1) / 2 - at.lane) * LANE_WIDTH
-        return self.lines[at.link].point_and_angle(self.metres_on_lane(at) / link.metres, side)
+        link = self.mapping.links[spot.link]
+        side = ((len(link.lanes) - 1) / 2 - spot.lane) * LANE_WIDTH
+        return self.lines[spot.link].point_and_angle(self.metres_on_lane(spot) / link.metres, side)
 
 
 class Polyline:

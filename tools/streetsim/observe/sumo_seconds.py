@@ -10,7 +10,7 @@ from streetsim.model.mapping import Map
 
 
 @dataclass(slots=True, frozen=True)
-class At:
+class Spot:
     """Where a vehicle is: in a cell of a lane, or in the junction behind it (no cell)."""
 
     link: int
@@ -33,8 +33,8 @@ class TripUnderWay:
     name: str
     wished: int  # second at which it would depart
     depart: int  # the second in which it departed
-    first_position: At
-    last_position: At
+    first_position: Spot
+    last_position: Spot
     metres: float = 0.0  # of the links that it has been on
     free: float = 0.0  # seconds of these where nobody is in the way, without the last junction
     waiting: int = 0  # seconds of standing
@@ -50,13 +50,14 @@ class Second:
 
     clock: int
     trips: dict[int, TripUnderWay]  # by car, of those on their way
-    positions: dict[int, At] = field(default_factory=dict)  # by car
+    positions: dict[int, Spot] = field(default_factory=dict)  # by car
     departed: list[int] = field(default_factory=list)  # cars
     entered: list[tuple[int, int]] = field(default_factory=list)  # (car, link): onto the cells of an edge from another
-    left: list[tuple[int, At]] = field(default_factory=list)  # out of the cells of an edge into the junction behind it
-    teleported: dict[int, At] = field(default_factory=dict)  # by car, out of which cells it was taken
+    # Out of the cells of an edge into the junction behind it.
+    exited: list[tuple[int, Spot]] = field(default_factory=list)
+    teleported: dict[int, Spot] = field(default_factory=dict)  # by car, out of which cells it was taken
     arrived: list[tuple[int, TripUnderWay]] = field(default_factory=list)
-    before: dict[int, At] = field(default_factory=dict)  # by car, of the second before
+    earlier_positions: dict[int, Spot] = field(default_factory=dict)  # by car, of the second before
 
     @property
     def time(self) -> int:
@@ -72,7 +73,7 @@ class Follower:
         self.mapping, self.alone = mapping, Alone(mapping, dawdle)
         self.trips: dict[int, TripUnderWay] = {}
         self.expected: dict[int, tuple[str, int, str]] = {}  # name, wished second, type
-        self.before: dict[int, At] = {}
+        self.earlier_positions: dict[int, Spot] = {}
         self.entered_at: dict[int, int] = {}  # car: the clock since which it is in a junction
 
     def expect_vehicle(self, car: int, name: str, wished: int, kind: str = "DEFAULT_VEHTYPE") -> None:
@@ -84,49 +85,52 @@ class Follower:
         """Takes the second that ends at a clock, and gives what it shows; called for every second, rising. Its trips,
         without those who arrived, change with the next call. lanes: [link, lane, cells, cars in the buffer, ..] as a
         folder's polls have them, empty lanes left out; arrived: cars."""
-        second = Second(clock, self.trips, before=self.before)
+        second = Second(clock, self.trips, earlier_positions=self.earlier_positions)
         for link, lane, cells, buffer, *_ in lanes:
             for entry in cells:
-                second.positions[entry[0]] = At(link, lane, entry[1], entry[2], size_of(entry))
+                second.positions[entry[0]] = Spot(link, lane, entry[1], entry[2], size_of(entry))
             for car in buffer:
                 second.positions[car] = self.follow_in_junction(car, link, lane, clock)
-        for car, at in second.positions.items():
-            self.follow_vehicle(second, car, at)
+        for car, spot in second.positions.items():
+            self.follow_vehicle(second, car, spot)
         arrived_cars = dict.fromkeys(arrived)
-        lost = ((car, at) for car, at in self.before.items() if car not in second.positions and car not in arrived_cars)
-        second.teleported.update((car, at) for car, at in lost if at.cell is not None)
+        lost = (
+            (car, spot) for car, spot in self.earlier_positions.items()
+            if car not in second.positions and car not in arrived_cars
+        )  # fmt: skip
+        second.teleported.update((car, spot) for car, spot in lost if spot.cell is not None)
         second.arrived = [(car, self.trips.pop(car)) for car in arrived_cars if car in self.trips]
-        self.before = second.positions
+        self.earlier_positions = second.positions
         return second
 
-    def follow_in_junction(self, car: int, link: int, lane: int, clock: int) -> At:
+    def follow_in_junction(self, car: int, link: int, lane: int, clock: int) -> Spot:
         """Notes since when a vehicle is in the buffer of a lane, and gives where it is. It drives, at a cell a second,
         for the least time that the junction takes, but one second in any case, and then stands."""
-        previous = self.before.get(car)
+        previous = self.earlier_positions.get(car)
         if previous is None or previous.cell is not None or previous.link != link:
             self.entered_at[car] = clock
         residence = self.mapping.nodes[self.mapping.links[link].end][3]
         driving = clock - self.entered_at[car] < max(1, residence)
-        return At(link, lane, None, 1.0 if driving else 0.0, previous.size if previous else 1)
+        return Spot(link, lane, None, 1.0 if driving else 0.0, previous.size if previous else 1)
 
-    def follow_vehicle(self, second: Second, car: int, at: At) -> None:
+    def follow_vehicle(self, second: Second, car: int, spot: Spot) -> None:
         """Begins the trip of a vehicle, or goes on with it, and notes in `second` what it did since the second before;
-        at: where it is now."""
-        previous, trip = self.before.get(car), self.trips.get(car)
+        spot: where it is now."""
+        previous, trip = self.earlier_positions.get(car), self.trips.get(car)
         if trip is None:
             name, wished, kind = self.expected.get(car, (f"#{car}", second.clock - 1, "DEFAULT_VEHTYPE"))
-            trip = self.trips[car] = TripUnderWay(name, wished, second.clock - 1, at, at, kind=kind)
+            trip = self.trips[car] = TripUnderWay(name, wished, second.clock - 1, spot, spot, kind=kind)
             second.departed.append(car)
-            self.add_link(trip, at.link)
-        elif previous is None or previous.link != at.link or (previous.cell is None and at.cell is not None):
+            self.add_link(trip, spot.link)
+        elif previous is None or previous.link != spot.link or (previous.cell is None and spot.cell is not None):
             if previous is not None and previous.cell is not None:
                 second.teleported[car] = previous
-            second.entered.append((car, at.link))
-            self.add_link(trip, at.link)
-        elif at.cell is None and previous.cell is not None:
-            second.left.append((car, previous))
-        note_standing(trip, at)
-        trip.last_position = at
+            second.entered.append((car, spot.link))
+            self.add_link(trip, spot.link)
+        elif spot.cell is None and previous.cell is not None:
+            second.exited.append((car, previous))
+        note_standing(trip, spot)
+        trip.last_position = spot
 
     def add_link(self, trip: TripUnderWay, link: int) -> None:
         """Adds to a trip the metres and free seconds of a link that it comes to. SUMO counts as lost what a vehicle
@@ -136,10 +140,10 @@ class Follower:
         trip.metres += self.mapping.links[link].metres
 
 
-def note_standing(trip: TripUnderWay, at: At) -> None:
-    """Adds to a trip a second of standing, and a halt where that begins, if it stands where it is now (at); else its
+def note_standing(trip: TripUnderWay, spot: Spot) -> None:
+    """Adds to a trip a second of standing, and a halt where that begins, if it stands where it is now (spot); else its
     standing is over."""
-    if at.speed:
+    if spot.speed:
         trip.standing = 0
         return
     trip.stops += trip.standing == 0

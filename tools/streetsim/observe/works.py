@@ -65,9 +65,9 @@ class WorksTable(Observer):
     def seen_before(self, clock: int, watched: Watched, lanes: LanesNow) -> dict[Place, Lane]:
         """What stands on the lanes of the link of some works, and of those upstream that their queue reaches."""
         lanes_of = self.kernel.map.lanes
-        lanes_seen = {lane_key: lanes.at(lane_key) for lane_key in lanes_of([watched.closure.link])}
+        lanes_seen = {lane_key: lanes.lane_at(lane_key) for lane_key in lanes_of([watched.closure.link])}
         while more := watched.further(clock, lanes_seen):
-            lanes_seen.update((lane_key, lanes.at(lane_key)) for lane_key in lanes_of(sorted(more)))
+            lanes_seen.update((lane_key, lanes.lane_at(lane_key)) for lane_key in lanes_of(sorted(more)))
         return lanes_seen
 
     def reach_at(self, clock: int, watched: Watched, lanes: LanesNow) -> Reach:
@@ -75,7 +75,7 @@ class WorksTable(Observer):
         lanes_seen: dict[Place, Lane] = {}
         links = {watched.closure.link}
         while links:
-            lanes_seen.update((lane_key, lanes.at(lane_key)) for lane_key in self.kernel.map.lanes(sorted(links)))
+            lanes_seen.update((lane_key, lanes.lane_at(lane_key)) for lane_key in self.kernel.map.lanes(sorted(links)))
             reach = watched.reach(clock, lanes_seen)
             known = {link for link, _ in lanes_seen}
             links = {feeder for link in reach.full for feeder in watched.streets.before.get(link, ())} - known
@@ -103,7 +103,7 @@ class LanesNow:
         self.seconds, self.begin = seconds, int(seconds.first[second])
         self.slots = seconds.slot[self.begin : seconds.first[second + 1]]
 
-    def at(self, lane_key: Place) -> Lane:
+    def lane_at(self, lane_key: Place) -> Lane:
         """What stands on a lane, without closed stretches."""
         slot = 2 * lane_key[0] + lane_key[1]
         low, high = (self.begin + np.searchsorted(self.slots, (slot, slot + 1))).tolist()

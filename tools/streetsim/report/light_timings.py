@@ -33,7 +33,7 @@ def timings_of(runs: Runs) -> dict[str, Timing]:
 def fits_run(timing: Timing, folder: Folder) -> bool:
     """Whether a kept program is the one of a run: it had a plan at the begin, and each of that second fits."""
     nodes = [node for light, node in folder.mapping.signals if light == timing.light]
-    start = folder.made.get("start", 0)
+    start = folder.setting.get("start", 0)
     plans = [command for clock, command in folder.signals if command["node"] in nodes and clock == start]
     return bool(plans) and all(plan_fits(timing, folder, plan) for plan in plans)
 

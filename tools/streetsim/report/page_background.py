@@ -32,7 +32,7 @@ def what_was_run(all_runs: Sequence[Runs]) -> str:
     """A table, as HTML, of each plan's run: its files, network, demand, time, seeds, SHA-256 of the program."""
     rows: list[tuple[str, str]] = []
     for runs in all_runs:
-        mapping, setting = runs.first_folder.mapping, runs.first_folder.made
+        mapping, setting = runs.first_folder.mapping, runs.first_folder.setting
         sources = mapping.sources or {}
         files = [sources["net"], *sources.get("routes", ()), *sources.get("additional", ())] if sources else []
         size = f"{len(mapping.links_of):,} edges, {len(mapping.nodes):,} junctions"

@@ -7,7 +7,7 @@ from pathlib import Path
 
 from streetsim.base.files import Fault, Json, open_bytes, read_json, reading
 from streetsim.base.seeds import seeds_text
-from streetsim.model.folder import KEPT, LIGHTS, NAME
+from streetsim.model.folder import RUN_LINES, LIGHTS, NAME
 from streetsim.model.tables import SEEDS, read_table
 from streetsim.report.light_timings import lights_path
 from streetsim.report.page_seal import Seal, canonical, sealed, sum_of
@@ -42,8 +42,8 @@ def sealed_again(plans: Sequence[Runs], stated_seal: Seal, page: str, other_path
     files are packed that are those found anew, as another library may pack the same bytes otherwise."""
     for runs, plan in zip(plans, stated_seal.content["plans"], strict=True):
         for folder in runs.folders.values():
-            folder.made |= {"program": plan["program"] or None, "words": plan["words"]}
-            folder.made.pop("unproved", None)  # of what runs again now: no such page is sealed
+            folder.setting |= {"program": plan["program"] or None, "words": plan["words"]}
+            folder.setting.pop("unproved", None)  # of what runs again now: no such page is sealed
     new_seal, _ = seal_for(plans, stated_seal.content["words"], page, other_paths)
     known = stated_seal.content["files"]
     equal = {name for name, sum_ in new_seal.content["files"].items() if known.get(name) == sum_}
@@ -69,9 +69,9 @@ def refuse_unsealable(runs: Runs) -> None:
 def sealed_plan(runs: Runs, plan_number: int) -> tuple[Json, dict[str, bytes]]:
     """(what the seal says of a plan: name, run, map, words, again, seeds, several, program; its files, content by
     name). plan_number: from 1. Fault where its folder does not keep what made it, or its seeds are of several runs."""
-    folder, run_setting = runs.first_folder, runs.first_folder.made
+    folder, run_setting = runs.first_folder, runs.first_folder.setting
     lines = kept_lines(runs)
-    if len({canonical({name: one.made.get(name) for name in SETTING_KEYS}) for one in runs.folders.values()}) > 1:
+    if len({canonical({name: one.setting.get(name) for name in SETTING_KEYS}) for one in runs.folders.values()}) > 1:
         raise Fault(f"{folder.path}: seeds of several runs: they cannot be sealed as one")
     run, mapped = f"plan-{plan_number}/{run_setting['run']}", f"plan-{plan_number}/map.json"
     several = os.path.basename(os.path.normpath(folder.path)).startswith("seed-")
@@ -93,14 +93,14 @@ def kept_lines(runs: Runs) -> bytes:
     """The lines of a plan's run as bytes, unpacked, of its folder or the one above; Fault where neither keeps them,
     they cannot be read, or are others than its setting says."""
     folder = runs.first_folder
-    places = [f"{folder.path}/{KEPT}", f"{os.path.dirname(os.path.normpath(folder.path))}/{KEPT}"]
+    places = [f"{folder.path}/{RUN_LINES}", f"{os.path.dirname(os.path.normpath(folder.path))}/{RUN_LINES}"]
     path = next(filter(os.path.exists, places), None)
-    if path is None or "words" not in folder.made:
+    if path is None or "words" not in folder.setting:
         why = "as another tool or an older one made it: streetsim-run makes it anew"
-        raise Fault(f"{folder.path}: keeps no {KEPT}, {why}")
+        raise Fault(f"{folder.path}: keeps no {RUN_LINES}, {why}")
     with reading(path), open_bytes(path) as file:
         content = file.read()
-    if sum_of(content) != folder.made["lines"]:
+    if sum_of(content) != folder.setting["lines"]:
         raise Fault(f"{path}: was changed since the run was made")
     return content
 

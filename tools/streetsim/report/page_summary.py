@@ -58,7 +58,7 @@ def departures_told(plans: Sequence[Runs]) -> str:
 
 def question_html(question: str, plans: Sequence[Runs], interval: Interval) -> str:
     """What was asked (a usual question where it is empty), and of which runs, as HTML."""
-    last_plan, setting = plans[-1], plans[-1].first_folder.made
+    last_plan, setting = plans[-1], plans[-1].first_folder.setting
     names = [runs.name for runs in plans]
     two = len(names) == 2
     usual = f"What changes if '{names[1]}' takes the place of '{names[0]}'?" if two else f"How does '{names[0]}' flow?"
@@ -278,7 +278,8 @@ def doubted(plans: Sequence[Runs], further_doubts: Sequence[str] = ()) -> str:
         texts.append("One run says nothing of chance: streetsim-run --seeds 1-5 makes several.")
     elif not are_drawn(plans):
         texts += [f"{text.capitalize()}." for text in told_of_days(False, seeds)]
-    if heavy := [*dict.fromkeys(row[1] for runs in plans for row in runs.first_folder.mapping.told if row[0] == HEAVY)]:
+    rows = (row for runs in plans for row in runs.first_folder.mapping.warning_rows)
+    if heavy := [*dict.fromkeys(row[1] for row in rows if row[0] == HEAVY)]:
         first = heavy[0] if len(heavy[0]) < LONG else heavy[0][: LONG - 3] + ".."
         told = f"The import told {counted_noun(len(heavy), 'thing')} that may change results"
         texts.append(f"{told} (appendix){'; the first' if len(heavy) > 1 else ''}: {first}.")

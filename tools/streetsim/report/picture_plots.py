@@ -168,7 +168,7 @@ def draw_arrivals(pyplot: Pyplot, folder: Folder, tripinfo: str | None) -> Figur
     curves: list[tuple[Sequence[float], str, str, str]]
     curves = [(departs, "wished departures", "#888888", "--"), (arrivals, "arrivals here", LINE, "-")]
     if tripinfo:
-        end = folder.made.get("until", inf)
+        end = folder.setting.get("until", inf)
         sumo = sorted(arrival for _, arrival in read_tripinfo(tripinfo).values() if arrival <= end)
         curves.append((sumo, "arrivals in SUMO", OTHER_LINE, ":"))
         clocks, values = run_series.curve_difference(arrivals, sumo)

@@ -214,7 +214,7 @@ def middle_densities_and_flows(folder: Folder, edges: Sequence[str]) -> list[tup
     polls: Counter[int] = Counter()
     sums_of_lane: defaultdict[tuple[int, int, int], list[int]] = defaultdict(lambda: [0, 0])
     wanted_links = {place for place, link in enumerate(links) if not edges or link.edge in edges}
-    start = folder.made.get("start", 0)
+    start = folder.setting.get("start", 0)
     for poll in folder.polls():
         period = (poll["clock"] - 1 - start) // folder.period
         polls[period] += 1
@@ -227,7 +227,7 @@ def middle_densities_and_flows(folder: Folder, edges: Sequence[str]) -> list[tup
                 sums[1] += sum(there)
     if not polls:
         raise Fault(f"{folder.path}: nothing was polled")
-    whole, densities_and_flows = (folder.made.get("until", poll["clock"]) - start) // folder.period, []
+    whole, densities_and_flows = (folder.setting.get("until", poll["clock"]) - start) // folder.period, []
     for (period, link, _), (vehicles, speeds) in sorted(sums_of_lane.items()):
         if period < whole:
             first_cell, last_cell = middle_third(links[link].cells)
@@ -244,7 +244,7 @@ def middle_third(cells: int) -> tuple[int, int]:
 
 def arrival_curves(folder: Folder) -> tuple[list[int], list[int]]:
     """(clocks of wished departures up to the run's end, that second included, clocks of arrivals), each sorted."""
-    trips, end = folder.trips(), folder.made.get("until", inf)
+    trips, end = folder.trips(), folder.setting.get("until", inf)
     departs = sorted(depart for row in trips if (depart := int(row["depart"])) <= end)
     return departs, sorted(int(row["arrival"]) for row in trips if row["arrival"])
 

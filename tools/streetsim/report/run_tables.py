@@ -67,7 +67,7 @@ class Runs:
     @property
     def is_drawn(self) -> bool:
         """Whether the departures of all its runs were drawn by their seeds; else they are those of the file."""
-        return all(is_drawn(folder.made) for folder in self.folders.values())
+        return all(is_drawn(folder.setting) for folder in self.folders.values())
 
     @property
     def vehicles(self) -> float:
@@ -106,7 +106,7 @@ def read_folders(path: str) -> Runs:
         folders = {seed: read_folder(f"{path}/seed-{seed}") for seed in seeds}
     else:
         folder = read_folder(path)
-        folders = {folder.made.get("seed", 1): folder}
+        folders = {folder.setting.get("seed", 1): folder}
     return Runs(os.path.basename(os.path.normpath(path)), folders)
 
 

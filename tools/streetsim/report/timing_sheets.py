@@ -130,11 +130,11 @@ def phases_table(timing: Timing) -> str:
     for number, (seconds, state) in enumerate(timing.phases, 1):
         letters = set(state)
         what = next((name for name, signs in KINDS if letters & {*signs}), "red")
-        kept = [*map(kept_told, timing.kept[number - 1])] if timing.kept else []
+        kept = [*map(kept_told, timing.phase_limits[number - 1])] if timing.phase_limits else []
         told = [str(number), f"{clock:g}", f"{clock + seconds:g}", f"{seconds:g}", *kept]
         rows.append([what, escape(state), *told])
         clock += seconds
-    more = ["least, s", "most, s", "pedestrians, s"] if timing.kept else []
+    more = ["least, s", "most, s", "pedestrians, s"] if timing.phase_limits else []
     return table(["phase of", "state", "phase", "from, s", "until, s", "seconds", *more], rows, names=2)
 
 

@@ -70,7 +70,7 @@ def search_routes(job: Job, workers: Team, stopping: Stopping) -> list[Diverted]
         """Prints an iteration on standard error, after the label of its search; gives whether the user has asked for an
         end."""
         print(f"{label}{iteration.line(count)}", file=sys.stderr, flush=True)
-        return stopping.asked
+        return stopping.end_asked
 
     label = "before, " if works.close else ""
     search = RouteSearch(job.town, job.ground, job.trips.trips, workers, partial(told, label))

@@ -147,7 +147,7 @@ def seen_run(ground: RunGround, run: Run, mapping: Map, seed: int, giving: bool)
     worst = max(summary.censuses(), key=lambda census: census.waiting)
     return SeenRun(
         clocks=clocks, arrivals=arrivals, observed=observed_in(ground, run, mapping, clocks, arrivals),
-        passed=passings.passed() if giving else {}, rescues=steering.rescue.count.total(),
+        passed=passings.stop_line_passings() if giving else {}, rescues=steering.rescue.count.total(),
         most_waiting=(worst.waiting, worst.clock), at_works=tuple(doubts_of(works.watched, mapping)),
     )  # fmt: skip
 

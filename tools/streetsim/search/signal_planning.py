@@ -57,12 +57,12 @@ def ended_search(
         def told(search: PlanSearch) -> bool:
             """Shows how far the search is; gives whether the user has asked for an end."""
             shown.show(search)
-            return stopping.asked
+            return stopping.end_asked
 
         search = PlanSearch(values, budget, seeds, told, key_of=key)
         search_to_end(search)
         shown.line.end()
-        return search, stopping.asked
+        return search, stopping.end_asked
 
 
 class SearchShown:

@@ -39,7 +39,7 @@ def run_and_map(converted_run: ConvertedRun, report: Report) -> tuple[list[str],
     network, lights, commands, names = converted_run
     mapping = map_of(network, lights, names, report)
     mapping.detectors = detectors_on_cells(network.detectors, mapping, network.closed_lanes, report)
-    mapping.warnings, mapping.told = list(report.lines()), report.rows()
+    mapping.warnings, mapping.warning_rows = list(report.lines()), report.rows()
     lines = [json.dumps(command, separators=(",", ":")) for command in commands]
     refuse_over_limits(network, lines[0], names)
     return lines, mapping

@@ -28,7 +28,7 @@ class Minor:
         every = sum(flow for flow, _ in flows)
         if not every:
             return 0.0
-        seconds = sum(flow * gap.before(flow, flow, every) for flow, gap in flows) / every
+        seconds = sum(flow * gap.seconds_needed(flow, flow, every) for flow, gap in flows) / every
         rate = every / 3600
         return min(MOST_WAIT, math.expm1(min(50.0, rate * seconds)) / rate - seconds)
 

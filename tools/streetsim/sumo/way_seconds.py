@@ -8,7 +8,7 @@ from itertools import pairwise, takewhile
 
 from streetsim.model.freeflow import FreeFlow
 from streetsim.model.mapping import Map
-from streetsim.model.runs import Command, Sent
+from streetsim.model.runs import Command, TimedCommand
 from streetsim.model.timing import spans_of
 from streetsim.sumo.way_graph import END, Graph
 
@@ -17,7 +17,7 @@ NO_GREEN_SECONDS = 3600.0  # seconds of a wait for a green that does not come
 LEAST_CAPACITY = 100.0  # vehicles an hour that any movement lets pass
 
 
-def whole_plans(sent: Iterable[Sent]) -> list[Command]:
+def whole_plans(sent: Iterable[TimedCommand]) -> list[Command]:
     """One signal command, {"node", "phases"}, for each node of signal commands that are sent at clocks: the phases of
     the first that the node is sent; or where that has one phase, as of a program that is sent phase by phase, those of
     all up to one of several phases, each as long as until the next is sent: up to the last that is as the first, so
