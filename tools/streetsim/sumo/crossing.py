@@ -147,13 +147,13 @@ def heads_of(own_movements: Sequence[CrossingMovement], opposite_movements: Sequ
     own_share, opposite_share = (waiting_share(*side) for side in sides)
     if not (own_share and opposite_share):
         return None
-    flows = [sum(one.flow for one in side) for side in (own_movements, opposite_movements)]
+    flows = [sum(movement.flow for movement in side) for side in (own_movements, opposite_movements)]
     own_waits, other_waits = (
-        sum(one.flow * foe.flow for one in side if one.waits for foe in one.foes if foe in against)
+        sum(movement.flow * foe.flow for movement in side if movement.waits for foe in movement.foes if foe in against)
         / (flows[0] * flows[1])
         for side, against in sides
     )
-    each = sum(one.flow * one.headway for one in (*own_movements, *opposite_movements)) / sum(flows)
+    each = sum(movement.flow * movement.headway for movement in (*own_movements, *opposite_movements)) / sum(flows)
     return Heads((own_waits, other_waits), (1 - own_waits / own_share, 1 - other_waits / opposite_share), each)
 
 

@@ -98,20 +98,20 @@ def lane_there(movement: CrossingMovement, start: int, length: int, factor: floa
     """How many vehicles of a movement's whole lane pass in SUMO in a permissive green of length seconds from start,
     with factor times the usual traffic to give way to: those before the first that waits, while the others' queue
     leaves, and then all in gaps."""
-    blocked, free, passed = 0, 0, 0.0
+    blocked, free, passing = 0, 0, 0.0
     for foe in movement.foes:
         blocked |= lane_queue(movement, foe, factor)
     for seconds, foes in movement.meets[start]:
         count = (seconds & ~blocked).bit_count()
         each = time_of(movement, movement.against(foes) * factor)
-        passed += count / (movement.share * each + (1 - movement.share) * movement.headway_beside)
+        passing += count / (movement.share * each + (1 - movement.share) * movement.headway_beside)
         free += count
     queued = max(0.0, length - free - START)
     if movement.heads:
-        return max(SNEAKERS, passing_heads(movement.heads, queued) + passed)
-    before = queued / movement.headway_beside
-    waiting = 1 - (1 - movement.share) ** before
-    return until_first(before, movement.share) + max(passed, SNEAKERS * waiting)
+        return max(SNEAKERS, passing_heads(movement.heads, queued) + passing)
+    queued_vehicles = queued / movement.headway_beside
+    waiting = 1 - (1 - movement.share) ** queued_vehicles
+    return until_first(queued_vehicles, movement.share) + max(passing, SNEAKERS * waiting)
 
 
 def lane_queue(movement: CrossingMovement, foe: CrossingMovement, factor: float) -> int:
