@@ -49,8 +49,8 @@ def changes_that_stand_out(rows: Iterable[RowChange]) -> dict[str, float]:
 
 def ranked_changes(rows_after: Rows, rows_before: Rows | None, drawn: bool) -> list[RowChange]:
     """What is told of each row of the last plan (rows_after), with the row of the same key of the plan before (None:
-    there is none): first those that change noticeably or are worse than D; in each part the greatest weight first. drawn:
-    whether departures were."""
+    there is none): first those that change noticeably or are worse than D; in each part the greatest weight first.
+    drawn: whether departures were."""
     changes = []
     for key, row in rows_after.items():
         first = rows_before.get(key) if rows_before is not None else None

@@ -183,13 +183,13 @@ def other_ways(plans: Sequence[Runs], interval: tuple[int, int]) -> str:
     )[::-1]
     if not ranked:
         return f"<p>No street has 20 vehicles an hour more or fewer {how_sure(plans[1].is_drawn)}.</p>"
-    told = [*ranked[:MOST_EDGES], *ranked[-MOST_EDGES:][::-1]] if len(ranked) > 2 * MOST_EDGES else ranked
+    listed = [*ranked[:MOST_EDGES], *ranked[-MOST_EDGES:][::-1]] if len(ranked) > 2 * MOST_EDGES else ranked
     rows = [
         [
             escape(names.approach(edge)), escape(edge), f"{difference.mean_before:.0f}",
             f"{difference.mean_after:.0f}", change_told(difference),
         ]
-        for edge, difference in ((edge, changes[edge]) for _, edge in told)
+        for edge, difference in ((edge, changes[edge]) for _, edge in listed)
     ]
     head = ["streets with more and fewer vehicles", "edge", "vehicles/h before", "after", "change"]
     return table(head, rows, names=2)
