@@ -108,7 +108,7 @@ def detail(runs: Runs, name: str, interval: tuple[int, int]) -> str:
     for row in sorted(approaches, key=lambda row: row.key):
         half, usual, greatest, room = itemgetter("queue_50_m", "queue_95_m", "queue_max_m", "storage_m")(row.means)
         queues.append((called.approach(row.key[1]), half, usual, greatest, room))
-    values = junction.values
+    values = junction.means
     return (
         f'<section class="whole"><h3 id="{anchor(name)}">{escape(title_of(name, called))}: {junction.delay:.1f} s '
         f'{letter_mark(junction.letter())}, {values["vehicles_per_hour"]:,.0f} vehicles an hour, '

@@ -120,7 +120,7 @@ def draw_lines(axes: Axes, streets: Iterable[Street], colours: str = "YlOrRd") -
     from matplotlib.collections import LineCollection
 
     known = sorted((one for one in streets if one.measured is not None), key=lambda one: one.measured)
-    most = next((most for most in ROUND if known[-1].value <= most), known[-1].value)
+    most = next((most for most in ROUND if known[-1].measured <= most), known[-1].measured)
     values, widths = [one.measured for one in known], [1.5 + 5 * one.measured / most for one in known]
     shapes = [one.shape for one in known]
     lines = LineCollection(shapes, cmap=colours, array=values, clim=(0, most), linewidths=widths)
