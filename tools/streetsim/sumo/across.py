@@ -2,7 +2,7 @@
 from collections import Counter
 from collections.abc import Callable, Collection
 
-from streetsim.sumo.crossing import STOPPED, Flows
+from streetsim.sumo.crossing import STOPS_FIRST, Flows
 from streetsim.sumo.net import MAJOR, STOPS, ZIPPER, NetConnection, SumoNet
 from streetsim.sumo.paces import Drivers
 
@@ -58,7 +58,7 @@ def may_turn_on_red(connection: NetConnection, net: SumoNet) -> bool:
     """Whether a light lets those of a connection go after a stop in some of its phases."""
     program = net.programs.get(connection.light or "")
     at = connection.index
-    return program is not None and any(state[at : at + 1] == STOPPED for _, state in program.phases)
+    return program is not None and any(state[at : at + 1] == STOPS_FIRST for _, state in program.phases)
 
 
 def lost(drivers: Drivers, before: float, slow: float, behind: float) -> float:

@@ -12,7 +12,7 @@ from streetsim.model.mapping import MapTurn
 from streetsim.model.runs import Command
 from streetsim.model.timing import spans_of, states_of
 from streetsim.model.waiting import TurnKey
-from streetsim.sumo.crossing import GREEN, OPEN, STOPPED, CrossingMovement, Flows, movements_of
+from streetsim.sumo.crossing import GREEN, OPEN, STOPS_FIRST, CrossingMovement, Flows, movements_of
 from streetsim.sumo.driver_words import Pairs, cut_at, with_cut
 from streetsim.sumo.greens import TWO_PARTS, hidden_middle, hidden_start, parts_shown, parts_shown_in_red
 from streetsim.sumo.net import NEMA, STATIC, LightProgram, NetConnection, SumoNet, connections_of
@@ -347,7 +347,7 @@ def shown_green(
     PHASE_STEPS those of one of QUEUED."""
     count = len(states)
     is_shown = [state in GREEN for state in states]
-    greens, reds = spans_of(states, OPEN), spans_of(states, STOPPED)
+    greens, reds = spans_of(states, OPEN), spans_of(states, STOPS_FIRST)
     pieces = [(start, length, parts_shown(length, *seconds.get(start, (length, 1, None)))) for start, length in greens]
     pieces += [(start, length, parts_shown_in_red(length, seconds.get(start, NOTHING)[0])) for start, length in reds]
     for start, length, parts in pieces:

@@ -11,7 +11,7 @@ from operator import or_
 
 from streetsim.sumo.crossing import CrossingMovement, EdgePair, Meeting
 from streetsim.sumo.gaps import after_stop, gap_capacity, gap_wait, until_first
-from streetsim.sumo.greens import AHEAD, HEADWAYS, START, green_here, passing_here
+from streetsim.sumo.greens import EXTRA_GREEN, HEADWAYS, START, green_here, passing_here
 from streetsim.sumo.heads import Heads, passing_heads
 
 LOST = 2.0  # seconds until a queue of the other side moves
@@ -155,7 +155,7 @@ def lane_here(movement: CrossingMovement, seconds: int, length: int) -> float:
     """How many vehicles of a movement's whole lane pass in streetsim in a permissive green of length seconds, of which
     some seconds are shown at its end."""
     whole = max(0.0, length - START) / movement.headway_beside  # pass if nobody waits, here as in SUMO
-    before = whole * (length - seconds + AHEAD) / (length + AHEAD)
+    before = whole * (length - seconds + EXTRA_GREEN) / (length + EXTRA_GREEN)
     none = (1 - movement.share) ** before  # that waits has come until then
     shown = none * (whole - before) + (1 - none) * passing_here(seconds, movement.limit)
     return until_first(before, movement.share) + shown
