@@ -9,7 +9,7 @@ from streetsim.simulation.errors import NotHere, TraCIException
 from streetsim.traci import constants as tc
 from streetsim.traci.advice import advice_on
 from streetsim.traci.protocol import (
-    DOUBLE, ENCODERS, INT, TYPES, BadMessage, Typed, TraciValue, ValueReader, command, state_of, text,
+    DOUBLE, ENCODERS, INT, TYPES, BadMessage, TraciValue, Typed, ValueReader, command, state_of, text,
 )
 from streetsim.traci.table import DOMAINS, GETS, SETS, Get
 from streetsim.traci.trafficlights import Logic, Phase
