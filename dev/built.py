@@ -25,14 +25,14 @@ def crates(top: Path = TOP, crate: str = CRATE) -> dict[str, list[str]]:
     lowest first, the program's last."""
     lines = (line.partition("#")[0].partition(":") for line in (top / "crates.txt").read_text().splitlines())
     uses = {head.split()[0]: tail.split() for head, colon, tail in lines if colon}
-    found, left = {}, [crate]
-    while left:
-        name = left[-1]
-        lacking = [below for below in uses[name] if below in uses and below not in found]
+    ordered, pending = {}, [crate]
+    while pending:
+        name = pending[-1]
+        lacking = [below for below in uses[name] if below in uses and below not in ordered]
         if not lacking:
-            found[left.pop()] = uses[name]
-        left += lacking
-    return found
+            ordered[pending.pop()] = uses[name]
+        pending += lacking
+    return ordered
 
 
 def sources(top: Path = TOP) -> list[Path]:

@@ -26,17 +26,17 @@ def result_of(last: str, status: int) -> tuple[int, int]:
 
 def functions_in(lines: Iterable[str]) -> dict[str, int]:
     """How many functions of each crate a run has proved itself; what it took from an earlier run it does not say."""
-    found: dict[str, int] = {}
+    counts: dict[str, int] = {}
     count = None
     for line in lines:
         if verdict := VERDICT.match(line):
             count = int(verdict[1])
         elif crate := PROVED.fullmatch(line.rstrip("\n")):
-            found |= {} if count is None else {crate[1]: count}
+            counts |= {} if count is None else {crate[1]: count}
             count = None
         elif line.startswith(PART):
             count = None
-    return found
+    return counts
 
 
 def summary_in(lines: Iterable[str]) -> str:

@@ -53,17 +53,17 @@ def note(top: Path, said: Sequence[str]) -> None:
     beside.replace(record_of(top))
 
 
-def made_record(top: Path, said: Sequence[str], known: dict[str, int]) -> Record:
-    """What there is to note; known: how many functions of each crate were proved."""
+def made_record(top: Path, gate_lines: Sequence[str], function_counts: dict[str, int]) -> Record:
+    """What there is to note; function_counts: how many functions of each crate were proved."""
     kit = subprocess.run(["rt", "version"], capture_output=True, text=True, check=False).stdout.strip()
     crates = all_crates(top)
     return {
         "kit": kit,
-        "gate": said[-1] if said else "",
-        "summary": gate.summary_in(said),
-        "functions": sum(known.get(crate, 0) for crate in crates),
+        "gate": gate_lines[-1] if gate_lines else "",
+        "summary": gate.summary_in(gate_lines),
+        "functions": sum(function_counts.get(crate, 0) for crate in crates),
         "crates": len(crates),
-        "uncounted": [crate for crate in crates if crate not in known],
+        "uncounted": [crate for crate in crates if crate not in function_counts],
         "sources": built.sum_of_sources(top),
         "files": {name: built.sum_of_file(path) for name, path in files_of(top).items()},
     }
@@ -75,10 +75,10 @@ def all_crates(top: Path) -> list[str]:
     return [head.split()[0] for head, colon, _ in lines if colon]
 
 
-def keep_functions(top: Path, said: Iterable[str]) -> dict[str, int]:
+def keep_functions(top: Path, gate_lines: Iterable[str]) -> dict[str, int]:
     """How many functions of each crate were proved: as this run says, or as the one said that proved the same files on
     this machine, since the gate does not say it again of what it keeps."""
-    own, found = gate.functions_in(said), {}
+    own_counts, kept_counts = gate.functions_in(gate_lines), {}
     with contextlib.suppress(OSError):
         folder = built.cache()
         folder.mkdir(parents=True, exist_ok=True)
@@ -86,12 +86,12 @@ def keep_functions(top: Path, said: Iterable[str]) -> dict[str, int]:
             fcntl.flock(file, fcntl.LOCK_EX)
             file.seek(0)
             with contextlib.suppress(ValueError):
-                found = json.load(file)
-            found |= {f"{crate} {sum_of_crate(top, crate)}": count for crate, count in own.items()}
+                kept_counts = json.load(file)
+            kept_counts |= {f"{crate} {sum_of_crate(top, crate)}": count for crate, count in own_counts.items()}
             file.truncate(0)
-            json.dump(found, file)
+            json.dump(kept_counts, file)
     sums = {crate: f"{crate} {sum_of_crate(top, crate)}" for crate in all_crates(top)}
-    return {crate: found[name] for crate, name in sums.items() if name in found} | own
+    return {crate: kept_counts[name] for crate, name in sums.items() if name in kept_counts} | own_counts
 
 
 def sum_of_crate(top: Path, crate: str) -> str:
@@ -103,31 +103,31 @@ def sum_of_crate(top: Path, crate: str) -> str:
 
 def why_not(top: Path) -> str | None:
     """Why nothing can be packed, or none."""
-    found = read(top)
-    if not found.get("summary"):
+    record = read(top)
+    if not record.get("summary"):
         return "nothing here was proved by the whole gate: ./test proves it, edits included, and leaves the record"
-    if found["sources"] != built.sum_of_sources(top):
+    if record["sources"] != built.sum_of_sources(top):
         return f"the sources of {built.CRATE} are not those that were proved: ./test proves them"
     for name, path in files_of(top).items():
-        if not path.is_file() or built.sum_of_file(path) != found["files"].get(name):
+        if not path.is_file() or built.sum_of_file(path) != record["files"].get(name):
             return f"{path.relative_to(top)} is not the file that was proved: ./test makes it"
     return None
 
 
-def page(found: Record, version: str, commit: str) -> str:
+def page(record: Record, version: str, commit: str) -> str:
     """The text of PROVED, of a record. Its sums are lines as sha256sum reads them."""
-    edits = gate.REFUSED.search(found["summary"])
-    lacking = len(found["uncounted"])
+    edits = gate.REFUSED.search(record["summary"])
+    lacking = len(record["uncounted"])
     uncounted = f"; of {lacking} others, proved by earlier runs, it is not known here how many" if lacking else ""
     lines = [
         *(HEAD.format(version=version), "", f"Version: {version}", f"Commit: {commit}"),
-        *(f"Kit: {found['kit']}", f"Gate: {found['gate']}"),
-        *([f"Gate's summary: {found['summary']}"] if found["summary"] else []),
-        f"Functions proved: {found['functions']:,}, in {found['crates'] - lacking} crates{uncounted}",
+        *(f"Kit: {record['kit']}", f"Gate: {record['gate']}"),
+        *([f"Gate's summary: {record['summary']}"] if record["summary"] else []),
+        f"Functions proved: {record['functions']:,}, in {record['crates'] - lacking} crates{uncounted}",
         *([f"Edits (wrong bodies) refused: {edits[1]}"] if edits else []),
         "",
-        f"SHA-256 of the program's sources, as dev/built.py sums them up: {found['sources']}",
+        f"SHA-256 of the program's sources, as dev/built.py sums them up: {record['sources']}",
         *("", FILES),
-        *(f"{total}  {name}" for name, total in found["files"].items()),
+        *(f"{total}  {name}" for name, total in record["files"].items()),
     ]
     return "\n".join([*lines, ""])

@@ -53,11 +53,11 @@ def begin(top: Path, since: str | None) -> str:
 
 def changed(top: Path, since: str | None) -> list[str]:
     """The files that differ from the begin of the change, by their paths from the top."""
-    told = git(top, "diff", "--name-only", "--no-renames", begin(top, since))
+    changed_names = git(top, "diff", "--name-only", "--no-renames", begin(top, since))
     new = git(top, "ls-files", "--others", "--exclude-standard")
-    if told is None or new is None:
+    if changed_names is None or new is None:
         raise SystemExit("test: --quick goes by git, and this is no clone")
-    return [*told.splitlines(), *new.splitlines()]
+    return [*changed_names.splitlines(), *new.splitlines()]
 
 
 def touched(top: Path, files: list[str]) -> list[str]:
@@ -72,7 +72,7 @@ def touched(top: Path, files: list[str]) -> list[str]:
 
 def output_of(words: Sequence[str | Path], folder: Path, **variables: str) -> str:
     """All that a command printed where it failed, else nothing."""
-    done = subprocess.run(
+    process = subprocess.run(
         words,
         cwd=folder,
         env={**os.environ, **variables},
@@ -83,7 +83,7 @@ def output_of(words: Sequence[str | Path], folder: Path, **variables: str) -> st
         errors="replace",
         check=False,
     )
-    return (done.stdout or f"status {done.returncode}\n") if done.returncode else ""
+    return (process.stdout or f"status {process.returncode}\n") if process.returncode else ""
 
 
 def hints(top: Path) -> str:
@@ -101,14 +101,14 @@ def laid_out(top: Path, crates: list[str]) -> str:
     with tempfile.TemporaryDirectory() as folder:
         copy = Path(folder)
         shutil.copy(top / "crates.txt", copy)
-        told = ""
+        complaints = ""
         for name in crates:
             shutil.copytree(top / "crates" / name, copy / "crates" / name, ignore=shutil.ignore_patterns("out"))
-            done = subprocess.run(
+            process = subprocess.run(
                 ["rt", "fmt"], cwd=copy / "crates" / name, capture_output=True, text=True, check=False
             )
-            told += "".join(f"{name}: {line}\n" for line in (done.stdout + done.stderr).splitlines())
-        return told
+            complaints += "".join(f"{name}: {line}\n" for line in (process.stdout + process.stderr).splitlines())
+        return complaints
 
 
 def proved(top: Path, crates: list[str]) -> str:
@@ -136,7 +136,7 @@ def parts(top: Path, files: list[str]) -> Iterator[Part]:
                 yield Part(file.stem, partial(tested, top, file))
 
 
-def told(part: Part) -> bool:
+def passes(part: Part) -> bool:
     """Does a check and tells how it went, with what is wrong. Whether all was well."""
     start = time.monotonic()
     fault = part.fault()
@@ -154,6 +154,6 @@ def main(top: Path, words: list[str]) -> int:
     asked = parser.parse_args(words)
     files = changed(top, asked.since)
     with ThreadPoolExecutor(len(os.sched_getaffinity(0))) as pool:
-        results = list(pool.map(told, parts(top, files)))
+        results = list(pool.map(passes, parts(top, files)))
     print(f"{sum(results)} passed, {len(results) - sum(results)} failed")
     return 0 if all(results) else 1

@@ -17,7 +17,7 @@ COMMANDS = re.compile(r"^ {2}\{([\w,-]+)\}$", re.MULTILINE)
 
 
 @dataclass(frozen=True)
-class Said:
+class CommandHelp:
     """The help of a command, and those of the commands that are its first word."""
 
     name: str
@@ -40,15 +40,15 @@ def help_of(cache: str, path: Path, *words: str) -> str:
     return done.stdout
 
 
-def ask(cache: str, path: Path) -> Said:
+def ask(cache: str, path: Path) -> CommandHelp:
     """All that a command says of itself."""
     text = help_of(cache, path)
     found = COMMANDS.search(text)
     words = found[1].split(",") if found else ()
-    return Said(path.name, text, {word: help_of(cache, path, word) for word in words})
+    return CommandHelp(path.name, text, {word: help_of(cache, path, word) for word in words})
 
 
-def ask_all(paths: Iterable[Path]) -> list[Said]:
+def ask_all(paths: Iterable[Path]) -> list[CommandHelp]:
     """What some commands say, in the order of their paths."""
     with tempfile.TemporaryDirectory() as cache, ThreadPoolExecutor() as pool:
         return list(pool.map(partial(ask, cache), paths))

@@ -3,7 +3,7 @@ from __future__ import annotations
 
 from collections.abc import Sequence
 
-from package.asking import Said, options
+from package.asking import CommandHelp, options
 
 HEAD = """# Completion of streetsim's commands for bash, made by ./package from what they say by --help.
 _streetsim() {
@@ -22,13 +22,13 @@ def case(pattern: str, words: Sequence[str]) -> str:
     return f'        {pattern}) words="{" ".join(words)}" ;;\n'
 
 
-def cases(said: Said) -> str:
+def cases(command_help: CommandHelp) -> str:
     """What may follow a command: with a word that comes first its options, before it these words."""
-    inner = "".join(case(f'"{said.name} {word}"', options(text)) for word, text in said.inner.items())
-    return inner + case(f'"{said.name} "*', [*said.inner, *options(said.text)])
+    inner = "".join(case(f'"{command_help.name} {word}"', options(text)) for word, text in command_help.inner.items())
+    return inner + case(f'"{command_help.name} "*', [*command_help.inner, *options(command_help.text)])
 
 
-def script(every: Sequence[Said]) -> str:
+def script(every: Sequence[CommandHelp]) -> str:
     """The script of all commands."""
-    names = " ".join(said.name for said in every)
+    names = " ".join(command_help.name for command_help in every)
     return HEAD + "".join(map(cases, every)) + TAIL + f"complete -o default -F _streetsim {names}\n"

@@ -10,9 +10,9 @@ from datetime import datetime, timezone
 from email.utils import format_datetime
 from pathlib import Path
 
-MADE = "debian/made"  # where debian/streetsim.install takes what is staged from
+STAGED = "debian/made"  # where debian/streetsim.install takes what is staged from
 VERSION = re.compile(r"^## (\d[\w.]*) \((\d{4}-\d\d-\d\d)\)$", re.MULTILINE)
-ITEM = re.compile(r"^- (.+(?:\n  .+)*)", re.MULTILINE)
+LIST_ITEM = re.compile(r"^- (.+(?:\n  .+)*)", re.MULTILINE)
 MARKS = re.compile(r"\[([^]]*)\]\([^)]*\)|[`*]")  # of links, code and emphasis
 
 
@@ -20,7 +20,7 @@ def versions(changes: str) -> list[tuple[str, str, list[str]]]:
     """The versions of CHANGELOG.md, newest first: number, day, and what a user notices."""
     _, *parts = VERSION.split(changes)
     triples = zip(parts[::3], parts[1::3], parts[2::3])
-    return [(number, day, [plain(item) for item in ITEM.findall(text)]) for number, day, text in triples]
+    return [(number, day, [plain(item) for item in LIST_ITEM.findall(text)]) for number, day, text in triples]
 
 
 def plain(text: str) -> str:

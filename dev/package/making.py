@@ -43,7 +43,7 @@ def copy_commit(top: Path, tree: Path) -> None:
         shutil.copy(path, to)
 
 
-def pack(top: Path, out: Path) -> int:
+def pack(top: Path, out_folder: Path) -> int:
     """Packs the commit of a clone: in a tree of its own, by that tree's own ./package. Gives the status."""
     why = fault(top)
     if why:
@@ -57,7 +57,7 @@ def pack(top: Path, out: Path) -> int:
         tree = Path(place) / "streetsim"
         copy_commit(top, tree)
         alike = {"SOURCE_DATE_EPOCH": epoch, "TZ": "UTC", "LC_ALL": "C.UTF-8", "PYTHONDONTWRITEBYTECODE": "1"}
-        words: list[str | Path] = [sys.executable, tree / "package", "--commit", commit, "--out", out.resolve()]
+        words: list[str | Path] = [sys.executable, tree / "package", "--commit", commit, "--out", out_folder.resolve()]
         return subprocess.run(words, cwd=place, env={**os.environ, **alike}, check=False).returncode
 
 
@@ -71,7 +71,7 @@ def version_of(tree: Path) -> str:
     return version
 
 
-def make(tree: Path, commit: str, out: Path) -> int:
+def make(tree: Path, commit: str, out_folder: Path) -> int:
     """Packs a tree that has the commit's files and what was proved. Gives the status."""
     from package import staging, wheel
 
@@ -80,20 +80,20 @@ def make(tree: Path, commit: str, out: Path) -> int:
         raise SystemExit(f"package: the commit is not what was proved: {why}")
     os.umask(0o022)
     version = version_of(tree)
-    prefix = tree / debian.MADE
+    prefix = tree / debian.STAGED
     staging.stage(tree, prefix, version, commit)
     with tempfile.TemporaryDirectory() as place:
         files = [wheel.write(prefix, Path(place)), debian.build(tree, Path(place) / "log")]
-        out.mkdir(parents=True, exist_ok=True)
-        deliver(files, out)
+        out_folder.mkdir(parents=True, exist_ok=True)
+        deliver(files, out_folder)
     return 0
 
 
-def deliver(files: Iterable[Path], out: Path) -> None:
+def deliver(files: Iterable[Path], out_folder: Path) -> None:
     """Puts the packages into the folder, with their sums."""
     lines = []
     for path in sorted(files, key=lambda path: path.name):
-        shutil.copyfile(path, out / path.name)
+        shutil.copyfile(path, out_folder / path.name)
         lines.append(f"{hashlib.sha256(path.read_bytes()).hexdigest()}  {path.name}\n")
-        print(f"{out / path.name}: {path.stat().st_size:,} bytes")
-    (out / "SHA256SUMS").write_text("".join(lines))
+        print(f"{out_folder / path.name}: {path.stat().st_size:,} bytes")
+    (out_folder / "SHA256SUMS").write_text("".join(lines))

@@ -6,7 +6,7 @@ import subprocess
 import tempfile
 from pathlib import Path
 
-from package.asking import Said
+from package.asking import CommandHelp
 
 WORD = re.compile(r"^  \S.*$(?:\n {3,}\S.*$)*", re.MULTILINE)  # of a help, with what is told of it
 CUT = re.compile(r"(\\fB[^ \n]*)\\fR(\.\w[\w.]*)")  # help2man ends a word in bold before its point
@@ -30,35 +30,35 @@ refused, or a tape or a kept session has a bad line. Standard error says which.
 """
 
 
-def told(said: Said) -> str:
+def help2man_text(command_help: CommandHelp) -> str:
     """A help as help2man reads it, with the options of the commands that are its first word."""
-    text = said.text.replace("usage: ", "Usage: ", 1)
+    text = command_help.text.replace("usage: ", "Usage: ", 1)
     text, sign, examples = text.partition("\nExamples:\n")
-    for word, inner in said.inner.items():
+    for word, inner in command_help.inner.items():
         text += f"\nWith {word}:\n" + "\n".join(WORD.findall(inner)) + "\n"
     return text + sign + examples
 
 
-def name_of(said: Said) -> str:
+def name_of(command_help: CommandHelp) -> str:
     """A command in a few words: the begin of the first sentence that says what it does."""
-    begin = r"\n\n(?! )(.+)" if said.text.startswith("usage: ") else r"(.+)"
-    found = re.search(begin, said.text)
-    sentence = re.split(r"[.:;](?: |$)", found[1])[0] if found else said.name
+    begin = r"\n\n(?! )(.+)" if command_help.text.startswith("usage: ") else r"(.+)"
+    found = re.search(begin, command_help.text)
+    sentence = re.split(r"[.:;](?: |$)", found[1])[0] if found else command_help.name
     return sentence[:1].lower() + sentence[1:]
 
 
-def page(said: Said, version: str) -> str:
+def page(command_help: CommandHelp, version: str) -> str:
     """The manual page of a command."""
     with tempfile.TemporaryDirectory() as place:
-        speaks, more = Path(place) / said.name, Path(place) / "more"
-        speaks.write_text(SPEAKS.format(text=told(said).rstrip("\n")))
+        speaks, included = Path(place) / command_help.name, Path(place) / "more"
+        speaks.write_text(SPEAKS.format(text=help2man_text(command_help).rstrip("\n")))
         speaks.chmod(0o755)
-        more.write_text((STATUS if "-" in said.name else STATUS_OF_PROGRAM) + ALSO)
+        included.write_text((STATUS if "-" in command_help.name else STATUS_OF_PROGRAM) + ALSO)
         words = [
-            "help2man", "--no-info", "--section=1", f"--name={name_of(said)}", f"--version-string={version}",
-            f"--source=streetsim {version}", "--manual=streetsim", f"--include={more}", str(speaks),
+            "help2man", "--no-info", "--section=1", f"--name={name_of(command_help)}", f"--version-string={version}",
+            f"--source=streetsim {version}", "--manual=streetsim", f"--include={included}", str(speaks),
         ]
-        done = subprocess.run(words, capture_output=True, text=True, check=False)
-    if done.returncode:
-        raise SystemExit(f"package: help2man has no page of {said.name}: {done.stderr.strip()}")
-    return CUT.sub(r"\1\2\\fR", done.stdout)
+        process = subprocess.run(words, capture_output=True, text=True, check=False)
+    if process.returncode:
+        raise SystemExit(f"package: help2man has no page of {command_help.name}: {process.stderr.strip()}")
+    return CUT.sub(r"\1\2\\fR", process.stdout)

@@ -46,8 +46,8 @@ def anchor(heading: str) -> str:
 class Pages:
     """The pages of a tree, and where they go."""
 
-    def __init__(self, top: Path, to: Path) -> None:
-        self.top, self.to = top.resolve(), to
+    def __init__(self, top: Path, target: Path) -> None:
+        self.top, self.target = top.resolve(), target
         self.paths = pages(self.top)
         self.parser = MarkdownIt("commonmark").enable("table")
 
@@ -60,8 +60,8 @@ class Pages:
         if path in self.paths:
             return f"{name.removesuffix('.md')}.html{sign}{heading}"
         if path.suffix in PICTURES and (self.top / path).is_file():
-            (self.to / path).parent.mkdir(parents=True, exist_ok=True)
-            shutil.copyfile(self.top / path, self.to / path)
+            (self.target / path).parent.mkdir(parents=True, exist_ok=True)
+            shutil.copyfile(self.top / path, self.target / path)
             return link
         return None
 
@@ -77,7 +77,7 @@ class Pages:
                 dropped += 1 if token.type == "link_open" else -1
                 tokens.remove(token)
 
-    def made(self, page: Path) -> str:
+    def page_html(self, page: Path) -> str:
         """The HTML of a page."""
         tokens = self.parser.parse((self.top / page).read_text(encoding="utf-8"))
         title = page.stem
@@ -95,7 +95,7 @@ class Pages:
     def write(self) -> None:
         """Writes all pages. index.html is that of the repository's first one."""
         for page in self.paths:
-            path = (self.to / page).with_suffix(".html")
+            path = (self.target / page).with_suffix(".html")
             path.parent.mkdir(parents=True, exist_ok=True)
-            path.write_text(self.made(page), encoding="utf-8")
-        shutil.copyfile(self.to / "README.html", self.to / "index.html")
+            path.write_text(self.page_html(page), encoding="utf-8")
+        shutil.copyfile(self.target / "README.html", self.target / "index.html")

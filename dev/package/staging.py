@@ -14,7 +14,7 @@ COMPLETION = "share/bash-completion/completions/streetsim"
 WRAPPER = Path(__file__).with_name("streetsim")
 
 
-def put(path: Path, to: Path, mode: int = 0o644) -> None:
+def copy_file(path: Path, to: Path, mode: int = 0o644) -> None:
     """Copies a file, whatever the modes are here."""
     to.parent.mkdir(parents=True, exist_ok=True)
     shutil.copyfile(path, to)
@@ -30,8 +30,8 @@ def write(text: str, to: Path) -> None:
 def programs(tree: Path, prefix: Path) -> None:
     """The program, byte for byte, and the command that starts it."""
     for name, path in proved.files_of(tree).items():
-        put(path, prefix / name, 0o755)
-    put(WRAPPER, prefix / "bin/streetsim", 0o755)
+        copy_file(path, prefix / name, 0o755)
+    copy_file(WRAPPER, prefix / "bin/streetsim", 0o755)
 
 
 def examples(tree: Path, prefix: Path) -> None:
@@ -39,7 +39,7 @@ def examples(tree: Path, prefix: Path) -> None:
     goal = prefix / "share/streetsim/examples"
     for begin, to in ((tree / "tools/examples", goal), (tree / "examples", goal / SESSIONS)):
         for path in example_files(begin):
-            put(path, to / path.relative_to(begin), path.stat().st_mode & 0o755 | 0o644)
+            copy_file(path, to / path.relative_to(begin), path.stat().st_mode & 0o755 | 0o644)
 
 
 def stage(tree: Path, prefix: Path, version: str, commit: str) -> None:

@@ -55,7 +55,8 @@ class SignalEnv:
         """ValueError where yellow is not from 1 to below every, least is below 0, or the run is shorter than a step."""
         if not 0 < yellow < every or least < 0 or seconds < every:
             raise ValueError("a step must be longer than yellow, and the run at least one step")
-        self.words, self.every, self.yellow, self.least, self.seconds = list(words), every, yellow, least, seconds
+        self.run_words, self.seconds = list(words), seconds
+        self.every, self.yellow, self.least_green = every, yellow, least
         self.controlled = controlled
         self.session: TraciSession | None = None
         self.agents: dict[str, LightAgent] = {}
@@ -75,9 +76,9 @@ class SignalEnv:
         Fault if it fails, KeyError where the network lacks one of `controlled`, ValueError where one of these has a
         single green."""
         self.close()
-        words = self.words if seed is None else [*self.words, "--seed", str(seed)]
+        words = self.run_words if seed is None else [*self.run_words, "--seed", str(seed)]
         self.session = open_session(words)
-        self.begin, self.ended = self.session.clock, 0
+        self.begin, self.end_count = self.session.clock, 0
         lights = self.session.control.lights
         names = sorted(lights if self.controlled is None else self.controlled)
         agents = {name: agent_of(lights[name]) for name in names}
@@ -115,12 +116,12 @@ class SignalEnv:
         """Makes the steps of so many seconds."""
         session = self.running_session()
         session.step(session.clock + seconds)
-        self.ended += len(session.arrived)
+        self.end_count += len(session.arrived)
 
     def begin_change(self, name: str, action: int) -> bool:
         """Shows yellow where a light is to change and may, and notes the new phase; gives whether it changes."""
         agent = self.agents[name]
-        if action == agent.chosen or agent.since < self.least:
+        if action == agent.chosen or agent.since < self.least_green:
             return False
         pairs = zip(agent.greens[agent.chosen], agent.greens[action], strict=True)
         yellow = "".join("y" if old in GREEN and new not in GREEN else old for old, new in pairs)
@@ -137,7 +138,7 @@ class SignalEnv:
         for name, agent in self.agents.items():
             lanes = self.lanes_of_light[name]
             chosen = [float(index == agent.chosen) for index in range(len(agent.greens))]
-            by_light[name] = [*chosen, float(agent.since >= self.least), *occupied[lanes], *queued[lanes]]
+            by_light[name] = [*chosen, float(agent.since >= self.least_green), *occupied[lanes], *queued[lanes]]
         return by_light
 
     def shares_taken(self, cells: Array) -> list[float]:
@@ -187,7 +188,7 @@ class SignalEnv:
         """{"time": clock in seconds, "vehicles": on the road, "standing": of these, "arrived": since the reset}."""
         clock, view = self.running_session().clock, self.running_session().view
         standing = len(view.speed) - int(np.count_nonzero(view.speed))
-        return {"time": clock, "vehicles": len(view.numbers), "standing": standing, "arrived": self.ended}
+        return {"time": clock, "vehicles": len(view.numbers), "standing": standing, "arrived": self.end_count}
 
     def has_vehicles_left(self) -> bool:
         """Whether any vehicle is on the road or is still to depart."""

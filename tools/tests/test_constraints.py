@@ -60,7 +60,7 @@ class Constraints(Case):
         found = with_given("L", program(), own, {0: Constraint(15, None, 18), 2: Constraint(9)})
         self.assertEqual(found[0], Constraint(15, 40, 18))
         self.assertEqual((found[2].low, found[2].high), (9, 600))
-        for given in (Constraint(least=11), Constraint(most=41), Constraint(pedestrians=44), Constraint(least=50)):
+        for given in (Constraint(11), Constraint(None, 41), Constraint(pedestrians=44), Constraint(50)):
             with self.subTest(given=given), self.assertRaises(Fault) as raised:
                 with_given("L", program(), own, {0: given})
             self.assertIn("light 'L': phase 0", str(raised.exception))

@@ -133,7 +133,7 @@ class Requests(LiveCase):
                         ("change", '{"text":"x","commands":[]}'),
                         ("change", '{"text":"x","commands":[{"clock":0,"command":{"cmd":"load"}}]}'),
                         ("change", '{"text":"x","commands":[{"clock":0,"command":{"cmd":"signal"}}]}'),
-                        ("works", '{"asked":{"link":2}}'),
+                        ("works", '{"wish":{"link":2}}'),
                     )
                 ),
             ):  # fmt: skip

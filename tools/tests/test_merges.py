@@ -12,7 +12,7 @@ from streetsim.model.starting import SlowStarts
 from streetsim.model.trust import full_doubts, reserved_doubts, start_doubts
 from streetsim.sumo.converting import map_of
 from streetsim.sumo.import_files import convert
-from streetsim.sumo.merges import passed, share_of_first
+from streetsim.sumo.merges import end_flow, share_of_first
 from streetsim.sumo.net import read_net
 from streetsim.sumo.network import Options
 
@@ -117,7 +117,7 @@ class Ends(Made):
             self.assertEqual([length for length, _ in command["phases"]], seconds)
             lanes = [[turn[1] for turn in turns] for _, turns in command["phases"]]
             self.assertEqual(lanes, [[1], [], [0], []])
-        self.assertEqual([passed(metres) for metres in (10, 60, 90, 120, 240, 900)], [790, 790, 845, 900, 1110, 1200])
+        self.assertEqual([end_flow(metres) for metres in (10, 60, 90, 120, 240, 900)], [790, 790, 845, 900, 1110, 1200])
 
     def test_few_wait_no_longer_than_where_the_edge_is_long(self):
         # SUMO 1.15, 30 m behind lights of 60 to 90 s: 553 an hour have trips as where 1,200 can pass, 711 as where

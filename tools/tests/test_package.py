@@ -27,7 +27,7 @@ from test_install import PIP
 import built
 import proved
 from package import debian, manuals, wheel
-from package.asking import Said, options
+from package.asking import CommandHelp, options
 from streetsim.base.program import MARK
 
 TOP = TOOLS.parent
@@ -145,7 +145,7 @@ class Parts(Case):
     @needs_package("help2man", NEEDED["help2man"])
     def test_a_word_with_a_point_is_whole_in_its_manual_page(self):
         text = "usage: x\n\noptions:\n  -t, --log-of.means\n                  shows them\n"
-        page = manuals.page(Said("streetsim-x", text, {}), VERSION)
+        page = manuals.page(CommandHelp("streetsim-x", text, {}), VERSION)
         self.assertIn("\n\\fB\\-t\\fR, \\fB\\-\\-log\\-of.means\\fR\n", page)
 
 

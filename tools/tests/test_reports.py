@@ -62,7 +62,7 @@ class Numbers(unittest.TestCase):
         """Changes of -2, -4 and -3 s: mean -3, deviation 1, quantile of two degrees of freedom 4.303."""
         values = {1: 10.0, 2: 12.0, 3: 11.0, 9: 99.0}, {1: 8.0, 2: 8.0, 3: 8.0}
         one = difference_of(*values, drawn=False)
-        self.assertEqual((one.before, one.after, one.change), (11.0, 8.0, -3.0))
+        self.assertEqual((one.mean_before, one.mean_after, one.change), (11.0, 8.0, -3.0))
         self.assertAlmostEqual(one.half, 4.303 / 3**0.5)
         self.assertTrue(one.stands_out())
         # Of a day: t s sqrt(1 + 1/n), within which is 0.

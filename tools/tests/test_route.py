@@ -121,7 +121,7 @@ class Routing(unittest.TestCase):
         # Middles of slices at 50, 150, 250 and 350 s; five parts of 20 s, each with the value of its middle.
         table = Table(costs_with({0: [10, 20, 40, 40]}))
         self.assertEqual(
-            [table.at(0, clock) for clock in (0, 55, 95, 150, 205, 399, 9999)], [10, 10, 14, 20, 32, 40, 40]
+            [table.seconds_at(0, clock) for clock in (0, 55, 95, 150, 205, 399, 9999)], [10, 10, 14, 20, 32, 40, 40]
         )
 
     def test_parts_hold_each_wish_once(self):

@@ -170,10 +170,10 @@ def calibrate_street(args: argparse.Namespace, options: list[str], folder: str) 
 
     fit = Fit(day, start_of(day), measure, args.runs, len(seeds))
     classes = classes_of(day, {name: street_class(edge.lanes[0].speed) for name, edge in net.edges.items()})
-    result = fit.solve(values_of(day, classes, names_in(args.free)))
+    solution = fit.solve(values_of(day, classes, names_in(args.free)))
     meanwhile.end()
     usual = FittedDrivers(dawdle=options_of(args).dawdle / 1000)
-    named_drivers = {BEFORE: usual, AFTER: result.drivers}
+    named_drivers = {BEFORE: usual, AFTER: solution.drivers}
     days = [judged_day(args, FITTED, day, street, named_drivers, seeds)]
     if args.validate:
         validation_day = other_day(args, net, folder, notes, day)
@@ -183,7 +183,7 @@ def calibrate_street(args: argparse.Namespace, options: list[str], folder: str) 
     sums = {path: sum_of_input(path) for path in inputs_of(args)}
     digest = program_digest(args.program) or "unknown"
     shares = options_of(args).shares
-    return Calibration(result, days, args.seeds, args.check_seeds, digest, shares, notes, sums)
+    return Calibration(solution, days, args.seeds, args.check_seeds, digest, shares, notes, sums)
 
 
 def field_day(args: argparse.Namespace, net: SumoNet, folder: str, notes: list[str]) -> FieldDay:

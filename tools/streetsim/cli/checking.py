@@ -44,14 +44,14 @@ def remake_run(args: argparse.Namespace, plan: Json, top: str, out_folder: str) 
     does."""
     refuse_run_words(plan, args.target)
     mapped = f"{top}/{plan['map']}"
-    value = read_json(mapped, ("sources",))
-    write_files(top, [(plan["map"], json.dumps({**value, "sources": {}}).encode())])
+    map_content = read_json(mapped, ("sources",))
+    write_files(top, [(plan["map"], json.dumps({**map_content, "sources": {}}).encode())])
     arguments = [f"{top}/{plan['run']}", "--map", mapped, *plan["again"]]
     seeds = seeds_words(plan["seeds"]) if plan["several"] else []
     run([*arguments, *seeds, *machine_words(args), "--workers", str(args.workers), "--out", out_folder])
     for path in Path(out_folder).rglob(NAME):
         setting = read_json(path, ("map",))
-        setting["map"]["sources"] = value["sources"]
+        setting["map"]["sources"] = map_content["sources"]
         path.write_text(json.dumps(setting), encoding="utf-8")
 
 

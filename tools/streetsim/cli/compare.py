@@ -99,17 +99,17 @@ def with_times(path: str, files: list[str]) -> int:
     return 0 if are_close(comparisons) else 1
 
 
-def with_counts(path: str, files: list[str], attribute: str | None, out: str | None) -> int:
+def with_counts(path: str, files: list[str], attribute: str | None, out_path: str | None) -> int:
     """Prints how a folder meets counts by the usual criteria for each hour; writes tables and pictures where a folder
-    `out` is named. attribute: of SUMO's files, that is the count, or none. Status 1 where the criteria are not met,
-    else 0; that the run is not to be trusted is printed and does not change it."""
+    `out_path` is named. attribute: of SUMO's files, that is the count, or none. Status 1 where the criteria are not
+    met, else 0; that the run is not to be trusted is printed and does not change it."""
     with Slow(f"reading {path}") as progress:
         folder = read_folder(path)
         counts = read_counts(files, attribute)
         progress.text = f"comparing with {len(counts):,} counts"
         fit = judge_counts(counts, passed_in(folder, counts))
-        if out:
-            with whole_folder(out, LAST_FILE, COMPARED) as out_folder:
+        if out_path:
+            with whole_folder(out_path, LAST_FILE, COMPARED) as out_folder:
                 write_judged(out_folder, fit)
                 draw_fit(out_folder, fit, folder.mapping.links, "passed in the run")
     print(*fit.lines(), *folder.notes, sep="\n")

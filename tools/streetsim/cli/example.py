@@ -66,13 +66,14 @@ def main(arguments: list[str]) -> int:
     """Runs streetsim-example: copies the files of the example and prints how many, or prints which examples there are;
     gives status 0."""
     args = parser().parse_args(arguments)
-    known = examples()
+    known_examples = examples()
     if args.name is None:
-        print(*(f"{name}: {count_of_files(len(example_files(path)))}" for name, path in known.items()), sep="\n")
+        counts = (f"{name}: {count_of_files(len(example_files(path)))}" for name, path in known_examples.items())
+        print(*counts, sep="\n")
         return 0
-    if args.name not in known:
-        message = f"there is no example {args.name!r}, but {', '.join(known) or 'none'}"
-        raise Fault(message + nearest(args.name, known))
+    if args.name not in known_examples:
+        message = f"there is no example {args.name!r}, but {', '.join(known_examples) or 'none'}"
+        raise Fault(message + nearest(args.name, known_examples))
     folder = Path(args.out or args.name)
-    print(f"{count_of_files(copy_example(known[args.name], folder))} in {folder}")
+    print(f"{count_of_files(copy_example(known_examples[args.name], folder))} in {folder}")
     return 0

@@ -13,18 +13,18 @@ def given_words(parser: argparse.ArgumentParser, args: argparse.Namespace, witho
     out, by the attributes that they set. Words without a name (positional ones) are left out too."""
     options = []
     for action in parser._actions:
-        value = getattr(args, action.dest, action.default)
-        if not action.option_strings or action.dest in (*without, "help") or value == action.default:
+        setting = getattr(args, action.dest, action.default)
+        if not action.option_strings or action.dest in (*without, "help") or setting == action.default:
             continue
         name = action.option_strings[-1]
-        if action.nargs == 0 or (action.nargs == "?" and value == action.const):
+        if action.nargs == 0 or (action.nargs == "?" and setting == action.const):
             options.append(name)
         elif isinstance(action.default, list) and action.nargs is None:
-            options += [f"{name}={item}" for item in value]
+            options += [f"{name}={item}" for item in setting]
         elif action.nargs == "+":
-            options += [name, *map(str, value)]
+            options += [name, *map(str, setting)]
         else:
-            options.append(f"{name}={','.join(value) if isinstance(value, (list, tuple)) else value}")
+            options.append(f"{name}={','.join(setting) if isinstance(setting, (list, tuple)) else setting}")
     return options
 
 

@@ -163,16 +163,16 @@ def options_of(args: argparse.Namespace) -> Options:
 def drivers_of(args: argparse.Namespace) -> Json:
     """The options of drivers: of the words, else of the file of --drivers, else the usual ones. Fault where one of them
     is wrong."""
-    known = read_drivers(args.drivers) if args.drivers else DriverValues()
-    dawdle = next((share for share in (args.dawdle, known.dawdle) if share is not None), Options().dawdle)
+    file_drivers = read_drivers(args.drivers) if args.drivers else DriverValues()
+    dawdle = next((share for share in (args.dawdle, file_drivers.dawdle) if share is not None), Options().dawdle)
     permissive, shares = shares_read(args.permissive or "", "--permissive")
-    cut = known.cut or 0.0
+    cut = file_drivers.cut or 0.0
     if args.cut is not None:
         cut = number_within(args.cut, CUTS, "--cut")
     speeds = speeds_read(args.speed_factor or "", "--speed-factor")
-    both = {**dict(known.shares), **dict(shares)}
+    both = {**dict(file_drivers.shares), **dict(shares)}
     return {
-        "dawdle": dawdle, "permissive": permissive, "cut": cut, "speeds": speeds or known.speeds,
+        "dawdle": dawdle, "permissive": permissive, "cut": cut, "speeds": speeds or file_drivers.speeds,
         "shares": tuple(both.items()),
     }  # fmt: skip
 

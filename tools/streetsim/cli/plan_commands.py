@@ -55,13 +55,13 @@ def path_from_here(path: str) -> str:
 def import_words(options: Json) -> Iterator[str]:
     """The words of streetsim-import by which it gets the options that a map keeps; of the usual ones none."""
     usual = {one.name: one.default for one in fields(Options)}
-    kept_options = {name: tuple(value) if isinstance(value, list) else value for name, value in options.items()}
-    changed = {name: value for name, value in kept_options.items() if value != usual[name]}
-    for name, value in changed.items():
+    kept_options = {name: tuple(setting) if isinstance(setting, list) else setting for name, setting in options.items()}
+    changed = {name: setting for name, setting in kept_options.items() if setting != usual[name]}
+    for name, setting in changed.items():
         if name in BY_NAME:
-            yield f"--{name}={value}"
+            yield f"--{name}={setting}"
         elif name in LISTS:
-            yield f"--{name}={','.join(value)}"
+            yield f"--{name}={','.join(setting)}"
     yield from ("--turns=strict",) * ("strict_turns" in changed) + ("--sizes=off",) * ("sizes" in changed)
     yield from ("--ignore-route-errors",) * ("ignore_route_errors" in changed)
     every = [str(kept_options["permissive"])] if "permissive" in changed else []

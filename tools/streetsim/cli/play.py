@@ -38,13 +38,13 @@ def main(arguments: list[str]) -> int:
     if len(args.folders) > 2:
         raise Fault("a page plays one run, or two side by side")
     complete_outputs(args, output=f"{stem_of(args.folders[0])}.play.html")
-    data = [player_data(read_folder(path), args.first, args.last) for path in args.folders]
-    for path, run in zip(args.folders, data, strict=True):
+    runs = [player_data(read_folder(path), args.first, args.last) for path in args.folders]
+    for path, run in zip(args.folders, runs, strict=True):
         if not run["frames"]:
             raise Fault(f"{path}: nothing was polled from {args.first} to {args.last} s")
-    if len(data) == 2 and data[0]["name"] == data[1]["name"]:
-        data[0]["name"], data[1]["name"] = args.folders
-    packed = base64.b64encode(gzip.compress(json.dumps(data, separators=(",", ":")).encode(), mtime=0)).decode()
+    if len(runs) == 2 and runs[0]["name"] == runs[1]["name"]:
+        runs[0]["name"], runs[1]["name"] = args.folders
+    packed = base64.b64encode(gzip.compress(json.dumps(runs, separators=(",", ":")).encode(), mtime=0)).decode()
     if len(packed) > MOST_BYTES:
         raise Fault(f"{args.folders[0]}: {len(packed):,} bytes are too much for a page: choose --first and --last")
     page = (FOLDER / "player.html").read_text(encoding="utf-8").replace("@DATA@", packed)
@@ -52,5 +52,5 @@ def main(arguments: list[str]) -> int:
         page = page.replace(f"/*{name.upper()}*/", (FOLDER / f"{name}.js").read_text(encoding="utf-8"))
     with whole_file(args.output) as file:
         file.write(page)
-    print(f"{len(data[0]['frames']):,} steps, {len(page.encode()):,} bytes")
+    print(f"{len(runs[0]['frames']):,} steps, {len(page.encode()):,} bytes")
     return 0

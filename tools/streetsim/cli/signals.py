@@ -141,13 +141,14 @@ def main(arguments: list[str]) -> int:
     target = PlanFiles(args.output, args.out, corridor_of(args, town), making, args.until)
     in_sumo = sumo_for(reading, town.mapping, town.run) if args.verify_sumo else None
     with runner_of(args, town, check) as runner:
-        search, stopped = search_for_plan(args, runner, check)
-        before, after = runner.outcomes([town.plan, search.best[1]], check, args.jobs)
+        search, why_stopped = search_for_plan(args, runner, check)
+        given_outcomes, best_outcomes = runner.outcomes([town.plan, search.best[1]], check, args.jobs)
     texts = [plan_text(town.lights, plan, PROGRAM_ID) for plan in (town.plan, search.best[1])]
     sumo = verified(in_sumo, town, texts, check, args.jobs) if in_sumo else None
-    rows, doubts = before_after_rows(town, before, after, sumo), list(doubts_of(town, before, after, sumo))
+    rows = before_after_rows(town, given_outcomes, best_outcomes, sumo)
+    doubts = list(doubts_of(town, given_outcomes, best_outcomes, sumo))
     write_found(target, town, search, rows, doubts)
-    status = tell_found(town, search, rows, stopped, doubts, sumo)
+    status = tell_found(town, search, rows, why_stopped, doubts, sumo)
     tell_next(args, town)
     return status
 
@@ -185,14 +186,15 @@ def find_bounds(args: argparse.Namespace, reading: Reading, town: SignalTown, ch
     in_sumo = sumo_for(reading, town.mapping, town.run) if args.verify_sumo else None
     with machines(args.jobs, args.cluster, ground.sessions) as workers:
         asked = BoundsSettings(args.budget, given_seeds(args), args.least)
-        search, stopped = searched_bounds(asked, workers, ground, tried_seeds(check))
-        before, after = ([*bounded_outcomes(workers, [one], check)] for one in (ground.given_bounds, search.best[1]))
+        search, why_stopped = searched_bounds(asked, workers, ground, tried_seeds(check))
+        pair = ground.given_bounds, search.best[1]
+        given_outcomes, best_outcomes = ([*bounded_outcomes(workers, [bounds], check)] for bounds in pair)
     with runner_of(args, town, check) as runner:
         fixed, _ = search_for_plan(args, runner, check)
         [beside] = runner.outcomes([fixed.best[1]], check, args.jobs)
-    texts = [bounds_text(town.mapping, one, PROGRAM_ID) for one in (ground.given_bounds, search.best[1])]
+    texts = [bounds_text(town.mapping, bounds, PROGRAM_ID) for bounds in pair]
     sumo = verified(in_sumo, town, texts, check, args.jobs) if in_sumo else None
-    found = FoundBounds(search, stopped, before, after, beside, sumo)
+    found = FoundBounds(search, why_stopped, given_outcomes, best_outcomes, beside, sumo)
     status = write_found_bounds(args.output, args.out, ground, found)
     tell_next(args, town)
     return status

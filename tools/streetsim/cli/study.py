@@ -75,23 +75,23 @@ def main(arguments: list[str]) -> int:
     args.program = program.find_program(args.program)
     with Slow(f"reading {args.study}"):
         study = read_study(args.study, args.program, args.rounds, args.departures)
-    results = run_all(args, study)
-    rows = differences(study, results, args.precision)
-    doubts_by_variant = {name: list(doubts(study, name, results[name])) for name in study.variants}
-    named = [f"{name}: {text}" for name, texts in doubts_by_variant.items() for text in texts]
+    outcomes = run_all(args, study)
+    rows = differences(study, outcomes, args.precision)
+    doubts_by_variant = {name: list(doubts(study, name, outcomes[name])) for name in study.variants}
+    named_doubts = [f"{name}: {text}" for name, texts in doubts_by_variant.items() for text in texts]
     with whole_folder(args.out, LAST_FILE) as folder:
-        write_table(f"{folder}/runs.csv", RUNS, run_rows(study, results))
+        write_table(f"{folder}/runs.csv", RUNS, run_rows(study, outcomes))
         cells = (cell_values((*astuple(row), "; ".join(doubts_by_variant[row.variant]))) for row in rows)
         write_table(f"{folder}/{LAST_FILE}", DIFFERENCES, cells)
-        trust.write_doubts(folder, named, args.program)
+        trust.write_doubts(folder, named_doubts, args.program)
         write_made(args, given_words(tool_parser, args, ELSEWHERE), folder)
         draw_differences(study, rows, f"{folder}/differences.png")
     tell_differences(rows)
-    tell_ends(study, results)
-    tell_giving_way(results)
+    tell_ends(study, outcomes)
+    tell_giving_way(outcomes)
     tell_how_sure(study)
-    if named:
-        print(trust.verdict(named))
+    if named_doubts:
+        print(trust.verdict(named_doubts))
     return 0
 
 
@@ -111,18 +111,18 @@ def run_all(args: argparse.Namespace, study: Study) -> dict[str, list[Outcome]]:
     first_sessions = dict(zip(study.variants, accumulate(counts, initial=0)))
     total = len(study.variants) * len(study.seeds)
     meanwhile = WorkProgress("runs", total)
-    results: dict[str, list[Outcome]] = {}
+    outcomes: dict[str, list[Outcome]] = {}
     with machines(args.jobs, args.cluster, sessions) as workers:
         tasks = [
             (f"variant {name!r}, seed {seed}", outcome_giving_way, first_sessions[name] + index, variant.signals, seed)
             for name, variant in study.variants.items()
             for seed, index in zip(study.seeds, cycle(range(len(variant.sessions))))
         ]
-        outcomes = workers.ordered(tasks)
+        outcome_stream = workers.ordered(tasks)
         for name in study.variants:
-            results[name] = []
+            outcomes[name] = []
             for _ in study.seeds:
-                results[name].append(next(outcomes))
-                meanwhile.show(sum(map(len, results.values())))
+                outcomes[name].append(next(outcome_stream))
+                meanwhile.show(sum(map(len, outcomes.values())))
     meanwhile.end()
-    return results
+    return outcomes

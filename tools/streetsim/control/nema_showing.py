@@ -11,10 +11,10 @@ from streetsim.control.nema_phases import GREEN, RED, YELLOW, RingPhase, Rings, 
 from streetsim.model.mapping import Map
 from streetsim.model.runs import Command
 from streetsim.model.timing import spans_of
-from streetsim.sumo.crossing import GREEN as FIRST, OPEN, STOPPED
+from streetsim.sumo.crossing import GREEN as FIRST, OPEN, STOPS_FIRST
 from streetsim.sumo.signals import Green, LitNode, green_seconds
 
-LIT = FIRST + OPEN + STOPPED  # letters of a signal that some pass
+LIT = FIRST + OPEN + STOPS_FIRST  # letters of a signal that some pass
 Times = list[tuple[RingPhase, int]]  # by second: a phase, and what it shows
 
 

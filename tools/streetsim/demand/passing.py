@@ -84,7 +84,7 @@ def end_clocks(graph: Graph, table: Table, path: Path, depart: float) -> list[fl
     movements by time."""
     clocks, clock = [], depart
     for way in pairwise((*path, END)):
-        clock += table.at(graph.movement_of[way], clock)
+        clock += table.seconds_at(graph.movement_of[way], clock)
         clocks.append(clock)
     return clocks
 

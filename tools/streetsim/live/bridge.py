@@ -29,7 +29,7 @@ PASSED_OVER_FOR = 2.0  # seconds that the bridge waits for them
 Join = Callable[[Iterable[str]], tuple[bytes, PageRun]]  # the page and its run with some lanes joint
 # What a page sends of its session, by the verbs, which are methods of PageSession: what each is given.
 REQUEST_FIELDS: dict[str, dict[str, Any]] = {
-    "step": {"steps": int}, "change": {"text": str, "commands": list}, "works": {"asked": dict},
+    "step": {"steps": int}, "change": {"text": str, "commands": list}, "works": {"wish": dict},
     "go_back": {"clock": int}, "undo": {"number": int}, "compare": {"wanted": (bool, type(None)), "shows_was": bool},
     "watch": {"node": int}, "ask": {"commands": list}, "text": {"which": int},
 }  # fmt: skip
@@ -137,7 +137,7 @@ class Handler(BaseHTTPRequestHandler):
         try:
             answered = answer(self.checked_path())
             if answered:
-                self.send(HTTPStatus.OK, *answered)
+                self.send_body(HTTPStatus.OK, *answered)
         except Refusal as refusal:
             self.refuse(refusal.status, refusal.why)
         except (Fault, ProgramEnded) as fault:
@@ -193,13 +193,13 @@ class Handler(BaseHTTPRequestHandler):
         elif verb == "join":
             server.join_lanes(body.decode(errors="replace").split())
         elif verb == "stay":
-            self.stay(name)
+            self.keep_open(name)
             return None
         else:
             answer = getattr(server.session, verb)(**read_request(verb, body, server.session.page_run))
         return answer, "application/octet-stream"
 
-    def stay(self, name: str) -> None:
+    def keep_open(self, name: str) -> None:
         """Sends a byte each HEARD_EVERY seconds as long as this page is served; where it cannot, the page is gone."""
         self.close_connection = True
         self.send_response(HTTPStatus.OK)
@@ -226,9 +226,9 @@ class Handler(BaseHTTPRequestHandler):
 
     def refuse(self, status: HTTPStatus, why: str) -> None:
         """Sends a status, and why as JSON."""
-        self.send(status, json.dumps({"fault": why}).encode(), "application/json")
+        self.send_body(status, json.dumps({"fault": why}).encode(), "application/json")
 
-    def send(self, status: HTTPStatus, body: bytes, kind: str) -> None:
+    def send_body(self, status: HTTPStatus, body: bytes, kind: str) -> None:
         """Sends a status, a body and its type, with headers that keep the page to this bridge."""
         self.send_response(status)
         headers = {
@@ -263,7 +263,7 @@ def read_request(verb: str, body: bytes, page_run: PageRun) -> Json:
 def check_bounds(verb: str, arguments: Json, page_run: PageRun) -> None:
     """ValueError, or another of the errors of a wrong form, where arguments of a verb are out of their bounds."""
     if verb == "works":
-        works, link = arguments["asked"], page_run.mapping.links[arguments["asked"]["link"]]
+        works, link = arguments["wish"], page_run.mapping.links[arguments["wish"]["link"]]
         numbers = [works["link"], works["begin"], works["end"], works["from"], *works["lanes"]]
         numbers += [] if works["until"] is None else [works["until"]]
         is_within = all(is_a(number, int) and number >= 0 for number in numbers) and is_a(works["text"], str)

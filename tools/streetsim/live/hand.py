@@ -40,10 +40,10 @@ class Hand(Controller):
         """Sends what is due. Fault where a command is refused."""
         while self.next_clock() <= clock:
             _, command = self.later.pop(0)
-            if refused := self.send(command):
+            if refused := self.send_command(command):
                 raise Fault(f"{command['cmd']} at {clock:,} s was {refused}")
 
-    def send(self, command: Command) -> str:
+    def send_command(self, command: Command) -> str:
         """Sends a command, of HAND_COMMANDS; gives in words why it was refused, and then nothing was changed; else an
         empty text."""
         kernel, name = self.kernel, command["cmd"]

@@ -18,7 +18,7 @@ class Ledger(Observer):
         """hand: of the same run; departs, free: the clocks, rising, at which vehicles wish to depart, and at which they
         would end; node: a junction before which those who stand are counted, none: nobody is."""
         self.hand, self.departs, self.free, self.node = hand, departs, free, node
-        self.arrived = self.ended = self.lost = 0
+        self.arrived = self.end_count = self.lost = 0
         self.points: list[Point] = []
 
     def begin(self, kernel: Kernel) -> None:
@@ -38,12 +38,12 @@ class Ledger(Observer):
         self.has_departed[seconds.vehicles.owner[seconds.arrivals.car]] = True
         clocks, count = seconds.clocks[1:], len(seconds.clocks)
         arrived = self.arrived + np.cumsum(np.bincount(seconds.arrivals.second, minlength=count)[1:])
-        ended = arrived + np.searchsorted(self.hand.takeout_clocks, clocks)
-        lost = self.lost + np.cumsum(np.searchsorted(self.free, clocks, "right") - ended)
+        end_counts = arrived + np.searchsorted(self.hand.takeout_clocks, clocks)
+        lost = self.lost + np.cumsum(np.searchsorted(self.free, clocks, "right") - end_counts)
         wished = np.maximum(1, np.searchsorted(self.departs, clocks, "right"))
         queue = self.standing(seconds)[1:].tolist() if self.node is not None else [None] * len(clocks)
-        self.points += zip(clocks.tolist(), (lost / wished).tolist(), ended.tolist(), queue)
-        self.arrived, self.ended, self.lost = int(arrived[-1]), int(ended[-1]), int(lost[-1])
+        self.points += zip(clocks.tolist(), (lost / wished).tolist(), end_counts.tolist(), queue)
+        self.arrived, self.end_count, self.lost = int(arrived[-1]), int(end_counts[-1]), int(lost[-1])
 
     def standing(self, seconds: Seconds) -> Array:
         """By second how many stand on links that lead to the junction, on cells or behind them."""

@@ -11,7 +11,7 @@ from streetsim.kernel.program import Blocks, Program
 from streetsim.kernel.session_program import QUESTION_PREFIXES
 from streetsim.model.record import HEAD
 
-SHOWN = 8  # of the last lines with their replies
+SHOWN_EXCHANGES = 8  # of the last lines with their replies
 
 
 class LoggedProgram(Program):
@@ -21,7 +21,7 @@ class LoggedProgram(Program):
         """As Program."""
         super().__init__(path, workers, arguments)
         self.log: list[bytes | int] = []  # lines, and of advances so many steps on end
-        self.last_exchanges: deque[tuple[bytes, bytes]] = deque(maxlen=SHOWN)  # lines and replies
+        self.last_exchanges: deque[tuple[bytes, bytes]] = deque(maxlen=SHOWN_EXCHANGES)  # lines and replies
 
     def kept_in(self, path: FilePath, workers: int) -> Self:
         """Another process that goes on from a file that has the whole log; this one is killed."""

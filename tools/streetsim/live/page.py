@@ -30,7 +30,7 @@ def page_links(run: Run, mapping: Map, streets: dict[str, str]) -> list[Json]:
     """The links as the page reads them: number, name (of its edge), street, from (where one comes from, a wind), lanes
     (how many), words (which of its street's lanes each is), cells, metres, limit (cells a step), begin and end (nodes),
     points. streets: names by edge."""
-    sent = run.load.command["links"]
+    load_links = run.load.command["links"]
     edges = mapping.links_of.items()
     greatest_index = {edge: max(max(mapping.links[link].lanes) for link in links) for edge, links in edges}
     return [
@@ -40,17 +40,20 @@ def page_links(run: Run, mapping: Map, streets: dict[str, str]) -> list[Json]:
             "words": [lane_word(index, greatest_index[link.edge]) for index in link.lanes], "cells": cells,
             "metres": link.metres, "limit": limit, "begin": begin, "end": end, "points": link.shape,
         }
-        for link, (number, begin, end, lanes, cells, limit) in zip(mapping.links, sent, strict=True)
+        for link, (number, begin, end, lanes, cells, limit) in zip(mapping.links, load_links, strict=True)
     ]
 
 
-def lane_word(index: int, most: int) -> str:
-    """Which lane of its street one is, by its index in SUMO, 0 to most from the right; empty where there is one."""
-    if not most:
+def lane_word(index: int, greatest_index: int) -> str:
+    """Which lane of its street one is, by its index in SUMO, 0 to greatest_index from the right; empty where there is
+    one."""
+    if not greatest_index:
         return ""
-    if index in (0, most):
+    if index in (0, greatest_index):
         return "left lane" if index else "right lane"
-    return "middle lane" if most == 2 else f"{INNER[index] if index < len(INNER) else 'inner'} lane from the right"
+    if greatest_index == 2:
+        return "middle lane"
+    return f"{INNER[index] if index < len(INNER) else 'inner'} lane from the right"
 
 
 def page_nodes(run: Run, mapping: Map, areas: dict[str, list]) -> list[Json]:

@@ -38,7 +38,7 @@ def gain_of(unchanged: World, current: World) -> tuple[float, int]:
     """What changes gained so far: (seconds a trip that are lost less, how many have arrived more)."""
     wished = current.ledger.wished(current.clock)
     seconds = (unchanged.ledger.lost - current.ledger.lost) / wished if wished else 0.0
-    return seconds, current.ledger.ended - unchanged.ledger.ended
+    return seconds, current.ledger.end_count - unchanged.ledger.end_count
 
 
 def gain_text(seconds: float, ended: int) -> str:

@@ -144,30 +144,30 @@ class PageSession:
         for index, entry in enumerate(commands):
             if entry["clock"] > world.clock:
                 continue
-            if refused := world.hand.send(entry["command"]):
+            if refused := world.hand.send_command(entry["command"]):
                 return refused, [entry for entry in commands[:index] if entry["clock"] <= world.clock]
         world.hand.add((entry["clock"], entry["command"]) for entry in commands if entry["clock"] > world.clock)
         return "", commands
 
-    def works(self, asked: Json) -> bytes:
+    def works(self, wish: Json) -> bytes:
         """Closes or reopens (cmd) lanes of a link from one metre to another (begin, end), from a clock until another
-        one, none: for good. asked: these, and the text of the change. Refused, with the lane to be joint, where nobody
+        one, none: for good. wish: these, and the text of the change. Refused, with the lane to be joint, where nobody
         could change from a lane."""
-        link, lanes, closing = asked["link"], asked["lanes"], asked["cmd"] == "close"
+        link, lanes, closing = wish["link"], wish["lanes"], wish["cmd"] == "close"
         name = self.page_run.mapping.lane_name(link, lanes[0])
         if closing and (why := why_parallel(self.page_run.mapping, name)):
             with self.running():
                 return self.message(refused=why, joint=None if self.files else name)
-        bounds = self.page_run.mapping.links[link].closed_between(asked["begin"], asked["end"])
+        bounds = self.page_run.mapping.links[link].closed_between(wish["begin"], wish["end"])
         cells = dict(zip(("first", "last"), bounds))
-        sent = [("close" if closing else "reopen", asked["from"])]
-        sent += [("reopen", asked["until"])] if closing and asked["until"] is not None else []
+        sent = [("close" if closing else "reopen", wish["from"])]
+        sent += [("reopen", wish["until"])] if closing and wish["until"] is not None else []
         commands = [
             {"clock": clock, "command": {"cmd": cmd, "link": link, "lane": lane, **cells}}
             for cmd, clock in sent
             for lane in lanes
         ]
-        return self.change(asked["text"], commands)
+        return self.change(wish["text"], commands)
 
     def go_back(self, clock: int) -> bytes:
         """As it was when a second began: all is run anew, with what was done before that second. Exact, as equal lines
@@ -245,13 +245,13 @@ class PageSession:
         if self.files is not None:
             self.files.keep_changes(changes)
 
-    def message(self, whole: bool = False, refused: str = "", **further_fields: Any) -> bytes:
+    def message(self, tells_all: bool = False, refused: str = "", **further_fields: Any) -> bytes:
         """What the page is told: a number, the length of JSON; JSON; the vehicles of both traffics, as of World.rows.
-        whole: all, to a page that knows nothing; else what is new."""
+        tells_all: to a page that knows nothing; else what is new."""
         assert self.current is not None
         worlds, parts = self.worlds(self.current), []
         for world in worlds:
-            if whole:
+            if tells_all:
                 world.forget_sent()
             parts.append(world.message())
         rows = [world.rows() if world is self.current or self.shows_unchanged else b"" for world in worlds]

@@ -42,8 +42,8 @@ async function closeOrOpen(cmd, what, from, until) {
   const turns = cmd === "close" && link.lanes === 2 && lanes.length === 1 ? "; before the works the lanes take turns" : "";
   const when = first > session.clock ? ` at ${clockText(first)}` : "", back = last === null ? "" : ` until ${clockText(last)}`;
   const text = `${cmd === "close" ? "works" : "reopened"}: ${place}${when}${back}`;
-  const asked = { cmd, link: link.number, lanes, begin, end, from: first, until: last, text };
-  const { refused, joint } = await session.act("works", { asked });
+  const wish = { cmd, link: link.number, lanes, begin, end, from: first, until: last, text };
+  const { refused, joint } = await session.act("works", { wish });
   at("join").hidden = !joint;
   at("join").onclick = () => joinLanes(joint);
   changed(refused, `${cmd === "close" ? "closed" : "open"}${when}${back}${turns}`);

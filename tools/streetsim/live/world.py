@@ -100,14 +100,14 @@ class World:
         """What a page is to know of the last second beside its rows: all, or what is new since the last message."""
         kernel, ledger, clock = self.kernel, self.ledger, self.clock
         whole = self.cars_sent < 0
-        plans, shown = self.signals()
+        plans, shown_signals = self.signals()
         cars, self.cars_sent = max(0, self.cars_sent), kernel.vehicles.entered
         points, self.points_sent = max(0, self.points_sent), len(ledger.points)
         page_message: dict[str, Any] = {
             "whole": whole, "first": points, "clock": clock, "arrived": kernel.last_second.arrived_count,
             "coming": int(np.count_nonzero(~ledger.has_departed)),
             "owners": kernel.vehicles.owner[cars : self.cars_sent].tolist(), "points": ledger.points_from(points),
-            "plans": plans, "shown": shown, "waiting": self.waiting(), "detectors": self.hand.detectors,
+            "plans": plans, "shown": shown_signals, "waiting": self.waiting(), "detectors": self.hand.detectors,
             "closed": [[slot, *stretch] for slot, closed in kernel.closed.stretches().items() for stretch in closed],
         }  # fmt: skip
         return page_message
@@ -125,14 +125,14 @@ class World:
         sent += [(line_sent.line, line_sent.passed_on) for line_sent in kernel.sent[max(0, self.lines_sent) :]]
         self.lines_sent = len(kernel.sent)
         plans: dict[int, Command] = {}
-        shown: dict[int, Command] = {}
+        shown_signals: dict[int, Command] = {}
         for line, is_plan in sent:
             command = line.command
             if command["cmd"] == "signal" and command["node"] not in self.page_run.givers:
-                (plans if is_plan else shown)[command["node"]] = command
+                (plans if is_plan else shown_signals)[command["node"]] = command
                 if is_plan:
-                    shown.pop(command["node"], None)
-        return [*plans.values()], [*shown.values()]
+                    shown_signals.pop(command["node"], None)
+        return [*plans.values()], [*shown_signals.values()]
 
     def waiting(self) -> list[list[int]]:
         """[slot, how many] of the lanes that vehicles wait to enter, who wished to by now."""

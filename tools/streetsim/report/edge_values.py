@@ -16,7 +16,7 @@ class Traffic:
 
 
 @dataclass(slots=True)
-class Values:
+class EdgeValues:
     """What is known of an edge in an interval; traffic is none where its lanes were not counted, row where it is no
     approach or one that nobody used, or the run had no --junctions."""
 
@@ -68,7 +68,7 @@ def mean_traffic(several: list[Traffic]) -> Traffic:
     return Traffic(sum(one.flow for one in several) / len(several), sum(dense) / len(dense) if dense else None, speed)
 
 
-def values_of(runs: Runs, begin: int, end: int) -> dict[str, Values]:
+def values_of(runs: Runs, begin: int, end: int) -> dict[str, EdgeValues]:
     """{edge: what is known of it from `begin` to `end`, in seconds}, for each edge of the map, as means over the seeds.
     Rows are those of the junction tables whose interval has just these bounds. Fault where edges.csv cannot be read."""
     traffic_by_edge = defaultdict(list)
@@ -77,6 +77,6 @@ def values_of(runs: Runs, begin: int, end: int) -> dict[str, Values]:
             traffic_by_edge[edge].append(one)
     rows = {key[1]: row for key, row in runs.rows.get(("approaches", begin, end), {}).items()}
     return {
-        edge: Values(mean_traffic(traffic_by_edge[edge]) if edge in traffic_by_edge else None, rows.get(edge))
+        edge: EdgeValues(mean_traffic(traffic_by_edge[edge]) if edge in traffic_by_edge else None, rows.get(edge))
         for edge in runs.first_folder.mapping.links_of
     }

@@ -47,7 +47,7 @@ def features(runs: Runs, converter: Converter) -> Iterator[Json]:
             yield feature(EDGE, "LineString", lines[edge], properties)
         for (name,), row in sorted(runs.rows.get(("junctions", begin, end), {}).items()):
             properties = {**interval, "name": name, **name_property("called", names.junction(name), names)}
-            hourly = round(row.values["vehicles_per_hour"], 1)
+            hourly = round(row.means["vehicles_per_hour"], 1)
             properties |= {"control": row.control, "vehicles_per_hour": hourly, **row_properties(row)}
             yield feature(JUNCTION, "Point", points[name], properties)
 
@@ -83,7 +83,7 @@ def traffic_properties(traffic: Traffic | None) -> Json:
 
 def row_properties(row: ResultRow | None) -> Json:
     """The measures of the junction tables by their names, with two decimals, and the letter (los), or None."""
-    numbers = {name: row.values.get(name) if row else None for name in MEASURES}
+    numbers = {name: row.means.get(name) if row else None for name in MEASURES}
     rounded = {name: None if number is None else round(number, 2) for name, number in numbers.items()}
     return {**rounded, "los": row.letter() if row else None}
 

@@ -16,7 +16,7 @@ class RowChange:
 
     key: tuple[str, ...]
     row: ResultRow  # of the last plan
-    before: ResultRow | None  # none: one plan, or nobody there with the first
+    row_before: ResultRow | None  # none: one plan, or nobody there with the first
     change: PlanDifference | None  # of control delay, seconds; none as above, or without a common seed
 
     @property
@@ -28,9 +28,9 @@ class RowChange:
     def changes_noticeably(self) -> bool:
         """Whether its delay's change stands out, and is 5 s or more or comes with another level of service; false with
         one plan."""
-        if self.change is None or self.before is None:
+        if self.change is None or self.row_before is None:
             return False
-        other = self.before.letter() != self.row.letter()
+        other = self.row_before.letter() != self.row.letter()
         return self.change.stands_out() and (abs(self.change.change) >= NOTICED_SECONDS or other)
 
     @property
@@ -38,7 +38,7 @@ class RowChange:
         """Seconds, from 0, that all its vehicles together lose or win by the change in an hour; without a change those
         of their whole delay."""
         seconds = abs(self.change.change) if self.change else self.row.delay
-        return seconds * self.row.values["vehicles_per_hour"]
+        return seconds * self.row.means["vehicles_per_hour"]
 
 
 def changes_that_stand_out(rows: Iterable[RowChange]) -> dict[str, float]:
@@ -47,13 +47,13 @@ def changes_that_stand_out(rows: Iterable[RowChange]) -> dict[str, float]:
     return {one.key[0]: one.change.change for one in rows if one.change and one.change.stands_out()}
 
 
-def ranked_changes(after: Rows, before: Rows | None, drawn: bool) -> list[RowChange]:
-    """What is told of each row of the last plan (after), with the row of the same key of the plan before (None: there
-    is none): first those that change noticeably or are worse than D; in each part the greatest weight first. drawn:
-    whether departures were."""
+def ranked_changes(rows_after: Rows, rows_before: Rows | None, drawn: bool) -> list[RowChange]:
+    """What is told of each row of the last plan (rows_after), with the row of the same key of the plan before (None:
+    there is none): first those that change noticeably or are worse than D; in each part the greatest weight first.
+    drawn: whether departures were."""
     changes = []
-    for key, row in after.items():
-        first = before.get(key) if before is not None else None
+    for key, row in rows_after.items():
+        first = rows_before.get(key) if rows_before is not None else None
         delays = [values_by_seed(one, "control_delay_s") for one in (first, row) if one]
         change = difference_of(*delays, drawn=drawn) if first else None
         changes.append(RowChange(key, row, first, change))

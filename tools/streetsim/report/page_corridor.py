@@ -11,7 +11,7 @@ from streetsim.report.run_series import TrackPiece, Spot
 
 WIDE, LEFT_MARGIN, RIGHT_MARGIN = 900, 64, 150  # pixels: of the picture, and beside its panels
 TOP_MARGIN, HIGH, BOTTOM_MARGIN = 26, 300, 46  # of a panel: above it, it, below it
-At = Callable[[float, float], str]  # of a second and metres, where they are: "across,down", pixels
+ToPixels = Callable[[float, float], str]  # of a second and metres, where they are: "across,down", pixels
 
 
 def corridor_picture(
@@ -24,10 +24,10 @@ def corridor_picture(
     tall = len(ways) * (TOP_MARGIN + HIGH + BOTTOM_MARGIN) + 26
     svg_parts = [f'<svg class="corridor" viewBox="0 0 {WIDE} {tall}" role="img" aria-label="{escape(label)}">']
     classes = {0}
-    for at, way in enumerate(ways):
+    for index, way in enumerate(ways):
         track_pieces = run_series.trajectories(folder, way, first_second, last_second)
         classes |= {class_of(piece) for piece in track_pieces}
-        top = at * (TOP_MARGIN + HIGH + BOTTOM_MARGIN) + TOP_MARGIN
+        top = index * (TOP_MARGIN + HIGH + BOTTOM_MARGIN) + TOP_MARGIN
         svg_parts.append(panel(folder, way, (first_second, last_second), track_pieces, top))
     return "".join([*svg_parts, legend(sorted(classes), tall - 12), "</svg>"])
 
@@ -43,19 +43,20 @@ def panel(folder: Folder, way: Sequence[str], span: Spot, track_pieces: Sequence
     (first_second, last_second), length = span, run_series.links_and_length(folder, way)[1]
     across, down = (WIDE - LEFT_MARGIN - RIGHT_MARGIN) / (last_second - first_second), HIGH / (length * 1.01)
 
-    def at(second: float, metres: float) -> str:
+    def pixels_at(second: float, metres: float) -> str:
         """Where a second and metres are, in pixels."""
         return f"{LEFT_MARGIN + (second - first_second) * across:.1f},{top + HIGH - metres * down:.1f}"
 
     width = WIDE - LEFT_MARGIN - RIGHT_MARGIN
     frame = f'<rect x="{LEFT_MARGIN}" y="{top}" width="{width}" height="{HIGH}" fill="none" stroke="#555"/>'
-    svg_parts = [*grid(at, span, length), frame]
+    svg_parts = [*grid(pixels_at, span, length), frame]
     for place in range(len(SPEEDS) - 1, -1, -1):
-        svg_parts += vehicles(at, [piece for piece in track_pieces if class_of(piece) == place], place)
+        svg_parts += vehicles(pixels_at, [piece for piece in track_pieces if class_of(piece) == place], place)
     for metres, begin, end in run_series.red_times(folder, way, int(first_second), int(last_second)):
-        svg_parts.append(f'<path d="M{at(begin, metres)}L{at(end, metres)}" stroke="#000" stroke-width="4"/>')
+        line = f"M{pixels_at(begin, metres)}L{pixels_at(end, metres)}"
+        svg_parts.append(f'<path d="{line}" stroke="#000" stroke-width="4"/>')
     for metres, name in run_series.junctions_along(folder, way):
-        level = at(last_second, metres).split(",")[1]
+        level = pixels_at(last_second, metres).split(",")[1]
         svg_parts.append(f'<text x="{WIDE - RIGHT_MARGIN + 6}" y="{level}" dy="4">{escape(name)}</text>')
     title = escape(title_of(folder, way, int(first_second)))
     title = f'<text x="{LEFT_MARGIN}" y="{top - 8}" font-weight="bold">{title}</text>'
@@ -70,16 +71,16 @@ def title_of(folder: Folder, way: Sequence[str], first_second: int) -> str:
     return f"{where}: each line is a vehicle" + (f"; green band {band[0]} of {band[1]} s" if band else "")
 
 
-def grid(at: At, span: Spot, length: float) -> Iterator[str]:
+def grid(pixels_at: ToPixels, span: Spot, length: float) -> Iterator[str]:
     """Lines and numbers of the axes of a panel, as SVG. span: first and last second; length: metres."""
     (first_second, last_second), places = span, steps(0, length)
     for second in steps(first_second, last_second):
-        x, y = at(second, 0).split(",")
-        yield f'<path d="M{at(second, 0)}L{at(second, length)}" stroke="#ddd"/>'
+        x, y = pixels_at(second, 0).split(",")
+        yield f'<path d="M{pixels_at(second, 0)}L{pixels_at(second, length)}" stroke="#ddd"/>'
         yield f'<text x="{x}" y="{y}" dy="16" text-anchor="middle">{time_of_day(int(second))}</text>'
     for metres in places:
-        x, y = at(first_second, metres).split(",")
-        yield f'<path d="M{at(first_second, metres)}L{at(last_second, metres)}" stroke="#ddd"/>'
+        x, y = pixels_at(first_second, metres).split(",")
+        yield f'<path d="M{pixels_at(first_second, metres)}L{pixels_at(last_second, metres)}" stroke="#ddd"/>'
         yield f'<text x="{x}" y="{y}" dx="-6" dy="4" text-anchor="end">{metres:g} m</text>'
 
 
@@ -87,16 +88,16 @@ def steps(low: float, high: float) -> list[float]:
     """Round numbers from low to high, some six of them."""
     step = run_series.round_length(max(1.0, (high - low) / 5))
     begin = -(-low // step) * step
-    return [begin + step * at for at in range(int((high - begin) // step) + 1)]
+    return [begin + step * index for index in range(int((high - begin) // step) + 1)]
 
 
-def vehicles(at: At, track_pieces: Iterable[TrackPiece], speed_class: int) -> Iterator[str]:
+def vehicles(pixels_at: ToPixels, track_pieces: Iterable[TrackPiece], speed_class: int) -> Iterator[str]:
     """The ways of vehicles of one class of speed, by its place in SPEEDS, as SVG; nothing where there are none."""
     track_pieces, (_, label, colour, width) = list(track_pieces), SPEEDS[speed_class]
     long = run_series.long_vehicle_strips(track_pieces)
-    if strips := "".join(f"M{'L'.join(at(*corner) for corner in one)}Z" for one in long):
+    if strips := "".join(f"M{'L'.join(pixels_at(*corner) for corner in one)}Z" for one in long):
         yield f'<path d="{strips}" fill="{colour}" fill-opacity="0.6"/>'
-    if lines := "".join(f"M{'L'.join(at(*spot) for spot in one)}" for one in joined(track_pieces)):
+    if lines := "".join(f"M{'L'.join(pixels_at(*spot) for spot in one)}" for one in joined(track_pieces)):
         line = f'<path d="{lines}" fill="none" stroke="{colour}" stroke-width="{width}">'
         yield f"{line}<title>{label}</title></path>"
 
@@ -126,8 +127,8 @@ def legend(classes: Sequence[int], down: int) -> str:
     """What the lines mean, as SVG, at so many pixels down: those of the classes of speed that there are, and red."""
     entries = [(label, colour, width + 1) for _, label, colour, width in (SPEEDS[one] for one in classes)]
     parts = []
-    for at, (label, colour, width) in enumerate([*entries, ("red signal", "#000", 4)]):
-        x = LEFT_MARGIN + 160 * at
+    for index, (label, colour, width) in enumerate([*entries, ("red signal", "#000", 4)]):
+        x = LEFT_MARGIN + 160 * index
         parts.append(f'<path d="M{x},{down - 4}h28" stroke="{colour}" stroke-width="{width}"/>')
         parts.append(f'<text x="{x + 34}" y="{down}">{label}</text>')
     return "".join(parts)

@@ -51,26 +51,26 @@ def service_keys(letters: Collection[str], closed: bool) -> list[str]:
     return [*keys, line_key(service_stroke("", ""), "no approach, or nobody came"), *([works_key()] if closed else [])]
 
 
-def difference_map(mapping: Map, values: Mapping[str, float]) -> str:
+def difference_map(mapping: Map, differences: Mapping[str, float]) -> str:
     """The streets, as SVG; edges with a value red above 0 and blue and broken below, but dark grey within 0.5 of it,
-    wider where it is farther from 0; others thin and light grey. values: by edge, shown in whole numbers without a
+    wider where it is farther from 0; others thin and light grey. differences: by edge, shown in whole numbers without a
     unit."""
-    most = max([1.0, *(abs(value) for value in values.values())])
+    most = max([1.0, *(abs(difference) for difference in differences.values())])
     strokes = {}
     for edge in mapping.links_of:
-        value = values.get(edge)
-        text = edge if value is None else f"{edge}: {value:+.0f}"
-        strokes[edge] = difference_stroke(value, most, text)
+        difference = differences.get(edge)
+        text = edge if difference is None else f"{edge}: {difference:+.0f}"
+        strokes[edge] = difference_stroke(difference, most, text)
     return street_map(mapping, strokes, "Map of differences")
 
 
-def difference_stroke(value: float | None, greatest: float, text: str) -> Stroke:
+def difference_stroke(difference: float | None, greatest: float, text: str) -> Stroke:
     """How an edge with a value is drawn, none where it has none; greatest: value that there is, up or down; text: what
     it says when pointed at."""
-    if value is None:
+    if difference is None:
         return Stroke(STREET, 1.5, text)
-    colour = "#777" if abs(value) < 0.5 else MORE if value > 0 else LESS
-    return Stroke(colour, 2 + 6 * abs(value) / greatest, text, gaps=value <= -0.5)
+    colour = "#777" if abs(difference) < 0.5 else MORE if difference > 0 else LESS
+    return Stroke(colour, 2 + 6 * abs(difference) / greatest, text, gaps=difference <= -0.5)
 
 
 def junction_mark(letter: str, text: str) -> str:

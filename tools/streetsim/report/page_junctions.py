@@ -28,19 +28,19 @@ def title_of(name: str, names: Names) -> str:
 def junction_table(rows: Sequence[RowChange], names: Names, detailed: int) -> str:
     """A table with one line for each junction, as HTML; the first `detailed` of them are links to their sections. Where
     one has a row before, it is of two plans, with empty cells where nothing can be paired."""
-    two = any(ranked.before for ranked in rows)
+    two = any(ranked.row_before for ranked in rows)
     table_rows = []
     for place, ranked in enumerate(rows):
         title = escape(title_of(ranked.key[0], names))
         linked = f'<a href="#{anchor(ranked.key[0])}">{title}</a>' if place < detailed else title
         cells = [linked + full_mark(ranked.row)]
-        cells.append(f"{ranked.row.values['vehicles_per_hour']:,.0f}")
+        cells.append(f"{ranked.row.means['vehicles_per_hour']:,.0f}")
         level = letter_mark(ranked.row.letter())
         if not two:
-            table_rows.append([*cells, f"{ranked.row.delay:.1f}", level, f"{ranked.row.values['v_c']:.2f}"])
-        elif ranked.before and ranked.change:
-            numbers = f"{ranked.change.before:.1f}", f"{ranked.change.after:.1f}", change_told(ranked.change)
-            table_rows.append([*cells, *numbers, f"{letter_mark(ranked.before.letter())} to {level}"])
+            table_rows.append([*cells, f"{ranked.row.delay:.1f}", level, f"{ranked.row.means['v_c']:.2f}"])
+        elif ranked.row_before and ranked.change:
+            numbers = f"{ranked.change.mean_before:.1f}", f"{ranked.change.mean_after:.1f}", change_told(ranked.change)
+            table_rows.append([*cells, *numbers, f"{letter_mark(ranked.row_before.letter())} to {level}"])
         else:
             table_rows.append([*cells, "", f"{ranked.row.delay:.1f}", "", level])
     if two:
@@ -50,7 +50,7 @@ def junction_table(rows: Sequence[RowChange], names: Names, detailed: int) -> st
 
 def full_mark(row: ResultRow) -> str:
     """A mark, as HTML, behind a junction whose lanes are nearly full by the demand; empty for others."""
-    full = row.values.get("nearly_full")
+    full = row.means.get("nearly_full")
     return f' <span class="small" title="{FULL}">nearly full ({full:.2f})</span>' if full else ""
 
 
@@ -64,14 +64,14 @@ def movement_changes(rows: Sequence[RowChange], names: Names, drawn: bool) -> st
     """A table of the movements with both plans that change noticeably or are worse than D, as HTML, at most 25; a
     sentence where there are none. rows: movements as ranked_rows of council gives them, whose order stays; drawn:
     whether departures were."""
-    paired = (ranked for ranked in rows if ranked.change and ranked.before)
+    paired = (ranked for ranked in rows if ranked.change and ranked.row_before)
     those = [ranked for ranked in paired if ranked.changes_noticeably or ranked.is_bad]
     table_rows = []
     for ranked in those[:MOST_MOVEMENTS]:
-        assert ranked.change and ranked.before
+        assert ranked.change and ranked.row_before
         ids = f"{ranked.key[0]}: {' to '.join(ranked.key[1:])}"
-        levels = f"{letter_mark(ranked.before.letter())} to {letter_mark(ranked.row.letter())}"
-        numbers = f"{ranked.change.before:.1f}", f"{ranked.change.after:.1f}", change_told(ranked.change)
+        levels = f"{letter_mark(ranked.row_before.letter())} to {letter_mark(ranked.row.letter())}"
+        numbers = f"{ranked.change.mean_before:.1f}", f"{ranked.change.mean_after:.1f}", change_told(ranked.change)
         shown = f'<span class="ids">{escape(ids)}</span>'
         table_rows.append([escape(names.movement(*ranked.key[1:])), shown, *numbers, levels])
     if not table_rows:
@@ -106,9 +106,9 @@ def detail(runs: Runs, name: str, interval: tuple[int, int]) -> str:
     rows = [movement_row(row, called) for row in sorted(movements, key=lambda row: row.key)]
     queues = []
     for row in sorted(approaches, key=lambda row: row.key):
-        half, usual, greatest, room = itemgetter("queue_50_m", "queue_95_m", "queue_max_m", "storage_m")(row.values)
+        half, usual, greatest, room = itemgetter("queue_50_m", "queue_95_m", "queue_max_m", "storage_m")(row.means)
         queues.append((called.approach(row.key[1]), half, usual, greatest, room))
-    values = junction.values
+    values = junction.means
     return (
         f'<section class="whole"><h3 id="{anchor(name)}">{escape(title_of(name, called))}: {junction.delay:.1f} s '
         f'{letter_mark(junction.letter())}, {values["vehicles_per_hour"]:,.0f} vehicles an hour, '
@@ -132,13 +132,13 @@ def by_time(runs: Runs, name: str) -> str:
 
 def movement_row(row: ResultRow, names: Names) -> list[str]:
     """The cells of a movement in its junction's table, as HTML."""
-    values = row.values
-    stops = f"{values['stops_per_vehicle']:.2f}" if "stops_per_vehicle" in values else ""
-    lengths = (f"{values[name]:.0f}" for name in ("queue_50_m", "queue_95_m", "queue_max_m"))
-    queues = f'<span class="ids">{", ".join(lengths)} of {values["storage_m"]:.0f}</span>'
+    means = row.means
+    stops = f"{means['stops_per_vehicle']:.2f}" if "stops_per_vehicle" in means else ""
+    lengths = (f"{means[name]:.0f}" for name in ("queue_50_m", "queue_95_m", "queue_max_m"))
+    queues = f'<span class="ids">{", ".join(lengths)} of {means["storage_m"]:.0f}</span>'
     ids = f'<span class="ids">{escape(" to ".join(row.key[1:]))}</span>'
     return [
         *(escape(names.movement(*row.key[1:])), ids, row.movement),
-        *(f"{values['vehicles_per_hour']:.0f}", f"{row.delay:.1f}", letter_mark(row.letter()), f"{values['v_c']:.2f}"),
-        *(f"{values['stopped_delay_s']:.1f}", stops, queues),
+        *(f"{means['vehicles_per_hour']:.0f}", f"{row.delay:.1f}", letter_mark(row.letter()), f"{means['v_c']:.2f}"),
+        *(f"{means['stopped_delay_s']:.1f}", stops, queues),
     ]

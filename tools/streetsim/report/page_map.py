@@ -41,14 +41,14 @@ class Plane:
         self.aside = (WIDE - wide * self.scale) / 2
         self.tall = (self.max_y - low) * self.scale + 2 * MARGIN
 
-    def at(self, point: Sequence[float]) -> Point:
+    def pixels_of(self, point: Sequence[float]) -> Point:
         """The pixels across and down of a point (x, y)."""
         return (point[0] - self.min_x) * self.scale + self.aside, (self.max_y - point[1]) * self.scale + MARGIN
 
     def way(self, shape: Shape) -> Way:
         """A shape in pixels, without points that lie on one another."""
-        found = [self.at(shape[0])]
-        for point in map(self.at, shape[1:]):
+        found = [self.pixels_of(shape[0])]
+        for point in map(self.pixels_of, shape[1:]):
             if hypot(point[0] - found[-1][0], point[1] - found[-1][1]) > 0.01:
                 found.append(point)
         return found
@@ -74,7 +74,7 @@ def street_map(
         svg_parts.append(f'<polyline points="{points_told(way)}" class="works"><title>road works</title></polyline>')
     lit = {node for _, node in mapping.signals}
     point_of_junction = {
-        name: plane.at((x, y)) for at, (name, x, y, _) in enumerate(mapping.nodes) if name in marks or at in lit
+        name: plane.pixels_of((x, y)) for at, (name, x, y, _) in enumerate(mapping.nodes) if name in marks or at in lit
     }
     for name, own in marks.items():
         x, y = point_of_junction[name]

@@ -148,20 +148,20 @@ def check_content(content: Json) -> None:
     check_types(content, CONTENT)
     if content["form"] != FORM:
         raise ValueError(f"it has the form {content['form']}, and these tools know {FORM}")
-    known_names = {NAMES, *(f"{COUNTS}{at}" for at in range(1, 1 + len(content["files"])))}
-    for at, plan in enumerate(content["plans"], 1):
+    known_names = {NAMES, *(f"{COUNTS}{number}" for number in range(1, 1 + len(content["files"])))}
+    for number, plan in enumerate(content["plans"], 1):
         check_types(plan, PLAN)
         check_all([*plan["words"], *plan["again"]], str)
         check_all(plan["seeds"], int)
         name = os.path.basename(plan["run"])
-        run, mapped = f"plan-{at}/{name}", f"plan-{at}/map.json"
+        run, mapped = f"plan-{number}/{name}", f"plan-{number}/map.json"
         if (plan["run"], plan["map"]) != (run, mapped) or name in ("", ".", "..", "map.json", LIGHTS):
             raise ValueError(f"a run is called {plan['run']!r}, its map {plan['map']!r}")
         if {run, mapped} - {*content["files"]} or not plan["seeds"]:
             raise ValueError(f"{run!r} or its map is not sealed in it, or has no seeds")
         if plan["program"] and not SUM.fullmatch(plan["program"]):
             raise ValueError("the sum of a program is none")
-        known_names |= {run, mapped, f"plan-{at}/{LIGHTS}"}
+        known_names |= {run, mapped, f"plan-{number}/{LIGHTS}"}
     check_all([*content["words"], *content["beside"], *content["files"].values()], str)
     if not all(map(SUM.fullmatch, (content["tools"], *content["files"].values()))):
         raise ValueError("a sum is none")
@@ -186,7 +186,7 @@ def sealed_files(seal: Seal, page: str) -> Iterator[tuple[str, bytes]]:
     or together they have more than MOST_BYTES."""
     large = read_beside(seal, page)
     bytes_left = sys.maxsize if lifted() else MOST_BYTES
-    for name, known in seal.content["files"].items():
+    for name, sealed_sum in seal.content["files"].items():
         try:
             content = large[name] if name in seal.content["beside"] else unpacked(seal.texts[name], bytes_left)
         except TooMuch as fault:
@@ -194,8 +194,8 @@ def sealed_files(seal: Seal, page: str) -> Iterator[tuple[str, bytes]]:
         except (KeyError, ValueError, zlib.error):
             raise Fault(f"{page}: the sealed file {name} cannot be read: it was changed") from None
         bytes_left -= len(content)
-        if (found := sum_of(content)) != known:
-            raise Fault(f"{page}: the sealed file {name} was changed: SHA-256 said to be {known}, found {found}")
+        if (found := sum_of(content)) != sealed_sum:
+            raise Fault(f"{page}: the sealed file {name} was changed: SHA-256 said to be {sealed_sum}, found {found}")
         yield name, content
 
 

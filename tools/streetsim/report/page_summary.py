@@ -62,7 +62,7 @@ def question_html(question: str, plans: Sequence[Runs], interval: Interval) -> s
     names = [runs.name for runs in plans]
     two = len(names) == 2
     usual = f"What changes if '{names[1]}' takes the place of '{names[0]}'?" if two else f"How does '{names[0]}' flow?"
-    of = (
+    runs_text = (
         f"{last_plan.vehicles:,.0f} vehicles from {time_of_day(setting.get('start', 0))} "
         f"to {time_of_day(setting.get('until', 0))}; "
         f"{counted_noun(len(last_plan.rows['junctions', *interval]), 'junction')}, "
@@ -73,7 +73,7 @@ def question_html(question: str, plans: Sequence[Runs], interval: Interval) -> s
     notes = dict.fromkeys(text for runs in plans for folder in runs.folders.values() for text in folder.notes)
     told = "".join(f'<p class="doubt">{escape(text)}</p>' for text in notes)
     asked = f'<p class="asked">What was asked: <b>{escape(question or usual)}</b></p>'
-    return f'{told}{asked}<p class="small">{escape(of)}</p>'
+    return f'{told}{asked}<p class="small">{escape(runs_text)}</p>'
 
 
 def verdict(plans: Sequence[Runs], interval: Interval) -> str:
@@ -97,11 +97,11 @@ def change_verdict(plans: Sequence[Runs], interval: Interval) -> str:
     delay = difference_of(*(mean_delays(runs.rows["junctions", *interval].values()) for runs in plans), drawn=drawn)
     trip_text, name = "Nothing can be said of trips, as nobody arrived.", plans[1].name
     if trip:
-        means = f"{trip.after:.1f} s on average, and {trip.before:.1f} s with '{plans[0].name}'"
+        means = f"{trip.mean_after:.1f} s on average, and {trip.mean_before:.1f} s with '{plans[0].name}'"
         trip_text = f"With '{name}' a trip takes {means}: {change_in_words(trip)}."
     if not delay:
         return f"{trip_text} No junction has vehicles with both plans."
-    means = f"{delay.after:.1f} s, and {delay.before:.1f} s before"
+    means = f"{delay.mean_after:.1f} s, and {delay.mean_before:.1f} s before"
     delay_text = f"{trip_text} A vehicle's mean delay at a junction is {means}: {change_in_words(delay)}"
     if delay.half is None:
         return f"{delay_text}."
@@ -200,7 +200,7 @@ def class_row(sides: Sequence[Mapping[int, Means]], drawn: bool) -> list[str]:
             cells.append(mean_told(values[0].values(), drawn))
             continue
         one = difference_of(*values, drawn=drawn)
-        cells += [f"{one.before:.1f}", f"{one.after:.1f}", change_told(one)] if one else ["-", "-", "-"]
+        cells += [f"{one.mean_before:.1f}", f"{one.mean_after:.1f}", change_told(one)] if one else ["-", "-", "-"]
     return cells
 
 
@@ -230,7 +230,7 @@ def groups_table(plan_costs: PlanCosts) -> str:
     if not shown_groups:
         return ""
     rows = [
-        [escape(group), f"{count:,}", f"{one.before:.1f}", f"{one.after:.1f}", change_told(one)]
+        [escape(group), f"{count:,}", f"{one.mean_before:.1f}", f"{one.mean_after:.1f}", change_told(one)]
         for group, (count, one) in ((group, plan_costs.groups[group]) for group in shown_groups)
     ]
     left = f" ({len(shown_groups)} of {len(ranked):,}: most lost, most won)" if len(shown_groups) < len(ranked) else ""
@@ -241,24 +241,29 @@ def worst_movements(movements: Sequence[RowChange], runs: Runs) -> list[str]:
     """Sentences, plain text, on the movement that waits longest, and with two plans on the one that loses most by a
     change that stands out, of those with 20 vehicles an hour or more; empty where there is none. runs: of the last
     plan."""
-    names, busy = runs.names, [one for one in movements if one.row.values["vehicles_per_hour"] >= LEAST_HOURLY]
+    names = runs.names
+    busy = [movement for movement in movements if movement.row.means["vehicles_per_hour"] >= LEAST_HOURLY]
     if not busy:
         return []
 
-    def called(one: RowChange) -> str:
+    def called(movement: RowChange) -> str:
         """What a movement is called, with its edges and junction."""
-        junction, edge, to = one.key
+        junction, edge, to = movement.key
         return f"{names.movement(edge, to)} ({edge} to {to}) at {names.junction_told(junction)}"
 
-    worst = max(busy, key=lambda one: one.row.delay)
-    level, hourly = worst.row.letter(), f"{worst.row.values['vehicles_per_hour']:.0f} vehicles an hour"
+    worst = max(busy, key=lambda movement: movement.row.delay)
+    level, hourly = worst.row.letter(), f"{worst.row.means['vehicles_per_hour']:.0f} vehicles an hour"
     texts = [f"Longest delay: {called(worst)}, {worst.row.delay:.0f} s, level of service {level}, {hourly}."]
-    losing = [(one.change, one) for one in busy if one.change and one.change.stands_out() and one.change.change > 0]
+    losing = [
+        (movement.change, movement)
+        for movement in busy
+        if movement.change and movement.change.stands_out() and movement.change.change > 0
+    ]
     if losing:
         change, most = max(losing, key=lambda pair: pair[0].change)
-        told = f"{change.after:.0f} s instead of {change.before:.0f} s ({change.in_words()} s)"
+        told = f"{change.mean_after:.0f} s instead of {change.mean_before:.0f} s ({change.in_words()} s)"
         texts.append(f"Loses most: {called(most)}, {told}.")
-    elif any(one.change and one.change.half is not None for one in busy):
+    elif any(movement.change and movement.change.half is not None for movement in busy):
         texts.append(f"No movement loses {how_sure(runs.is_drawn)}.")
     return texts
 
@@ -287,14 +292,14 @@ def doubted(plans: Sequence[Runs], further_doubts: Sequence[str] = ()) -> str:
     return bullets(texts) + (errors_told() if len(plans) == 2 else "")
 
 
-def kind_of_change(before: Runs, after: Runs) -> ForecastError | None:
+def kind_of_change(runs_before: Runs, runs_after: Runs) -> ForecastError | None:
     """Of which kind a forecast is: works, more vehicles, other greens or other offsets, the first that there is; None
     where none of them is."""
-    if page_works.works_rows(after.first_folder) and not page_works.works_rows(before.first_folder):
+    if page_works.works_rows(runs_after.first_folder) and not page_works.works_rows(runs_before.first_folder):
         return LANE
-    if after.vehicles > GROWN * before.vehicles:
+    if runs_after.vehicles > GROWN * runs_before.vehicles:
         return GROWTH
-    pairs = [(one, timings_of(after).get(name)) for name, one in timings_of(before).items()]
+    pairs = [(one, timings_of(runs_after).get(name)) for name, one in timings_of(runs_before).items()]
     known = [(one, other) for one, other in pairs if other]
     if any(one.phases != other.phases for one, other in known):
         return SPLIT

@@ -19,12 +19,13 @@ def change_rows(plans: Sequence[Runs], interval: Interval) -> Iterator[Entry]:
         for ranked in ranked_rows(plans, interval, kind):
             edges = ranked.key[1:] or ("", "")
             called = names.movement(*edges) if edges[0] else ""
-            change, before = ranked.change, ranked.before
+            change, row_before = ranked.change, ranked.row_before
             yield (
                 *interval, kind.removesuffix("s"), ranked.key[0], names.junction(ranked.key[0]), *edges, called,
-                f"{ranked.row.values['vehicles_per_hour']:.1f}",
-                f"{change.before:.2f}" if change else "", f"{change.after if change else ranked.row.delay:.2f}",
+                f"{ranked.row.means['vehicles_per_hour']:.1f}",
+                f"{change.mean_before:.2f}" if change else "",
+                f"{change.mean_after if change else ranked.row.delay:.2f}",
                 f"{change.change:.2f}" if change else "",
                 f"{change.half:.2f}" if change and change.half is not None else "",
-                before.letter() if before else "", ranked.row.letter(), f"{ranked.row.values['v_c']:.2f}",
+                row_before.letter() if row_before else "", ranked.row.letter(), f"{ranked.row.means['v_c']:.2f}",
             )

@@ -177,16 +177,19 @@ def other_ways(plans: Sequence[Runs], interval: tuple[int, int]) -> str:
     first and the last six, these in the other order. A sentence where there are none."""
     names, changes = plans[1].names, flow_changes(plans, interval)
     ranked = sorted(
-        (one.change, edge)
-        for edge, one in changes.items()
-        if abs(one.change) >= LEAST_FLOW_CHANGE and (one.stands_out() or one.half is None)
+        (difference.change, edge)
+        for edge, difference in changes.items()
+        if abs(difference.change) >= LEAST_FLOW_CHANGE and (difference.stands_out() or difference.half is None)
     )[::-1]
     if not ranked:
         return f"<p>No street has 20 vehicles an hour more or fewer {how_sure(plans[1].is_drawn)}.</p>"
-    told = [*ranked[:MOST_EDGES], *ranked[-MOST_EDGES:][::-1]] if len(ranked) > 2 * MOST_EDGES else ranked
+    listed = [*ranked[:MOST_EDGES], *ranked[-MOST_EDGES:][::-1]] if len(ranked) > 2 * MOST_EDGES else ranked
     rows = [
-        [escape(names.approach(edge)), escape(edge), f"{one.before:.0f}", f"{one.after:.0f}", change_told(one)]
-        for edge, one in ((edge, changes[edge]) for _, edge in told)
+        [
+            escape(names.approach(edge)), escape(edge), f"{difference.mean_before:.0f}",
+            f"{difference.mean_after:.0f}", change_told(difference),
+        ]
+        for edge, difference in ((edge, changes[edge]) for _, edge in listed)
     ]
     head = ["streets with more and fewer vehicles", "edge", "vehicles/h before", "after", "change"]
     return table(head, rows, names=2)

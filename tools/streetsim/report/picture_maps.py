@@ -10,7 +10,7 @@ from streetsim.model.folder import Folder
 from streetsim.model.mapping import Shape
 from streetsim.model.service import COLOURS, LETTERS, WHITE_LETTERS
 from streetsim.report import run_series
-from streetsim.report.edge_values import Values, intervals_of, values_of
+from streetsim.report.edge_values import EdgeValues, intervals_of, values_of
 from streetsim.report.page_map import middle_shape, moved
 from streetsim.report.picture_files import Axes, Figure, Lines, Pyplot
 from streetsim.report.run_tables import Runs, read_with_any_tables
@@ -33,7 +33,7 @@ class Street:
     """A street in a picture: its shape, and its number or letter; None where it has none."""
 
     shape: Shape
-    value: Any
+    measured: Any
 
 
 def draw_measure(pyplot: Pyplot, path: str, measure: str, second: int | None) -> Figure:
@@ -46,7 +46,7 @@ def draw_measure(pyplot: Pyplot, path: str, measure: str, second: int | None) ->
     streets = moved_apart(
         Street(middle_shape(mapping, edge), measure_of(values[edge], measure)) for edge in mapping.links_of
     )
-    if all(one.value is None for one in streets):
+    if all(one.measured is None for one in streets):
         raise Fault(f"{path}: nothing is known of {measure} from {begin} to {end} s")
     figure, axes, bar_options = canvas(pyplot, [one.shape for one in streets])
     title, label = LABELS[measure]
@@ -75,13 +75,13 @@ def interval_of(runs: Runs, measure: str, second: int | None) -> tuple[int, int]
     return second, end_of_begin[second]
 
 
-def measure_of(values: Values, measure: str) -> float | str | None:
+def measure_of(edge_values: EdgeValues, measure: str) -> float | str | None:
     """The value of an edge by a measure but the density: a number or a letter; none where it is not known."""
     if measure == "flow":
-        return values.traffic.flow if values.traffic else None
-    if values.row is None:
+        return edge_values.traffic.flow if edge_values.traffic else None
+    if edge_values.row is None:
         return None
-    return values.row.letter() if measure == "los" else values.row.values.get(MEASURES[measure])
+    return edge_values.row.letter() if measure == "los" else edge_values.row.means.get(MEASURES[measure])
 
 
 def moved_apart(streets: Iterable[Street]) -> list[Street]:
@@ -89,7 +89,7 @@ def moved_apart(streets: Iterable[Street]) -> list[Street]:
     found = list(streets)
     width, height = spans([one.shape for one in found])
     points = 72 * DRAWN * min(9 / max(width, 1.0), (4 if width > 2 * height else 8) / max(height, 1.0))  # a metre
-    return [Street(moved([(x, y) for x, y in one.shape], -ASIDE / points), one.value) for one in found]
+    return [Street(moved([(x, y) for x, y in one.shape], -ASIDE / points), one.measured) for one in found]
 
 
 def spans(shapes: Iterable[Shape]) -> tuple[float, float]:
@@ -119,9 +119,9 @@ def draw_lines(axes: Axes, streets: Iterable[Street], colours: str = "YlOrRd") -
     of colours. One at least has a number."""
     from matplotlib.collections import LineCollection
 
-    known = sorted((one for one in streets if one.value is not None), key=lambda one: one.value)
-    most = next((most for most in ROUND if known[-1].value <= most), known[-1].value)
-    values, widths = [one.value for one in known], [1.5 + 5 * one.value / most for one in known]
+    known = sorted((one for one in streets if one.measured is not None), key=lambda one: one.measured)
+    most = next((most for most in ROUND if known[-1].measured <= most), known[-1].measured)
+    values, widths = [one.measured for one in known], [1.5 + 5 * one.measured / most for one in known]
     shapes = [one.shape for one in known]
     lines = LineCollection(shapes, cmap=colours, array=values, clim=(0, most), linewidths=widths)
     axes.add_collection(lines)
@@ -135,7 +135,7 @@ def draw_letters(axes: Axes, streets: Sequence[Street], runs: Runs, interval: tu
     from matplotlib.lines import Line2D
 
     for place, letter in enumerate(LETTERS):
-        shapes = [one.shape for one in streets if one.value == letter]
+        shapes = [one.shape for one in streets if one.measured == letter]
         axes.add_collection(LineCollection(shapes, colors="#666666", linewidths=3.5 + place))
         axes.add_collection(LineCollection(shapes, colors=COLOURS[letter], linewidths=2.5 + place))
     places = {name: (x, y) for name, x, y, _ in runs.first_folder.mapping.nodes}
@@ -157,7 +157,7 @@ def draw_density(pyplot: Pyplot, folder: Folder) -> Figure:
     figure, axes, beside = canvas(pyplot, [one.shape for one in shown])
     axes.set(title="Mean density: wider and darker is denser")
     most = next((most for most in (25, 50) if max(densities) <= most), 100)
-    lines = draw_lines(axes, [Street(one.shape, min(one.value, most)) for one in shown], "viridis_r")
+    lines = draw_lines(axes, [Street(one.shape, min(one.measured, most)) for one in shown], "viridis_r")
     lines.set_clim(0, most)
     figure.colorbar(lines, ax=axes, label="vehicles/km and lane", extend="max", shrink=0.7, **beside)
     scale_bar(axes)

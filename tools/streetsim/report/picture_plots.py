@@ -171,15 +171,15 @@ def draw_arrivals(pyplot: Pyplot, folder: Folder, tripinfo: str | None) -> Figur
         end = folder.setting.get("until", inf)
         sumo = sorted(arrival for _, arrival in read_tripinfo(tripinfo).values() if arrival <= end)
         curves.append((sumo, "arrivals in SUMO", OTHER_LINE, ":"))
-        clocks, values = run_series.curve_difference(arrivals, sumo)
+        clocks, differences = run_series.curve_difference(arrivals, sumo)
         lower_axes.set(ylabel="here less SUMO")
     else:
-        clocks, values = run_series.curve_difference(departs, arrivals)
+        clocks, differences = run_series.curve_difference(departs, arrivals)
         lower_axes.set(ylabel="on their way or\nwaiting to depart")
     for moments, label, colour, style in curves:
         minutes, counts = [moment / 60 for moment in moments], range(1, len(moments) + 1)
         axes.step(minutes, counts, where="post", label=label, color=colour, linestyle=style, linewidth=1.8)
-    lower_axes.step([time / 60 for time in clocks], values, where="post", color=LINE, linewidth=1.4)
+    lower_axes.step([time / 60 for time in clocks], differences, where="post", color=LINE, linewidth=1.4)
     lower_axes.axhline(0, color="black", linewidth=0.8)
     title = f"{len(arrivals):,} of {len(folder.trips()):,} vehicles arrived"
     axes.set(ylabel="vehicles", title=title, xlim=(0, None), ylim=(0, None))

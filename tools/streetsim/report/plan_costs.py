@@ -25,13 +25,13 @@ class PlanCosts:
     groups: dict[str, tuple[int, PlanDifference]] = field(default_factory=dict)
 
 
-def costs_of(before: Runs, after: Runs) -> PlanCosts:
+def costs_of(runs_before: Runs, runs_after: Runs) -> PlanCosts:
     """The changes of trips of the same vehicles and seeds from one plan to another, in all and by flow (over seeds
     with ten trips of it that arrived in both), and how many arrived with one plan alone."""
     plan_costs, sums = PlanCosts(), defaultdict[str, tuple[dict, dict]](lambda: ({}, {}))
     counts: defaultdict[str, int] = defaultdict(int)
-    for seed in sorted(before.folders.keys() & after.folders.keys()):
-        before_durations, after_durations = durations(before.folders[seed]), durations(after.folders[seed])
+    for seed in sorted(runs_before.folders.keys() & runs_after.folders.keys()):
+        before_durations, after_durations = durations(runs_before.folders[seed]), durations(runs_after.folders[seed])
         both = [name for name in before_durations if name in after_durations]
         plan_costs.changes += [after_durations[name] - before_durations[name] for name in both]
         plan_costs.lost += len(before_durations) - len(both)
@@ -41,7 +41,7 @@ def costs_of(before: Runs, after: Runs) -> PlanCosts:
             for sides, values in zip(sums[group], (before_durations, after_durations), strict=True):
                 sides[seed] = fmean(values[name] for name in names)
     plan_costs.changes.sort()
-    drawn = before.is_drawn and after.is_drawn
+    drawn = runs_before.is_drawn and runs_after.is_drawn
     differences = {group: difference_of(*sides, drawn=drawn) for group, sides in sums.items()}
     plan_costs.groups = {group: (counts[group], one) for group, one in differences.items() if one}
     return plan_costs

@@ -11,8 +11,8 @@ class PlanDifference:
     """A value with both plans, as means over the seeds that both have, the change from before to after, and its 95 %
     interval."""
 
-    before: float
-    after: float
+    mean_before: float
+    mean_after: float
     change: float
     half: float | None  # half the width of the interval; none of one seed
     of_days: bool = False  # whether the interval is of a day, as departures were drawn; else of dawdling alone
@@ -27,14 +27,17 @@ class PlanDifference:
         return self.half is not None and abs(self.change) > self.half
 
 
-def difference_of(before: Mapping[int, float], after: Mapping[int, float], *, drawn: bool) -> PlanDifference | None:
+def difference_of(
+    values_before: Mapping[int, float], values_after: Mapping[int, float], *, drawn: bool
+) -> PlanDifference | None:
     """The difference of values, {seed: value}, over the seeds that both have; None where there are none. drawn:
     whether the departures were, by each seed, so that the interval is of a day."""
-    seeds = sorted(before.keys() & after.keys())
+    seeds = sorted(values_before.keys() & values_after.keys())
     if not seeds:
         return None
-    change, half = (mean_and_day if drawn else mean_and_half_width)([after[seed] - before[seed] for seed in seeds])
-    firsts, seconds = (sum(values[seed] for seed in seeds) / len(seeds) for values in (before, after))
+    changes = [values_after[seed] - values_before[seed] for seed in seeds]
+    change, half = (mean_and_day if drawn else mean_and_half_width)(changes)
+    firsts, seconds = (sum(values[seed] for seed in seeds) / len(seeds) for values in (values_before, values_after))
     return PlanDifference(firsts, seconds, change, half, drawn)
 
 

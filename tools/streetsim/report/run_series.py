@@ -36,9 +36,9 @@ def trajectories(folder: Folder, edges: Sequence[str], first_second: int, last_s
     that one of both polls does not have on a cell of the path, is left out for that piece."""
     placed, _ = links_and_length(folder, edges)
     track_pieces: list[TrackPiece] = []
-    before: dict[int, tuple[int, float, int, float]] = {}
+    cars_before: dict[int, tuple[int, float, int, float]] = {}
     for poll in folder.polls():
-        clock, now = poll["clock"], {}
+        clock, cars_now = poll["clock"], {}
         if not first_second <= clock <= last_second:
             continue
         for link, _lane, cells, _buffer, _closed in poll["lanes"]:
@@ -46,11 +46,11 @@ def trajectories(folder: Folder, edges: Sequence[str], first_second: int, last_s
                 begin, metres, count = placed[link]
                 for car, cell, speed, *size in cells:
                     long = (size[0] if size else 1) * metres / count
-                    now[car] = clock, begin + (cell + 1) * metres / count, speed, long
-        for car, (_, place, speed, long) in now.items():
-            if car in before and before[car][1] <= place:
-                track_pieces.append(((before[car][0], before[car][1]), (clock, place), speed, long))
-        before = now
+                    cars_now[car] = clock, begin + (cell + 1) * metres / count, speed, long
+        for car, (_, place, speed, long) in cars_now.items():
+            if car in cars_before and cars_before[car][1] <= place:
+                track_pieces.append(((cars_before[car][0], cars_before[car][1]), (clock, place), speed, long))
+        cars_before = cars_now
     return track_pieces
 
 
@@ -138,14 +138,14 @@ def green_band(folder: Folder, edges: Sequence[str], at_clock: int) -> tuple[int
     signal or no common cycle."""
     ends = edge_ends_along(folder, edges)
     plans = {command["node"]: command for clock, command in folder.signals if clock <= at_clock}
-    stops = [(after, plans[node], here, following) for after, node, here, following in ends if node in plans]
+    stops = [(travel, plans[node], links, following) for travel, node, links, following in ends if node in plans]
     cycles = {sum(duration for duration, _ in command["phases"]) for _, command, *_ in stops}
     if len(cycles) != 1:
         return None
     cycle, start = cycles.pop(), stops[0][0]
     shown = [
-        [shows_green(command, second + round(after - start), here, following) for second in range(cycle)]
-        for after, command, here, following in stops
+        [shows_green(command, second + round(travel - start), links, following) for second in range(cycle)]
+        for travel, command, links, following in stops
     ]
     signs = "".join("01"[all(greens)] for greens in zip(*shown, strict=True))
     return max((seconds for _, seconds in spans_of(signs, "1")), default=0), cycle
@@ -154,12 +154,12 @@ def green_band(folder: Folder, edges: Sequence[str], at_clock: int) -> tuple[int
 def edge_ends_along(folder: Folder, edges: Sequence[str]) -> list[tuple[float, int, list[int], list[int]]]:
     """(seconds at free speed from the path's begin, node, links, next links) of each end of an edge within a path, with
     a signal or without, in its order."""
-    after, edge_ends = 0.0, []
-    for here, following in pairwise(folder.links_along(edges)):
-        link = folder.mapping.links[here[0]]
-        after += link.cells / max(0.001, link.limit - folder.dawdle / 1000)
-        edge_ends.append((after, link.end, here, following))
-        after += folder.mapping.nodes[link.end][3]
+    travel, edge_ends = 0.0, []
+    for links, following in pairwise(folder.links_along(edges)):
+        link = folder.mapping.links[links[0]]
+        travel += link.cells / max(0.001, link.limit - folder.dawdle / 1000)
+        edge_ends.append((travel, link.end, links, following))
+        travel += folder.mapping.nodes[link.end][3]
     return edge_ends
 
 

@@ -30,17 +30,17 @@ class ResultRow:
     key: tuple[str, ...]
     control: str
     movement: str  # L, T, R or U; empty of an approach or a junction
-    values: dict[str, float]  # measure: mean over the seeds that have it
+    means: dict[str, float]  # measure: mean over the seeds that have it
     by_seed: dict[int, dict[str, float]]  # seed: {measure: value}
 
     @property
     def delay(self) -> float:
         """Mean control delay over the seeds, seconds a vehicle."""
-        return self.values["control_delay_s"]
+        return self.means["control_delay_s"]
 
     def letter(self) -> str:
         """Its level of service by its mean delay, A to F; of a movement F also where v/c is above 1."""
-        return level(self.delay, self.control, self.values["v_c"] if self.movement else None)
+        return level(self.delay, self.control, self.means["v_c"] if self.movement else None)
 
 
 Rows = dict[tuple[str, ...], ResultRow]  # by their key
@@ -92,7 +92,7 @@ class Runs:
         volumes: dict[tuple[int, int], float] = {}
         for (table, begin, end), rows in self.rows.items():
             if table == "junctions" and (among is None or (begin, end) in among):
-                volumes[begin, end] = sum(row.values["vehicles_per_hour"] for row in rows.values())
+                volumes[begin, end] = sum(row.means["vehicles_per_hour"] for row in rows.values())
         return min(volumes, key=lambda interval: (-volumes[interval], interval))
 
 

@@ -31,20 +31,20 @@ def sheets(plans: Sequence[tuple[str, Timings]], lights: Sequence[str], names: N
 def sheet(plans: Sequence[tuple[str, Timing | None]], light: str, names: Names) -> str:
     """The sheet of a light, as HTML, its tables of the last program; plans: (name, its program or none). Empty where no
     plan has a program of it."""
-    known = [(name, timing) for name, timing in plans if timing]
-    if not known:
+    timings = [(name, timing) for name, timing in plans if timing]
+    if not timings:
         return ""
-    called = names.junction(known[0][1].junction)
+    called = names.junction(timings[0][1].junction)
     title = f"{called} (light {light})" if called else f"Light {light}"
     html_parts = [f'<h3 id="{anchor(light).replace("junction", "light")}">{escape(title)}</h3>']
-    if len(known) == 2 and known[0][1].phases == known[1][1].phases:
-        offsets = [f"{timing.offset:g} s" for _, timing in known]
+    if len(timings) == 2 and timings[0][1].phases == timings[1][1].phases:
+        offsets = [f"{timing.offset:g} s" for _, timing in timings]
         other = f"Both plans have the same phases; the offset is {offsets[0]} before and {offsets[1]} after."
         html_parts.append(f"<p>{'Both plans show the same.' if offsets[0] == offsets[1] else other}</p>")
-        known = known[1:]
-    html_parts += [program(name, timing, names) for name, timing in known]
-    last = known[-1][1]
-    html_parts += [phases_table(last), greens_table(last, names, known[0][1] if len(known) == 2 else None)]
+        timings = timings[1:]
+    html_parts += [program(name, timing, names) for name, timing in timings]
+    last = timings[-1][1]
+    html_parts += [phases_table(last), greens_table(last, names, timings[0][1] if len(timings) == 2 else None)]
     html_parts.append(intergreens(last, names))
     return f'<section class="sheet">{"".join(html_parts)}</section>'
 
@@ -143,25 +143,26 @@ def kept_told(seconds: int | None) -> str:
     return "" if seconds is None else str(seconds)
 
 
-def greens_table(timing: Timing, names: Names, before: Timing | None) -> str:
+def greens_table(timing: Timing, names: Names, timing_before: Timing | None) -> str:
     """A table, as HTML, of when each movement has green, and of its seconds of green, of giving way in it, of yellow
-    and of red, which is all else that is not off. before: the program before, whose greens stand beside, or None."""
-    before_movements = before.movements if before else ()
+    and of red, which is all else that is not off. timing_before: of the program before, whose greens
+    stand beside, or None."""
+    before_movements = timing_before.movements if timing_before else ()
     rows, movement_before = [], {(movement.edge, movement.to): movement for movement in before_movements}
     for movement in timing.movements:
         signs = timing.signs(movement)
         cycle = len(signs)
         greens = spans_of(signs, MAIN + PERMISSIVE)
         green_cells = [greens_told(signs)]
-        if before:
+        if timing_before:
             other = movement_before.get((movement.edge, movement.to))
-            green_cells.insert(0, greens_told(before.signs(other)) if other else "")
+            green_cells.insert(0, greens_told(timing_before.signs(other)) if other else "")
         gives_way = sum(sign == PERMISSIVE for sign in signs)
         numbers = [sum(seconds for _, seconds in greens), gives_way, sum(sign in YELLOW for sign in signs)]
         red = cycle - numbers[0] - numbers[2] - sum(sign in OFF_LETTERS for sign in signs)
         ids = f'<span class="ids">{escape(f"{movement.edge} to {movement.to}")}</span>'
         rows.append([escape(movement_name(movement, names)), ids, *green_cells, *map(str, (*numbers, red))])
-    heads = ["before: green", "after: green"] if before else ["green in the cycle"]
+    heads = ["before: green", "after: green"] if timing_before else ["green in the cycle"]
     heads += ["green, s", "gives way, s", "yellow, s", "red, s"]
     return table(["movement", "from and to edge", *heads], rows, names=2)
 
@@ -178,10 +179,10 @@ def intergreens(timing: Timing, names: Names) -> str:
     """The least time between conflicting greens, and a table of the pairs of movements that have it or a second more,
     five at most, as HTML; empty where there is none."""
     rows = sorted(
-        (gap, movement_name(one, names), movement_name(other, names))
+        (gap, movement_name(ending, names), movement_name(beginning, names))
         for pair in timing.pairs()
-        for one, other in (pair, pair[::-1])
-        if (gap := intergreen(timing.signs(one), timing.signs(other))) is not None
+        for ending, beginning in (pair, pair[::-1])
+        if (gap := intergreen(timing.signs(ending), timing.signs(beginning))) is not None
     )
     if not rows:
         return ""
@@ -189,7 +190,7 @@ def intergreens(timing: Timing, names: Names) -> str:
     nearest_rows = [row for row in rows if row[0] <= least_seconds + 1][:MOST_PAIRS]
     pairs_table = table(
         ["green ends", "conflicting green begins", "seconds between"],
-        [[escape(one), escape(other), str(gap)] for gap, one, other in nearest_rows],
+        [[escape(ending), escape(beginning), str(gap)] for gap, ending, beginning in nearest_rows],
         names=2,
     )
     left = len(rows) - len(nearest_rows)

@@ -197,5 +197,5 @@ def plan_text(lights: Mapping[str, PlannedLight], plan: Mapping[str, PlannedTimi
 
 def kept_words(constraint: Constraint) -> str:
     """The attributes of a <phase> that say its least and most, each with a blank before it."""
-    pairs = (("minDur", constraint.least), ("maxDur", constraint.most))
+    pairs = (("minDur", constraint.least_seconds), ("maxDur", constraint.most_seconds))
     return "".join(f' {name}="{seconds}"' for name, seconds in pairs if seconds is not None)

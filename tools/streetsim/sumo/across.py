@@ -2,7 +2,7 @@
 from collections import Counter
 from collections.abc import Callable, Collection
 
-from streetsim.sumo.crossing import STOPPED, Flows
+from streetsim.sumo.crossing import STOPS_FIRST, Flows
 from streetsim.sumo.net import MAJOR, STOPS, ZIPPER, NetConnection, SumoNet
 from streetsim.sumo.paces import Drivers
 
@@ -35,21 +35,22 @@ def mean_crossing(
 def crossing_seconds(connection: NetConnection, net: SumoNet, drivers: Drivers) -> float:
     """Mean seconds of one who crosses a junction alone in SUMO, from its line to the next edge, with what it loses as
     it brakes before and gains speed behind it; without the seconds for which it stands at a red."""
-    before, behind = net.edges[connection.source].lanes[0].speed, net.edges[connection.target].lanes[0].speed
-    inside = min(connection.speed or before, max(before, behind))
-    if not (before and behind and inside):
+    source_speed = net.edges[connection.source].lanes[0].speed
+    target_speed = net.edges[connection.target].lanes[0].speed
+    inside = min(connection.speed or source_speed, max(source_speed, target_speed))
+    if not (source_speed and target_speed and inside):
         return 0.0
     if not connection.light and connection.state in STOPPING:
-        return connection.metres * drivers.slowness(behind) + lost(drivers, before, 0.0, behind)
+        return connection.metres * drivers.slowness(target_speed) + lost(drivers, source_speed, 0.0, target_speed)
     looks_out = not connection.light and connection.state not in (MAJOR, ZIPPER) and bool(net.yields_of(connection))
     slow = min(inside, SEEING) if looks_out else inside
-    driving = connection.metres * drivers.slowness(inside) + lost(drivers, before, slow, behind)
-    driving += LOOKING if looks_out else TURNING if slow < before else 0.0
+    driving = connection.metres * drivers.slowness(inside) + lost(drivers, source_speed, slow, target_speed)
+    driving += LOOKING if looks_out else TURNING if slow < source_speed else 0.0
     if not connection.light:
         return driving
-    starting = starting_seconds(drivers, min(behind, drivers.max_speed))
+    starting = starting_seconds(drivers, min(target_speed, drivers.max_speed))
     if may_turn_on_red(connection, net):
-        starting = lost(drivers, before, 0.0, behind)
+        starting = lost(drivers, source_speed, 0.0, target_speed)
     return (1 - RED) * driving + RED * (connection.metres * drivers.slowness(inside) + starting)
 
 
@@ -57,7 +58,7 @@ def may_turn_on_red(connection: NetConnection, net: SumoNet) -> bool:
     """Whether a light lets those of a connection go after a stop in some of its phases."""
     program = net.programs.get(connection.light or "")
     at = connection.index
-    return program is not None and any(state[at : at + 1] == STOPPED for _, state in program.phases)
+    return program is not None and any(state[at : at + 1] == STOPS_FIRST for _, state in program.phases)
 
 
 def lost(drivers: Drivers, before: float, slow: float, behind: float) -> float:

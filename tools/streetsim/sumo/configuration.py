@@ -77,14 +77,14 @@ def files_named(path: str, options: Mapping[str, str]) -> tuple[str, list[str], 
 
 def tell_options(options: Mapping[str, str], report: Report) -> None:
     """Reports the options of a configuration that are not done here, outputs too, but for those of SILENT."""
-    for name, value in options.items():
-        off = value.lower() in FALSE
-        if name in SUPPORTED or SILENT.fullmatch(name) or off or (name in ("step-length", "scale") and is_one(value)):
+    for name, setting in options.items():
+        off = setting.lower() in FALSE
+        if name in SUPPORTED or SILENT.fullmatch(name) or off or (name in ("step-length", "scale") and is_one(setting)):
             continue
         if OUTPUT.fullmatch(name):
             report.ignored[f"{name} of the configuration (streetsim-run --sumo-output writes SUMO's files)"] += 1
         elif name in DONE_OTHERWISE:
-            report.warn(f"the configuration's {name} {value} is not done: {DONE_OTHERWISE[name]}")
+            report.warn(f"the configuration's {name} {setting} is not done: {DONE_OTHERWISE[name]}")
         else:
             report.ignored[f"{name} of the configuration"] += 1
 

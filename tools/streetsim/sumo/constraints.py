@@ -5,6 +5,7 @@ from __future__ import annotations
 from collections.abc import Iterator, Mapping, Sequence
 from dataclasses import dataclass, replace
 from math import ceil, floor
+from operator import gt, lt
 
 from streetsim.base import limits
 from streetsim.base.files import Fault, FilePath, at_least_zero, attribute, elements, number, optional
@@ -23,35 +24,35 @@ Crossings = dict[str, dict[int, float]]  # by light and place in its states: met
 class Constraint:
     """What one phase must keep, in whole seconds; None: nothing is written."""
 
-    least: int | None = None
-    most: int | None = None
+    least_seconds: int | None = None
+    most_seconds: int | None = None
     pedestrians: int | None = None  # the least green of those who cross on foot
 
     @property
     def low(self) -> int:
         """The fewest seconds that the phase may last."""
-        return max(self.least or 0, self.pedestrians or 0)
+        return max(self.least_seconds or 0, self.pedestrians or 0)
 
     @property
     def high(self) -> int:
         """The most seconds that the phase may last."""
-        return limits.PHASE_STEPS if self.most is None else min(self.most, limits.PHASE_STEPS)
+        return limits.PHASE_STEPS if self.most_seconds is None else min(self.most_seconds, limits.PHASE_STEPS)
 
     def clamp(self, seconds: int) -> int:
         """The nearest seconds that keep the constraint."""
-        return min(self.high, max(self.low, seconds)) if any(self.values()) else seconds
+        return min(self.high, max(self.low, seconds)) if any(self.bounds()) else seconds
 
-    def values(self) -> tuple[int | None, int | None, int | None]:
+    def bounds(self) -> tuple[int | None, int | None, int | None]:
         """The least, the most and the green of pedestrians."""
-        return self.least, self.most, self.pedestrians
+        return self.least_seconds, self.most_seconds, self.pedestrians
 
     def broken_by(self, seconds: float) -> str:
         """What a phase of so many seconds breaks, as text; empty where it breaks nothing."""
-        if self.most is not None and floor(seconds) > self.most:
-            return f"lasts {seconds:g} s, above its most of {self.most} s"
+        if self.most_seconds is not None and floor(seconds) > self.most_seconds:
+            return f"lasts {seconds:g} s, above its most of {self.most_seconds} s"
         if ceil(seconds) >= self.low:
             return ""
-        for_whom = " for pedestrians" if (self.pedestrians or 0) > (self.least or 0) else ""
+        for_whom = " for pedestrians" if (self.pedestrians or 0) > (self.least_seconds or 0) else ""
         return f"lasts {seconds:g} s, below its least of {self.low} s{for_whom}"
 
 
@@ -72,7 +73,7 @@ def kept_values(light: str, program: LightProgram) -> list[tuple[int | None, int
     """The least, the most and the green of pedestrians of each phase of a program; empty where it says nothing of
     them, or what it says contradicts itself."""
     try:
-        found = [one.values() for one in constraints_of(light, program)]
+        found = [one.bounds() for one in constraints_of(light, program)]
     except Fault:
         return []
     return found if any(value is not None for one in found for value in one) else []
@@ -105,9 +106,9 @@ def checked(light: str, at: int, constraint: Constraint) -> Constraint:
     where = f"light {light!r}: phase {at}: its least of"
     if constraint.low > limits.PHASE_STEPS:
         raise Fault(f"{where} {constraint.low} s is above the {limits.PHASE_STEPS} s that a phase may last")
-    if constraint.most is not None and constraint.low > constraint.most:
-        told = f"{constraint.low} s" + (" for pedestrians" if constraint.low > (constraint.least or 0) else "")
-        raise Fault(f"{where} {told} is above its most of {constraint.most} s")
+    if constraint.most_seconds is not None and constraint.low > constraint.most_seconds:
+        told = f"{constraint.low} s" + (" for pedestrians" if constraint.low > (constraint.least_seconds or 0) else "")
+        raise Fault(f"{where} {told} is above its most of {constraint.most_seconds} s")
     return constraint
 
 
@@ -138,28 +139,22 @@ def with_given(
     """The constraints of a light with those of a file. Fault where a file loosens what the program keeps, contradicts
     it, or names no such phase."""
     constraints = list(planned)
-    for at, file_constraint in file_constraints.items():
-        if at >= len(constraints):
-            raise Fault(f"light {light!r}: no phase {at}: it has {len(constraints)}, from 0")
+    for index, file_constraint in file_constraints.items():
+        if index >= len(constraints):
+            raise Fault(f"light {light!r}: no phase {index}: it has {len(constraints)}, from 0")
         if file_constraint.pedestrians:
-            refuse_no_green(light, at, program)
-        before = constraints[at]
+            refuse_no_green(light, index, program)
+        planned_constraint = constraints[index]
+        pairs = list(zip(file_constraint.bounds(), planned_constraint.bounds(), strict=True))
         loose = [
-            name
-            for name, new, old, is_loose in (
-                ("least", file_constraint.least, before.least, lambda new, old: new < old),
-                ("most", file_constraint.most, before.most, lambda new, old: new > old),
-                ("pedestrians", file_constraint.pedestrians, before.pedestrians, lambda new, old: new < old),
-            )
-            if new is not None and old is not None and is_loose(new, old)
+            f"{name} of {file_bound} s is looser than the {planned_bound} s"
+            for name, is_loose, (file_bound, planned_bound) in zip(COLUMNS[2:], (lt, gt, lt), pairs, strict=True)
+            if file_bound is not None and planned_bound is not None and is_loose(file_bound, planned_bound)
         ]
         if loose:
-            new_seconds, old_seconds = (getattr(constraint, loose[0]) for constraint in (file_constraint, before))
-            told = f"{loose[0]} of {new_seconds} s is looser than the {old_seconds} s"
-            raise Fault(f"light {light!r}: phase {at}: {told} that its plan keeps: change the plan's own first")
-        pairs = zip(file_constraint.values(), before.values(), strict=True)
-        values = (new if new is not None else old for new, old in pairs)
-        constraints[at] = checked(light, at, Constraint(*values))
+            raise Fault(f"light {light!r}: phase {index}: {loose[0]} that its plan keeps: change the plan's own first")
+        bounds = (file_bound if file_bound is not None else planned_bound for file_bound, planned_bound in pairs)
+        constraints[index] = checked(light, index, Constraint(*bounds))
     return constraints
 
 

@@ -20,7 +20,7 @@ from streetsim.sumo.network import Network, Options
 from streetsim.sumo.paces import Paces
 from streetsim.sumo.programs import fixed_programs, kept_programs, lights_of_riders
 from streetsim.sumo.rules import warn_of_rules
-from streetsim.sumo.signals import AFTER, movements, signal_commands
+from streetsim.sumo.signals import SECONDS_AFTER, movements, signal_commands
 from streetsim.sumo.slowing import with_lower_limits
 from streetsim.sumo.reserved import reserved_lanes
 from streetsim.sumo.starting import slow_starts
@@ -53,18 +53,18 @@ def converted(
     vehicles: in order of departure. What is left out or made otherwise than in SUMO is reported. Fault for what cannot
     be made, as a route without a connection. In net, programs may become those of the run's begin (wauts.days_of).
     doubted: whether what may mislead is looked for, as nearly full lanes and programs that clash."""
-    timings = [one.written() for one in timings_of(net)] if doubted else []
+    timings = [timing.written() for timing in timings_of(net)] if doubted else []
     if options.slow:
         net, vehicles = with_lower_limits(net, vehicles, options.slow, report)
     flows = hourly_flows(vehicles)
     driving = (round(vehicle.depart) for vehicle in vehicles if vehicle.depart <= limits.CLOCK)
-    last = max(driving, default=options.begin) + AFTER
+    last = max(driving, default=options.begin) + SECONDS_AFTER
     days = days_of(net, options.begin, last, report)
     paces = Paces(vehicles, types.drivings, lambda name: types.class_kept(name, options.classes))
     network = Network(net, options, report, flows, paces)
     movements_at = movements(net, {link.edge: link.limit for link in network.links}, flows)
     network.timings = timings
-    network.equivalents = equivalents(one for junction in movements_at.values() for one in junction.values())
+    network.equivalents = equivalents(movement for junction in movements_at.values() for movement in junction.values())
     entered, driven = enters(vehicles, net, network, types, report)
     network.kinds = kinds_of(driven, types)
     network.starts = slow_starts(net, driven, types.drivings)
@@ -84,11 +84,11 @@ def converted(
     network.switches = sorted((clock, light, program) for light, day in days.items() for clock, program in day)
     network.programs = kept_programs(net, network, lights, flows)
     network.fixed = fixed_programs(net, network, lights, flows, lights_of_riders(entered, driven, types, network))
-    giving_way = {one.node for one in network.yields}
-    merges = [one for one in merges_of(net, network, flows) if one.command["node"] not in giving_way]
+    giving_way = {giver.node for giver in network.yields}
+    merges = [merge for merge in merges_of(net, network, flows) if merge.command["node"] not in giving_way]
     if doubted and flows and options.permissive is None:
         network.full = fullness(net, network, vehicles, merges, movements_at)
-    turns = [command for _, command in signals] + [one.command for one in merges]
+    turns = [command for _, command in signals] + [merge.command for merge in merges]
     commands = [network.load_command(), *turns, *entered]
     return network, lights, commands, [vehicle.name for vehicle in driven]
 

@@ -21,8 +21,8 @@ Flows = Mapping[EdgePair, float]  # vehicles an hour
 Meeting = tuple[int, tuple["CrossingMovement", ...]]  # seconds, and the foes that are green in them
 MERGING = 2.0  # in whose place one counts who turns into the lane of one who waits for it
 LEAST_SHARE = 0.02  # of a lane's vehicles wait, also where routes have fewer
-GREEN, OPEN, STOPPED = "GO", "go", "s"  # goes first; when there is a gap; the same after a stop, as right on red
-PERMISSIVE, ANY_GREEN = OPEN + STOPPED, GREEN + OPEN
+GREEN, OPEN, STOPS_FIRST = "GO", "go", "s"  # goes first; when there is a gap; the same after a stop, as right on red
+PERMISSIVE, ANY_GREEN = OPEN + STOPS_FIRST, GREEN + OPEN
 
 
 def hourly_flows(vehicles: Collection[Any]) -> dict[EdgePair, float]:
@@ -147,13 +147,13 @@ def heads_of(own_movements: Sequence[CrossingMovement], opposite_movements: Sequ
     own_share, opposite_share = (waiting_share(*side) for side in sides)
     if not (own_share and opposite_share):
         return None
-    flows = [sum(one.flow for one in side) for side in (own_movements, opposite_movements)]
+    flows = [sum(movement.flow for movement in side) for side in (own_movements, opposite_movements)]
     own_waits, other_waits = (
-        sum(one.flow * foe.flow for one in side if one.waits for foe in one.foes if foe in against)
+        sum(movement.flow * foe.flow for movement in side if movement.waits for foe in movement.foes if foe in against)
         / (flows[0] * flows[1])
         for side, against in sides
     )
-    each = sum(one.flow * one.headway for one in (*own_movements, *opposite_movements)) / sum(flows)
+    each = sum(movement.flow * movement.headway for movement in (*own_movements, *opposite_movements)) / sum(flows)
     return Heads((own_waits, other_waits), (1 - own_waits / own_share, 1 - other_waits / opposite_share), each)
 
 
@@ -196,7 +196,7 @@ def times_of(signs: str) -> SignTimes:
         green=bits_of_states(signs, ANY_GREEN),
         begins=[(at, red_before(signs, at)) for at, _ in spans_of(signs, ANY_GREEN) if signs[at - 1] not in ANY_GREEN],
         runs=dict(spans_of(signs, OPEN)),
-        stops=dict(spans_of(signs, STOPPED)),
+        stops=dict(spans_of(signs, STOPS_FIRST)),
     )
 
 

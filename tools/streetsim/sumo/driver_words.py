@@ -69,14 +69,14 @@ def shares_read(text: str, name: str) -> tuple[float | None, Pairs]:
     name: of the word."""
     every, shares = None, {}
     for entry in names_in(text):
-        edge, sign, share = entry.rpartition("=")
-        value = number_within(share, (0.0, 1.0), f"{name} {entry}")
+        edge, sign, share_text = entry.rpartition("=")
+        share = number_within(share_text, (0.0, 1.0), f"{name} {entry}")
         if sign and edge in shares or not sign and every is not None:
             raise Fault(f"{name}: {edge or 'the share of all'} is given twice")
         if sign:
-            shares[edge] = value
+            shares[edge] = share
         else:
-            every = value
+            every = share
     return every, tuple(shares.items())
 
 
@@ -112,16 +112,18 @@ def read_drivers(path: FilePath) -> DriverValues:
     cannot be read, or a value is wrong."""
     with reading(path), open_text(path) as file:
         try:
-            value = json.load(file)
+            content = json.load(file)
         except ValueError as fault:
             raise Fault(f"{path}: no JSON: {fault}") from None
-    if not isinstance(value, dict) or not value.keys() & {*KEYS, *TABLES}:
+    if not isinstance(content, dict) or not content.keys() & {*KEYS, *TABLES}:
         raise Fault(f"{path}: no drivers in it: none of {', '.join((*KEYS, *TABLES))}")
-    numbers = {key: number_within(value[key], within, f"{path}: {key}") for key, within in KEYS.items() if key in value}
+    numbers = {
+        key: number_within(content[key], within, f"{path}: {key}") for key, within in KEYS.items() if key in content
+    }
     if numbers.get("dawdle", 0) % 1:
-        raise Fault(f"{path}: dawdle: {value['dawdle']!r} is no whole number")
+        raise Fault(f"{path}: dawdle: {content['dawdle']!r} is no whole number")
     dawdle = int(numbers["dawdle"]) if "dawdle" in numbers else None
-    return DriverValues(dawdle, numbers.get("cut"), *(pairs_in(path, value, key) for key in TABLES))
+    return DriverValues(dawdle, numbers.get("cut"), *(pairs_in(path, content, key) for key in TABLES))
 
 
 def pairs_in(path: FilePath, value: Json, key: str) -> Pairs:

@@ -78,7 +78,7 @@ def moments(path: FilePath, element: Element, begin: float, draws: Random) -> It
     for name in ("vehsPerHour", "perHour"):
         if element.get(name) is not None:
             hourly = attribute(path, element, name, above_zero(number))
-            return (begin + at * 3600 / hourly for at in count())
+            return (begin + index * 3600 / hourly for index in count())
     if element.get("probability") is not None:
         chance = attribute(path, element, "probability", only(number, lambda value: 0 < value <= 1))
         return by_chance(begin, chance, draws)
@@ -89,7 +89,7 @@ def moments(path: FilePath, element: Element, begin: float, draws: Random) -> It
             f"{element_told(path, element)}: no rate (number, period, vehsPerHour, perHour or probability)"
         )
     period = attribute(path, element, "period", above_zero(seconds))
-    return (begin + at * period for at in count())
+    return (begin + index * period for index in count())
 
 
 def rate_of(text: str) -> float:

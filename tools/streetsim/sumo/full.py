@@ -48,7 +48,7 @@ def fullness(
     parts = ((flows, movements(net, limits_of, flows)) for flows in flows_of_parts(vehicles))
     for flows, part_movements in chain([(hourly_flows(vehicles), of_demand)], parts):
         note_worst(worst, chain(full_at_lights(part_movements, ways), full_merges(merges, flows)))
-    return counted(worst, vehicles)
+    return count_passing(worst, vehicles)
 
 
 def full_lanes_at_lights(net: SumoNet, vehicles: Sequence[OnWay], limits_of: Mapping[str, int]) -> list[FullLane]:
@@ -123,7 +123,7 @@ def full_merges(merges: Iterable[Merge], flows: Flows) -> Iterator[LaneAndPairs]
             yield FullLane(one.junction, source, MERGING, source, target, round(demand, 2)), pairs
 
 
-def counted(worst: Mapping[str, LaneAndPairs], vehicles: Iterable[DemandVehicle]) -> Fullness:
+def count_passing(worst: Mapping[str, LaneAndPairs], vehicles: Iterable[DemandVehicle]) -> Fullness:
     """The lanes with the vehicles that pass them, the fullest first; worst: by lane."""
     lanes_of: defaultdict[EdgePair, list[str]] = defaultdict(list)
     for lane, (_, pairs) in worst.items():

@@ -3,9 +3,9 @@ are shown, so that as many pass here. The values were measured in SUMO and here 
 not end."""
 from functools import cache
 
-BEHIND, ROOM = 1.42, 7.5  # in SUMO (g - start) / (BEHIND + ROOM / speed) pass in a green of g seconds, where the
+TIME_GAP, ROOM = 1.42, 7.5  # in SUMO (g - start) / (TIME_GAP + ROOM / speed) pass in a green of g seconds, where the
 EARLY, ACCELERATION = 1.87, 2.6  # start is what a vehicle loses that speeds up, speed / (2 * ACCELERATION), less EARLY
-HEADWAYS, AHEAD = (3.0, 2.07, 1.89, 1.83, 1.83), 1.35  # here (g + AHEAD) / HEADWAYS, by the link's limit;
+HEADWAYS, EXTRA_GREEN = (3.0, 2.07, 1.89, 1.83, 1.83), 1.35  # here (g + EXTRA_GREEN) / HEADWAYS, by the link's limit;
 SHORT = (0.8, 0.97, 1.68, 2.45, 2.82, 3.37)  # in 1 to 6 seconds so many
 LEAST_PAUSE = 2  # seconds, below which a green is not shown in two halves
 TWO_PARTS = 9  # seconds of green, from which on seconds in its middle hold a queue up as wanted
@@ -15,7 +15,7 @@ START = USUAL_SPEED / (2 * ACCELERATION) - EARLY  # seconds until a queue moves 
 
 def headway(speed: float) -> float:
     """Seconds between vehicles of a queue that pass a junction in SUMO; speed: metres a second, above 0."""
-    return BEHIND + ROOM / speed
+    return TIME_GAP + ROOM / speed
 
 
 def vehicles_leaving(green: float, speed: float, accel: float = ACCELERATION, apart: float = 0.0) -> float:
@@ -27,12 +27,12 @@ def vehicles_leaving(green: float, speed: float, accel: float = ACCELERATION, ap
 def green_here(vehicles: float, limit: int) -> int:
     """The seconds of green, 1 at least, in which some vehicles leave a queue in streetsim; limit: cells a step."""
     short = next((second for second, passing in enumerate(SHORT, 1) if passing >= vehicles - 0.1), None)
-    return short or round(vehicles * HEADWAYS[limit - 1] - AHEAD)
+    return short or round(vehicles * HEADWAYS[limit - 1] - EXTRA_GREEN)
 
 
 def passing_here(seconds: int, limit: int) -> float:
     """How many vehicles leave a queue in streetsim in some seconds of green (1 or more); limit: cells a step."""
-    return SHORT[seconds - 1] if seconds <= len(SHORT) else (seconds + AHEAD) / HEADWAYS[limit - 1]
+    return SHORT[seconds - 1] if seconds <= len(SHORT) else (seconds + EXTRA_GREEN) / HEADWAYS[limit - 1]
 
 
 def hidden_start(length: int, speed: float, limit: int, accel: float = ACCELERATION, apart: float = 0.0) -> int:

@@ -39,13 +39,13 @@ def passing_heads(heads: Heads, seconds: float) -> float:
     # By the time left: two heads come; the own one waits; the other one.
     two_come, own_held, other_held = [0.0], [0.0], [0.0]
     for left in range(1, round(seconds / TIME_STEP) + 1):
-        before, passing_again = max(0, left - step), min(1.0, left / again) + two_come[max(0, left - again)]
+        remaining, passing_again = max(0, left - step), min(1.0, left / again) + two_come[max(0, left - again)]
         passing_now = min(1.0, left / step)  # that passes now
         two_come.append(
-            (1 - own_waits - other_waits) * (passing_now + two_come[before])
-            + own_waits * own_held[before]
-            + other_waits * (passing_now + other_held[before])
+            (1 - own_waits - other_waits) * (passing_now + two_come[remaining])
+            + own_waits * own_held[remaining]
+            + other_waits * (passing_now + other_held[remaining])
         )
-        own_held.append(own_freed * passing_again + (1 - own_freed) * own_held[before])
-        other_held.append(other_freed * passing_again + (1 - other_freed) * (passing_now + other_held[before]))
+        own_held.append(own_freed * passing_again + (1 - own_freed) * own_held[remaining])
+        other_held.append(other_freed * passing_again + (1 - other_freed) * (passing_now + other_held[remaining]))
     return two_come[-1]

@@ -21,9 +21,9 @@ TURN, PASSING = 3, 3.36  # seconds of each of two lanes; how many vehicles pass 
 LEAST_PAUSE = 2  # seconds in which nobody passes, in all
 # Vehicles an hour that pass where one of two lanes ends, by the metres of the edge behind a light, as lone streets of
 # SUMO chose with lights of 60 to 90 s.
-PASSED = ((60.0, 790.0), (120.0, 900.0), (240.0, 1110.0), (300.0, 1200.0))
+END_FLOWS = ((60.0, 790.0), (120.0, 900.0), (240.0, 1110.0), (300.0, 1200.0))
 # Up to so many an hour nobody waits longer than where the edge is long; for each one more, one less can pass.
-FEW = 550.0
+UNDELAYED_FLOW = 550.0
 # Shares of what can pass, from which on a zipper, an end, and an end just behind a light are nearly full.
 FULL_ZIPPER, FULL_END, FULL_BEHIND_LIGHT = 0.89, 0.95, 0.8
 
@@ -100,10 +100,10 @@ def lane_ends(net: SumoNet, network: Network, flows: Flows) -> list[Merge]:
             continue
         ((link, lane),) = ending
         ending_link = network.links[link]
-        capacity = passed(ending_link.metres)
-        behind_light = ending_link.metres < PASSED[-1][0] and network.nodes[ending_link.begin] in lit
+        capacity = end_flow(ending_link.metres)
+        behind_light = ending_link.metres < END_FLOWS[-1][0] and network.nodes[ending_link.begin] in lit
         wish = sum(flow for (source, _), flow in flows.items() if source == ending_link.edge)
-        shown = min(PASSED[-1][1], max(capacity, PASSED[-1][1] - (wish - FEW)))
+        shown = min(END_FLOWS[-1][1], max(capacity, END_FLOWS[-1][1] - (wish - UNDELAYED_FLOW)))
         command = signal(node, phases_of_end(turns_at(network, node), link, lane, shown))
         nearly = FULL_BEHIND_LIGHT if behind_light else FULL_END
         merges.append(Merge(network.nodes[node], (ending_link.edge,), capacity, nearly, command))
@@ -126,12 +126,12 @@ def ending_lanes(net: SumoNet, network: Network, flows: Flows) -> Iterable[tuple
                 yield link, lane
 
 
-def passed(metres: float) -> float:
+def end_flow(metres: float) -> float:
     """Vehicles an hour that pass in SUMO where one of two lanes of an edge ends, by its length."""
-    metres = min(max(PASSED[0][0], metres), PASSED[-1][0])
+    metres = min(max(END_FLOWS[0][0], metres), END_FLOWS[-1][0])
     return next(
         low + (high - low) * (metres - begin) / (end - begin)
-        for (begin, low), (end, high) in pairwise(PASSED)
+        for (begin, low), (end, high) in pairwise(END_FLOWS)
         if metres <= end
     )
 

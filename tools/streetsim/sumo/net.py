@@ -166,7 +166,7 @@ def read_net(path: FilePath, classes: Sequence[str], report: Report) -> SumoNet:
     Fault where the file cannot be read or is wrong, or there are no such lanes. Elements that are not read are
     reported, but for <type> and <request>."""
     net = SumoNet()
-    named: set[str] = set()
+    named_classes: set[str] = set()
     readers = {
         "edge": read_edge,
         "junction": read_junction,
@@ -179,11 +179,11 @@ def read_net(path: FilePath, classes: Sequence[str], report: Report) -> SumoNet:
         if element.tag in readers:
             readers[element.tag](path, element, net, classes)
             if element.tag == "edge":
-                named.update(name for lane in element.iter("lane") for name in (lane.get("allow") or "").split())
+                named_classes.update(" ".join(lane.get("allow") or "" for lane in element.iter("lane")).split())
         elif element.tag not in ("type", "request"):
             report.ignored[f"<{element.tag}> of the network"] += 1
     if not net.edges:
-        opened = ", ".join(sorted(named)) or "none by name"
+        opened = ", ".join(sorted(named_classes)) or "none by name"
         raise Fault(f"{path}: no lane is open to {', '.join(classes)}; lanes are opened to: {opened}")
     spare_main_streets(net)
     wait_inside(net)
@@ -359,12 +359,12 @@ def read_program(path: FilePath, element: Element, net: SumoNet, _classes: Colle
     none of it); OFF, and one without phases of a light without a program, as railways have, are passed over."""
     light, name = attribute(path, element, "id"), element.get("programID", "0")
     offset = optional(path, element, "offset", seconds, 0.0)
-    known = net.programs_of(light) if light in net.programs else []
+    earlier_programs = net.programs_of(light) if light in net.programs else []
     phases = element.findall("phase")
-    if name == OFF_PROGRAM or not phases and not known:
+    if name == OFF_PROGRAM or not phases and not earlier_programs:
         return
     if not phases:
-        same = [one for one in known if one.name == name]
+        same = [program for program in earlier_programs if program.name == name]
         if not same:
             raise Fault(f"{element_told(path, element)}: program {name!r} has no phases")
         same[-1].offset = offset
@@ -374,15 +374,18 @@ def read_program(path: FilePath, element: Element, net: SumoNet, _classes: Colle
         offset,
         [(attribute(path, phase, "duration", span), attribute(path, phase, "state")) for phase in phases],
         element.get("type", STATIC),
-        [(optional(path, one, "minDur", span, None), optional(path, one, "maxDur", span, None)) for one in phases],
+        [
+            (optional(path, phase, "minDur", span, None), optional(path, phase, "maxDur", span, None))
+            for phase in phases
+        ],
         [tuple(optional(path, phase, "next", numbers, ())) for phase in phases],
         {param.get("key", ""): param.get("value", "") for param in element.findall("param")},
         more_of(element),
         name,
         [timing_of(path, phase) for phase in phases] if element.get("type") == NEMA else [],
     )
-    if known:
-        net.earlier[light] = known
+    if earlier_programs:
+        net.earlier[light] = earlier_programs
     net.programs[light] = program
 
 

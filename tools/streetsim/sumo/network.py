@@ -88,7 +88,7 @@ class Network:
         edges = edges_by_priority(net)
         ends = {name for edge in edges for name in (edge.begin, edge.end)}
         self.nodes = [name for name in net.junctions if name in ends]
-        number = {name: at for at, name in enumerate(self.nodes)}
+        number = {name: position for position, name in enumerate(self.nodes)}
         if len(number) < len(ends):
             raise Fault(f"the network has no junction {min(ends - number.keys())!r}, where an edge begins or ends")
         self.points = [net.junctions[name] for name in self.nodes]
@@ -103,7 +103,7 @@ class Network:
         for edge in edges:
             self.links_of[edge.name] = list(range(len(self.links), len(self.links) + len(bundles[edge.name])))
             for lanes in bundles[edge.name]:
-                self.place_of.update({(edge.name, lane.index): (len(self.links), at) for at, lane in enumerate(lanes)})
+                self.place_of |= {(edge.name, lane.index): (len(self.links), index) for index, lane in enumerate(lanes)}
                 self.links.append(link_of(edge, lanes, number, dawdle, edge.name in net.roundabouts))
         self.users = [self.users_of(link) for link in range(len(self.links))]
         self.turns: dict[TurnKey, Turn] = {}

@@ -84,17 +84,17 @@ class Paces:
             for name, count in counts.items():
                 self.passing[edge][driving_of_type[name]] += count
         self.seconds = max(LEAST_SECONDS, last_depart - first_depart)
-        self.known: dict[tuple[str, frozenset[str] | None], Drivers] = {}
+        self.drivers_found: dict[tuple[str, frozenset[str] | None], Drivers] = {}
 
     def drivers_on(self, edge: str, classes: frozenset[str] | None = None) -> Drivers:
         """Who drives on an edge: of some classes, or all (None)."""
-        if (edge, classes) not in self.known:
+        if (edge, classes) not in self.drivers_found:
             counts = Counter[Driving]()
             for (one, own), count in self.passing.get(edge, {}).items():
                 if classes is None or own in classes:
                     counts[one] += count
-            self.known[edge, classes] = Drivers(counts)
-        return self.known[edge, classes]
+            self.drivers_found[edge, classes] = Drivers(counts)
+        return self.drivers_found[edge, classes]
 
     def bunching(self, drivers: Drivers, metres: float, speed: float) -> float:
         """Mean seconds that vehicles lose behind slower ones on metres of one lane, where nobody overtakes and speed is

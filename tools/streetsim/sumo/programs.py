@@ -32,7 +32,7 @@ def kept_programs(net: SumoNet, network: Network, lights: Iterable[tuple[str, in
         if kept_program.kind != STATIC
     ]
     at_junction = connections_of(net) if programs else {}
-    before = connections_to_lanes(net) if programs else {}
+    connections_into = connections_to_lanes(net) if programs else {}
     program_rows = []
     for is_idle, light, program in sorted(programs, key=lambda row: row[0]):
         connections = [connection for connection in net.connections if connection.light == light]
@@ -48,7 +48,7 @@ def kept_programs(net: SumoNet, network: Network, lights: Iterable[tuple[str, in
             "parameters": program.parameters,
             "more": list(program.further_names),
             "ways": [connection_fields(connection, net) for connection in connections],
-            "lanes": [lane_fields(*key, net, before) for key in lanes],
+            "lanes": [lane_fields(*key, net, connections_into) for key in lanes],
             "nodes": [node_fields(node, network.nodes[node], net, flows, at_junction) for node in nodes[light]],
             **({"timing": [list(timing) for timing in program.timing]} if program.timing else {}),
         })
@@ -61,7 +61,7 @@ def fixed_programs(
     """What a map keeps of each of wanted_lights whose program in force is static, so that it can wait for buses:
     {"light", "program": its name, "offset": seconds, "phases": [[seconds, state, minDur, maxDur]], "nodes": a list of
     what node_fields gives}. lights: (light, node)."""
-    nodes = {light: own for light, own in nodes_by_light(lights).items() if light in wanted_lights}
+    nodes = {light: own_nodes for light, own_nodes in nodes_by_light(lights).items() if light in wanted_lights}
     at_junction = connections_of(net) if nodes else {}
     return [
         {
@@ -69,9 +69,9 @@ def fixed_programs(
             "program": program.name,
             "offset": program.offset,
             "phases": [[seconds, state, *bounds] for (seconds, state), bounds in zip(program.phases, program.bounds)],
-            "nodes": [node_fields(node, network.nodes[node], net, flows, at_junction) for node in own],
+            "nodes": [node_fields(node, network.nodes[node], net, flows, at_junction) for node in own_nodes],
         }
-        for light, own in sorted(nodes.items())
+        for light, own_nodes in sorted(nodes.items())
         for program in (net.programs[light],)
         if program.kind == STATIC
     ]
@@ -114,14 +114,16 @@ def connections_to_lanes(net: SumoNet) -> dict[tuple[str, int], list[NetConnecti
     return dict(found)
 
 
-def lane_fields(edge: str, index: int, net: SumoNet, before: dict[tuple[str, int], list[NetConnection]]) -> list[Any]:
+def lane_fields(
+    edge: str, index: int, net: SumoNet, connections_into: dict[tuple[str, int], list[NetConnection]]
+) -> list[Any]:
     """[name, speed in metres a second, whether it is its edge's only lane, [[name, metres] of it and of those before
     it]] of a lane at a light; a lane before counts where it alone leads there, without a light, and MOST_BEFORE of them
-    at most. before: as connections_to_lanes gives it."""
+    at most. connections_into: as connections_to_lanes gives it."""
     lane = next(one for one in net.edges[edge].lanes if one.index == index)
     stretches: list[list[Any]] = [[f"{edge}_{index}", lane.metres]]
     key = edge, index
-    while len(stretches) <= MOST_BEFORE and len(into := before.get(key, [])) == 1 and not into[0].light:
+    while len(stretches) <= MOST_BEFORE and len(into := connections_into.get(key, [])) == 1 and not into[0].light:
         key = into[0].source, into[0].source_lane
         metres = next(one.metres for one in net.edges[key[0]].lanes if one.index == key[1])
         stretches.append([f"{key[0]}_{key[1]}", metres])
@@ -137,11 +139,11 @@ def node_fields(
     at_junction: connections by junction."""
     light = light_of(at_junction[name], net)
     own = [one for one in at_junction[name] if one.light in (light, None)]
-    known = bool(flows) and bool(net.yields.get(name)) and all(one.request is not None for one in own)
+    is_known = bool(flows) and bool(net.yields.get(name)) and all(one.request is not None for one in own)
     ways = dict.fromkeys((one.source, one.target) for one in own)
     return {
         "node": number,
-        "connections": [list(astuple(one)) for one in own] if known else [],
-        "yields": [[request, sorted(foes)] for request, foes in net.yields[name].items()] if known else [],
-        "flows": [[*way, flows[way]] for way in ways if way in flows] if known else [],
+        "connections": [list(astuple(one)) for one in own] if is_known else [],
+        "yields": [[request, sorted(foes)] for request, foes in net.yields[name].items()] if is_known else [],
+        "flows": [[*way, flows[way]] for way in ways if way in flows] if is_known else [],
     }

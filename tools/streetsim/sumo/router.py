@@ -84,39 +84,39 @@ class Router:
         where there is no way. Nobody waits: an edge or movement that would be reached while it is shut is not used;
         whether the origin is shut is not looked at."""
         bounds, inverse, last_part, shut = self.bounds_to(target), self.table.inverse, self.table.last_part, self.shut
-        best, before = {origin: clock}, dict[int, int]()
+        best, previous_edges = {origin: clock}, dict[int, int]()
         # Of equal ones the farthest comes first.
         heap = [(clock + bounds[origin], -clock, origin)] if bounds[origin] < FAR else []
         while heap:
-            _, now, edge = heappop(heap)
-            now = -now
+            _, edge_clock, edge = heappop(heap)
+            edge_clock = -edge_clock
             if edge == target:
-                end = now + self.table.at(self.graph.movement_of[target, END], now)
-                return self.traced(before, origin, target), end - clock
-            if now > best[edge]:
+                end = edge_clock + self.table.seconds_at(self.graph.movement_of[target, END], edge_clock)
+                return self.traced(previous_edges, origin, target), end - clock
+            if edge_clock > best[edge]:
                 continue
-            cost_part = int(now * inverse)
+            cost_part = int(edge_clock * inverse)
             if cost_part > last_part:
                 cost_part = last_part
             barred = self.barred.get(edge, ())
             for following, row in self.arcs_of(edge):
-                arrival = now + row[cost_part]
+                arrival = edge_clock + row[cost_part]
                 if arrival >= best.get(following, FAR):
                     continue
                 if following in shut or following in barred:
                     if self.when_open(arrival, following, (edge, following)) > arrival:
                         continue
                 best[following] = arrival
-                before[following] = edge
+                previous_edges[following] = edge
                 heappush(heap, (arrival + bounds[following], -arrival, following))
         return (), FAR
 
     @staticmethod
-    def traced(before: dict[int, int], origin: int, target: int) -> Path:
-        """The path that a search found; before: for each edge the one from which it was reached."""
+    def traced(previous_edges: dict[int, int], origin: int, target: int) -> Path:
+        """The path that a search found; previous_edges: for each edge the one from which it was reached."""
         path = [target]
         while path[-1] != origin:
-            path.append(before[path[-1]])
+            path.append(previous_edges[path[-1]])
         return tuple(reversed(path))
 
     def clocks(self, path: Path, clock: float) -> list[float]:
@@ -125,7 +125,7 @@ class Router:
         movement of the graph, else KeyError."""
         found, movement_of = [clock], self.graph.movement_of
         for pair in pairwise((*path, END)):
-            reached = found[-1] + self.table.at(movement_of[pair], found[-1])
+            reached = found[-1] + self.table.seconds_at(movement_of[pair], found[-1])
             found.append(self.when_open(reached, pair[1], pair))
         return found
 
@@ -146,7 +146,7 @@ class Router:
             return 0
         clocks, movement_of = self.clocks(path, clock), self.graph.movement_of
         for at, pair in enumerate(pairwise(path)):
-            reached = clocks[at] + self.table.at(movement_of[pair], clocks[at])
+            reached = clocks[at] + self.table.seconds_at(movement_of[pair], clocks[at])
             if self.when_open(reached, pair[1], pair) != reached:
                 return at + 1
         return None

@@ -12,7 +12,7 @@ from streetsim.model.mapping import MapTurn
 from streetsim.model.runs import Command
 from streetsim.model.timing import spans_of, states_of
 from streetsim.model.waiting import TurnKey
-from streetsim.sumo.crossing import GREEN, OPEN, STOPPED, CrossingMovement, Flows, movements_of
+from streetsim.sumo.crossing import GREEN, OPEN, STOPS_FIRST, CrossingMovement, Flows, movements_of
 from streetsim.sumo.driver_words import Pairs, cut_at, with_cut
 from streetsim.sumo.greens import TWO_PARTS, hidden_middle, hidden_start, parts_shown, parts_shown_in_red
 from streetsim.sumo.net import NEMA, STATIC, LightProgram, NetConnection, SumoNet, connections_of
@@ -28,7 +28,7 @@ NOTHING: ShownPart = (0, 1, None)
 AS_MAIN = 0  # the parts of a permissive green against which nobody comes
 DEFAULT_SHARE = 0.7  # of a permissive green that is shown, where nothing is known of who gives way
 LONGEST = 200_000  # seconds of a cycle that are read
-AFTER = 86_400  # seconds after the last departure for which a program is told that does not fit in one plan
+SECONDS_AFTER = 86_400  # the last departure, for which a program is told that does not fit in one plan
 MOST_LINES = 100_000  # of such a program; one each 6 s of a week
 QUEUED = 90  # seconds of a green above 600 s in which a queue leaves
 DRIVEN = ("actuated", NEMA)  # the kinds of programs that streetsim-run drives
@@ -139,22 +139,22 @@ def signal_commands(
 ) -> list[tuple[str, Command]]:
     """The signal commands, (light, command), as signal_lines gives them for each node where a light has a program.
     movements_at: of movements; ends: by light the last clock of this program, where it changes by time of day; else
-    AFTER seconds behind network.last, which must be set. Lights without a program, not static or too long are told."""
+    SECONDS_AFTER behind network.last, which must be set. Lights without a program, not static or too long are told."""
     commands = []
     for node, turns in sorted(turns_at(network).items()):
         lights = {turn.light for *_, turn in turns if turn.light}
-        known, junction = sorted(lights & net.programs.keys()), network.nodes[node]
-        if lights and not known:
+        programmed, junction = sorted(lights & net.programs.keys()), network.nodes[node]
+        if lights and not programmed:
             told = f"junction {junction!r}: no program for its light {first_few(sorted(lights))}; always green"
             report.warn(told, [junction], kind="junctions have no program for their light; always green")
-        if len(known) > 1:
-            told = f"junction {junction!r}: of its lights {', '.join(known)} the first alone is used"
+        if len(programmed) > 1:
+            told = f"junction {junction!r}: of its lights {', '.join(programmed)} the first alone is used"
             report.warn(told, [junction], kind="junctions have several lights, of which the first alone is used")
-        if known:
+        if programmed:
             movements = movements_at.get(junction, {}) if network.options.permissive is None else {}
-            lit = lit_node(net, network, node, turns, known[0], movements, report)
-            until = ends.get(known[0], network.last_depart + AFTER)
-            commands += [(known[0], command) for command in signal_lines(lit, network.options.begin, until)]
+            lit = lit_node(net, network, node, turns, programmed[0], movements, report)
+            until = ends.get(programmed[0], network.last_depart + SECONDS_AFTER)
+            commands += [(programmed[0], command) for command in signal_lines(lit, network.options.begin, until)]
     for light in sorted({light for light, _ in commands}):
         warn_of_kind(light, net.programs[light], report)
     return commands
@@ -347,7 +347,7 @@ def shown_green(
     PHASE_STEPS those of one of QUEUED."""
     count = len(states)
     is_shown = [state in GREEN for state in states]
-    greens, reds = spans_of(states, OPEN), spans_of(states, STOPPED)
+    greens, reds = spans_of(states, OPEN), spans_of(states, STOPS_FIRST)
     pieces = [(start, length, parts_shown(length, *seconds.get(start, (length, 1, None)))) for start, length in greens]
     pieces += [(start, length, parts_shown_in_red(length, seconds.get(start, NOTHING)[0])) for start, length in reds]
     for start, length, parts in pieces:

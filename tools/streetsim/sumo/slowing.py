@@ -81,13 +81,13 @@ def with_lower_limits(
     return replace(changed_net, bus_stops=stops), [vehicle_over_parts(one, parts_of_edge) for one in vehicles]
 
 
-def refuse_limit(slow: SlowStretch, net: SumoNet, known: Iterable[str]) -> None:
+def refuse_limit(slow: SlowStretch, net: SumoNet, limited_edges: Iterable[str]) -> None:
     """Fault where a network cannot have a limit: no such edge, a stretch that does not begin on it or ends over 1 m
-    beyond, a limit above its own, a second limit (known: edges that have one), or a name of a part that is taken."""
+    beyond, a limit above its own, a second limit (limited_edges: with one), or a name of a part that is taken."""
     limit_label = f"{slow.kmh} km/h on {slow.edge}"
     if slow.edge not in net.edges:
         raise Fault(f"{limit_label}: the import has no edge {slow.edge!r}")
-    if slow.edge in known:
+    if slow.edge in limited_edges:
         raise Fault(f"{limit_label}: it has another lower limit")
     lane = net.edges[slow.edge].lanes[0]
     if slow.begin >= lane.metres or slow.end > lane.metres + 1:
@@ -131,11 +131,14 @@ def with_parts(net: SumoNet, slow: SlowStretch, edge_parts: Sequence[EdgePart], 
     for name, edge in net.edges.items():
         edges |= part_edges if name == slow.edge else {name: edge}
     joining = [
-        NetConnection(one.name, other.name, lane.index, lane.index, None, 0, "M", speed=lane.speed)
-        for one, other in pairwise(edge_parts)
+        NetConnection(part.name, following_part.name, lane.index, lane.index, None, 0, "M", speed=lane.speed)
+        for part, following_part in pairwise(edge_parts)
         for lane in whole_edge.lanes
     ]
-    connections = [replace(one, source=last_name) if one.source == slow.edge else one for one in net.connections]
+    connections = [
+        replace(connection, source=last_name) if connection.source == slow.edge else connection
+        for connection in net.connections
+    ]
     inner = {part.name: part_edges[part.name].lanes[0].shape[0] for part in edge_parts[1:]}
     names = {part.name for part in edge_parts}
     left_out = [name for name in net.closed_lanes if name.rpartition("_")[0] == slow.edge]
@@ -146,10 +149,12 @@ def with_parts(net: SumoNet, slow: SlowStretch, edge_parts: Sequence[EdgePart], 
         yields={**net.yields, **{name: {} for name in inner}},
         edges=edges,
         connections=[*connections, *joining],
-        closed_movements={(last_name if one == slow.edge else one, other) for one, other in net.closed_movements},
+        closed_movements={
+            (last_name if source == slow.edge else source, target) for source, target in net.closed_movements
+        },
         closed_lanes=net.closed_lanes | {f"{part}_{name.rpartition('_')[2]}" for name in left_out for part in names},
         roundabouts=net.roundabouts | names if slow.edge in net.roundabouts else net.roundabouts,
-        detectors=[detector_on_part(one, slow.edge, edge_parts, report) for one in net.detectors],
+        detectors=[detector_on_part(detector, slow.edge, edge_parts, report) for detector in net.detectors],
     )
 
 

@@ -58,7 +58,7 @@ class Stop:
 class StopSpot:
     """Where a stop lies; begin and end in metres from the lane's begin."""
 
-    at: int  # the edge's position in a route
+    position: int  # the edge's position in a route
     edge: str
     index: int  # of the lane
     begin: float
@@ -75,7 +75,7 @@ class FoundStops:
         """The lane, (edge, index), of the first stop on each edge with one, by the edge's position in the route."""
         found: dict[int, tuple[str, int]] = {}
         for _, spot in self.stops:
-            found.setdefault(spot.at, (spot.edge, spot.index))
+            found.setdefault(spot.position, (spot.edge, spot.index))
         return found
 
 
@@ -187,7 +187,7 @@ class Stops:
     def on_route(self, name: str, edges: Sequence[str], stops: Iterable[Stop]) -> FoundStops:
         """The stops of a vehicle (name) that lie on its route (edges), each behind the stop before it; the others are
         kept in unmade, by reason. Fault where `bus_stop_of` raises one."""
-        route_stops, at, before = FoundStops(), 0, 0.0
+        route_stops, position, last_end = FoundStops(), 0, 0.0
         for stop in stops:
             bus_stop = self.bus_stop_of(stop)
             reason, edge = stop.reason, bus_stop.lane.rpartition("_")[0] if bus_stop else ""
@@ -197,13 +197,13 @@ class Stops:
                 begin, end = begin_and_end_on_lane(
                     bus_stop, metres_of_lane(bus_stop.lane, self.net, stop.element_label), True, stop.element_label
                 )
-                first = at + (end < before and at < len(edges) and edges[at] == edge)
+                first = position + (end < last_end and position < len(edges) and edges[position] == edge)
                 further = next((here for here in range(first, len(edges)) if edges[here] == edge), None)
                 if further is None:
                     reason = NOT_ON_WAY
                 else:
-                    at, before = further, end
-                    spot = StopSpot(at, edge, int(bus_stop.lane.rpartition("_")[2]), begin, end)
+                    position, last_end = further, end
+                    spot = StopSpot(position, edge, int(bus_stop.lane.rpartition("_")[2]), begin, end)
                     route_stops.stops.append((stop, spot))
             if reason:
                 self.unmade[reason].append(f"{name} at {called(stop)}")
@@ -224,13 +224,14 @@ class Stops:
         for stop, spot in route_stops.stops:
             link, lane = net.place_of[spot.edge, spot.index]
             cells = stopping_cells(net.links[link], spot)
-            if cells and plan[spot.at] == link:
+            if cells and plan[spot.position] == link:
                 losses = self.stop_losses(kind, net.links[link])
-                visit = Visit(number, spot.at, called(stop), link, lane, *cells, stop.duration, stop.until, *losses)
+                seconds = stop.duration, stop.until
+                visit = Visit(number, spot.position, called(stop), link, lane, *cells, *seconds, *losses)
                 self.visits.append(visit)
                 self.kinds.add(kind)
             else:
-                self.unmade[SHORT if plan[spot.at] == link else OTHER_LANE].append(f"{name} at {called(stop)}")
+                self.unmade[SHORT if plan[spot.position] == link else OTHER_LANE].append(f"{name} at {called(stop)}")
 
     def stop_losses(self, kind: str, link: Link) -> tuple[float, float]:
         """(seconds that SUMO's vehicle of a type loses as it brakes on a link; seconds that it loses as it starts

@@ -20,20 +20,25 @@ def timings_of(net: SumoNet, in_run: bool = False) -> Iterator[Timing]:
         if connection.light:
             at_light[connection.light].append(connection)
     for light, connections in sorted(at_light.items()):
-        last = max(one.index for one in connections)
+        last = max(connection.index for connection in connections)
         programs = net.programs_in_run(light)[: None if in_run else 1]
-        if not (whole_programs := [one for one in programs if all(len(state) > last for _, state in one.phases)]):
+        whole_programs = [
+            program for program in programs if all(len(state) > last for _, state in program.phases)
+        ]
+        if not whole_programs:
             continue
         conflicts = {
-            frozenset((one.index, other.index))
-            for one, other in combinations(connections, 2)
-            if one.source != other.source and do_conflict(net, one, other)
+            frozenset((connection.index, foe.index))
+            for connection, foe in combinations(connections, 2)
+            if connection.source != foe.source and do_conflict(net, connection, foe)
         }
         junction = net.edges[connections[0].source].end
-        movements = movements_by_edges((one.source, one.target, one.index) for one in connections)
-        for one in whole_programs:
-            kept = kept_values(light, one)
-            yield Timing(light, junction, one.offset, one.phases, one.kind, movements, conflicts, kept)
+        movements = movements_by_edges(
+            (connection.source, connection.target, connection.index) for connection in connections
+        )
+        for program in whole_programs:
+            kept = kept_values(light, program)
+            yield Timing(light, junction, program.offset, program.phases, program.kind, movements, conflicts, kept)
 
 
 def timings_of_files(net_path: str, additional: Iterable[str], classes: Sequence[str]) -> list[Timing]:

@@ -126,7 +126,7 @@ class Types:
         self.drivings: dict[str, Driving] = {}  # by name; those that files tell
         self.mixes: dict[str, Mix] = {}  # by distribution
         self.draws = random.Random(f"types {seed}")
-        self.named: set[str] = set()  # types and distributions of the files
+        self.told_names: set[str] = set()  # types and distributions of the files
         self.unknown: set[str] = set()
 
     def read_element(self, path: FilePath, element: Element) -> None:
@@ -170,9 +170,9 @@ class Types:
         """The name of a type or a distribution, which then counts as taken; Fault where another one of the files has
         it."""
         name = attribute(path, element, "id", filled)
-        if name in self.named:
+        if name in self.told_names:
             raise Fault(f"{element_told(path, element)}: a second vehicle type of this name")
-        self.named.add(name)
+        self.told_names.add(name)
         return name
 
     def read_mix(self, path: FilePath, element: Element) -> None:

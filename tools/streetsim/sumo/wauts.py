@@ -13,7 +13,7 @@ from streetsim.sumo.crossing import Flows
 from streetsim.sumo.net import OFF_PROGRAM, LightProgram, SumoNet, Waut, connections_of
 from streetsim.sumo.network import Network
 from streetsim.sumo.signals import (
-    AFTER, light_of, lit_node, movements_of_junction, signal_lines, turns_at, warn_of_kind,
+    SECONDS_AFTER, light_of, lit_node, movements_of_junction, signal_lines, turns_at, warn_of_kind,
 )
 
 AT_ONCE = "", "JustSwitch"  # procedures by which a light changes at once
@@ -65,14 +65,14 @@ def days_of(net: SumoNet, begin: int, last_clock: int, report: Report) -> dict[s
                     f"WAUT {name!r} does nothing here, as it switches lights off: {first_few(waut.lights)}", [light]
                 )
                 continue
-            known = {program.name: program for program in net.programs_of(light)}
-            if missing := sorted(names - known.keys()):
+            programs = {program.name: program for program in net.programs_of(light)}
+            if missing := sorted(names - programs.keys()):
                 raise Fault(f"WAUT {name!r}: light {light!r} has no program {missing[0]!r}")
             days[light] = day_of(name, waut, begin, last_clock)
-            first = known[days[light][0][1]]
+            first = programs[days[light][0][1]]
             net.programs[light] = first
-            net.earlier[light] = [program for program in known.values() if program is not first]
-            net.changing[light] = [known[to] for to in {to: 0 for _, to in days[light]} if known[to] is not first]
+            net.earlier[light] = [program for program in programs.values() if program is not first]
+            net.changing[light] = [programs[to] for to in {to: 0 for _, to in days[light]} if programs[to] is not first]
     return days
 
 
@@ -114,20 +114,20 @@ def day_lines(
     net: SumoNet, network: Network, days: Mapping[str, Day], flows: Flows, report: Report
 ) -> list[tuple[str, Command]]:
     """The signal lines, (light, command with "at"), by which lights show the listed seconds of the programs to which
-    they change after the first, the last until AFTER seconds behind network.last, which must be set; reported as by
+    they change after the first, the last until SECONDS_AFTER behind network.last, which must be set; reported as by
     signal_commands. days: of days_of; flows: vehicles an hour by (edge, next edge). Fault where each_second or
     check_states raises one."""
     lines: list[tuple[str, Command]] = []
     turns = turns_at(network)
-    lights = {node: light_of((turn for *_, turn in own), net) for node, own in turns.items()}
+    lights = {node: light_of((turn for *_, turn in own_turns), net) for node, own_turns in turns.items()}
     at_junction, limits_of = connections_of(net), {link.edge: link.limit for link in network.links}
     for light, node in sorted((light, node) for node, light in lights.items() if light and light in days):
-        known = {one.name: one for one in net.programs_of(light)}
-        for (clock, name), (end, _) in list(pairwise([*days[light], (network.last_depart + AFTER, "")]))[1:]:
-            changed = replace(net, programs={**net.programs, light: known[name]})
-            own = network.nodes[node], at_junction[network.nodes[node]], changed, flows, limits_of
-            found = movements_of_junction(*own) if flows and network.options.permissive is None else {}
+        programs = {program.name: program for program in net.programs_of(light)}
+        for (clock, name), (end, _) in list(pairwise([*days[light], (network.last_depart + SECONDS_AFTER, "")]))[1:]:
+            changed = replace(net, programs={**net.programs, light: programs[name]})
+            junction_facts = network.nodes[node], at_junction[network.nodes[node]], changed, flows, limits_of
+            found = movements_of_junction(*junction_facts) if flows and network.options.permissive is None else {}
             lit = lit_node(changed, network, node, turns[node], light, found, report)
             lines += [(light, {"at": clock, **command}) for command in signal_lines(lit, clock, end - 1)]
-            warn_of_kind(light, known[name], report)
+            warn_of_kind(light, programs[name], report)
     return lines

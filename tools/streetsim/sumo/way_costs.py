@@ -94,7 +94,7 @@ class Table:
             made = self.rows[movement] = self.costs.row(movement)
         return made
 
-    def at(self, movement: int, clock: float) -> float:
+    def seconds_at(self, movement: int, clock: float) -> float:
         """The seconds of a movement that begins at a clock (seconds from 0, where the first slice begins); after the
         last slice those of its last part."""
         return self.row(movement)[min(self.last_part, int(clock * self.inverse))]

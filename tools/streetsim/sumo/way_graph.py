@@ -15,15 +15,15 @@ class Graph:
         """edges: names; ways: (edge, next edge), by names, of which each counts once; ends: for each edge the junctions
         where it begins and ends, by which it is known who turns back."""
         self.edges = list(edges)
-        self.number = {name: at for at, name in enumerate(self.edges)}
+        self.number = {name: index for index, name in enumerate(self.edges)}
         found = dict.fromkeys((self.number[edge], self.number[following]) for edge, following in ways)
         self.movements = [*found, *((edge, END) for edge in range(len(self.edges)))]
-        self.movement_of = {way: at for at, way in enumerate(self.movements)}
+        self.movement_of = {way: index for index, way in enumerate(self.movements)}
         self.outgoing: list[list[tuple[int, int]]] = [[] for _ in self.edges]  # (next edge, movement)
         self.incoming: list[list[tuple[int, int]]] = [[] for _ in self.edges]  # (edge before, movement)
-        for at, (edge, following) in enumerate(found):
-            self.outgoing[edge].append((following, at))
-            self.incoming[following].append((edge, at))
+        for movement, (edge, following) in enumerate(found):
+            self.outgoing[edge].append((following, movement))
+            self.incoming[following].append((edge, movement))
         self.turns_back = [
             following != END and ends[self.edges[edge]] == ends[self.edges[following]][::-1]
             for edge, following in self.movements

@@ -17,13 +17,13 @@ NO_GREEN_SECONDS = 3600.0  # seconds of a wait for a green that does not come
 LEAST_CAPACITY = 100.0  # vehicles an hour that any movement lets pass
 
 
-def whole_plans(sent: Iterable[TimedCommand]) -> list[Command]:
+def whole_plans(sent_commands: Iterable[TimedCommand]) -> list[Command]:
     """One signal command, {"node", "phases"}, for each node of signal commands that are sent at clocks: the phases of
     the first that the node is sent; or where that has one phase, as of a program that is sent phase by phase, those of
     all up to one of several phases, each as long as until the next is sent: up to the last that is as the first, so
     that cycles are whole, or where none is up to the last of all."""
     by_node: defaultdict[int, list[tuple[int, list]]] = defaultdict(list)
-    for clock, command in sent:
+    for clock, command in sent_commands:
         by_node[command["node"]].append((clock, command["phases"]))
     commands = []
     for node, plans in by_node.items():

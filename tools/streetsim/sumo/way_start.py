@@ -25,7 +25,7 @@ def first_ways(
     """Sets the path of each trip that has none; gives back the trips for which there is no way, their paths empty; they
     are in no order. trips: in order of departure, one at least; free: seconds, and capacity: vehicles an hour, of each
     movement; seed: of the order in which trips choose; search: finds a path for each wish by costs, in any order."""
-    wanting = [at for at, trip in enumerate(trips) if not trip.path]
+    wanting = [index for index, trip in enumerate(trips) if not trip.path]
     random.Random(f"start {seed}").shuffle(wanting)
     hours = max(LEAST_HOURS, (trips[-1].depart - trips[0].depart) / 3600)
     given, volume, lost = volumes(graph, trips), [0] * len(graph.movements), []
@@ -36,7 +36,7 @@ def first_ways(
             for count, own in zip(given, volume, strict=True)
         )
         seconds = delayed(graph, free, [flow / most for flow, most in zip(hourly, capacity, strict=True)])
-        wishes = [Wish(at, trips[at].origin, trips[at].target, trips[at].depart, ()) for at in mine]
+        wishes = [Wish(index, trips[index].origin, trips[index].target, trips[index].depart, ()) for index in mine]
         for found in search(wishes, flat_costs(graph, seconds)):
             trip = trips[found.trip]
             trip.path = found.path

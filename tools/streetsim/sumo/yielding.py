@@ -11,7 +11,7 @@ from operator import or_
 
 from streetsim.sumo.crossing import CrossingMovement, EdgePair, Meeting
 from streetsim.sumo.gaps import after_stop, gap_capacity, gap_wait, until_first
-from streetsim.sumo.greens import AHEAD, HEADWAYS, START, green_here, passing_here
+from streetsim.sumo.greens import EXTRA_GREEN, HEADWAYS, START, green_here, passing_here
 from streetsim.sumo.heads import Heads, passing_heads
 
 LOST = 2.0  # seconds until a queue of the other side moves
@@ -98,20 +98,20 @@ def lane_there(movement: CrossingMovement, start: int, length: int, factor: floa
     """How many vehicles of a movement's whole lane pass in SUMO in a permissive green of length seconds from start,
     with factor times the usual traffic to give way to: those before the first that waits, while the others' queue
     leaves, and then all in gaps."""
-    blocked, free, passed = 0, 0, 0.0
+    blocked, free, passing = 0, 0, 0.0
     for foe in movement.foes:
         blocked |= lane_queue(movement, foe, factor)
     for seconds, foes in movement.meets[start]:
         count = (seconds & ~blocked).bit_count()
         each = time_of(movement, movement.against(foes) * factor)
-        passed += count / (movement.share * each + (1 - movement.share) * movement.headway_beside)
+        passing += count / (movement.share * each + (1 - movement.share) * movement.headway_beside)
         free += count
     queued = max(0.0, length - free - START)
     if movement.heads:
-        return max(SNEAKERS, passing_heads(movement.heads, queued) + passed)
-    before = queued / movement.headway_beside
-    waiting = 1 - (1 - movement.share) ** before
-    return until_first(before, movement.share) + max(passed, SNEAKERS * waiting)
+        return max(SNEAKERS, passing_heads(movement.heads, queued) + passing)
+    queued_vehicles = queued / movement.headway_beside
+    waiting = 1 - (1 - movement.share) ** queued_vehicles
+    return until_first(queued_vehicles, movement.share) + max(passing, SNEAKERS * waiting)
 
 
 def lane_queue(movement: CrossingMovement, foe: CrossingMovement, factor: float) -> int:
@@ -155,7 +155,7 @@ def lane_here(movement: CrossingMovement, seconds: int, length: int) -> float:
     """How many vehicles of a movement's whole lane pass in streetsim in a permissive green of length seconds, of which
     some seconds are shown at its end."""
     whole = max(0.0, length - START) / movement.headway_beside  # pass if nobody waits, here as in SUMO
-    before = whole * (length - seconds + AHEAD) / (length + AHEAD)
+    before = whole * (length - seconds + EXTRA_GREEN) / (length + EXTRA_GREEN)
     none = (1 - movement.share) ** before  # that waits has come until then
     shown = none * (whole - before) + (1 - none) * passing_here(seconds, movement.limit)
     return until_first(before, movement.share) + shown

@@ -9,7 +9,7 @@ from streetsim.simulation.errors import NotHere, TraCIException
 from streetsim.traci import constants as tc
 from streetsim.traci.advice import advice_on
 from streetsim.traci.protocol import (
-    DOUBLE, ENCODERS, INT, TYPES, BadMessage, Typed, Value, ValueReader, command, state_of, text,
+    DOUBLE, ENCODERS, INT, TYPES, BadMessage, TraciValue, Typed, ValueReader, command, state_of, text,
 )
 from streetsim.traci.table import DOMAINS, GETS, SETS, Get
 from streetsim.traci.trafficlights import Logic, Phase
@@ -24,9 +24,9 @@ DISPLAY_DOMAINS = ("gui", "poi", "polygon")  # domains whose changes only show s
 
 
 @cache
-def call_of(domain: str, name: str) -> Callable[..., Value]:
+def call_of(domain: str, name: str) -> Callable[..., TraciValue]:
     """A call of a domain; NotHere where it is not here."""
-    call: Callable[..., Value] = getattr(getattr(traci, domain), name)
+    call: Callable[..., TraciValue] = getattr(getattr(traci, domain), name)
     return call
 
 
@@ -34,11 +34,11 @@ class ReadCall(NamedTuple):
     """A command that was read: what it calls, and how its value is packed; repeated as often as its bytes come."""
 
     code: int
-    call: Callable[..., Value]
-    arguments: tuple[Value, ...]
+    call: Callable[..., TraciValue]
+    arguments: tuple[TraciValue, ...]
     head: bytes  # of its answer, in front of the value; of a change the whole answer
     gives: str = ""  # the type of the value; empty for a change
-    fixed: Callable[[Value], bytes] | None = None  # packs a value of fixed size, whose mark `head` has
+    fixed: Callable[[TraciValue], bytes] | None = None  # packs a value of fixed size, whose mark `head` has
 
     def message(self) -> Callable[[], bytes]:
         """What makes the call and gives the state and the value as a message of their own; it raises what the call
@@ -121,7 +121,7 @@ def read_parts(reader: ValueReader) -> list[Typed]:
     return list(parts)
 
 
-Special = tuple[Callable[..., Value], tuple[Value, ...], str]  # a call, its words, the type of its value
+Special = tuple[Callable[..., TraciValue], tuple[TraciValue, ...], str]  # a call, its words, the type of its value
 
 
 def convert_call(_: str, reader: ValueReader) -> Special:
@@ -193,7 +193,7 @@ SPECIAL_CALLS: Mapping[tuple[str, int], Callable[[str, ValueReader], Special]] =
     ("simulation", tc.POSITION_CONVERSION): convert_call, ("simulation", tc.DISTANCE_REQUEST): distance_call,
     ("vehicle", tc.DISTANCE_REQUEST): driving_distance_call, ("simulation", tc.VAR_OPTION): option_call,
 }
-SPECIAL_ARGUMENTS: Mapping[str, Callable[[ValueReader], Sequence[Value]]] = {
+SPECIAL_ARGUMENTS: Mapping[str, Callable[[ValueReader], Sequence[TraciValue]]] = {
     "adaptTraveltime": travel_time_arguments, "setProgramLogic": program_arguments, "highlight": lambda _: [],
 }
 # SUMO's names of calls that are not here, of which scripts ask most.
@@ -224,7 +224,7 @@ SUMO_NAMES: Mapping[tuple[str, int, str], str] = {
 }  # fmt: skip
 
 
-def subscribed_value(domain: str, get: Get, name: str, arguments: Sequence[Value]) -> bytes:
+def subscribed_value(domain: str, get: Get, name: str, arguments: Sequence[TraciValue]) -> bytes:
     """The value of a variable that is subscribed to, with the mark of its type; arguments: behind the name."""
     objects = () if domain == "simulation" or get.call in WITHOUT_OBJECT else (name,)
     return ENCODERS[get.gives](call_of(domain, get.call)(*objects, *arguments))

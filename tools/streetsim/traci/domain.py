@@ -11,10 +11,10 @@ from streetsim.simulation.errors import NotHere, TraCIException
 from streetsim.simulation.session import TraciSession
 from streetsim.traci import constants as tc
 from streetsim.traci.advice import advice_on
-from streetsim.traci.protocol import Value
+from streetsim.traci.protocol import TraciValue
 from streetsim.traci.table import calls_by_variable
 
-Values = dict[int, Value]  # what is told, by variable
+VariableValues = dict[int, TraciValue]  # what is told, by variable
 # Letters of the parameters that scripts keep in a domain, at most; as how many a parameter counts beside its own.
 MOST_LETTERS, OVERHEAD = 1 << 24, 100
 
@@ -122,13 +122,13 @@ class Domain(CallGroup[TraciSession]):
         if not self.is_subject(name):
             raise TraCIException(f"{self.kind} '{name}' is not known.")
 
-    def getSubscriptionResults(self, name: str) -> Values:
+    def getSubscriptionResults(self, name: str) -> VariableValues:
         """What was subscribed to, as it is now, by number of the variable; empty where the object is gone."""
         if name not in self.subscribed or not self.is_subject(name):
             return {}
         return self.variable_values(name, self.subscribed[name])
 
-    def variable_values(self, name: str, variables: Iterable[int]) -> Values:
+    def variable_values(self, name: str, variables: Iterable[int]) -> VariableValues:
         """{number of a variable: what its call gives for an object}; check_variables must let them pass."""
         return {variable: getattr(self, self.variables[variable])(name) for variable in variables}
 
@@ -141,7 +141,7 @@ class Domain(CallGroup[TraciSession]):
         call = getattr(self, self.variables[variable])
         return [call(name) for name in names]
 
-    def all_values(self, names: Sequence[str], variables: Sequence[int]) -> dict[str, Values]:
+    def all_values(self, names: Sequence[str], variables: Sequence[int]) -> dict[str, VariableValues]:
         """By object, of some that are all there, what variable_values gives."""
         columns = map(plain, self.columns(variables, names))
         return {name: dict(zip(variables, row)) for name, row in zip(names, zip(*columns))} if variables else {}
@@ -150,12 +150,12 @@ class Domain(CallGroup[TraciSession]):
         """Of some objects those that are there, whose subscriptions are told."""
         return [name for name in names if self.is_subject(name)]
 
-    def getAllSubscriptionResults(self) -> dict[str, Values]:
+    def getAllSubscriptionResults(self) -> dict[str, VariableValues]:
         """By object, of those that are there, what getSubscriptionResults gives."""
         groups: defaultdict[tuple[int, ...], list[str]] = defaultdict(list)
         for name, variables in self.subscribed.items():
             groups[variables].append(name)
-        results: dict[str, Values] = {}
+        results: dict[str, VariableValues] = {}
         for variables, names in groups.items():
             results |= self.all_values(self.existing(names), variables)
         return results
@@ -200,7 +200,7 @@ class Outlined(Domain):
         """Ends the context subscription to an object; domain and dist have no effect."""
         self.contexts.pop(objectID, None)
 
-    def getContextSubscriptionResults(self, objectID: str) -> dict[str, Values]:
+    def getContextSubscriptionResults(self, objectID: str) -> dict[str, VariableValues]:
         """By vehicle near the object what was subscribed to, by number; empty where the object is gone."""
         if objectID not in self.contexts or not self.is_subject(objectID):
             return {}
@@ -218,7 +218,7 @@ class Outlined(Domain):
         points = self.session().vehicle_points
         return points.stretches_of(line, metres) if self.is_fixed else points.stretches(line, metres)
 
-    def getAllContextSubscriptionResults(self) -> dict[str, dict[str, Values]]:
+    def getAllContextSubscriptionResults(self) -> dict[str, dict[str, VariableValues]]:
         """By object, of those that are there, what getContextSubscriptionResults gives."""
         return {name: self.getContextSubscriptionResults(name) for name in self.contexts if self.is_subject(name)}
 

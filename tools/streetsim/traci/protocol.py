@@ -24,8 +24,8 @@ TYPES = {
     "c": tc.TYPE_COLOR, "r": tc.POSITION_ROADMAP, "g": tc.POSITION_LON_LAT, "t": tc.TYPE_COMPOUND,
 }
 LETTERS = {number: letter for letter, number in TYPES.items()}
-Value = Any  # that bytes carry, of a type by its letters
-Typed = tuple[str, Value]  # the letter of its type, the value; of a compound the parts, each as this
+TraciValue = Any  # that bytes carry, of a type by its letters
+Typed = tuple[str, TraciValue]  # the letter of its type, the value; of a compound the parts, each as this
 
 
 class BadMessage(Exception):
@@ -35,15 +35,15 @@ class BadMessage(Exception):
 class ValueReader:
     """Reads values from bytes, and nothing beyond their end: BadMessage there, and for what is no value."""
 
-    def __init__(self, data: bytes, position: int, end: int) -> None:
+    def __init__(self, message: bytes, position: int, end: int) -> None:
         """position, end: of the bytes that are read."""
-        self.data, self.position, self.end = data, position, end
+        self.message, self.position, self.end = message, position, end
 
-    def unpack(self, layout: struct.Struct) -> tuple[Value, ...]:
+    def unpack(self, layout: struct.Struct) -> tuple[TraciValue, ...]:
         """The next values of a layout."""
         if self.position + layout.size > self.end:
             raise BadMessage("a command ends before its values do")
-        values = layout.unpack_from(self.data, self.position)
+        values = layout.unpack_from(self.message, self.position)
         self.position += layout.size
         return values
 
@@ -58,7 +58,7 @@ class ValueReader:
         """The next text."""
         size = self.count()
         self.position += size
-        return self.data[self.position - size : self.position].decode("latin1")
+        return self.message[self.position - size : self.position].decode("latin1")
 
     def byte(self) -> int:
         """The next byte without sign."""
@@ -71,7 +71,7 @@ class ValueReader:
             return "t", [self.typed(depth + 1) for _ in range(self.parts(depth))]
         if not letter:
             raise BadMessage(f"{number:#x} is no type of a value")
-        return letter, self.value(letter)
+        return letter, self.read_value(letter)
 
     def parts(self, depth: int) -> int:
         """How many parts the next compound has, which is within so many others."""
@@ -79,7 +79,7 @@ class ValueReader:
             raise BadMessage(f"more than {MOST_DEPTH} compounds within each other")
         return self.count()
 
-    def value(self, letter: str) -> Value:
+    def read_value(self, letter: str) -> TraciValue:
         """The next value of a type by its letter, behind the mark."""
         if letter == "s":
             return self.text()
@@ -95,20 +95,20 @@ class ValueReader:
         values = self.unpack(layout)
         return values[0] if len(values) == 1 else values
 
-    def typed_values(self, letters: str) -> list[Value]:
+    def typed_values(self, letters: str) -> list[TraciValue]:
         """The next values, of types by their letters; BadMessage where others come."""
-        values = []
+        read_values = []
         for letter in letters:
             if letter == "u":
-                values.append(self.byte())
+                read_values.append(self.byte())
                 continue
             if (number := self.byte()) != TYPES[letter]:
                 raise BadMessage(f"a value has the type {number:#x}, where {TYPES[letter]:#x} is awaited")
             if letter == "t":
                 self.count()
             else:
-                values.append(self.value(letter))
-        return values
+                read_values.append(self.read_value(letter))
+        return read_values
 
 
 LAYOUTS = {"i": INT, "d": DOUBLE, "b": BYTE, "B": UBYTE, "o": POINT, "O": SPACE, "c": COLOUR, "g": POINT}
@@ -177,7 +177,7 @@ def compound(count: int, *parts: bytes) -> bytes:
     return TYPED_INT.pack(tc.TYPE_COMPOUND, count) + b"".join(parts)
 
 
-def counted(count: int, parts_of_item: int, parts: Iterable[bytes]) -> bytes:
+def counted_compound(count: int, parts_of_item: int, parts: Iterable[bytes]) -> bytes:
     """A compound of a number of things and, of each, so many parts."""
     return compound(1 + parts_of_item * count, integer(count), *parts)
 
@@ -191,40 +191,40 @@ def neighbour(value: tuple[str, float] | None) -> bytes:
 def lights_ahead(values: Sequence[tuple[str, int, float, str]]) -> bytes:
     """What vehicle.getNextTLS gives."""
     parts = (string(name) + integer(index) + double(far) + ubyte(ord(state)) for name, index, far, state in values)
-    return counted(len(values), 4, parts)
+    return counted_compound(len(values), 4, parts)
 
 
-def stops(values: Sequence[Value]) -> bytes:
+def stops(values: Sequence[TraciValue]) -> bytes:
     """What vehicle.getStops gives."""
-    return counted(len(values), 16, map(stop, values))
+    return counted_compound(len(values), 16, map(stop, values))
 
 
-def stop_place(stop_data: Value) -> bytes:
+def stop_place(stop_data: TraciValue) -> bytes:
     """The first four parts of a stop: its lane, end, stopping place and flags."""
     end = double(stop_data.endPos)
     return string(stop_data.lane) + end + string(stop_data.stoppingPlaceID) + integer(stop_data.stopFlags)
 
 
-def stop(stop_data: Value) -> bytes:
+def stop(stop_data: TraciValue) -> bytes:
     """The sixteen parts of a stop; of what is not told SUMO's value for "none"."""
     times = map(double, (stop_data.duration, stop_data.until, stop_data.startPos, *3 * (tc.INVALID_DOUBLE_VALUE,)))
     return stop_place(stop_data) + b"".join(times) + 5 * string("") + double(0.0)
 
 
-def stops_shortly(values: Sequence[Value]) -> bytes:
+def stops_shortly(values: Sequence[TraciValue]) -> bytes:
     """As `stops`, of each the six parts that vehicle.getNextStops gives."""
     parts = (
         stop_place(stop_data) + double(stop_data.duration) + double(stop_data.until) for stop_data in values
     )
-    return counted(len(values), 6, parts)
+    return counted_compound(len(values), 6, parts)
 
 
-def turns(values: Sequence[Sequence[Value]]) -> bytes:
+def turns(values: Sequence[Sequence[TraciValue]]) -> bytes:
     """What lane.getLinks gives."""
-    return counted(len(values), 8, map(turn, values))
+    return counted_compound(len(values), 8, map(turn, values))
 
 
-def turn(connection: Sequence[Value]) -> bytes:
+def turn(connection: Sequence[TraciValue]) -> bytes:
     """The eight parts of a connection of a lane."""
     lane, has_priority, green, foes, via, state, direction, metres = connection
     marks = ubyte(has_priority) + ubyte(green) + ubyte(foes)
@@ -237,12 +237,12 @@ def signals(values: Sequence[Sequence[tuple[str, str, str]]]) -> bytes:
     return compound(1 + len(values) + sum(map(len, values)), integer(len(values)), *by_signal)
 
 
-def logics(values: Sequence[Value]) -> bytes:
+def logics(values: Sequence[TraciValue]) -> bytes:
     """What trafficlight.getAllProgramLogics gives."""
     return compound(len(values), *map(logic, values))
 
 
-def logic(program: Value) -> bytes:
+def logic(program: TraciValue) -> bytes:
     """A program of a light."""
     phases = compound(len(program.phases), *map(phase, program.phases))
     parameters = compound(len(program.subParameter), *map(strings, program.subParameter.items()))
@@ -250,14 +250,14 @@ def logic(program: Value) -> bytes:
     return compound(5, head, phases, parameters)
 
 
-def phase(phase_data: Value) -> bytes:
+def phase(phase_data: TraciValue) -> bytes:
     """A phase of a program."""
     bounds = double(phase_data.minDur) + double(phase_data.maxDur)
     shown = double(phase_data.duration) + string(phase_data.state) + bounds
     return compound(6, shown, compound(len(phase_data.next), *map(integer, phase_data.next)), string(phase_data.name))
 
 
-def stage(stage_data: Value) -> bytes:
+def stage(stage_data: TraciValue) -> bytes:
     """What simulation.findRoute gives."""
     texts = map(string, (stage_data.vType, stage_data.line, stage_data.destStop))
     names = integer(stage_data.type) + b"".join(texts) + strings(stage_data.edges)
@@ -274,10 +274,10 @@ def pair(value: tuple[str, str]) -> bytes:
 
 def nothing_counted(_: object) -> bytes:
     """A compound of no things."""
-    return counted(0, 0, ())
+    return counted_compound(0, 0, ())
 
 
-ENCODERS: dict[str, Callable[[Value], bytes]] = {
+ENCODERS: dict[str, Callable[[TraciValue], bytes]] = {
     "i": integer, "d": double, "B": ubyte, "s": string, "l": strings, "o": point, "p": line, "c": colour,
     "r": road_position, "neighbour": neighbour, "lights": lights_ahead, "stops": stops, "next stops": stops_shortly,
     "turns": turns,

@@ -76,7 +76,7 @@ class TraciClient:
         data, self.unread = self.unread[:size], self.unread[size:]
         return data
 
-    def send(self, answer: bytes | bytearray) -> None:
+    def send_answer(self, answer: bytes | bytearray) -> None:
         """Sends the answer to its message; ClientGone where it does not take it."""
         try:
             self.socket.sendall(whole_message(answer))
@@ -86,7 +86,7 @@ class TraciClient:
     def refuse(self, why: str) -> None:
         """Answers that a message is none, as far as the client takes that."""
         try:
-            self.send(state_of(self.message[1] if len(self.message) > 1 else 0, tc.RTYPE_ERR, why))
+            self.send_answer(state_of(self.message[1] if len(self.message) > 1 else 0, tc.RTYPE_ERR, why))
         except ClientGone:
             pass
 
@@ -160,7 +160,7 @@ class Server:
         try:
             heard = self.answer_step(client)
             while heard and not (ordering and client.order != LAST_IN_ORDER):
-                heard = self.hear(client)
+                heard = self.hear_client(client)
         except ClientGone:
             self.lost += 1
             self.warn(f"warning: a client went away without closing; {len(self.clients) - 1} go on")
@@ -187,7 +187,7 @@ class Server:
         client.answer += OK_STATES[tc.CMD_SIMSTEP] + client.subscriptions.answers_after_step()
         return self.obey(client)
 
-    def hear(self, client: TraciClient) -> bool:
+    def hear_client(self, client: TraciClient) -> bool:
         """Hears a client's messages that are known, and the next other one; gives whether it is to be heard further at
         this clock."""
         if not client.unread:
@@ -200,26 +200,26 @@ class Server:
     def answer_known(self, client: TraciClient) -> None:
         """Answers messages of a client that are known, as they come, until there is another one. ClientGone where it
         goes away."""
-        receive, send, message_of = client.socket.recv, client.socket.sendall, self.known_messages.get
+        receive, send_all, message_of = client.socket.recv, client.socket.sendall, self.known_messages.get
         try:
-            while (known_message := message_of(data := receive(AT_ONCE))) is not None:
+            while (known_message := message_of(message := receive(AT_ONCE))) is not None:
                 code, answer = known_message
                 try:
                     answer_bytes = answer()
                 except CALL_ERRORS as fault:
                     answer_bytes = whole_message(state_after(code, fault))
-                send(answer_bytes)
+                send_all(answer_bytes)
         except OSError:
-            data = b""
-        if not data:
+            message = b""
+        if not message:
             raise ClientGone
-        client.unread = data
+        client.unread = message
 
-    def learn(self, data: bytes, client: TraciClient) -> None:
-        """Keeps what a message asks for by its bytes (data), where these are of it alone, and it has one command that
-        tells or changes something, whose words nobody changes."""
+    def learn(self, message: bytes, client: TraciClient) -> None:
+        """Keeps what a message asks for by its bytes (message), where these are of it alone, and it has one command
+        that tells or changes something, whose words nobody changes."""
         size = INT.size + len(client.message)
-        if client.unread or len(client.pending) != 1 or len(data) != size or size > SHORT:
+        if client.unread or len(client.pending) != 1 or len(message) != size or size > SHORT:
             return
         (position, end), = client.pending
         code = client.message[position]
@@ -231,7 +231,7 @@ class Server:
             if all(isinstance(argument, (str, int, float)) for argument in call.arguments):
                 if len(self.known_messages) >= MOST_KNOWN:
                     self.known_messages.clear()
-                self.known_messages[data] = code, call.message()
+                self.known_messages[message] = code, call.message()
         except CALL_ERRORS:
             pass  # which is told when the command is done
 
@@ -246,13 +246,13 @@ class Server:
                     return False
                 continue
             if code == tc.CMD_CLOSE:
-                client.send(client.answer + OK_STATES[code])
+                client.send_answer(client.answer + OK_STATES[code])
                 self.drop(client)
                 return False
             client.answer += self.answer_command(client, code, reader)
             if len(client.answer) > MOST_ANSWER:
                 raise BadMessage(f"the answer to one message would have more than {MOST_ANSWER:,} bytes")
-        client.send(client.answer)
+        client.send_answer(client.answer)
         return not client.steps
 
     def note_step(self, client: TraciClient, reader: ValueReader) -> bool:

@@ -12,7 +12,7 @@ from streetsim.simulation.saving import load_state, save_state
 from streetsim.simulation.session import TraciSession
 from streetsim.simulation.street_facts import LaneFacts
 from streetsim.traci import constants as tc
-from streetsim.traci.domain import Domain, Values
+from streetsim.traci.domain import Domain, VariableValues
 
 
 @dataclass
@@ -227,11 +227,11 @@ class SimulationDomain(Domain, SimulationCalls[TraciSession]):
         """Ends the subscription to the simulation."""
         self.subscribed.clear()
 
-    def getSubscriptionResults(self) -> Values:  # type: ignore[override]
+    def getSubscriptionResults(self) -> VariableValues:  # type: ignore[override]
         """What was subscribed to, as it is now, by the variables' numbers; empty without a subscription."""
         return {variable: getattr(self, self.variables[variable])() for variable in self.subscribed.get("", ())}
 
-    def getAllSubscriptionResults(self) -> dict[str, Values]:
+    def getAllSubscriptionResults(self) -> dict[str, VariableValues]:
         """What getSubscriptionResults gives, under an empty name; empty without a subscription."""
         return {"": self.getSubscriptionResults()} if self.subscribed else {}
 

@@ -16,7 +16,7 @@ from streetsim.traci.answering import subscribed_value
 from streetsim.traci.domain import Domain, Outlined
 from streetsim.traci.packing_rows import pack_rows
 from streetsim.traci.protocol import (
-    DOUBLE, INT, LONG_HEAD, BadMessage, Value, ValueReader, known_text, subscription_answer, text,
+    DOUBLE, INT, LONG_HEAD, BadMessage, TraciValue, ValueReader, known_text, subscription_answer, text,
 )  # fmt: skip
 from streetsim.traci.table import DOMAINS, GETS, NOT_SUBSCRIBED, Get
 
@@ -39,7 +39,7 @@ class Subscription(NamedTuple):
 
     code: int  # of the command
     variables: tuple[int, ...]
-    arguments: tuple[tuple[Value, ...], ...]
+    arguments: tuple[tuple[TraciValue, ...], ...]
     time: TimeSpan
 
 

@@ -10,7 +10,7 @@ from streetsim.simulation.lights import LightShow, Phases, check_index, seconds_
 from streetsim.traci import constants as tc
 from streetsim.traci.domain import Domain
 
-OFF, SWITCHED = "off", "hold states by setRedYellowGreenState, or take the light out of the network"
+OFF_PROGRAM, SWITCHED = "off", "hold states by setRedYellowGreenState, or take the light out of the network"
 TYPES = {"static": 0, "actuated": 3, "NEMA": 4, "delay_based": 5}  # SUMO's numbers of the kinds of programs
 
 
@@ -156,7 +156,7 @@ class TrafficLightDomain(Domain):
         """Runs a program of the files or of setProgramLogic, from where it has come to unseen, as in SUMO: by its
         seconds since the script left it, or by its detectors. Nothing where it runs already. TraCIException for an
         unknown one, NotHere for SUMO's "off"."""
-        if programID == OFF and programID not in self.session().control.light(name).programs:
+        if programID == OFF_PROGRAM and programID not in self.session().control.light(name).programs:
             raise NotHere(f"trafficlight.setProgram: no light is off here; {SWITCHED}")
         self.session().control.run_program(name, programID)
 

@@ -25,7 +25,7 @@ COLUMNS = {
     tc.VAR_WAITING_TIME: "waiting", tc.VAR_ACCUMULATED_WAITING_TIME: "waited", tc.VAR_TIMELOSS: "lost",
 }  # of VehicleColumns, by variable
 FASTEST = 55.55555555555556  # metres a second of a type that tells no speed, as SUMO has it for cars
-STOPPED, AT_BUS_STOP = 1, 16  # SUMO's flags of one that stops
+STOPPED_FLAG, AT_BUS_STOP = 1, 16  # SUMO's flags of one that stops
 BRAKING = 4.5  # metres a second squared, of SUMO's usual vehicle: how far it looks ahead
 
 
@@ -364,7 +364,7 @@ class VehicleDomain(VehicleCalls[TraciSession], LookDomain, Outlined):
     def getStopState(self, name: str) -> int:
         """SUMO's flags: 0 where it is at no stop of its own, 1 at a place of a lane, 17 at a busStop or trainStop."""
         stop = self.session().stop_of(self.look_up(name)[0])
-        return 0 if stop is None else STOPPED | self.place_flag(stop)
+        return 0 if stop is None else STOPPED_FLAG | self.place_flag(stop)
 
     def place_flag(self, stop: Visit) -> int:
         """SUMO's flag of a busStop or trainStop; 0 for a place of a lane."""
