@@ -21,6 +21,7 @@ from typing import TYPE_CHECKING
 
 import shared
 from program import steps
+from repository.pages import add_put, keep_result
 from shared import TOOLS, TOP
 from streetsim.base import limits
 from streetsim.cli import run as running
@@ -84,7 +85,8 @@ def write_routes(path, departs, draws, side):
 
 
 def measured(name, command, folder):
-    """Runs a command in a folder, and prints a row of what it and all that it starts took."""
+    """Runs a command in a folder, and prints a row of what it and all that it starts took; gives seconds of processors
+    and most memory, MB."""
     begin, before, most = time.monotonic(), shared.children_seconds(), 0
     environment = {**shared.with_sumo(), "PYTHONDONTWRITEBYTECODE": ""}
     with subprocess.Popen([str(word) for word in command], cwd=folder, env=environment) as process:
@@ -93,6 +95,7 @@ def measured(name, command, folder):
             time.sleep(0.1)
     took = shared.children_seconds() - before
     print(f"| {name} | {time.monotonic() - begin:.0f} | {took:.1f} | {most / 1024:.0f} |", flush=True)
+    return took, most / 1024
 
 
 def family(process):
@@ -139,6 +142,7 @@ def main_day(argv: list[str]) -> int | None:
     parser.add_argument("--type", default="traffic_light", help="of junctions: traffic_light, priority, ..")
     parser.add_argument("--until", type=int, default=86_400)
     parser.add_argument("--sumo", action="store_true", help="run it in SUMO too")
+    add_put(parser)
     args, more = parser.parse_known_args(argv)
     folder = shared.work_of(args)
     network, routes, run, mapped = (folder / name for name in ("net.xml", "rou.xml", "run.jsonl", "map.json"))
@@ -152,7 +156,11 @@ def main_day(argv: list[str]) -> int | None:
         command = [TOP / "tools/streetsim-import", network, "--routes", routes, "-o", run, "--map", mapped]
         measured("import", command, folder)
     command = [TOP / "tools/streetsim-run", run, "--map", mapped, "--until", args.until, "--program", args.program]
-    measured("run", [*command, "--out", folder / "out", *more], folder)
+    took, most = measured("run", [*command, "--out", folder / "out", *more], folder)
+    if (args.type, args.until, more) == ("traffic_light", 86_400, ["--junctions", "900"]):
+        what = f"a day of {args.side**2} signals and {args.vehicles:,} vehicles, all tables"
+        told = f"tools and streetsim {took:.0f} s, {most:.0f} MB, at a load of {os.getloadavg()[0]:.0f}"
+        keep_result(args, "program", what, {"Measured": told})
     if args.sumo:
         measured("SUMO", sumo_words(network, routes, args.until, folder), folder)
 
@@ -352,11 +360,11 @@ def opened(page: "Chrome", address: str, begin: int) -> None:
     page.execute_async_script("const done = arguments[1]; guarded(() => advance(arguments[0])).then(done)", begin)
 
 
-def measure(page: "Chrome", name: str, scale: float | str | None, seconds: int) -> None:
+def measure(page: "Chrome", name: str, scale: float | str | None, words: argparse.Namespace) -> None:
     """Plays in a view for some seconds, and prints a row."""
     lanes = page.execute_script(VIEW, scale)
     time.sleep(2)
-    frames, made, spent = page.execute_async_script(COUNT, seconds)
+    frames, made, spent = page.execute_async_script(COUNT, words.seconds)
     shown = json.loads(page.execute_script("if (playing) toggle(); return document.body.dataset.shown"))
     load = os.getloadavg()[0]
     print(
@@ -364,6 +372,8 @@ def measure(page: "Chrome", name: str, scale: float | str | None, seconds: int) 
         f"{1000 * made / spent:.1f} | {load:.1f} |",
         flush=True,
     )
+    told = f"{1000 * frames / spent:.0f}, beside a load of {load:.0f} on {len(os.sched_getaffinity(0))} processors"
+    keep_result(words, "program", f"frames a second of the live page, {name}", {"Measured": told})
 
 
 def measure_all(page: "Chrome", words: argparse.Namespace, folder: Path) -> None:
@@ -376,7 +386,7 @@ def measure_all(page: "Chrome", words: argparse.Namespace, folder: Path) -> None
         with served(run, mapping, words.program) as address:
             opened(page, address, begin)
             for view, scale in views.items():
-                measure(page, f"{name}, {view}", scale, words.seconds)
+                measure(page, f"{name}, {view}", scale, words)
             page.get("about:blank")
 
 
@@ -393,6 +403,7 @@ def main_live(argv: list[str]) -> int | None:
     parser.add_argument("corridor")
     parser.add_argument("map")
     parser.add_argument("--seconds", type=int, default=6)
+    add_put(parser)
     args = parser.parse_args(argv)
     shared.print_heads("Page | lanes in view | vehicles driving | frames a second | steps a second | load")
     with tempfile.TemporaryDirectory() as folder, browser() as page:
