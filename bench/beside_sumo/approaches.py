@@ -15,6 +15,7 @@ from statistics import correlation, fmean
 import shared
 from beside_sumo.rows import run_files, sumo_trips, trips_here
 from crosses import FIRST, FULL, LAST, a_green, cases, demand
+from networks.streets import Plain
 from networks.unseen import KINDS as MADE, make
 from shared import SAMPLES, TOP, run
 from streetsim.model.folder import read_folder
@@ -135,12 +136,14 @@ BEGIN, END = 900, 1800  # seconds of the count, when the approach is full
 
 def approach(folder):
     """A cross of two one-way streets of one lane, 50 km/h; its light lets one of them go for 42 s of 90."""
-    nodes = "".join(f'<node id="{name}" x="{x}" y="{y}" type="{kind}"/>' for name, x, y, kind in NODES)
-    edges = "".join(f'<edge id="{name}" from="{begin}" to="{end}" speed="13.89"/>' for name, begin, end in EDGES)
-    ways = '<connection from="in" to="out"/><connection from="up" to="away"/>'
-    for name, inner in (("nodes", nodes), ("edges", edges), ("connections", ways)):
-        (folder / f"x.{name[:3]}.xml").write_text(f"<{name}>{inner}</{name}>")
-    run(["netconvert", "-n", "x.nod.xml", "-e", "x.edg.xml", "-x", "x.con.xml", "-o", "x.net.xml"], folder)
+    plain = Plain()
+    for name, x, y, kind in NODES:
+        plain.node(name, x, y, kind)
+    for name, begin, end in EDGES:
+        plain.named_edge(name, begin, end, speed=13.89)
+    plain.connect("in", "out")
+    plain.connect("up", "away")
+    plain.make(folder / "x.net.xml")
     text = (folder / "x.net.xml").read_text()
     mine = int(re.search(r'from="in" to="out"[^>]*linkIndex="(\d)"', text)[1])
     states = [("G", "r"), ("y", "r"), ("r", "G"), ("r", "y")]

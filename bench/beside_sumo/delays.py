@@ -3,8 +3,6 @@
 import csv
 import gzip
 import re
-import shlex
-import sys
 import xml.etree.ElementTree as ElementTree
 from collections import defaultdict
 from dataclasses import dataclass, replace
@@ -15,8 +13,9 @@ from types import SimpleNamespace
 
 import shared
 from crosses import demand
+from networks.streets import Plain, generate, random_trips
 from seen import kernel_of, show
-from shared import CORRIDOR, RANDOM_TRIPS, SAMPLES, SHIPPED, TOP, run
+from shared import CORRIDOR, SAMPLES, SHIPPED, TOP, run
 from streetsim.base.report import Report
 from streetsim.model.folder import read_folder
 from streetsim.model.mapping import read_map
@@ -68,9 +67,8 @@ def prepared(case, folder):
     words, often, last = MADE[case.name]
     net, routes = folder / case.net, folder / case.routes
     if not routes.exists():
-        run(["netgenerate", *shlex.split(words), "--seed", 1, "-o", net], folder)
-        made = f"-b 0 -e {last} -p {often} --seed 7 --min-distance 300 --fringe-factor 2 --validate"
-        run([sys.executable, RANDOM_TRIPS, "-n", net, *made.split(), "-r", routes], folder)
+        generate(net, f"{words} --seed 1")
+        random_trips(net, routes, often, "--seed 7 --min-distance 300 --fringe-factor 2", last)
     return replace(case, net=net, routes=routes)
 
 
@@ -332,18 +330,13 @@ def cross_of(lanes, folder):
     net = folder / f"cross-of-{lanes}.net.xml"
     if not net.exists():
         places = {"c": (0, 0), "w": (-500, 0), "e": (500, 0), "n": (0, 500), "s": (0, -500)}
-        nodes = "".join(
-            f'<node id="{name}" x="{x}" y="{y}"' + (' type="traffic_light"/>' if name == "c" else "/>")
-            for name, (x, y) in places.items()
-        )
-        edges = "".join(
-            f'<edge id="{source}{target}" from="{source}" to="{target}" numLanes="{lanes}" speed="13.89"/>'
-            for arm in "wens" for source, target in ((arm, "c"), ("c", arm))
-        )
-        (folder / "cross.nod.xml").write_text(f"<nodes>{nodes}</nodes>", encoding="utf-8")
-        (folder / "cross.edg.xml").write_text(f"<edges>{edges}</edges>", encoding="utf-8")
-        words = ["netconvert", "-n", "cross.nod.xml", "-e", "cross.edg.xml", "--no-turnarounds", "--tls.cycle.time", 90]
-        run([*words, "-o", net], folder)
+        plain = Plain()
+        for name, (x, y) in places.items():
+            plain.node(name, x, y, "traffic_light" if name == "c" else "")
+        for arm in "wens":
+            for source, target in ((arm, "c"), ("c", arm)):
+                plain.named_edge(f"{source}{target}", source, target, numLanes=lanes, speed=13.89)
+        plain.make(net, "--no-turnarounds", "--tls.cycle.time", 90)
     return net
 
 

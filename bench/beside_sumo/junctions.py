@@ -15,13 +15,14 @@ from statistics import fmean
 
 import shared
 from beside_sumo.rows import run_files, sumo_trips, trips_here
-from shared import TOOLS, run
+from networks.streets import Plain, quarter
+from shared import TOOLS
 from streetsim.report.beside_sumo import read_tripinfo
 from streetsim.report.picture_files import load_pyplot, save_picture
 
 FIRST, LAST = 600, 3900  # seconds of the count
 ARM, OUT, SPEED = 500, 200, 13.89  # metres of an arm that leads to the junction, and of one from it; metres a second
-RADIUS, RING = 18, 8.33  # of a roundabout: metres, metres a second
+RADIUS = 18  # of a roundabout, metres
 APART = 2500  # metres from junction to junction
 PLACES = {"w": (-1, 0), "e": (1, 0), "n": (0, 1), "s": (0, -1)}
 ROUND = "enws"  # the arms in the order of driving
@@ -57,51 +58,38 @@ class Junction:
         return 5 if self.kind in ("equal", "allway") else 10 if arm in "we" else 1
 
 
-def plain(junction: Junction, x: float) -> tuple[list[str], list[str]]:
-    """Nodes and edges of a lone junction, in SUMO's plain XML."""
+def draw_junction(plain: Plain, junction: Junction, x: float) -> None:
+    """Nodes and edges of a lone junction."""
     if junction.kind == "roundabout":
-        return roundabout(junction, x)
-    nodes, edges = [f'<node id="{junction.name}" x="{x}" y="0" type="{junction.type}"/>'], []
+        return draw_roundabout(plain, junction, x)
+    plain.node(junction.name, x, 0, junction.type)
     for arm in junction.arms:
-        lanes = junction.lanes if arm in "we" else 1
-        edges += arm_of(junction, junction.name, arm, junction.priority(arm), lanes)
-        nodes += ends_of(junction, arm, x, 0)
-    return nodes, edges
+        draw_arm(plain, junction, junction.name, arm, junction.priority(arm), junction.lanes if arm in "we" else 1)
+        draw_ends(plain, junction, arm, x, 0)
 
 
-def ends_of(junction: Junction, arm: str, x: float, radius: float) -> list[str]:
+def draw_ends(plain: Plain, junction: Junction, arm: str, x: float, radius: float) -> None:
     """The far ends of an arm."""
     right, up = PLACES[arm]
-    return [
-        f'<node id="{junction.name}{arm}{side}" x="{x + right * (radius + length)}" y="{up * (radius + length)}"/>'
-        for side, length in (("in", junction.arm), ("out", junction.out))
-    ]
+    for side, length in (("in", junction.arm), ("out", junction.out)):
+        plain.node(f"{junction.name}{arm}{side}", x + right * (radius + length), up * (radius + length), "")
 
 
-def arm_of(junction: Junction, node: str, arm: str, priority: int, lanes: int = 1) -> list[str]:
+def draw_arm(plain: Plain, junction: Junction, node: str, arm: str, priority: int, lanes: int = 1) -> None:
     """The two edges of an arm."""
-    name, usual = junction.name, f'numLanes="{lanes}" speed="{junction.speed}" priority="{priority}"'
-    return [
-        f'<edge id="{name}{arm}c" from="{name}{arm}in" to="{node}" {usual}/>',
-        f'<edge id="{name}c{arm}" from="{node}" to="{name}{arm}out" {usual}/>',
-    ]
+    name, usual = junction.name, {"numLanes": lanes, "speed": junction.speed, "priority": priority}
+    plain.named_edge(f"{name}{arm}c", f"{name}{arm}in", node, **usual)
+    plain.named_edge(f"{name}c{arm}", node, f"{name}{arm}out", **usual)
 
 
-def roundabout(junction: Junction, x: float) -> tuple[list[str], list[str]]:
-    nodes, edges, name, radius = [], [], junction.name, junction.radius
+def draw_roundabout(plain: Plain, junction: Junction, x: float) -> None:
+    name, radius = junction.name, junction.radius
     for at, arm in enumerate(ROUND):
         begin, following = at * math.pi / 2, ROUND[(at + 1) % 4]
-        nodes.append(
-            f'<node id="{name}{arm}" x="{x + radius * math.cos(begin):.2f}" y="{radius * math.sin(begin):.2f}" '
-            'type="priority"/>'
-        )
-        nodes += ends_of(junction, arm, x, radius)
-        edges += arm_of(junction, f"{name}{arm}", arm, 5)
-        angles = (begin + part * math.pi / 8 for part in range(5))
-        shape = " ".join(f"{x + radius * math.cos(angle):.2f},{radius * math.sin(angle):.2f}" for angle in angles)
-        ring = f'numLanes="1" speed="{RING}" priority="10" shape="{shape}"'
-        edges.append(f'<edge id="{name}q{arm}" from="{name}{arm}" to="{name}{following}" {ring}/>')
-    return nodes, edges
+        plain.node(f"{name}{arm}", x + radius * math.cos(begin), radius * math.sin(begin))
+        draw_ends(plain, junction, arm, x, radius)
+        draw_arm(plain, junction, f"{name}{arm}", arm, 5)
+        plain.named_edge(f"{name}q{arm}", f"{name}{arm}", f"{name}{following}", **quarter(x, 0, radius, at))
 
 
 def way(junction: Junction, ends: str) -> str:
@@ -136,15 +124,10 @@ def prepare(junctions: Sequence[Junction], folder: Path, seed: int, more: str = 
     """The network and the routes."""
     net, routes = folder / "net.net.xml", folder / f"demand-{seed}.rou.xml"
     if not net.exists():
-        made = [plain(junction, at * APART) for at, junction in enumerate(junctions)]
-        for kind, place in (("nodes", 0), ("edges", 1)):
-            text = "".join(line for one in made for line in one[place])
-            (folder / f"plain.{kind}.xml").write_text(f"<{kind}>{text}</{kind}>", encoding="utf-8")
-        words = (
-            "netconvert -n plain.nodes.xml -e plain.edges.xml --roundabouts.guess true --no-turnarounds true "
-            f"{more} -o net.net.xml"
-        )
-        run(words.split(), folder)
+        plain = Plain()
+        for at, junction in enumerate(junctions):
+            draw_junction(plain, junction, at * APART)
+        plain.make(net, "--roundabouts.guess", "true", "--no-turnarounds", "true", *more.split())
     if not routes.exists():
         routes.write_text(demand(junctions, seed), encoding="utf-8")
     return net, routes

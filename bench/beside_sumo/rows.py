@@ -7,7 +7,6 @@ import json
 import os
 import re
 import shlex
-import sys
 import xml.etree.ElementTree as ElementTree
 from collections import Counter, defaultdict
 from collections.abc import Callable, Iterable, Iterator, Mapping, Sequence
@@ -19,9 +18,9 @@ from statistics import fmean, median
 from typing import ClassVar
 
 import shared
-from networks.streets import write_town
+from networks.streets import generate, random_trips, write_town
 from networks.unseen import Made
-from shared import CORRIDOR, RANDOM_TRIPS, SAMPLES, SHIPPED, TOOLS, TOP, digest_of_commands, numbers
+from shared import CORRIDOR, SAMPLES, SHIPPED, TOOLS, TOP, digest_of_commands, numbers
 from shared import run, spread, teleports_of
 from streetsim.model.folder import read_folder
 from streetsim.model.tables import MOVEMENTS, read_table
@@ -431,13 +430,11 @@ def prepare(case, folder):
     net, routes = folder / "net.net.xml", folder / "demand.rou.xml"
     if not routes.exists():
         if case.name in ROUNDABOUTS:
-            write_town(folder, *ROUNDABOUTS[case.name])
-            words = "netconvert -n plain.nodes.xml -e plain.edges.xml --roundabouts.guess true"
+            words = write_town(folder, *ROUNDABOUTS[case.name])
+            run([*words, "--no-turnarounds", "true", "-o", net], folder)
         else:
-            words = f"netgenerate {MADE[case.name]}"
-        run([*shlex.split(words), "--no-turnarounds", "true", "-o", net], folder)
-        often = f"-b 0 -e 3600 -p {case.period:.6f} --seed 7 --min-distance 300 --fringe-factor 2"
-        run([sys.executable, RANDOM_TRIPS, "-n", net, *often.split(), "--validate", "-r", routes], folder)
+            generate(net, f"{MADE[case.name]} --no-turnarounds true")
+        random_trips(net, routes, case.period, "--seed 7 --min-distance 300 --fringe-factor 2")
     return net, routes
 
 

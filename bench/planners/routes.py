@@ -17,7 +17,8 @@ from pathlib import Path
 from statistics import fmean
 
 import shared
-from shared import RANDOM_TRIPS, SAMPLES, SUMO_HOME, TOP
+from networks.streets import generate, random_trips
+from shared import SAMPLES, SUMO_HOME, TOP
 from streetsim.base.files import elements
 from streetsim.base.seeds import mean_and_half_width, seeds_of
 
@@ -129,9 +130,8 @@ def case_of(name, folder):
         return Case(folder, SAMPLES / "town.net.xml.gz", trips_of(SAMPLES / "town.rou.xml.gz", trips))
     net, (words, seed) = folder / "made.net.xml", MADE[name]
     if not trips.exists():
-        run(["netgenerate", *shlex.split(words), "--no-turnarounds", "true", "-o", net], folder)
-        often = f"-b 0 -e 3600 -p {3600 / count:.6f} --seed {seed} --min-distance 500 --validate -r validated.rou.xml"
-        run([sys.executable, RANDOM_TRIPS, "-n", net, *shlex.split(often)], folder)
+        generate(net, f"{words} --no-turnarounds true")
+        random_trips(net, folder / "validated.rou.xml", 3600 / count, f"--seed {seed} --min-distance 500")
         trips_of(folder / "validated.rou.xml", trips)
     return Case(folder, net, trips)
 

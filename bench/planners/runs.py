@@ -20,6 +20,7 @@ from statistics import fmean
 from typing import TYPE_CHECKING
 
 import shared
+from networks.streets import generate
 from program import steps
 from repository.pages import add_put, keep_result
 from shared import TOOLS, TOP
@@ -43,9 +44,7 @@ HOURS = (5, 3, 3, 3, 5, 15, 45, 80, 75, 55, 45, 45, 50, 50, 50, 55, 75, 85, 75, 
 
 
 def make_network(path, side, kind):
-    words = ["netgenerate", "--grid", "--grid.number", side, "--grid.length", 200, "-L", 1, "-j", kind]
-    words += ["--no-turnarounds", "true", "--seed", 1, "-o", path]
-    subprocess.run([str(word) for word in words], check=True, stdout=subprocess.DEVNULL)
+    generate(path, f"--grid --grid.number {side} --grid.length 200 -L 1 -j {kind} --no-turnarounds true --seed 1")
 
 
 def name_of(column, row, side):

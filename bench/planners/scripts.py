@@ -24,6 +24,7 @@ from types import ModuleType
 
 import shared
 from beside_sumo.rows import run_files
+from networks.streets import Plain
 from shared import CORRIDOR, SAMPLES, SUMO_HOME, TOP
 from streetsim.control.actuated_logic import GO
 from streetsim.control.bus_coordinated import Coordinated
@@ -417,12 +418,12 @@ STREET_UNTIL = 5400
 
 def make_street(folder, lanes, edge):
     """A street's network and its stop, on one of its edges."""
-    nodes = '<node id="A" x="0" y="0"/><node id="M" x="600" y="0" type="priority"/><node id="Z" x="1200" y="0"/>'
-    more = f'numLanes="{lanes}" speed="13.9"'
-    edges = f'<edge id="a" from="A" to="M" {more}/><edge id="b" from="M" to="Z" {more}/>'
-    (folder / "street.nod.xml").write_text(f"<nodes>{nodes}</nodes>", encoding="utf-8")
-    (folder / "street.edg.xml").write_text(f"<edges>{edges}</edges>", encoding="utf-8")
-    shared.run("netconvert -n street.nod.xml -e street.edg.xml -o street.net.xml".split(), folder)
+    plain = Plain()
+    for name, x in (("A", 0), ("M", 600), ("Z", 1200)):
+        plain.node(name, x, 0, "priority" if name == "M" else "")
+    for name, begin, end in (("a", "A", "M"), ("b", "M", "Z")):
+        plain.named_edge(name, begin, end, numLanes=lanes, speed=SPEED)
+    plain.make(folder / "street.net.xml")
     stop = f'<busStop id="stop" lane="{edge}_0" startPos="318" endPos="345"/>'
     (folder / "stops.add.xml").write_text(f"<additional>{stop}</additional>", encoding="utf-8")
 

@@ -14,6 +14,7 @@ from statistics import fmean
 
 import shared
 from beside_sumo.rows import sumo_trips
+from networks.streets import Plain
 from networks.unseen import Made, make, read_net, ways_of
 from shared import SAMPLES, SHIPPED, TOP, numbers, run, teleports_of
 
@@ -136,14 +137,12 @@ def plain_street(folder: Path, hourly: int) -> Case:
     own = folder / f"street-{hourly}"
     own.mkdir(parents=True, exist_ok=True)
     if not (own / "net.net.xml").exists():
-        nodes = "".join(f'<node id="{name}" x="{x}" y="0"/>' for name, x in (("a", 0), ("b", 800), ("c", 1600)))
-        edges = "".join(
-            f'<edge id="{name}" from="{begin}" to="{end}" numLanes="2" speed="13.89"/>'
-            for name, begin, end in (("in", "a", "b"), ("out", "b", "c"))
-        )
-        (own / "plain.nodes.xml").write_text(f"<nodes>{nodes}</nodes>", encoding="utf-8")
-        (own / "plain.edges.xml").write_text(f"<edges>{edges}</edges>", encoding="utf-8")
-        run("netconvert -n plain.nodes.xml -e plain.edges.xml -o net.net.xml".split(), own)
+        plain = Plain()
+        for name, x in (("a", 0), ("b", 800), ("c", 1600)):
+            plain.node(name, x, 0, "")
+        for name, begin, end in (("in", "a", "b"), ("out", "b", "c")):
+            plain.named_edge(name, begin, end, numLanes=2, speed=13.89)
+        plain.make(own / "net.net.xml")
         each = f'begin="0" end="7200" vehsPerHour="{hourly}" departLane="best" departSpeed="max"'
         text = f'<routes><flow id="f" {each}><route edges="in out"/></flow></routes>'
         (own / "demand.rou.xml").write_text(text, encoding="utf-8")
