@@ -104,18 +104,18 @@ def way(junction: Junction, ends: str) -> str:
 
 def demand(junctions: Sequence[Junction], seed: int) -> str:
     """The routes: vehicles at random, whose names tell the junction, whether they are looked at, and where they go."""
-    draws, found = random.Random(seed), []
+    draws, vehicles = random.Random(seed), []
     for junction in junctions:
         streams = [("minor", stream) for stream in junction.looked_at] + [("major", other) for other in junction.others]
         for kind, stream in streams:
             clock = 0.0
             while stream.hourly and (clock := clock + draws.expovariate(stream.hourly / 3600)) < LAST:
-                name = f"{junction.name}.{kind}.{len(found)}.{stream.ends}"
-                found.append((clock, name, stream.lane, way(junction, stream.ends)))
+                name = f"{junction.name}.{kind}.{len(vehicles)}.{stream.ends}"
+                vehicles.append((clock, name, stream.lane, way(junction, stream.ends)))
     lines = (
         f'<vehicle id="{name}" depart="{clock:.1f}" departLane="{lane}" departSpeed="max"><route edges="{edges}"/>'
         "</vehicle>"
-        for clock, name, lane, edges in sorted(found)
+        for clock, name, lane, edges in sorted(vehicles)
     )
     return f"<routes>{''.join(lines)}</routes>"
 
@@ -276,16 +276,16 @@ TURNS = {"straight": STRAIGHT, "left": LEFT, "right": RIGHT}
 
 def drawn(kind: str, seed: int, count: int) -> list[Junction]:
     """The junctions of a kind: of each as many as there are levels."""
-    draws, found = random.Random(f"{kind} {seed}"), []
-    for at in range(count):
-        arms = "wes" if at % 4 == 3 and kind != "roundabouts" else "wens"
+    draws, junctions = random.Random(f"{kind} {seed}"), []
+    for number in range(count):
+        arms = "wes" if number % 4 == 3 and kind != "roundabouts" else "wens"
         flows, arm = flows_of(kind, arms, draws), draws.randrange(120, 301, 10)
         radius = draws.randrange(16, 29)
         for level in LEVELS:
             streams = tuple(Stream(ends, flow * level) for ends, flow in flows.items())
-            name = f"j{at}_{round(100 * level)}"
-            found.append(Junction(name, arms, KINDS[kind], streams, arm=arm, out=arm, radius=radius))
-    return found
+            name = f"j{number}_{round(100 * level)}"
+            junctions.append(Junction(name, arms, KINDS[kind], streams, arm=arm, out=arm, radius=radius))
+    return junctions
 
 
 def flows_of(kind: str, arms: str, draws: random.Random) -> dict[str, float]:
@@ -313,13 +313,13 @@ def way_of(kind: str, ends: str) -> str:
 
 def means(kind: str, trips: Trips) -> dict[tuple[int, str], list[float]]:
     """The trips of those who depart in the count, by (percent of the flows, way), and of all ways ("")."""
-    found = defaultdict(list)
+    durations = defaultdict(list)
     for name, (depart, arrival) in trips.items():
         if FIRST <= depart < LAST - FIRST:
             junction, _, _, ends = name.split(".")
             for way in ("", way_of(kind, ends)):
-                found[int(junction.partition("_")[2]), way].append(arrival - depart)
-    return found
+                durations[int(junction.partition("_")[2]), way].append(arrival - depart)
+    return durations
 
 
 def main_lone_trips(argv: list[str]) -> int | None:
@@ -377,18 +377,18 @@ def waiting_junctions() -> dict[Key, Junction]:
 
 def waiting_demand(every: dict[Key, Junction]) -> str:
     """The routes: each minor street's vehicles are drawn alike against each stream."""
-    found = []
+    vehicles = []
     for (title, minor, first), junction in every.items():
         *_, own, other = WAITS[title]
         for kind, ends, hourly, seed in (("minor", own, minor, f"{title}{minor}"), ("major", other, first, title)):
             draws, clock = random.Random(f"{kind} {seed} {hourly}"), 0.0
             while hourly and (clock := clock + draws.expovariate(hourly / 3600)) < UNTIL - 300:
                 factor = min(1.3, max(0.7, draws.gauss(1, 0.1)))
-                found.append((clock, f"{junction.name}.{kind}.{len(found)}", factor, way(junction, ends)))
+                vehicles.append((clock, f"{junction.name}.{kind}.{len(vehicles)}", factor, way(junction, ends)))
     lines = (
         f'<vehicle id="{name}" depart="{clock:.1f}" departSpeed="max" speedFactor="{factor:.3f}">'
         f'<route edges="{edges}"/></vehicle>'
-        for clock, name, factor, edges in sorted(found)
+        for clock, name, factor, edges in sorted(vehicles)
     )
     return f"<routes>{''.join(lines)}</routes>"
 

@@ -90,14 +90,14 @@ def speeds_of(net: Path) -> dict[str, float]:
 
 
 def delays_of(path: Path, free: dict[str, float]) -> dict[Way, tuple[float, float]]:
-    found = defaultdict(list)
+    delays = defaultdict(list)
     for vehicle in ElementTree.parse(path).getroot().iter("vehicle"):
         route = vehicle.find("route") if vehicle.find("route") is not None else vehicle.find("routeDistribution/route")
         edges, ends = route.get("edges").split(), [float(text) for text in route.get("exitTimes", "").split()]
         for at, way in enumerate(pairwise(edges)):
             if 0 < at < len(ends) and ends[at] >= 0:
-                found[way].append(ends[at] - ends[at - 1] - free[way[0]])
-    return {way: (len(values), fmean(values)) for way, values in found.items()}
+                delays[way].append(ends[at] - ends[at - 1] - free[way[0]])
+    return {way: (len(values), fmean(values)) for way, values in delays.items()}
 
 
 def here(made: Made, seeds: Sequence[int], program: str, tools: Path) -> list[Side]:

@@ -74,14 +74,14 @@ def equal(said, wanted):
         raise SystemExit(f"wanted {wanted!r:.120}, but the program gave {said!r:.120}")
 
 
-def session(words, text):
+def session(command, text):
     """A run from a file to a file: seconds on the wall, processor seconds, which other programs disturb less, and its
     replies."""
     with tempfile.TemporaryFile() as source, tempfile.TemporaryFile() as target:
         source.write(text)
         source.seek(0)
         begun, before = time.perf_counter(), shared.children_seconds()
-        subprocess.run(words, stdin=source, stdout=target, check=True)
+        subprocess.run(command, stdin=source, stdout=target, check=True)
         wall, spent = time.perf_counter() - begun, shared.children_seconds() - before
         target.seek(0)
         return wall, spent, target.read()
@@ -250,13 +250,13 @@ def main_vehicles(argv: list[str]) -> int | None:
 
     shared.print_heads("What | Measured")
     for name, base, timed, expected in sessions(args.vehicles, args.lines, args.waiting):
-        below, whole, words = [], [], [args.program, *ALL_CALLS]
+        below, with_lines, words = [], [], [args.program, *ALL_CALLS]
         for _ in range(args.times):
             below.append(session(words, base)[1])
             _, spent, replies = session(words, base + timed)
-            whole.append(spent)
+            with_lines.append(spent)
             check(replies, expected)
-        rate = len(expected) / (min(whole) - min(below))
+        rate = len(expected) / (min(with_lines) - min(below))
         print_and_keep(args, name, f"{rate:,.0f}")
 
 
@@ -393,14 +393,14 @@ WAYS = (("--calls", "1000000"), ("--endless",), ("--keep", "FILE", "--unsynced")
 def seconds_by_way(args: argparse.Namespace, folder: Path) -> dict[tuple[str, ...], list[float]]:
     """How long each run takes by each of WAYS, in turn; all must have the same replies."""
     kept, pair = folder / "day.jsonl", line({**enter(1), "plan": [0, 1]}) + line({"cmd": "advance", "steps": 1})
-    given, taken, first = line(STREET) + pair * (args.lines // 2), {way: [] for way in WAYS}, b""
+    given, seconds_taken, first = line(STREET) + pair * (args.lines // 2), {way: [] for way in WAYS}, b""
     for way in WAYS * args.times:
         kept.unlink(missing_ok=True)
         wall, _, replies = session([args.program, *(str(kept) if word == "FILE" else word for word in way)], given)
-        taken[way].append(wall)
+        seconds_taken[way].append(wall)
         if replies != (first := first or replies):
             sys.exit(f"{way}: other replies")
-    return taken
+    return seconds_taken
 
 
 def most_memory(program: str, calls: int, folder: Path) -> int:
@@ -470,13 +470,13 @@ def trial_of(draw: random.Random, seed: int, noting: Noting, folder: Path) -> Tr
     return kind(session, noting, words, folder / "kept", draw.choice((None, begin)))
 
 
-def run_on(trial: Trial, draw: random.Random, most: int) -> tuple[int, list[str]]:
+def run_on(trial: Trial, draw: random.Random, greatest_call: int) -> tuple[int, list[str]]:
     """A run of which one of so many calls fails, or four from it on, and what then ends: how many calls it made, and
     which of them failed."""
     # Where the file keeps its place, a sync that failed and could not be withdrawn is not covered.
     many = 1 if isinstance(trial, LinkedTrial) else draw.choice((1, 1, 4))
     # The later of two draws, since most calls are made before the first line is read.
-    fault = Fault(max(draw.randint(1, most), draw.randint(1, most)), draw.choice(ERRORS), many)
+    fault = Fault(max(draw.randint(1, greatest_call), draw.randint(1, greatest_call)), draw.choice(ERRORS), many)
     calls = trial.go_on(fault, trial.next() + draw.randint(1, AT_ONCE))
     made = [call.name for call in calls if call.name != "close"]
     if draw.random() < 0.5:
@@ -488,18 +488,18 @@ def tried(seed: int, noting: Noting, folder: Path) -> Counter[str]:
     """The trial of a seed: how many runs it had, and which calls failed in them; what contradicted a reply is told."""
     draw, most = random.Random(seed), 30
     trial = trial_of(draw, seed, noting, folder)
-    found: Counter[str] = Counter()
+    counts: Counter[str] = Counter()
     try:
-        while found["runs"] < MOST_RUNS and trial.next() < len(trial.session.lines):
+        while counts["runs"] < MOST_RUNS and trial.next() < len(trial.session.lines):
             most, failed = run_on(trial, draw, most)
-            found.update(["runs", *(["failing"] if failed else []), *(f"call {name}" for name in failed)])
+            counts.update(["runs", *(["failing"] if failed else []), *(f"call {name}" for name in failed)])
         trial.go_on()
         trial.check_crashes()
     except Contradicted as fault:
         print(f"seed {seed}, {' '.join(trial.words)}: {fault}"[:1000])
-        found["contradicted"] += 1
-    found["lines"] += trial.answered
-    return found
+        counts["contradicted"] += 1
+    counts["lines"] += trial.answered
+    return counts
 
 
 def failed_in(found: Counter[str]) -> dict[str, int]:
@@ -527,21 +527,21 @@ def main_failing_calls(argv: list[str]) -> int | None:
     parser.add_argument("--jobs", type=int, default=len(os.sched_getaffinity(0)))
     add_put(parser)
     args = parser.parse_args(argv)
-    found, seed = Counter[str](), args.seed
+    counts, seed = Counter[str](), args.seed
     with tempfile.TemporaryDirectory() as made, ThreadPoolExecutor(args.jobs) as pool:
         noting = Noting(Path(made))
-        while found["failing"] < args.runs:
+        while counts["failing"] < args.runs:
             seeds = range(seed, seed := seed + args.jobs)
-            found += sum(pool.map(lambda one: tried(one, noting, Path(made) / str(one)), seeds), Counter[str]())
-    failed = failed_in(found)
-    print(f"{found['runs']:,} runs of {seed - args.seed:,} sessions, {found['lines']:,} lines answered")
-    print(f"in {found['failing']:,} of them calls failed:")
+            counts += sum(pool.map(lambda one: tried(one, noting, Path(made) / str(one)), seeds), Counter[str]())
+    failed = failed_in(counts)
+    print(f"{counts['runs']:,} runs of {seed - args.seed:,} sessions, {counts['lines']:,} lines answered")
+    print(f"in {counts['failing']:,} of them calls failed:")
     print(f"{sum(failed.values()):,} calls: {', '.join(f'{name} {count:,}' for name, count in failed.items())}")
-    print(f"{found['contradicted']:,} sessions in which a reply was contradicted")
-    if found["contradicted"]:
+    print(f"{counts['contradicted']:,} sessions in which a reply was contradicted")
+    if counts["contradicted"]:
         return 1
-    told = f"no reply of {found['lines']:,} contradicted, in {found['runs']:,} runs of {seed - args.seed:,} sessions; "
-    told += f"in {found['failing']:,} of these runs calls failed, {sum(failed.values()):,} in all"
+    told = f"no reply of {counts['lines']:,} contradicted, in {counts['runs']:,} runs of {seed - args.seed:,} sessions"
+    told += f"; in {counts['failing']:,} of these runs calls failed, {sum(failed.values()):,} in all"
     what = "kept sessions of which calls of the system fail or come short"
     keep_result(args, "program", what, {"Measured": told})
     return 0

@@ -204,13 +204,14 @@ def main_steps(argv: list[str]) -> int | None:
     add_put(parser)
     args = parser.parse_args(argv)
 
-    words = {of_workers(count): [args.program, "--workers", count, *CALLS] for count in args.workers.split(",")}
+    counts = args.workers.split(",")
+    command_lines = {of_workers(count): [args.program, "--workers", count, *CALLS] for count in counts}
     if args.beside:
-        words = {"beside": [args.beside, *CALLS], **words}
+        command_lines = {"beside": [args.beside, *CALLS], **command_lines}
     print(f"million vehicle updates a second (best of {args.times}; medians of {args.runs} runs)")
     for name, make in SESSIONS.items():
         if args.only in name:
-            runs = [rates_of(words, *make(), args.times) for _ in range(args.runs)]
+            runs = [rates_of(command_lines, *make(), args.times) for _ in range(args.runs)]
             found = cells_of(runs)
             print(f"  {name:<14}" + ", ".join(f"{it} {cell}" for it, cell in found.items()), flush=True)
             keep_rates(args, TOLD[name] + RUNS.get(args.runs, f" ({args.runs} runs)"), found, runs)
@@ -241,14 +242,14 @@ def cells_of(runs):
     return {first: rates[first], **{one: f"{rates[one]} ({ratio_of(runs, one, first)})" for one in others}}
 
 
-def keep_rates(args, what, found, runs):
+def keep_rates(args, session, found, runs):
     """Keeps the rates beside another program, and the ratios to one worker."""
     first, *others = found
     if first == "beside":
-        keep_result(args, "steps", what, {"C++": found[first], **{one: found[one] for one in others}})
+        keep_result(args, "steps", session, {"C++": found[first], **{one: found[one] for one in others}})
     if "1 worker" in found:
         more = {one: ratio_of(runs, one, "1 worker") for one in others if one != "1 worker"}
-        keep_result(args, "workers", what, more)
+        keep_result(args, "workers", session, more)
 
 
 WARM = 32  # steps with caches before those that are counted
@@ -273,27 +274,27 @@ def cells(program):
     return json.loads(program.ask([line(cmd="count")])[0])["cells"]
 
 
-def counted(path, lines, before, steps, folder):
+def counted(path, lines, warm_up_steps, steps, folder):
     """Runs a session up to the steps that are counted, and these;
     gives callgrind's file and how many updates they are."""
-    found = Path(folder) / "callgrind.out"
+    profile = Path(folder) / "callgrind.out"
     words = [
-        "valgrind", "--tool=callgrind", "--instr-atstart=no", *CACHES, f"--callgrind-out-file={found}",
+        "valgrind", "--tool=callgrind", "--instr-atstart=no", *CACHES, f"--callgrind-out-file={profile}",
         f"--log-file={folder}/log",
     ]
     program = Program("counted", [*words, path, "--workers", "1", *CALLS])
     program.ask(lines)
-    if before > WARM:
-        program.ask([line(cmd="advance", steps=before - WARM)])
+    if warm_up_steps > WARM:
+        program.ask([line(cmd="advance", steps=warm_up_steps - WARM)])
     control(program, "-i", "on")
-    program.ask([line(cmd="advance", steps=min(before, WARM))])
+    program.ask([line(cmd="advance", steps=min(warm_up_steps, WARM))])
     first = cells(program)
     control(program, "-z")
     program.ask([line(cmd="advance", steps=steps)])
     control(program, "-d")
     updates = steps * (first + cells(program)) / 2
     program.end()
-    return found.with_name("callgrind.out.1"), updates
+    return profile.with_name("callgrind.out.1"), updates
 
 
 def by_function(path):
@@ -458,15 +459,16 @@ def check_record(record: Path, replies: list[bytes], seconds: int) -> None:
 
 def measured(program: str, session: Recorded, times: int, folder: Path) -> dict[str, str]:
     """The row of a session, by the heads of its columns."""
-    given, told, same, record = (folder / name for name in ("lines", "replies", "replies-too", "record"))
+    names = "lines", "replies", "replies-too", "record"
+    given, plain_replies, recorded_replies, record = (folder / name for name in names)
     given.write_bytes(session.text())
     without, beside = [], []
     for _ in range(times):
-        without.append(run_once([program, "--endless"], given, told))
-        beside.append(run_once([program, "--record", record], given, same))
-        if told.read_bytes() != same.read_bytes():
+        without.append(run_once([program, "--endless"], given, plain_replies))
+        beside.append(run_once([program, "--record", record], given, recorded_replies))
+        if plain_replies.read_bytes() != recorded_replies.read_bytes():
             sys.exit(f"{session.name}: the replies are not the same")
-    check_record(record, told.read_bytes().splitlines(), session.seconds)
+    check_record(record, plain_replies.read_bytes().splitlines(), session.seconds)
     megabytes = record.stat().st_size / 1e6
     record.unlink()
     ratio = statistics.median(two / one for one, two in zip(without, beside, strict=True))
@@ -505,14 +507,14 @@ def lock_step(program: str, session: Recorded) -> tuple[float, float, float, int
     """Seconds on the wall of all seconds in lock step, processor seconds of this script, of the program with its begin,
     and how many vehicles stood still in a second, summed."""
     with tempfile.TemporaryDirectory() as folder:
-        before = shared.children_seconds()
+        earlier_seconds = shared.children_seconds()
         followed = Followed(program, Path(folder))
         followed.ask(session.begin)
         begin, own = time.perf_counter(), time.process_time()
         stand = sum(followed.second() for _ in range(session.seconds))
         wall, own = time.perf_counter() - begin, time.process_time() - own
         followed.end()
-        return wall, own, shared.children_seconds() - before, stand
+        return wall, own, shared.children_seconds() - earlier_seconds, stand
 
 
 def main_record(argv: list[str]) -> int | None:

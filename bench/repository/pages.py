@@ -348,11 +348,11 @@ NUMBER = re.compile(r"\d+(?:,\d{3})*(?:\.\d+)?")
 
 
 @dataclass
-class Result:
+class MeasuredCell:
     """A cell of RESULTS.md that was measured."""
 
     table: str
-    what: str  # its row
+    row: str
     column: str
     figures: str  # numbers, with blanks between
     unit: str  # with the words around the figures, {} for each
@@ -369,30 +369,30 @@ class Result:
         self.unit = NUMBER.sub("{}", cell)
 
 
-def read_results() -> list[Result]:
+def read_results() -> list[MeasuredCell]:
     with RESULT_ROWS.open(encoding="utf-8", newline="") as file:
-        return [Result(**row) for row in csv.DictReader(file)]
+        return [MeasuredCell(**row) for row in csv.DictReader(file)]
 
 
-def with_results(text: str, results: Sequence[Result]) -> str:
+def with_results(text: str, kept_cells: Sequence[MeasuredCell]) -> str:
     """The text of RESULTS.md with the rows of its tables as they are kept, in the order of both."""
     lines = text.split("\n")
-    tables = [[*own] for _, own in groupby(results, attrgetter("table"))]
+    tables = [[*own] for _, own in groupby(kept_cells, attrgetter("table"))]
     for grid, own in reversed([*zip(grids(lines), tables, strict=True)]):
         lines[min(grid.rows) : max(grid.rows) + 1] = result_rows(grid.head, own)
     return "\n".join(lines)
 
 
-def result_rows(head: Row, results: Sequence[Result]) -> Iterator[str]:
+def result_rows(head: Row, kept_cells: Sequence[MeasuredCell]) -> Iterator[str]:
     """The rows of a table; a command that is that of the row above is the same."""
     above = ""
-    for what, own in groupby(results, attrgetter("what")):
+    for row, own in groupby(kept_cells, attrgetter("row")):
         measured = [*own]
         found = {one.column: one.cell for one in measured}
         bound, command = measured[0].bound, measured[0].command
         found |= {"What bounds it": bound, "By": "the same" if command == above else f"`{command}`"}
         above = command
-        yield f"| {' | '.join((what, *(found[column] for column in head[1:])))} |".replace("|  |", "| |")
+        yield f"| {' | '.join((row, *(found[column] for column in head[1:])))} |".replace("|  |", "| |")
 
 
 def add_put(parser: argparse.ArgumentParser) -> None:
@@ -400,29 +400,29 @@ def add_put(parser: argparse.ArgumentParser) -> None:
     parser.add_argument("--put", action="store_true", help="keep figures in results.csv, and put them into RESULTS.md")
 
 
-def keep_result(args: argparse.Namespace, table: str, what: str, found: Mapping[str, str]) -> None:
+def keep_result(args: argparse.Namespace, table: str, row: str, measured: Mapping[str, str]) -> None:
     """With --put keeps what was found of a row, by columns; it says what RESULTS.md does not have."""
     if not args.put:
         return
     with RESULT_ROWS.open("a", encoding="utf-8") as lock:  # of another measurement that puts, too
         fcntl.flock(lock, fcntl.LOCK_EX)
-        results = read_results()
-        known = {one.column: one for one in results if (one.table, one.what) == (table, what)}
-        for column, cell in found.items():
+        kept_cells = read_results()
+        known = {one.column: one for one in kept_cells if (one.table, one.row) == (table, row)}
+        for column, cell in measured.items():
             if column in known:
                 known[column].take(cell)
             else:
-                print(f"  not in RESULTS.md: {what}, {column}", file=sys.stderr)
-        write_results(results)
+                print(f"  not in RESULTS.md: {row}, {column}", file=sys.stderr)
+        write_results(kept_cells)
 
 
-def write_results(results: Sequence[Result]) -> None:
+def write_results(kept_cells: Sequence[MeasuredCell]) -> None:
     """Writes kept rows, and the page with them."""
-    page = with_results(RESULTS.read_text(encoding="utf-8"), results)
+    page = with_results(RESULTS.read_text(encoding="utf-8"), kept_cells)
     with RESULT_ROWS.open("w", encoding="utf-8", newline="") as file:
-        table = csv.DictWriter(file, [one.name for one in fields(Result)], lineterminator="\n")
+        table = csv.DictWriter(file, [one.name for one in fields(MeasuredCell)], lineterminator="\n")
         table.writeheader()
-        table.writerows(asdict(one) for one in results)
+        table.writerows(asdict(one) for one in kept_cells)
     RESULTS.write_text(page, encoding="utf-8")
 
 

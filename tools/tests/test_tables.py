@@ -19,7 +19,7 @@ sys.path.insert(0, str(TOP / "bench"))
 from program.lines import ROWS  # noqa: E402
 from repository import pages  # noqa: E402
 from repository.pages import (  # noqa: E402
-    RESULTS, TABLES, Result, grids, keep_result, put, read_results, section, with_results, write_results,
+    RESULTS, TABLES, MeasuredCell, grids, keep_result, put, read_results, section, with_results, write_results,
 )
 from shared import all_commands, digests_of, loaded_by  # noqa: E402
 
@@ -174,9 +174,9 @@ class Sources(Case):
         self.assertEqual([name for name in loaded if name.startswith(("streetsim.live", "streetsim.traci"))], [])
 
 
-CALL = Result("calls", "memory of a call", "Measured", "1328", "{} bytes", "the line", "bench/run calls")
-SLOW, NEXT = replace(CALL, what="a step", figures="15 0.10", unit="{} to {} s"), replace(CALL, what="the next")
-STEPS = Result("steps", "ring", "1 worker", "55.6", "{}", "", "bench/run steps"), Result(
+CALL = MeasuredCell("calls", "memory of a call", "Measured", "1328", "{} bytes", "the line", "bench/run calls")
+SLOW, NEXT = replace(CALL, row="a step", figures="15 0.10", unit="{} to {} s"), replace(CALL, row="the next")
+STEPS = MeasuredCell("steps", "ring", "1 worker", "55.6", "{}", "", "bench/run steps"), MeasuredCell(
     "steps", "ring", "2 workers", "84.7 1.54", "{} ({})", "", "bench/run steps"
 )
 MEASURED = """# Results
@@ -245,7 +245,7 @@ class KeptResults(Case):
             self.assertTrue(not own or own in known or (TOP / own).is_file(), row.command)
 
     def test_rows_of_calls_are_those_of_the_measurement(self):
-        kept = [row.what for row in read_results() if row.command == "bench/run calls"]
+        kept = [cell.row for cell in read_results() if cell.command == "bench/run calls"]
         self.assertEqual(kept, [name for name, _ in ROWS])
 
 
