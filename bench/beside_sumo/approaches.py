@@ -15,6 +15,7 @@ from statistics import correlation, fmean
 import shared
 from beside_sumo.rows import run_files, sumo_trips, trips_here
 from crosses import FIRST, FULL, LAST, a_green, cases, demand
+from networks.streets import Plain
 from networks.unseen import KINDS as MADE, make
 from shared import SAMPLES, TOP, run
 from streetsim.model.folder import read_folder
@@ -45,7 +46,7 @@ def main_cross(argv: list[str]) -> int | None:
     args = parser.parse_args(argv)
     folder = shared.work_of(args)
     shared.print_heads("Vehicles from the west | SUMO | here")
-    for name, network, flows in (one for one in cases() if args.only in one[0]):
+    for name, network, flows in (case for case in cases() if args.only in case[0]):
         net = TOP / f"tools/tests/data/{network}.net.xml.gz"
         pairs = []
         for seed in shared.numbers(args.seeds):
@@ -53,7 +54,7 @@ def main_cross(argv: list[str]) -> int | None:
             routes.write_text(demand(flows, seed), encoding="utf-8")
             pairs.append((in_sumo(net, routes, folder), here(net, routes, folder, args)))
         for way in sorted({way for arm, way in flows if arm == "w"}, reverse=True):
-            there, ours = (fmean(one[side].get(way, 0.0) for one in pairs) for side in (0, 1))
+            there, ours = (fmean(case[side].get(way, 0.0) for case in pairs) for side in (0, 1))
             print(f"| {name}: {way} | {there:.1f} | {ours:.1f} ({(ours / there - 1) * 100:+.0f} %) |", flush=True)
 
 
@@ -135,12 +136,14 @@ BEGIN, END = 900, 1800  # seconds of the count, when the approach is full
 
 def approach(folder):
     """A cross of two one-way streets of one lane, 50 km/h; its light lets one of them go for 42 s of 90."""
-    nodes = "".join(f'<node id="{name}" x="{x}" y="{y}" type="{kind}"/>' for name, x, y, kind in NODES)
-    edges = "".join(f'<edge id="{name}" from="{begin}" to="{end}" speed="13.89"/>' for name, begin, end in EDGES)
-    ways = '<connection from="in" to="out"/><connection from="up" to="away"/>'
-    for name, inner in (("nodes", nodes), ("edges", edges), ("connections", ways)):
-        (folder / f"x.{name[:3]}.xml").write_text(f"<{name}>{inner}</{name}>")
-    run(["netconvert", "-n", "x.nod.xml", "-e", "x.edg.xml", "-x", "x.con.xml", "-o", "x.net.xml"], folder)
+    plain = Plain()
+    for name, x, y, kind in NODES:
+        plain.node(name, x, y, kind)
+    for name, begin, end in EDGES:
+        plain.named_edge(name, begin, end, speed=13.89)
+    plain.connect("in", "out")
+    plain.connect("up", "away")
+    plain.make(folder / "x.net.xml")
     text = (folder / "x.net.xml").read_text()
     mine = int(re.search(r'from="in" to="out"[^>]*linkIndex="(\d)"', text)[1])
     states = [("G", "r"), ("y", "r"), ("r", "G"), ("r", "y")]
@@ -274,13 +277,13 @@ def write_detectors(path):
         for lane in root.iterfind("edge[@from]/lane"):
             name, metres = lane.get("id"), float(lane.get("length"))
             for sort, place in (("end", metres - 5), ("middle", metres / 2)):
-                words = f'id="{sort} {name}" lane="{name}" pos="{place:.2f}" freq="{PERIOD}" file="e1.xml"'
-                file.write(f"<inductionLoop {words}/>\n")
+                attributes = f'id="{sort} {name}" lane="{name}" pos="{place:.2f}" freq="{PERIOD}" file="e1.xml"'
+                file.write(f"<inductionLoop {attributes}/>\n")
             begin = max(0.0, metres - AREA)
-            words = (
+            attributes = (
                 f'id="area {name}" lane="{name}" pos="{begin:.2f}" endPos="{metres:.2f}" freq="{PERIOD}" file="e2.xml"'
             )
-            file.write(f"<laneAreaDetector {words}/>\n")
+            file.write(f"<laneAreaDetector {attributes}/>\n")
         file.write("</additional>\n")
 
 
@@ -363,7 +366,7 @@ ENDED = 4 * HOUR  # second by which a run of SUMO ends that is locked
 NEAR = 1.0  # seconds of green
 
 
-def driven_in_sumo(made, net, folder):
+def driven_in_sumo(network, net, folder):
     """The mean trip of those who arrived, how many did, and the greens by (light, state)."""
     programs = list(ElementTree.parse(net).getroot().iter("tlLogic"))
     lights = {one.get("id") for one in programs}
@@ -375,7 +378,7 @@ def driven_in_sumo(made, net, folder):
     events, states, trips = folder / "events.add.xml", folder / "states.xml", folder / "trips.xml"
     wanted = "".join(f'<timedEvent type="SaveTLSStates" source="{one}" dest="{states}"/>' for one in sorted(lights))
     events.write_text(f"<additional>{wanted}</additional>", encoding="utf-8")
-    routes = ",".join(map(str, made.routes))
+    routes = ",".join(map(str, network.routes))
     words = ["sumo", "-n", net, "-r", routes, "-a", events, "--tripinfo-output", trips, "--end", ENDED]
     shared.run([*words, "--no-step-log", "--no-warnings", "--time-to-teleport", 300], folder)
     seconds = shared.trips_from_wish(trips).values()
@@ -385,19 +388,19 @@ def driven_in_sumo(made, net, folder):
 def greens_in(path, rings):
     """{(light, state): how long each lasted} of a file of SUMO's states, of the first hour; rings: the states of the
     phases of NEMA lights, of which two are shown at once."""
-    found, shown = defaultdict(list), {}
+    durations, since_by_green = defaultdict(list), {}
     for _, one in ElementTree.iterparse(path):
         if one.tag == "tlsState":
             light, state, time = one.get("id"), one.get("state"), float(one.get("time"))
             own = [phase for phase in rings[light] if is_green(phase, state)] if light in rings else [state]
-            for key in [key for key in shown if key[0] == light and key[1] not in own]:
-                since = shown.pop(key)
+            for key in [key for key in since_by_green if key[0] == light and key[1] not in own]:
+                since = since_by_green.pop(key)
                 if time <= HOUR:
-                    found[key].append(time - since)
+                    durations[key].append(time - since)
             for phase in own:
-                shown.setdefault((light, phase), time)
+                since_by_green.setdefault((light, phase), time)
             one.clear()
-    return found
+    return durations
 
 
 def is_green(phase, state):
@@ -407,17 +410,17 @@ def is_green(phase, state):
 
 def driven_here(program, run, folder, lights):
     """The same of a run here, and whether it is to be trusted."""
-    out = folder / f"out-{lights}"
-    words = [shared.TOP / "tools/streetsim-run", *run, "--lights", lights, "--program", program, "--out", out]
-    told = shared.run([*words, "--every", 0], folder)
-    seconds = shared.durations_here(out).values()
+    run_folder = folder / f"out-{lights}"
+    words = [shared.TOP / "tools/streetsim-run", *run, "--lights", lights, "--program", program, "--out", run_folder]
+    printed = shared.run([*words, "--every", 0], folder)
+    seconds = shared.durations_here(run_folder).values()
     greens = defaultdict(list)
-    if (out / "phases.csv").exists():
-        with open(out / "phases.csv", encoding="utf-8") as file:
+    if (run_folder / "phases.csv").exists():
+        with open(run_folder / "phases.csv", encoding="utf-8") as file:
             for row in csv.DictReader(file):
                 if row["ended"] not in ("", "listed") and int(row["begin"]) + int(row["seconds"]) <= HOUR:
                     greens[row["light"], row["state"]].append(int(row["seconds"]))
-    return fmean(seconds), len(seconds), greens, "not to be trusted" in told
+    return fmean(seconds), len(seconds), greens, "not to be trusted" in printed
 
 
 def compared(there, own):
@@ -427,24 +430,24 @@ def compared(there, own):
     return f"{near} of {len(apart)}, {fmean(apart):+.1f}" if apart else ""
 
 
-def driven_row(program, kind, made):
+def driven_row(program, kind, network):
     """A line of the table."""
-    folder = made.folder
+    folder = network.folder
     fixed = folder / "fixed.net.xml"
-    text = made.net.read_text(encoding="utf-8")
+    text = network.net.read_text(encoding="utf-8")
     for driven in ("actuated", "NEMA", "delay_based"):
         text = text.replace(f'type="{driven}"', 'type="static"')
     fixed.write_text(text, encoding="utf-8")
-    there = [driven_in_sumo(made, net, folder) for net in (fixed, made.net)]
+    sumo_runs = [driven_in_sumo(network, net, folder) for net in (fixed, network.net)]
     run = [folder / "run.jsonl", "--map", folder / "map.json"]
-    shared.run([shared.TOP / "tools/streetsim-import", made.net, "--routes", *made.routes, "-o", *run], folder)
-    own = [driven_here(program, run, folder, lights) for lights in ("listed", "actuated")]
-    gains = [100 * (after[0] / before[0] - 1) for before, after in (there, own)]
+    shared.run([shared.TOP / "tools/streetsim-import", network.net, "--routes", *network.routes, "-o", *run], folder)
+    our_runs = [driven_here(program, run, folder, lights) for lights in ("listed", "actuated")]
+    gains = [100 * (after[0] / before[0] - 1) for before, after in (sumo_runs, our_runs)]
     cells = [
-        kind, f"{made.level:g}", f"{made.vehicles:,}", f"{there[1][1]:,}, {own[1][1]:,}",
-        f"{there[0][0]:.1f} -> {there[1][0]:.1f}", f"{own[0][0]:.1f} -> {own[1][0]:.1f}",
-        f"{100 * (own[1][0] / there[1][0] - 1):+.1f}", f"{gains[0]:+.0f}, {gains[1]:+.0f}",
-        compared(there[1][2], own[1][2]), "not to be trusted" if own[1][3] else "",
+        kind, f"{network.level:g}", f"{network.vehicles:,}", f"{sumo_runs[1][1]:,}, {our_runs[1][1]:,}",
+        f"{sumo_runs[0][0]:.1f} -> {sumo_runs[1][0]:.1f}", f"{our_runs[0][0]:.1f} -> {our_runs[1][0]:.1f}",
+        f"{100 * (our_runs[1][0] / sumo_runs[1][0] - 1):+.1f}", f"{gains[0]:+.0f}, {gains[1]:+.0f}",
+        compared(sumo_runs[1][2], our_runs[1][2]), "not to be trusted" if our_runs[1][3] else "",
     ]  # fmt: skip
     return f"| {' | '.join(cells)} |"
 

@@ -3,8 +3,6 @@
 import csv
 import gzip
 import re
-import shlex
-import sys
 import xml.etree.ElementTree as ElementTree
 from collections import defaultdict
 from dataclasses import dataclass, replace
@@ -15,8 +13,9 @@ from types import SimpleNamespace
 
 import shared
 from crosses import demand
+from networks.streets import Plain, generate, random_trips
 from seen import kernel_of, show
-from shared import CORRIDOR, RANDOM_TRIPS, SAMPLES, SHIPPED, TOP, run
+from shared import CORRIDOR, SAMPLES, SHIPPED, TOP, run
 from streetsim.base.report import Report
 from streetsim.model.folder import read_folder
 from streetsim.model.mapping import read_map
@@ -68,9 +67,8 @@ def prepared(case, folder):
     words, often, last = MADE[case.name]
     net, routes = folder / case.net, folder / case.routes
     if not routes.exists():
-        run(["netgenerate", *shlex.split(words), "--seed", 1, "-o", net], folder)
-        made = f"-b 0 -e {last} -p {often} --seed 7 --min-distance 300 --fringe-factor 2 --validate"
-        run([sys.executable, RANDOM_TRIPS, "-n", net, *made.split(), "-r", routes], folder)
+        generate(net, f"{words} --seed 1")
+        random_trips(net, routes, often, "--seed 7 --min-distance 300 --fringe-factor 2", last)
     return replace(case, net=net, routes=routes)
 
 
@@ -133,20 +131,21 @@ def lost_on_edges(case, folder, seed):
     """{edge: (vehicles that left it, what they lost there and in the junction behind)} by edgeData."""
     opened = gzip.open if case.net.suffix == ".gz" else open
     inside = defaultdict(set)  # the internal lanes behind a lane on the way to an edge
-    behind = defaultdict(set)  # the internal edges behind an edge
+    internal_edges = defaultdict(set)  # the internal edges behind an edge
     with opened(case.net, "rt", encoding="utf-8") as file:
-        for one in ElementTree.parse(file).getroot().iter("connection"):
-            if one.get("via"):
-                inside[f"{one.get('from')}_{one.get('fromLane')}", one.get("to")].add(one.get("via"))
+        for element in ElementTree.parse(file).getroot().iter("connection"):
+            if element.get("via"):
+                inside[f"{element.get('from')}_{element.get('fromLane')}", element.get("to")].add(element.get("via"))
     for (lane, target), ways in list(inside.items()):
         while ways:
-            behind[lane.rsplit("_", 1)[0]] |= {via.rsplit("_", 1)[0] for via in ways}
+            internal_edges[lane.rsplit("_", 1)[0]] |= {via.rsplit("_", 1)[0] for via in ways}
             ways = {via for lane in ways for via in inside.get((lane, target), ())}
-    rows = {one.get("id"): one for one in ElementTree.parse(folder / f"lost-{seed}.xml").getroot().iter("edge")}
-    lost = {edge: float(one.get("timeLoss") or 0) for edge, one in rows.items()}
-    left = {edge: int(one.get("left")) for edge, one in rows.items() if edge[0] != ":"}
+    elements = ElementTree.parse(folder / f"lost-{seed}.xml").getroot().iter("edge")
+    rows = {element.get("id"): element for element in elements}
+    lost = {edge: float(element.get("timeLoss") or 0) for edge, element in rows.items()}
+    left = {edge: int(element.get("left")) for edge, element in rows.items() if edge[0] != ":"}
     return {
-        edge: (count, (lost[edge] + sum(lost.get(one, 0.0) for one in behind[edge])) / count)
+        edge: (count, (lost[edge] + sum(lost.get(element, 0.0) for element in internal_edges[edge])) / count)
         for edge, count in left.items() if count
     }
 
@@ -235,34 +234,36 @@ def mean_delay(pairs):
 
 def judged(case, folder, seeds, mapping, free):
     """The approaches with vehicles enough on both sides; free: what a vehicle loses in SUMO that nobody hinders."""
-    there = [run_sumo(case, folder / "demand.rou.xml", folder, seed) for seed in seeds]
-    here = [rows_of(folder, seed) for seed in seeds]
+    sumo_runs = [run_sumo(case, folder / "demand.rou.xml", folder, seed) for seed in seeds]
+    our_runs = [rows_of(folder, seed) for seed in seeds]
     for edge, approach in approaches_of(mapping).items():
-        ours = [(int(rows[edge]["vehicles"]), float(rows[edge]["control_delay_s"])) for rows in here if edge in rows]
-        theirs = [delays[edge] for delays, _ in there if edge in delays]
+        own_rows = [rows[edge] for rows in our_runs if edge in rows]
+        ours = [(int(row["vehicles"]), float(row["control_delay_s"])) for row in own_rows]
+        theirs = [delays[edge] for delays, _ in sumo_runs if edge in delays]
         counts = tuple(sum(count for count, _ in side) for side in (theirs, ours))
         if min(counts) < LEAST:
             continue
-        lanes = [name for name in there[0][1] if name.rsplit("_", 1)[0] == edge]
-        jams = fmean(max(percentile(jams[lane], 0.95) for lane in lanes) for _, jams in there)
-        queue = fmean(float(rows[edge]["queue_95_m"]) for rows in here if edge in rows)
+        lanes = [name for name in sumo_runs[0][1] if name.rsplit("_", 1)[0] == edge]
+        jams = fmean(max(percentile(jams[lane], 0.95) for lane in lanes) for _, jams in sumo_runs)
+        queue = fmean(float(row["queue_95_m"]) for row in own_rows)
         counted = mean_delay(theirs)
         delays = max(0.0, counted - free[edge]), mean_delay(ours)
         yield Both(edge, approach.control, counts, delays, (jams, queue), counted)
 
 
-def told(name, control, found):
+def told(name, control, approaches):
     """A row of the table."""
-    means = [mean_delay([(one.vehicles[side], one.delays[side]) for one in found]) for side in (0, 1)]
-    counted = mean_delay([(one.vehicles[0], one.counted) for one in found])
-    r = correlation([one.delays[0] for one in found], [one.delays[1] for one in found])
-    apart = [abs(one.letters()[0] - one.letters()[1]) for one in found]
-    queues = [fmean(one.queues[side] for one in found) for side in (0, 1)]
+    means = [mean_delay([(one.vehicles[side], one.delays[side]) for one in approaches]) for side in (0, 1)]
+    counted_delay = mean_delay([(one.vehicles[0], one.counted) for one in approaches])
+    r = correlation([one.delays[0] for one in approaches], [one.delays[1] for one in approaches])
+    apart = [abs(one.letters()[0] - one.letters()[1]) for one in approaches]
+    queues = [fmean(one.queues[side] for one in approaches) for side in (0, 1)]
     more = (means[1] / means[0] - 1) * 100, (queues[1] / queues[0] - 1) * 100 if queues[0] else 0.0
+    count = len(approaches)
     return (
-        f"| {name}, {control} | {len(found)} | {counted:.1f} | {means[0]:.1f} | {means[1]:.1f} ({more[0]:+.0f} %) | "
+        f"| {name}, {control} | {count} | {counted_delay:.1f} | {means[0]:.1f} | {means[1]:.1f} ({more[0]:+.0f} %) | "
         f"{r or 0:.2f} | "
-        f"{apart.count(0) / len(found) * 100:.0f} %, {sum(gap <= 1 for gap in apart) / len(found) * 100:.0f} % | "
+        f"{apart.count(0) / count * 100:.0f} %, {sum(gap <= 1 for gap in apart) / count * 100:.0f} % | "
         f"{queues[0]:.0f} | {queues[1]:.0f} ({more[1]:+.0f} %) |"
     )
 
@@ -280,15 +281,16 @@ def compare(case, args, seeds):
         run_sumo(case, routes, folder, seed)
     run_here(case, folder, args.seeds, args.program)
     found = list(judged(case, folder, seeds, mapping, free))
-    groups = [(control, [one for one in found if one.control == control]) for control in (SIGNALS, "priority")]
+    controls = (SIGNALS, "priority")
+    groups = [(control, [approach for approach in found if approach.control == control]) for control in controls]
     if all(those for _, those in groups):
         print(told(case.name, "all", found))
     for control, those in groups:
         if those:
             print(told(case.name, control, those), flush=True)
-        for one in those:
-            if abs(one.letters()[0] - one.letters()[1]) > 1 or args.all:
-                print(described(one), flush=True)
+        for approach in those:
+            if abs(approach.letters()[0] - approach.letters()[1]) > 1 or args.all:
+                print(described(approach), flush=True)
 
 
 def described(one):
@@ -332,18 +334,13 @@ def cross_of(lanes, folder):
     net = folder / f"cross-of-{lanes}.net.xml"
     if not net.exists():
         places = {"c": (0, 0), "w": (-500, 0), "e": (500, 0), "n": (0, 500), "s": (0, -500)}
-        nodes = "".join(
-            f'<node id="{name}" x="{x}" y="{y}"' + (' type="traffic_light"/>' if name == "c" else "/>")
-            for name, (x, y) in places.items()
-        )
-        edges = "".join(
-            f'<edge id="{source}{target}" from="{source}" to="{target}" numLanes="{lanes}" speed="13.89"/>'
-            for arm in "wens" for source, target in ((arm, "c"), ("c", arm))
-        )
-        (folder / "cross.nod.xml").write_text(f"<nodes>{nodes}</nodes>", encoding="utf-8")
-        (folder / "cross.edg.xml").write_text(f"<edges>{edges}</edges>", encoding="utf-8")
-        words = ["netconvert", "-n", "cross.nod.xml", "-e", "cross.edg.xml", "--no-turnarounds", "--tls.cycle.time", 90]
-        run([*words, "-o", net], folder)
+        plain = Plain()
+        for name, (x, y) in places.items():
+            plain.node(name, x, y, "traffic_light" if name == "c" else "")
+        for arm in "wens":
+            for source, target in ((arm, "c"), ("c", arm)):
+                plain.named_edge(f"{source}{target}", source, target, numLanes=lanes, speed=13.89)
+        plain.make(net, "--no-turnarounds", "--tls.cycle.time", 90)
     return net
 
 

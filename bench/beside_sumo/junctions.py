@@ -15,13 +15,14 @@ from statistics import fmean
 
 import shared
 from beside_sumo.rows import run_files, sumo_trips, trips_here
-from shared import TOOLS, run
+from networks.streets import Plain, quarter
+from shared import TOOLS
 from streetsim.report.beside_sumo import read_tripinfo
 from streetsim.report.picture_files import load_pyplot, save_picture
 
 FIRST, LAST = 600, 3900  # seconds of the count
 ARM, OUT, SPEED = 500, 200, 13.89  # metres of an arm that leads to the junction, and of one from it; metres a second
-RADIUS, RING = 18, 8.33  # of a roundabout: metres, metres a second
+RADIUS = 18  # of a roundabout, metres
 APART = 2500  # metres from junction to junction
 PLACES = {"w": (-1, 0), "e": (1, 0), "n": (0, 1), "s": (0, -1)}
 ROUND = "enws"  # the arms in the order of driving
@@ -57,51 +58,38 @@ class Junction:
         return 5 if self.kind in ("equal", "allway") else 10 if arm in "we" else 1
 
 
-def plain(junction: Junction, x: float) -> tuple[list[str], list[str]]:
-    """Nodes and edges of a lone junction, in SUMO's plain XML."""
+def draw_junction(plain: Plain, junction: Junction, x: float) -> None:
+    """Nodes and edges of a lone junction."""
     if junction.kind == "roundabout":
-        return roundabout(junction, x)
-    nodes, edges = [f'<node id="{junction.name}" x="{x}" y="0" type="{junction.type}"/>'], []
+        return draw_roundabout(plain, junction, x)
+    plain.node(junction.name, x, 0, junction.type)
     for arm in junction.arms:
-        lanes = junction.lanes if arm in "we" else 1
-        edges += arm_of(junction, junction.name, arm, junction.priority(arm), lanes)
-        nodes += ends_of(junction, arm, x, 0)
-    return nodes, edges
+        draw_arm(plain, junction, junction.name, arm, junction.priority(arm), junction.lanes if arm in "we" else 1)
+        draw_ends(plain, junction, arm, x, 0)
 
 
-def ends_of(junction: Junction, arm: str, x: float, radius: float) -> list[str]:
+def draw_ends(plain: Plain, junction: Junction, arm: str, x: float, radius: float) -> None:
     """The far ends of an arm."""
     right, up = PLACES[arm]
-    return [
-        f'<node id="{junction.name}{arm}{side}" x="{x + right * (radius + length)}" y="{up * (radius + length)}"/>'
-        for side, length in (("in", junction.arm), ("out", junction.out))
-    ]
+    for side, length in (("in", junction.arm), ("out", junction.out)):
+        plain.node(f"{junction.name}{arm}{side}", x + right * (radius + length), up * (radius + length), "")
 
 
-def arm_of(junction: Junction, node: str, arm: str, priority: int, lanes: int = 1) -> list[str]:
+def draw_arm(plain: Plain, junction: Junction, node: str, arm: str, priority: int, lanes: int = 1) -> None:
     """The two edges of an arm."""
-    name, usual = junction.name, f'numLanes="{lanes}" speed="{junction.speed}" priority="{priority}"'
-    return [
-        f'<edge id="{name}{arm}c" from="{name}{arm}in" to="{node}" {usual}/>',
-        f'<edge id="{name}c{arm}" from="{node}" to="{name}{arm}out" {usual}/>',
-    ]
+    name, usual = junction.name, {"numLanes": lanes, "speed": junction.speed, "priority": priority}
+    plain.named_edge(f"{name}{arm}c", f"{name}{arm}in", node, **usual)
+    plain.named_edge(f"{name}c{arm}", node, f"{name}{arm}out", **usual)
 
 
-def roundabout(junction: Junction, x: float) -> tuple[list[str], list[str]]:
-    nodes, edges, name, radius = [], [], junction.name, junction.radius
+def draw_roundabout(plain: Plain, junction: Junction, x: float) -> None:
+    name, radius = junction.name, junction.radius
     for at, arm in enumerate(ROUND):
         begin, following = at * math.pi / 2, ROUND[(at + 1) % 4]
-        nodes.append(
-            f'<node id="{name}{arm}" x="{x + radius * math.cos(begin):.2f}" y="{radius * math.sin(begin):.2f}" '
-            'type="priority"/>'
-        )
-        nodes += ends_of(junction, arm, x, radius)
-        edges += arm_of(junction, f"{name}{arm}", arm, 5)
-        angles = (begin + part * math.pi / 8 for part in range(5))
-        shape = " ".join(f"{x + radius * math.cos(angle):.2f},{radius * math.sin(angle):.2f}" for angle in angles)
-        ring = f'numLanes="1" speed="{RING}" priority="10" shape="{shape}"'
-        edges.append(f'<edge id="{name}q{arm}" from="{name}{arm}" to="{name}{following}" {ring}/>')
-    return nodes, edges
+        plain.node(f"{name}{arm}", x + radius * math.cos(begin), radius * math.sin(begin))
+        draw_ends(plain, junction, arm, x, radius)
+        draw_arm(plain, junction, f"{name}{arm}", arm, 5)
+        plain.named_edge(f"{name}q{arm}", f"{name}{arm}", f"{name}{following}", **quarter(x, 0, radius, at))
 
 
 def way(junction: Junction, ends: str) -> str:
@@ -116,18 +104,18 @@ def way(junction: Junction, ends: str) -> str:
 
 def demand(junctions: Sequence[Junction], seed: int) -> str:
     """The routes: vehicles at random, whose names tell the junction, whether they are looked at, and where they go."""
-    draws, found = random.Random(seed), []
+    draws, vehicles = random.Random(seed), []
     for junction in junctions:
         streams = [("minor", stream) for stream in junction.looked_at] + [("major", other) for other in junction.others]
         for kind, stream in streams:
             clock = 0.0
             while stream.hourly and (clock := clock + draws.expovariate(stream.hourly / 3600)) < LAST:
-                name = f"{junction.name}.{kind}.{len(found)}.{stream.ends}"
-                found.append((clock, name, stream.lane, way(junction, stream.ends)))
+                name = f"{junction.name}.{kind}.{len(vehicles)}.{stream.ends}"
+                vehicles.append((clock, name, stream.lane, way(junction, stream.ends)))
     lines = (
         f'<vehicle id="{name}" depart="{clock:.1f}" departLane="{lane}" departSpeed="max"><route edges="{edges}"/>'
         "</vehicle>"
-        for clock, name, lane, edges in sorted(found)
+        for clock, name, lane, edges in sorted(vehicles)
     )
     return f"<routes>{''.join(lines)}</routes>"
 
@@ -136,15 +124,10 @@ def prepare(junctions: Sequence[Junction], folder: Path, seed: int, more: str = 
     """The network and the routes."""
     net, routes = folder / "net.net.xml", folder / f"demand-{seed}.rou.xml"
     if not net.exists():
-        made = [plain(junction, at * APART) for at, junction in enumerate(junctions)]
-        for kind, place in (("nodes", 0), ("edges", 1)):
-            text = "".join(line for one in made for line in one[place])
-            (folder / f"plain.{kind}.xml").write_text(f"<{kind}>{text}</{kind}>", encoding="utf-8")
-        words = (
-            "netconvert -n plain.nodes.xml -e plain.edges.xml --roundabouts.guess true --no-turnarounds true "
-            f"{more} -o net.net.xml"
-        )
-        run(words.split(), folder)
+        plain = Plain()
+        for at, junction in enumerate(junctions):
+            draw_junction(plain, junction, at * APART)
+        plain.make(net, "--roundabouts.guess", "true", "--no-turnarounds", "true", *more.split())
     if not routes.exists():
         routes.write_text(demand(junctions, seed), encoding="utf-8")
     return net, routes
@@ -293,16 +276,16 @@ TURNS = {"straight": STRAIGHT, "left": LEFT, "right": RIGHT}
 
 def drawn(kind: str, seed: int, count: int) -> list[Junction]:
     """The junctions of a kind: of each as many as there are levels."""
-    draws, found = random.Random(f"{kind} {seed}"), []
-    for at in range(count):
-        arms = "wes" if at % 4 == 3 and kind != "roundabouts" else "wens"
+    draws, junctions = random.Random(f"{kind} {seed}"), []
+    for number in range(count):
+        arms = "wes" if number % 4 == 3 and kind != "roundabouts" else "wens"
         flows, arm = flows_of(kind, arms, draws), draws.randrange(120, 301, 10)
         radius = draws.randrange(16, 29)
         for level in LEVELS:
             streams = tuple(Stream(ends, flow * level) for ends, flow in flows.items())
-            name = f"j{at}_{round(100 * level)}"
-            found.append(Junction(name, arms, KINDS[kind], streams, arm=arm, out=arm, radius=radius))
-    return found
+            name = f"j{number}_{round(100 * level)}"
+            junctions.append(Junction(name, arms, KINDS[kind], streams, arm=arm, out=arm, radius=radius))
+    return junctions
 
 
 def flows_of(kind: str, arms: str, draws: random.Random) -> dict[str, float]:
@@ -330,13 +313,13 @@ def way_of(kind: str, ends: str) -> str:
 
 def means(kind: str, trips: Trips) -> dict[tuple[int, str], list[float]]:
     """The trips of those who depart in the count, by (percent of the flows, way), and of all ways ("")."""
-    found = defaultdict(list)
+    durations = defaultdict(list)
     for name, (depart, arrival) in trips.items():
         if FIRST <= depart < LAST - FIRST:
             junction, _, _, ends = name.split(".")
             for way in ("", way_of(kind, ends)):
-                found[int(junction.partition("_")[2]), way].append(arrival - depart)
-    return found
+                durations[int(junction.partition("_")[2]), way].append(arrival - depart)
+    return durations
 
 
 def main_lone_trips(argv: list[str]) -> int | None:
@@ -394,18 +377,18 @@ def waiting_junctions() -> dict[Key, Junction]:
 
 def waiting_demand(every: dict[Key, Junction]) -> str:
     """The routes: each minor street's vehicles are drawn alike against each stream."""
-    found = []
+    vehicles = []
     for (title, minor, first), junction in every.items():
         *_, own, other = WAITS[title]
         for kind, ends, hourly, seed in (("minor", own, minor, f"{title}{minor}"), ("major", other, first, title)):
             draws, clock = random.Random(f"{kind} {seed} {hourly}"), 0.0
             while hourly and (clock := clock + draws.expovariate(hourly / 3600)) < UNTIL - 300:
                 factor = min(1.3, max(0.7, draws.gauss(1, 0.1)))
-                found.append((clock, f"{junction.name}.{kind}.{len(found)}", factor, way(junction, ends)))
+                vehicles.append((clock, f"{junction.name}.{kind}.{len(vehicles)}", factor, way(junction, ends)))
     lines = (
         f'<vehicle id="{name}" depart="{clock:.1f}" departSpeed="max" speedFactor="{factor:.3f}">'
         f'<route edges="{edges}"/></vehicle>'
-        for clock, name, factor, edges in sorted(found)
+        for clock, name, factor, edges in sorted(vehicles)
     )
     return f"<routes>{''.join(lines)}</routes>"
 

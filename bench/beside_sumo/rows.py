@@ -7,7 +7,6 @@ import json
 import os
 import re
 import shlex
-import sys
 import xml.etree.ElementTree as ElementTree
 from collections import Counter, defaultdict
 from collections.abc import Callable, Iterable, Iterator, Mapping, Sequence
@@ -19,9 +18,9 @@ from statistics import fmean, median
 from typing import ClassVar
 
 import shared
-from networks.streets import write_town
+from networks.streets import generate, random_trips, write_town
 from networks.unseen import Made
-from shared import CORRIDOR, RANDOM_TRIPS, SAMPLES, SHIPPED, TOOLS, TOP, digest_of_commands, numbers
+from shared import CORRIDOR, SAMPLES, SHIPPED, TOOLS, TOP, digest_of_commands, numbers
 from shared import run, spread, teleports_of
 from streetsim.model.folder import read_folder
 from streetsim.model.tables import MOVEMENTS, read_table
@@ -91,14 +90,14 @@ def speeds_of(net: Path) -> dict[str, float]:
 
 
 def delays_of(path: Path, free: dict[str, float]) -> dict[Way, tuple[float, float]]:
-    found = defaultdict(list)
+    delays = defaultdict(list)
     for vehicle in ElementTree.parse(path).getroot().iter("vehicle"):
         route = vehicle.find("route") if vehicle.find("route") is not None else vehicle.find("routeDistribution/route")
         edges, ends = route.get("edges").split(), [float(text) for text in route.get("exitTimes", "").split()]
         for at, way in enumerate(pairwise(edges)):
             if 0 < at < len(ends) and ends[at] >= 0:
-                found[way].append(ends[at] - ends[at - 1] - free[way[0]])
-    return {way: (len(values), fmean(values)) for way, values in found.items()}
+                delays[way].append(ends[at] - ends[at - 1] - free[way[0]])
+    return {way: (len(values), fmean(values)) for way, values in delays.items()}
 
 
 def here(made: Made, seeds: Sequence[int], program: str, tools: Path) -> list[Side]:
@@ -431,13 +430,11 @@ def prepare(case, folder):
     net, routes = folder / "net.net.xml", folder / "demand.rou.xml"
     if not routes.exists():
         if case.name in ROUNDABOUTS:
-            write_town(folder, *ROUNDABOUTS[case.name])
-            words = "netconvert -n plain.nodes.xml -e plain.edges.xml --roundabouts.guess true"
+            words = write_town(folder, *ROUNDABOUTS[case.name])
+            run([*words, "--no-turnarounds", "true", "-o", net], folder)
         else:
-            words = f"netgenerate {MADE[case.name]}"
-        run([*shlex.split(words), "--no-turnarounds", "true", "-o", net], folder)
-        often = f"-b 0 -e 3600 -p {case.period:.6f} --seed 7 --min-distance 300 --fringe-factor 2"
-        run([sys.executable, RANDOM_TRIPS, "-n", net, *often.split(), "--validate", "-r", routes], folder)
+            generate(net, f"{MADE[case.name]} --no-turnarounds true")
+        random_trips(net, routes, case.period, "--seed 7 --min-distance 300 --fringe-factor 2")
     return net, routes
 
 

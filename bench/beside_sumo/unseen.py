@@ -97,17 +97,17 @@ def main_unseen(argv: list[str]) -> int | None:
     shared.add_some(parser, "--kinds", KINDS, TEN)
     parser.add_argument("--level", type=float, default=LEVEL, help="the busiest lane's share of what it can pass")
     args = parser.parse_args(argv)
-    args.folder, found = shared.work_of(args), defaultdict(list)
+    args.folder, networks_by_kind = shared.work_of(args), defaultdict(list)
     ways = [(kind, seed) for kind in args.kinds for seed in args.seed]
     lost = "giving way: lost, SUMO / here | approaches: lost, r"
     shared.print_heads(f"Kind, seed (vehicles) | SUMO, s | teleports | here, s | {lost} | the last line")
-    for (kind, _), one in zip(ways, side_by_side(args.jobs, lambda way: compared(*way, args), ways), strict=True):
-        found[kind].append(one)
-        print(one.text, flush=True)
+    for (kind, _), network in zip(ways, side_by_side(args.jobs, lambda way: compared(*way, args), ways), strict=True):
+        networks_by_kind[kind].append(network)
+        print(network.text, flush=True)
     print()
     shared.print_heads("Kind of network | difference | teleports in SUMO")
-    print(*(of_kind(kind, some) for kind, some in found.items()), sep="\n")
-    every = [one.row for some in found.values() for one in some]
+    print(*(of_kind(kind, some) for kind, some in networks_by_kind.items()), sep="\n")
+    every = [network.row for some in networks_by_kind.values() for network in some]
     if args.rows:
         rows.keep(args.rows, every)
 
@@ -167,13 +167,13 @@ def draw_loads(kinds: Sequence[str], found: Sequence[Sequence[Row]], path: str) 
     pyplot = load_pyplot()
     high = -(-len(kinds) // ACROSS)
     figure, places = pyplot.subplots(high, ACROSS, figsize=(9, 1.9 * high), sharex=True, sharey=True, squeeze=False)
-    for kind, own, axes in zip(kinds, found, places.flat):
-        free = [row for row in own if not row.is_locked]
+    for kind, kind_rows, axes in zip(kinds, found, places.flat):
+        free = [row for row in kind_rows if not row.is_locked]
         axes.axhspan(-100 * NEAR, 100 * NEAR, color="#e8e8e8")
         axes.plot([row.level for row in free], [100 * row.more for row in free], color="#999999")
         for row in free:
             axes.plot(row.level, 100 * row.more, "o", color="black", markerfacecolor="white" if row.doubt else "black")
-        for row in own[len(free) :]:
+        for row in kind_rows[len(free) :]:
             axes.axvline(row.level, color="#999999", linestyle=":")
         axes.set_title(kind, fontsize=8)
         axes.set_ylim(-55, 35)
@@ -200,13 +200,13 @@ def main_sweep(argv: list[str]) -> int | None:
     parser.add_argument("--picture", help="draw the first table too")
     args = parser.parse_args(argv)
     args.folder, kinds = shared.work_of(args), args.kinds
-    found = list(side_by_side(args.jobs, lambda kind: climbed(kind, args), kinds))
-    every = [row for own in found for row in own]
-    print(*kinds_by_load(kinds, args.levels, found), "", *rows_by_load(args.levels, every), sep="\n")
+    rows_by_kind = list(side_by_side(args.jobs, lambda kind: climbed(kind, args), kinds))
+    every = [row for own in rows_by_kind for row in own]
+    print(*kinds_by_load(kinds, args.levels, rows_by_kind), "", *rows_by_load(args.levels, every), sep="\n")
     if args.rows:
         rows.keep(args.rows, every)
     if args.picture:
-        draw_loads(kinds, found, args.picture)
+        draw_loads(kinds, rows_by_kind, args.picture)
 
 
 BEFORE = "e31c1129"  # the last commit of version 1.0.0
@@ -312,13 +312,13 @@ def main_versions(argv: list[str]) -> int | None:
     args = parser.parse_args(argv)
     args.folder, kinds = shared.work_of(args), args.kinds
     old = tools_of(args.before, args.folder)
-    found = list(side_by_side(args.jobs, lambda kind: pairs_of(kind, old, args), kinds))
-    print(*pairs_by_kind(kinds, args.levels, found), "", sep="\n")
+    pairs = list(side_by_side(args.jobs, lambda kind: pairs_of(kind, old, args), kinds))
+    print(*pairs_by_kind(kinds, args.levels, pairs), "", sep="\n")
     shared.print_heads(PAIR_HEADS)
     for at, level in enumerate(args.levels):
-        print(*pairs_by_level(level, [own[at] for own in found]), sep="\n")
+        print(*pairs_by_level(level, [own[at] for own in pairs]), sep="\n")
     if args.rows:
-        rows.keep(args.rows, [pair.now for own in found for pair in own])
+        rows.keep(args.rows, [pair.now for own in pairs for pair in own])
 
 
 EACH = 4  # rows of a kind
@@ -344,13 +344,14 @@ class DrawnRow:
 
 def drawn(seed: int) -> list[Network]:
     draws = Random(seed)
-    found = [
+    networks = [
         Network(kind, draws.randrange(1000, 100_000), draws.choice(LOADS)) for kind in RULES for _ in range(EACH)
     ]
     for kind, parts in PARTS_OF.items():
-        found += [Network(kind, draws.randrange(1000, 100_000), draws.choice(LOADS)) for _ in range(EACH // len(parts))]
+        count = EACH // len(parts)
+        networks += [Network(kind, draws.randrange(1000, 100_000), draws.choice(LOADS)) for _ in range(count)]
     kind, own = draws.choice(CLIMBING), draws.randrange(1000, 100_000)
-    return [*found, *(Network(kind, own, level) for level in CLIMB)]
+    return [*networks, *(Network(kind, own, level) for level in CLIMB)]
 
 
 def part_of(sides: Sequence[Side], begin: str) -> list[Side]:
@@ -449,14 +450,14 @@ def asked(path, end):
 
 
 def demand_row(program, folder, path, end):
-    words, (net, additional, routes), end, more = asked(path, end)
+    words, (net, additional, routes), end, sumo_words = asked(path, end)
     outputs = ["-o", folder / "run.jsonl", "--map", folder / "map.json"]
     done([TOP / "tools/streetsim-import", *words, *outputs])
     period = min(900, end)
     run = [
         folder / "run.jsonl", "--map", folder / "map.json", "--until", end, "--period", period, "--out", folder / "out",
     ]
-    told = done([TOP / "tools/streetsim-run", *run, "--program", program])
+    printed = done([TOP / "tools/streetsim-run", *run, "--program", program])
     edges, trips, wanted = folder / "edges.xml", folder / "trips.xml", folder / "edges.add.xml"
     kind = LACKING if path.is_dir() else ""
     text = f'<additional>{kind}<edgeData id="counts" freq="{period}" file="{edges}"/></additional>'
@@ -465,7 +466,7 @@ def demand_row(program, folder, path, end):
     files = ["-n", net, "-a", ",".join([*additional, str(wanted)]), *(["-r", ",".join(routes)] if routes else [])]
     done(
         [
-            "sumo", *files, *more, "--end", end, "--tripinfo-output", trips, "--no-step-log", "-W",
+            "sumo", *files, *sumo_words, "--end", end, "--tripinfo-output", trips, "--no-step-log", "-W",
             "--ignore-route-errors",
         ]
     )
@@ -473,7 +474,7 @@ def demand_row(program, folder, path, end):
     arrived = re.search(r"arrived: ([\d,]+) here, ([\d,]+) in SUMO", text)
     mean = re.search(r"mean trip of these: ([\d.]+) s here, ([\d.]+) s in SUMO", text)
     counts = re.search(r"GEH below 5 for ([\d.]+) % of ([\d,]+)", text)
-    doubt = "not to be trusted" if "not to be trusted" in told else ""
+    doubt = "not to be trusted" if "not to be trusted" in printed else ""
     means = [f"{float(mean[2]):,.0f}", f"{float(mean[1]):,.0f}"] if mean else ["", ""]
     geh = f"{float(counts[1]):.0f} % of {counts[2]}" if counts else ""
     return [f"{end:,}", *([f"{arrived[2]}, {arrived[1]}"] if arrived else [""]), *means, geh, doubt]

@@ -14,6 +14,7 @@ from pathlib import Path
 from statistics import fmean
 from xml.etree import ElementTree
 
+from networks.streets import Plain
 from shared import run
 from streetsim.base.arrays import numpy as np
 from streetsim.demand.calibration_survey import discharge
@@ -90,26 +91,25 @@ def type_text(kind):
 
 def make_net(street, folder, diet=False):
     """The street's .net.xml; diet: with one lane from J2 to J3."""
-    nodes = [("W", 0, 0, 0), ("E", street.at[-1] + 300, 0, 0)]
-    nodes += [(f"J{at}", x, 0, 1) for at, x in enumerate(street.at, 1)]
-    nodes += [(f"{side}{at}", x, y, 0) for at, x in enumerate(street.at, 1) for side, y in (("N", 200), ("S", -200))]
-    pairs = [both for pair in zip(street.line, street.line[1:]) for both in (pair, pair[::-1])]
-    edges = [(a, b, 1 if diet and (a, b) == ("J2", "J3") else 2, street.main, 3) for a, b in pairs]
+    plain = Plain()
+    plain.node("W", 0, 0)
+    plain.node("E", street.at[-1] + 300, 0)
+    for at, x in enumerate(street.at, 1):
+        plain.node(f"J{at}", x, 0, "traffic_light")
+    for at, x in enumerate(street.at, 1):
+        plain.node(f"N{at}", x, 200)
+        plain.node(f"S{at}", x, -200)
+    for pair in zip(street.line, street.line[1:]):
+        for a, b in (pair, pair[::-1]):
+            lanes = 1 if diet and (a, b) == ("J2", "J3") else 2
+            plain.named_edge(f"{a}{b}", a, b, numLanes=lanes, speed=street.main, priority=3)
     for at in range(1, len(street.at) + 1):
         for side in "NS":
             ends = (f"{side}{at}", f"J{at}")
-            edges += [(a, b, 1, street.across, 1) for a, b in (ends, ends[::-1])]
-    kinds = ("priority", "traffic_light")
-    made = "".join(f'<node id="{i}" x="{x}" y="{y}" type="{kinds[lit]}"/>' for i, x, y, lit in nodes)
-    (folder / "n.nod.xml").write_text(f"<nodes>{made}</nodes>", encoding="utf-8")
-    made = "".join(
-        f'<edge id="{a}{b}" from="{a}" to="{b}" numLanes="{lanes}" speed="{speed}" priority="{rank}"/>'
-        for a, b, lanes, speed, rank in edges
-    )
-    (folder / "n.edg.xml").write_text(f"<edges>{made}</edges>", encoding="utf-8")
+            for a, b in (ends, ends[::-1]):
+                plain.named_edge(f"{a}{b}", a, b, numLanes=1, speed=street.across, priority=1)
     path = folder / f"{'diet' if diet else 'net'}.net.xml"
-    words = ["netconvert", "-n", "n.nod.xml", "-e", "n.edg.xml", "--tls.cycle.time", 80, "--no-turnarounds", "-o", path]
-    run(words, folder)
+    plain.make(path, "--tls.cycle.time", 80, "--no-turnarounds")
     return path
 
 
@@ -270,14 +270,12 @@ def queue_rows(path):
 def surveyed(kind, speed, folder):
     """(vehicles an hour by headways from the 4th on, vehicles a green) of a full lane of SUMO's drivers, 30 greens."""
     folder.mkdir(parents=True, exist_ok=True)
-    ends = (("A", 0, 0, 0), ("B", 450, 0, 1), ("C", 900, 0, 0), ("S", 450, -200, 0), ("T", 450, 200, 0))
-    made = "".join(f'<node id="{i}" x="{x}" y="{y}" {"type=" + chr(34) + "traffic_light" + chr(34) if lit else ""}/>'
-                   for i, x, y, lit in ends)
-    (folder / "s.nod.xml").write_text(f"<nodes>{made}</nodes>", encoding="utf-8")
-    pairs = ("AB", "BC", "SB", "BT")
-    made = "".join(f'<edge id="{a}{b}" from="{a}" to="{b}" numLanes="1" speed="{speed}"/>' for a, b in pairs)
-    (folder / "s.edg.xml").write_text(f"<edges>{made}</edges>", encoding="utf-8")
-    run(["netconvert", "-n", "s.nod.xml", "-e", "s.edg.xml", "--tls.cycle.time", CYCLE, "-o", "s.net.xml"], folder)
+    plain = Plain()
+    for name, x, y in (("A", 0, 0), ("B", 450, 0), ("C", 900, 0), ("S", 450, -200), ("T", 450, 200)):
+        plain.node(name, x, y, "traffic_light" if name == "B" else "")
+    for a, b in ("AB", "BC", "SB", "BT"):
+        plain.named_edge(f"{a}{b}", a, b, numLanes=1, speed=speed)
+    plain.make(folder / "s.net.xml", "--tls.cycle.time", CYCLE)
     root = ElementTree.parse(folder / "s.net.xml").getroot()
     pair = ("AB", "BC")
     own = next(one for one in root.iter("connection") if (one.get("from"), one.get("to")) == pair)

@@ -1,8 +1,10 @@
-"""Streets and towns in SUMO's plain XML or in netgenerate's words, as a seed draws them; and whether the networks that
-sumo-tools ships load."""
+"""Networks in SUMO's plain XML and of netgenerate, which all measurements draw by; streets and towns as a seed draws
+them; and whether the networks that sumo-tools ships load."""
 
 import math
 import random
+import shlex
+import sys
 import time
 from collections.abc import Callable
 from dataclasses import dataclass, field
@@ -22,35 +24,66 @@ KMH = 1 / 3.6  # metres a second
 
 @dataclass
 class Plain:
+    """A network in SUMO's plain XML."""
+
     nodes: list[str] = field(default_factory=list)
     edges: list[str] = field(default_factory=list)
+    connections: list[str] = field(default_factory=list)
 
     def node(self, name: str, x: float, y: float, kind: str = "priority") -> None:
-        self.nodes.append(f'<node id="{name}" x="{x:.2f}" y="{y:.2f}" type="{kind}"/>')
+        """kind: of the junction; without one netconvert chooses it."""
+        given = f' type="{kind}"' if kind else ""
+        self.nodes.append(f'<node id="{name}" x="{x:.2f}" y="{y:.2f}"{given}/>')
+
+    def named_edge(self, name: str, begin: str, end: str, inside: str = "", **attributes: object) -> None:
+        """An edge from node to node; inside: what is said of its lanes."""
+        given = "".join(f' {key}="{value}"' for key, value in attributes.items())
+        self.edges.append(f'<edge id="{name}" from="{begin}" to="{end}"{given}>{inside}</edge>')
 
     def edge(
         self, begin: str, end: str, lanes: int, kmh: int, priority: int, pocket: int = 0, inside: str = ""
     ) -> None:
-        """An edge from node to node; pocket: metres of one more lane before its end, for those who turn left; inside:
-        what is said of its lanes."""
-        head = f'<edge id="{begin}-{end}" from="{begin}" to="{end}" speed="{kmh * KMH:.2f}" priority="{priority}"'
-        if not pocket:
-            self.edges.append(f'{head} numLanes="{lanes}">{inside}</edge>')
-            return
-        few, all_of_them = (" ".join(map(str, range(count))) for count in (lanes, lanes + 1))
-        split = f'<split pos="0" lanes="{few}"/><split pos="-{pocket}" lanes="{all_of_them}"/>'
-        self.edges.append(f'{head} numLanes="{lanes + 1}">{split}</edge>')
+        """An edge by the names of its nodes; pocket: metres of one more lane before its end, for those who turn
+        left."""
+        usual = {"speed": f"{kmh * KMH:.2f}", "priority": priority}
+        if pocket:
+            few, all_of_them = (" ".join(map(str, range(count))) for count in (lanes, lanes + 1))
+            inside = f'<split pos="0" lanes="{few}"/><split pos="-{pocket}" lanes="{all_of_them}"/>'
+        self.named_edge(f"{begin}-{end}", begin, end, inside, **usual, numLanes=lanes + bool(pocket))
 
     def street(self, one: str, other: str, lanes: int, kmh: int, priority: int) -> None:
         """Edges both ways."""
         self.edge(one, other, lanes, kmh, priority)
         self.edge(other, one, lanes, kmh, priority)
 
+    def connect(self, begin: str, end: str) -> None:
+        """Where connections are told, an edge leads to those alone that are."""
+        self.connections.append(f'<connection from="{begin}" to="{end}"/>')
+
     def write(self, folder: Path) -> list[str]:
-        """Writes both files; gives netconvert's words for them."""
-        for kind, lines in (("nodes", self.nodes), ("edges", self.edges)):
-            (folder / f"plain.{kind}.xml").write_text(f"<{kind}>{''.join(lines)}</{kind}>\n", encoding="utf-8")
-        return ["netconvert", "-n", "plain.nodes.xml", "-e", "plain.edges.xml"]
+        """Writes the files; gives netconvert's words for them."""
+        parts = {"nodes": self.nodes, "edges": self.edges, "connections": self.connections}
+        words, options = ["netconvert"], dict(zip(parts, ("-n", "-e", "-x"), strict=True))
+        for kind, lines in parts.items():
+            if lines:
+                (folder / f"plain.{kind}.xml").write_text(f"<{kind}>{''.join(lines)}</{kind}>\n", encoding="utf-8")
+                words += [options[kind], f"plain.{kind}.xml"]
+        return words
+
+    def make(self, net: Path, *words: object) -> None:
+        """Makes the network, with more words of netconvert."""
+        shared.run([*self.write(net.parent), *words, "-o", net.name], net.parent)
+
+
+def generate(net: Path, words: str) -> None:
+    """Makes a network of netgenerate."""
+    shared.run(["netgenerate", *shlex.split(words), "-o", net.name], net.parent)
+
+
+def random_trips(net: Path, routes: Path, period: float, words: str, last: int = 3600) -> None:
+    """Makes a demand of sumo-tools' randomTrips: one vehicle in so many seconds, up to the last."""
+    often = ["-b", 0, "-e", last, "-p", f"{period:.6f}", *words.split(), "--validate"]
+    shared.run([sys.executable, shared.RANDOM_TRIPS, "-n", net, *often, "-r", routes.name], routes.parent)
 
 
 @dataclass(frozen=True)
@@ -248,55 +281,48 @@ ARM = 150  # metres of a street that leads out of town
 RING_SIDES = {"e": (1, 0), "n": (0, 1), "w": (-1, 0), "s": (0, -1)}  # in the order of driving
 
 
-def write_town(folder: Path, seed: int, radius: int) -> None:
-    """Writes the nodes and the edges of a town, by a seed and the metres of its rings' radius."""
-    draws = random.Random(seed)
+def write_town(folder: Path, seed: int, radius: int) -> list[str]:
+    """Writes a town by a seed and the metres of its rings' radius; gives netconvert's words for it."""
+    draws, plain = random.Random(seed), Plain()
     across, up = (list(accumulate(draws.uniform(*LENGTHS) for _ in range(ACROSS))) for _ in range(2))
-    nodes, edges = [], []
     for column, x in enumerate(across):
         for row, y in enumerate(up):
-            nodes += ring_nodes((column, row), x, y, radius)
-            edges += ring_edges((column, row), x, y, radius) + ring_streets((column, row))
-    for kind, lines in (("nodes", nodes), ("edges", edges)):
-        (folder / f"plain.{kind}.xml").write_text(f"<{kind}>{''.join(lines)}</{kind}>", encoding="utf-8")
+            ring_nodes(plain, (column, row), x, y, radius)
+            ring_edges(plain, (column, row), x, y, radius)
+            ring_streets(plain, (column, row))
+    return [*plain.write(folder), "--roundabouts.guess", "true"]
 
 
-def ring_nodes(place: tuple[int, int], x: float, y: float, radius: int) -> list[str]:
+def ring_nodes(plain: Plain, place: tuple[int, int], x: float, y: float, radius: int) -> None:
     """The four nodes of a ring, and the far ends of the streets that lead out of town."""
-    lines = []
     for side, (right, up) in RING_SIDES.items():
-        lines.append(
-            f'<node id="{name_of(place, side)}" x="{x + radius * right:.2f}" y="{y + radius * up:.2f}" '
-            'type="priority"/>'
-        )
+        plain.node(name_of(place, side), x + radius * right, y + radius * up)
         if not is_inside(beyond(place, side)):
             away = radius + ARM
-            lines.append(f'<node id="{other_end(place, side)}" x="{x + away * right:.2f}" y="{y + away * up:.2f}"/>')
-    return lines
+            plain.node(other_end(place, side), x + away * right, y + away * up, "")
 
 
-def ring_edges(place: tuple[int, int], x: float, y: float, radius: int) -> list[str]:
+def ring_edges(plain: Plain, place: tuple[int, int], x: float, y: float, radius: int) -> None:
     """The four edges of a ring."""
-    lines, order = [], list(RING_SIDES)
+    order = list(RING_SIDES)
     for at, side in enumerate(order):
-        angles = (at * math.pi / 2 + part * math.pi / 8 for part in range(5))
-        shape = " ".join(f"{x + radius * math.cos(angle):.2f},{y + radius * math.sin(angle):.2f}" for angle in angles)
-        ends = f'from="{name_of(place, side)}" to="{name_of(place, order[(at + 1) % 4])}"'
-        lines.append(
-            f'<edge id="ring{name_of(place, side)}" {ends} numLanes="1" speed="{RING}" priority="10" shape="{shape}"/>'
-        )
-    return lines
+        name, following = name_of(place, side), name_of(place, order[(at + 1) % 4])
+        plain.named_edge(f"ring{name}", name, following, **quarter(x, y, radius, at))
 
 
-def ring_streets(place: tuple[int, int]) -> list[str]:
+def quarter(x: float, y: float, radius: int, number: int) -> dict[str, object]:
+    """What is said of an edge of a ring, one of four from the east on."""
+    angles = (number * math.pi / 2 + part * math.pi / 8 for part in range(5))
+    shape = " ".join(f"{x + radius * math.cos(angle):.2f},{y + radius * math.sin(angle):.2f}" for angle in angles)
+    return {"numLanes": 1, "speed": RING, "priority": 10, "shape": shape}
+
+
+def ring_streets(plain: Plain, place: tuple[int, int]) -> None:
     """The streets that begin at a roundabout, and those that come from out of town."""
-    lines = []
     for side in RING_SIDES:
         here, there = name_of(place, side), other_end(place, side)
-        ends = [(here, there)] + ([] if is_inside(beyond(place, side)) else [(there, here)])
-        kind = f'numLanes="1" speed="{STREET_SPEED}" priority="5"'
-        lines += [f'<edge id="{a}-{b}" from="{a}" to="{b}" {kind}/>' for a, b in ends]
-    return lines
+        for begin, end in [(here, there)] + ([] if is_inside(beyond(place, side)) else [(there, here)]):
+            plain.named_edge(f"{begin}-{end}", begin, end, numLanes=1, speed=STREET_SPEED, priority=5)
 
 
 def beyond(place: tuple[int, int], side: str) -> tuple[int, int]:
@@ -361,9 +387,7 @@ def radial(draws: Random, folder: Path) -> Draft:
 def rings(draws: Random, folder: Path) -> Draft:
     """Roundabouts of one lane where streets cross."""
     seed, radius = draws.randrange(1, 10_000), draws.randrange(16, 29)
-    write_town(folder, seed, radius)
-    words = ["netconvert", "-n", "plain.nodes.xml", "-e", "plain.edges.xml", "--roundabouts.guess", "true"]
-    return Draft(words, drawn={"radius": radius})
+    return Draft(write_town(folder, seed, radius), drawn={"radius": radius})
 
 
 def mains(main_lanes: tuple[int, ...], minor_kmh: int, crossing: str, one_way: bool = False) -> Build:

@@ -62,33 +62,33 @@ def ran(program, net, more, routes, own, seed, until=END):
 
 def mean_trip(program, net, more, routes, own):
     """The mean trip over seeds of those who depart from WARM to LAST; who has not arrived counts until the end."""
-    found = []
+    seed_means = []
     for seed in SEEDS:
         run, _, trips, _ = ran(program, net, more, routes, own, seed)
         departs = np.array([line.command["depart"] for line in run.enters])
         judged = (departs >= WARM) & (departs < LAST)
         ends = np.where(trips.arrival > 0, trips.arrival, END)
-        found.append(float((ends - departs)[judged].mean()))
-    return fmean(found)
+        seed_means.append(float((ends - departs)[judged].mean()))
+    return fmean(seed_means)
 
 
 def surveyed_share(program, street, base, folder, drivers):
     """The share of the lefts of J2J3 by which as many pass a full approach here as in SUMO."""
-    there, passed = full_approach(street, base, folder), []
+    flow_in_sumo, flows_here = full_approach(street, base, folder), []
     for share in SHARES:
         own = options(drivers, [("J2J3", share)])
         more = base / street.name / "diet.net.xml", [], folder / "full" / "full.rou.xml"
         _, mapping, _, segments = ran(program, *more, own, 1, LAST)
         ends, edge = segments.ends(), list(mapping.links_of).index("J2J3")
         seen = (ends.edge == edge) & (ends.clock >= 1800) & (ends.clock < LAST)
-        passed.append(float(seen.sum()) / ((LAST - 1800) / 3600))
-    rising = np.maximum.accumulate(passed)
-    return round(float(np.interp(there, rising, SHARES)), 3), there, passed
+        flows_here.append(float(seen.sum()) / ((LAST - 1800) / 3600))
+    rising = np.maximum.accumulate(flows_here)
+    return round(float(np.interp(flow_in_sumo, rising, SHARES)), 3), flow_in_sumo, flows_here
 
 
 def grown(routes, out):
     """The vehicles with a tenth more, drawn."""
-    tree, draws, more = ElementTree.parse(routes), np.random.default_rng(3), []
+    tree, draws, added_cars = ElementTree.parse(routes), np.random.default_rng(3), []
     root = tree.getroot()
     cars = list(root.iter("vehicle"))
     for car in cars:
@@ -96,10 +96,10 @@ def grown(routes, out):
             new = ElementTree.fromstring(ElementTree.tostring(car))
             new.set("id", f"{car.get('id')}+")
             new.set("depart", str(min(LAST - 1, max(0, float(car.get("depart")) + int(draws.integers(-200, 200))))))
-            more.append(new)
+            added_cars.append(new)
     for car in cars:
         root.remove(car)
-    for car in sorted(cars + more, key=lambda one: float(one.get("depart"))):
+    for car in sorted(cars + added_cars, key=lambda one: float(one.get("depart"))):
         root.append(car)
     tree.write(out)
     return out
@@ -107,59 +107,59 @@ def grown(routes, out):
 
 def calibrate(program, net, folder):
     """Calibrates a field by the command; gives the rows of criteria.csv."""
-    out, drivers, day = folder / "calibrated", folder / "drivers.json", {one: folder / one for one in "AB"}
-    if not (out / "criteria.csv").exists():
+    table_folder, drivers, day = folder / "calibrated", folder / "drivers.json", {one: folder / one for one in "AB"}
+    if not (table_folder / "criteria.csv").exists():
         words = [shared.TOP / "tools/streetsim-calibrate", net, "--counts", day["A"] / "counts.csv"]
         words += ["--times", day["A"] / "times.csv", "--saturation", day["A"] / "saturation.csv"]
         words += ["--queues", day["A"] / "queues.csv", "--validate"]
         words += [day["B"] / f"{name}.csv" for name in ("counts", "times", "queues")]
-        words += ["-o", drivers, "--out", out, "--jobs", 1, "--program", program]
+        words += ["-o", drivers, "--out", table_folder, "--jobs", 1, "--program", program]
         done = subprocess.run(list(map(str, words)), capture_output=True, text=True, check=False)
         if done.returncode == 2:
             raise SystemExit(done.stderr)
         (folder / "calibrate.txt").write_text(done.stdout, encoding="utf-8")
-    with open(out / "criteria.csv", newline="", encoding="utf-8") as file:
+    with open(table_folder / "criteria.csv", newline="", encoding="utf-8") as file:
         return list(csv.DictReader(file))
 
 
 def judged(program, street, base):
     """What a street's calibration gains, as a dict that is kept."""
     folder = make_field(street, base)
-    kept, day = folder / "judged.json", mean_of_trips(folder / "sumoA/trips.xml")
-    if kept.exists():
-        return {**json.loads(kept.read_text(encoding="utf-8")), "day": day}
+    judged_path, day = folder / "judged.json", mean_of_trips(folder / "sumoA/trips.xml")
+    if judged_path.exists():
+        return {**json.loads(judged_path.read_text(encoding="utf-8")), "day": day}
     top, routes = base / street.name, folder / "calibrated" / "fitted.rou.xml"
     criteria = calibrate(program, top / "net.net.xml", folder)
     before, changes = truth_of(folder)
-    found = {"name": f"{street.name} {street.driver}", "truth": before, "true": changes, "day": day}
-    found["criteria"] = criteria
-    for which, drivers in zip(BOTH, (None, folder / "drivers.json")):
+    gains = {"name": f"{street.name} {street.driver}", "truth": before, "true": changes, "day": day}
+    gains["criteria"] = criteria
+    for stage, drivers in zip(BOTH, (None, folder / "drivers.json")):
         usual = mean_trip(program, top / "net.net.xml", [], routes, options(drivers))
-        found[which] = {"base": usual}
-        for what in street.treatments:
-            own, net, more, cars = options(drivers), top / "net.net.xml", [], routes
-            if what in ("wave", "split"):
-                more = [top / f"{what}.add.xml"]
-            elif what == "growth":
+        gains[stage] = {"base": usual}
+        for treatment in street.treatments:
+            own_options, net, additional, cars = options(drivers), top / "net.net.xml", [], routes
+            if treatment in ("wave", "split"):
+                additional = [top / f"{treatment}.add.xml"]
+            elif treatment == "growth":
                 cars = grown(routes, folder / "grown.rou.xml")
             else:
                 net = top / "diet.net.xml"
                 if drivers is not None:
-                    found["share"] = surveyed_share(program, street, base, folder, drivers)
-                    found[which]["diet by flows"] = mean_trip(program, net, [], routes, own) - usual
-                    own = options(drivers, [("J2J3", found["share"][0])])
-            found[which][what] = mean_trip(program, net, more, cars, own) - usual
-    kept.write_text(json.dumps(found, indent=1), encoding="utf-8")
-    return found
+                    gains["share"] = surveyed_share(program, street, base, folder, drivers)
+                    gains[stage]["diet by flows"] = mean_trip(program, net, [], routes, own_options) - usual
+                    own_options = options(drivers, [("J2J3", gains["share"][0])])
+            gains[stage][treatment] = mean_trip(program, net, additional, cars, own_options) - usual
+    judged_path.write_text(json.dumps(gains, indent=1), encoding="utf-8")
+    return gains
 
 
-def line_of(one):
+def line_of(gains):
     """A street in a line."""
-    parts = [f"{one['name']}: base {one['truth']:.1f}"]
-    parts += [f"{which} {one[which]['base']:.1f}" for which in BOTH]
-    for what, true in one["true"].items():
-        parts.append(f"{what} {true:+.1f}: {one['uncalibrated'][what]:+.1f}, {one['calibrated'][what]:+.1f}")
-    parts.append(f"segments of day B {segments(one, 'calibrated'):.0f} %")
+    parts = [f"{gains['name']}: base {gains['truth']:.1f}"]
+    parts += [f"{which} {gains[which]['base']:.1f}" for which in BOTH]
+    for what, true in gains["true"].items():
+        parts.append(f"{what} {true:+.1f}: {gains['uncalibrated'][what]:+.1f}, {gains['calibrated'][what]:+.1f}")
+    parts.append(f"segments of day B {segments(gains, 'calibrated'):.0f} %")
     return "; ".join(parts)
 
 
@@ -182,13 +182,13 @@ def errors_of(streets, kinds, which):
 
 def cells_of(streets):
     """The rows of the table for some streets: (what, cells without and with calibration, their ratio)."""
-    off = [off_by([(one[which]["base"], one["truth"]) for one in streets]) for which in BOTH]
+    off = [off_by([(street[which]["base"], street["truth"]) for street in streets]) for which in BOTH]
     yield "mean trip of the base off (rms)", *off, ""
-    yield "the counted day itself off (rms)", "", off_by([(one["day"], one["truth"]) for one in streets]), ""
-    off = [off_by([(one[which]["base"], one["day"]) for one in streets]) for which in BOTH]
+    yield "the counted day itself off (rms)", "", off_by([(street["day"], street["truth"]) for street in streets]), ""
+    off = [off_by([(street[which]["base"], street["day"]) for street in streets]) for which in BOTH]
     yield "mean trip of the base off from the counted day (rms)", *off, ""
-    held = [sum(segments(one, which) >= 85 for one in streets) for which in BOTH]
-    yield "85 % of segments within 15 % on the other day", *(f"{one} of {len(streets)}" for one in held), ""
+    held = [sum(segments(street, which) >= 85 for street in streets) for which in BOTH]
+    yield "85 % of segments within 15 % on the other day", *(f"{count} of {len(streets)}" for count in held), ""
     for kind, kinds in KINDS.items():
         (error, true), (less, _) = (errors_of(streets, kinds, which) for which in BOTH)
         if true:
@@ -240,14 +240,14 @@ def main_calibrated(argv: list[str]) -> int | None:
     seeds, only = [*filter(None, args.drawn.split(","))], [*filter(None, args.only.split(","))]
     groups = {"the ten": list(the_ten()) if args.ten else []}
     groups["drawn"] = [drawn_street(int(seed), base / "drawn") for seed in seeds]
-    found = {}
+    gains_by_group = {}
     for name, streets in groups.items():
         for street in streets:
             if not only or f"{street.name}/{street.driver}" in only:
-                found.setdefault(name, []).append(judged(args.program, street, base))
-                print(line_of(found[name][-1]), file=sys.stderr, flush=True)
-    all_ = [one for streets in found.values() for one in streets]
-    print(*table({**found, "all": all_} if len(found) > 1 else found), sep="\n")
+                gains_by_group.setdefault(name, []).append(judged(args.program, street, base))
+                print(line_of(gains_by_group[name][-1]), file=sys.stderr, flush=True)
+    all_ = [one for streets in gains_by_group.values() for one in streets]
+    print(*table({**gains_by_group, "all": all_} if len(gains_by_group) > 1 else gains_by_group), sep="\n")
     print("", *street_rows(all_), sep="\n")
 
 
@@ -290,13 +290,13 @@ def pair(program, both, until, seed, is_drawn):
     return found[0], found[1] - found[0]
 
 
-def held(program, both, until, args):
+def held(program, sides, until, args):
     """How often each interval has the truth of (mean trip, change), and their mean half widths; and the truth."""
-    many = [pair(program, both, until, 1000 + day, True) for day in range(args.truth)]
-    truth = [fmean(side) for side in zip(*many)]
+    true_pairs = [pair(program, sides, until, 1000 + day, True) for day in range(args.truth)]
+    truth = [fmean(side) for side in zip(*true_pairs)]
     hits, widths = {how: [0, 0] for how in HOW}, {how: [0.0, 0.0] for how in HOW}
     for day in range(args.days):
-        seen = [drawn(with_load(run, seed=5000 + day), mapping) for run, mapping in both]
+        seen = [drawn(with_load(run, seed=5000 + day), mapping) for run, mapping in sides]
         listed = [pair(program, seen, until, seed, False) for seed in range(1, args.seeds + 1)]
         anew = [pair(program, seen, until, 9000 + 100 * day + seed, True) for seed in range(args.seeds)]
         intervals = mean_and_half_width, mean_and_half_width, mean_and_day
@@ -305,7 +305,7 @@ def held(program, both, until, args):
                 mean, half = interval(values)
                 hits[how][side] += abs(mean - truth[side]) <= half
                 widths[how][side] += half / args.days
-    errors = [stdev(side) / args.truth**0.5 for side in zip(*many)]
+    errors = [stdev(side) / args.truth**0.5 for side in zip(*true_pairs)]
     return hits, widths, truth, errors
 
 

@@ -96,30 +96,30 @@ def own_tools(case):
     """The plans of SUMO's own tools: {name: additional files}."""
     folder, tools = case.folder, Path(SUMO_HOME) / "tools"
     net, plain = case.net, plain_routes(case)
-    coordinated, adapted, both = (folder / f"{name}.add.xml" for name in ("coord", "adapt", "both"))
-    if not both.exists():
+    coordinated, adapted, joint = (folder / f"{name}.add.xml" for name in ("coord", "adapt", "both"))
+    if not joint.exists():
         run([sys.executable, tools / "tlsCoordinator.py", "-n", net, "-r", plain, "-o", coordinated], folder)
         words = [sys.executable, tools / "tlsCycleAdaptation.py", "-n", net, "-r", plain, *ADAPT, "--min-cycle", 60]
         run([*words, "--max-cycle", 120, "-o", adapted], folder)
-        run([sys.executable, tools / "tlsCoordinator.py", "-n", net, "-r", plain, "-a", adapted, "-o", both], folder)
+        run([sys.executable, tools / "tlsCoordinator.py", "-n", net, "-r", plain, "-a", adapted, "-o", joint], folder)
     return {
         "tlsCoordinator": [coordinated],
         "tlsCycleAdaptation, cycle 60 s or more": [adapted],
-        TOOLS_BEST: [adapted, both],
+        TOOLS_BEST: [adapted, joint],
     }
 
 
 def found_plans(case, args):
     """The plans that the searches find, and what each took: {name: [additional file]}."""
-    made = {}
+    plans = {}
     for place, (name, words) in enumerate(SEARCHES.items()):
-        made[name] = [searched(case, args, f"found{place}", words)]
+        plans[name] = [searched(case, args, f"found{place}", words)]
     with open(case.folder / f"found{len(SEARCHES) - 1}/search.csv", encoding="utf-8") as file:
         proposed = [
             int(row["simulations"]) for row in csv.DictReader(file) if "cycle" in row["step"] or row["step"] == "given"
         ]
-    made[PROPOSALS] = [searched(case, args, "proposed", ("--budget", max(proposed)))]
-    return made
+    plans[PROPOSALS] = [searched(case, args, "proposed", ("--budget", max(proposed)))]
+    return plans
 
 
 def searched(case, args, name, words):
@@ -142,18 +142,18 @@ def searched(case, args, name, words):
 
 def in_sumo(case, additional, seed, name):
     """SUMO's mean trip and teleports."""
-    told = case.folder / f"sumo-{name}-{seed}.xml"
-    if not told.exists():
-        half = told.with_suffix(".half")
-        words = [
+    statistic = case.folder / f"sumo-{name}-{seed}.xml"
+    if not statistic.exists():
+        half = statistic.with_suffix(".half")
+        command = [
             "sumo", "-n", case.net, "-r", case.routes, *added([*case.types, *case.lights, *additional]), "--seed", seed,
         ]
-        words += [
+        command += [
             "--end", UNTIL, "--duration-log.statistics", "--no-step-log", "--no-warnings", "--statistic-output", half,
         ]
-        run(words, case.folder)
-        os.replace(half, told)
-    root = ElementTree.parse(told).getroot()
+        run(command, case.folder)
+        os.replace(half, statistic)
+    root = ElementTree.parse(statistic).getroot()
     trips = root.find("vehicleTripStatistics").attrib
     return float(trips["duration"]) + float(trips["departDelay"]), int(root.find("teleports").get("total"))
 
@@ -228,22 +228,22 @@ def verified_case(name, folder):
 
 def verified_row(name, case, args):
     """The row of a network whose found plan SUMO was given too."""
-    folder, told, (budget, check) = case.folder, case.folder / "told.txt", VERIFIED[name]
-    if not told.exists():
-        words = [TOP / "tools/streetsim-import", case.net, *case.types, *case.lights, "--routes", case.routes]
-        run([*words, "-o", "run.jsonl", "--map", "map.json"], folder)
+    folder, report_path, (budget, check) = case.folder, case.folder / "told.txt", VERIFIED[name]
+    if not report_path.exists():
+        command = [TOP / "tools/streetsim-import", case.net, *case.types, *case.lights, "--routes", case.routes]
+        run([*command, "-o", "run.jsonl", "--map", "map.json"], folder)
         given = [
             "run.jsonl", "--map", "map.json", "--plans", case.net, *case.lights, "--until", UNTIL, "--check", check,
         ]
         machine = ["--jobs", args.jobs, "--program", args.program, "--budget", budget, "--verify-sumo"]
-        words = [TOP / "tools/streetsim-signals", *given, *machine, "-o", "found.add.xml", "--out", "found"]
-        done = subprocess.run(list(map(str, words)), cwd=folder, capture_output=True, text=True, check=False)
+        command = [TOP / "tools/streetsim-signals", *given, *machine, "-o", "found.add.xml", "--out", "found"]
+        done = subprocess.run(list(map(str, command)), cwd=folder, capture_output=True, text=True, check=False)
         if done.returncode > 1:
             raise SystemExit(done.stderr)
         half = folder / "half.txt"
         half.write_text(f"{done.stdout}status {done.returncode}\n", encoding="utf-8")
-        os.replace(half, told)
-    lines = told.read_text(encoding="utf-8").splitlines()
+        os.replace(half, report_path)
+    lines = report_path.read_text(encoding="utf-8").splitlines()
     plans = re.search(
         r"([\d,]+) simulations(?:, where --budget ended the search after ([\d,]+) plans)?", "\n".join(lines)
     )
@@ -292,13 +292,13 @@ def main_signals(argv: list[str]) -> int | None:
     else:
         shared.print_heads("Network | Plan | here, s | SUMO, s")
         every = (rows(name, case_of(name, folder_of(args, name)), args) for name in names)
-    told = []
+    notes = []
     for line in (line for lines in every for line in lines):
         if line.startswith("|"):
             print(line, flush=True)
         else:
-            told.append(line)
-    print(*told, sep="\n")
+            notes.append(line)
+    print(*notes, sep="\n")
 
 
 HOUR, SHARE, ERROR = 3600, 0.4, 0.05
@@ -423,7 +423,7 @@ SIDES = ("`streetsim-demand`", fitted_here, "here"), ("routeSampler", fitted_the
 
 
 def demand_rows(case):
-    wrong, back, used, all_ = case.counted()
+    wrong, counts_back, used, all_ = case.counted()
     name = f"{case.network.name}, {case.vehicles:,} vehicles, {used} of {all_} junctions counted"
     for label, find, routes in SIDES:
         if routes not in case.args.sides.split(","):
@@ -431,10 +431,11 @@ def demand_rows(case):
         seconds = find(case, wrong)
         path = case.folder / f"{routes}.values"
         if not path.exists():
-            values, vehicles, rescues = case.passed([case.folder / f"{routes}.rou.xml"], [*wrong, *back], JUDGE_SEED)
+            route_files, all_counts = [case.folder / f"{routes}.rou.xml"], [*wrong, *counts_back]
+            values, vehicles, rescues = case.passed(route_files, all_counts, JUDGE_SEED)
             path.write_text("\n".join(map(str, (vehicles, rescues, *values))) + "\n")
         vehicles, _, *values = map(int, path.read_text().split())
-        cells = shares(wrong, values[: len(wrong)]), shares(back, values[len(wrong) :])
+        cells = shares(wrong, values[: len(wrong)]), shares(counts_back, values[len(wrong) :])
         yield f"| {name} | {label} | {vehicles:,} | {' | '.join(cells)} | {seconds:.0f} |"
 
 

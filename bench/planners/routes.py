@@ -17,7 +17,8 @@ from pathlib import Path
 from statistics import fmean
 
 import shared
-from shared import RANDOM_TRIPS, SAMPLES, SUMO_HOME, TOP
+from networks.streets import generate, random_trips
+from shared import SAMPLES, SUMO_HOME, TOP
 from streetsim.base.files import elements
 from streetsim.base.seeds import mean_and_half_width, seeds_of
 
@@ -78,26 +79,26 @@ class Row:
     def line(self):
         if self.processor is None:
             return f"| {self.case} | {self.method} | was ended | | | | |"
-        ended = f", ended after {self.steps} steps" * (self.steps is not None)
-        more = (
+        ending = f", ended after {self.steps} steps" * (self.steps is not None)
+        losses = (
             f", {self.teleports:.0f} teleports" * (self.teleports >= 1)
             + f", {self.lacking:,} not arrived" * (self.lacking > 0)
         )
         rescued = f", {self.rescues:.0f} rescues" * (self.rescues >= 1)
         return (
-            f"| {self.case} | {self.method}{ended} | {self.processor:.0f} | {self.sumo:.1f}{more} | "
+            f"| {self.case} | {self.method}{ending} | {self.processor:.0f} | {self.sumo:.1f}{losses} | "
             f"{self.here:.1f}{rescued} | {self.gap:.1f} | {self.gap_in_sumo:.1f} |"
         )
 
 
-def run(words, folder, patience=None, statuses=(0,)):
+def run(command, folder, patience=None, statuses=(0,)):
     """Runs a command in a folder; gives what it took, and whether it came to its end in so many
     seconds of processor time."""
-    before, begin = shared.children_seconds(), time.monotonic()
-    words = list(map(str, words))
+    seconds_before, begin = shared.children_seconds(), time.monotonic()
+    command = list(map(str, command))
     home = shared.with_sumo()
     with open(folder / "log.txt", "a", encoding="utf-8") as log, subprocess.Popen(
-        words, cwd=folder, env=home, stdout=log, stderr=log, start_new_session=True
+        command, cwd=folder, env=home, stdout=log, stderr=log, start_new_session=True
     ) as process:
         while (status := process.poll()) is None:
             if patience is not None and (spent := processor_of(process.pid)) > patience:
@@ -105,8 +106,8 @@ def run(words, folder, patience=None, statuses=(0,)):
                 return Took(spent, time.monotonic() - begin), False
             time.sleep(0.2)
     if status not in statuses:
-        raise SystemExit(f"{shlex.join(words)}: status {status}, see {folder / 'log.txt'}")
-    return Took(shared.children_seconds() - before, time.monotonic() - begin), True
+        raise SystemExit(f"{shlex.join(command)}: status {status}, see {folder / 'log.txt'}")
+    return Took(shared.children_seconds() - seconds_before, time.monotonic() - begin), True
 
 
 def processor_of(group):
@@ -129,9 +130,8 @@ def case_of(name, folder):
         return Case(folder, SAMPLES / "town.net.xml.gz", trips_of(SAMPLES / "town.rou.xml.gz", trips))
     net, (words, seed) = folder / "made.net.xml", MADE[name]
     if not trips.exists():
-        run(["netgenerate", *shlex.split(words), "--no-turnarounds", "true", "-o", net], folder)
-        often = f"-b 0 -e 3600 -p {3600 / count:.6f} --seed {seed} --min-distance 500 --validate -r validated.rou.xml"
-        run([sys.executable, RANDOM_TRIPS, "-n", net, *shlex.split(often)], folder)
+        generate(net, f"{words} --no-turnarounds true")
+        random_trips(net, folder / "validated.rou.xml", 3600 / count, f"--seed {seed} --min-distance 500")
         trips_of(folder / "validated.rou.xml", trips)
     return Case(folder, net, trips)
 
@@ -178,20 +178,20 @@ def marouter(case, place, found, args):
     return run([*words, "--no-step-log", "--no-warnings", "-e", UNTIL], place)[0]
 
 
-def iterated(case, place, found, args):
+def iterated(case, place, routes_path, args):
     """duaIterate with default values, but for its steps; the routes of its last one, and where it was ended those of
     the last one that was whole."""
     words = [
         sys.executable, f"{SUMO_HOME}/tools/assign/duaIterate.py", "-n", case.net, "-t", case.trips, "-l", args.steps,
         "-e", UNTIL,
     ]
-    spent, ended = run(
+    spent, has_ended = run(
         [*words, "--disable-summary", "--disable-tripinfos", "-w"], place, args.patience
     )
-    steps = sorted(place.glob("*/*.rou.xml"))[: None if ended else -1]
+    steps = sorted(place.glob("*/*.rou.xml"))[: None if has_ended else -1]
     if steps:
-        shutil.copy(steps[-1], found)
-    return replace(spent, steps=None if ended else len(steps))
+        shutil.copy(steps[-1], routes_path)
+    return replace(spent, steps=None if has_ended else len(steps))
 
 
 def route(case, place, found, args):
@@ -257,7 +257,7 @@ def judge(case, routes, args):
     runs = [in_sumo(case, routes, seed) for seed in args.check]
     with team(job.ground, args.jobs, None) as workers:
         search = RouteSearch(job.town, job.ground, job.trips.trips, workers, lambda _: False)
-        here = search.judged(job.check)
+        judged_here = search.judged(job.check)
         places = {trip.name: place for place, trip in enumerate(job.trips.trips)}
         sights = [
             sumo_passes(one.passes, job, places, nothing_observed(len(job.town.graph.movements), job.ground.slices))
@@ -265,8 +265,9 @@ def judge(case, routes, args):
         ]
         for place, trip in enumerate(job.trips.trips):
             trip.entry = fmean(entries.get(place, trip.depart) for _, entries in sights)
-        costs = costs_of(job.town.graph, here.loaded.free, mean_observed([observed for observed, _ in sights]), SLICE)
-        return runs, here, relative_gap(search.best_ways(costs))
+        seen = mean_observed([observed for observed, _ in sights])
+        costs = costs_of(job.town.graph, judged_here.loaded.free, seen, SLICE)
+        return runs, judged_here, relative_gap(search.best_ways(costs))
 
 
 def sumo_passes(path, job, places, observed):
@@ -288,24 +289,24 @@ def sumo_passes(path, job, places, observed):
 
 def row(name, case, method, args):
     """A row of the table, kept beside the routes."""
-    kept = case.folder / method.split()[0].lower() / f"row-{args.check_text}.json"
-    if kept.exists():
-        return Row(**json.loads(kept.read_text()))
+    row_path = case.folder / method.split()[0].lower() / f"row-{args.check_text}.json"
+    if row_path.exists():
+        return Row(**json.loads(row_path.read_text()))
     routes, took = routes_of(case, method, args)
-    found = Row(name, method)
+    made_row = Row(name, method)
     if routes is not None:
-        runs, here, gap = judge(case, routes, args)
-        found = Row(
+        runs, judged_here, gap = judge(case, routes, args)
+        made_row = Row(
             *(name, method, took.processor, fmean(one.mean for one in runs), fmean(one.teleports for one in runs)),
             *(
                 max(one.lacking for one in runs),
-                fmean(one.mean for one in here.outcomes),
-                fmean(one.rescues for one in here.outcomes),
+                fmean(one.mean for one in judged_here.outcomes),
+                fmean(one.rescues for one in judged_here.outcomes),
             ),
-            *(100 * here.gap, 100 * gap, took.steps),
+            *(100 * judged_here.gap, 100 * gap, took.steps),
         )
-    kept.write_text(json.dumps(asdict(found)))
-    return found
+    row_path.write_text(json.dumps(asdict(made_row)))
+    return made_row
 
 
 @dataclass
@@ -364,32 +365,32 @@ def works(name, case, args):
     """What works add to the mean trip by the share of drivers who know of them: lines of a table."""
     street, place = busiest(case, args), case.folder / "works"
     place.mkdir(exist_ok=True)
-    trips, found = place / "demand.trips.xml", place / "found.rou.xml"
+    trips, routes_path = place / "demand.trips.xml", place / "found.rou.xml"
     rows = case.trips.read_text(encoding="utf-8").splitlines()
     ends = tuple(f'{word}="{edge}"' for word in ("from", "to") for edge in street.edges)
     trips.write_text("\n".join(row for row in rows if not any(f" {end}" in row for end in ends)), encoding="utf-8")
     if not (place / "out/knowing.csv").exists():
-        words = [
-            TOP / "tools/streetsim-route", case.net, "--trips", trips, "-o", found,
+        command = [
+            TOP / "tools/streetsim-route", case.net, "--trips", trips, "-o", routes_path,
             "--out", place / "out",
         ]
-        words += [
+        command += [
             "--until", UNTIL, "--iterations", args.steps, "--jobs", args.jobs, "--program", args.program,
             "--check", args.check_text,
         ]
-        run([*words, *street.closing(), "--knowing", args.knowing], place, statuses=(0, 1))
+        run([*command, *street.closing(), "--knowing", args.knowing], place, statuses=(0, 1))
     with open(place / "out/knowing.csv", encoding="utf-8") as file:
-        here = list(csv.DictReader(file))
+        rows_here = list(csv.DictReader(file))
     without = Path(shutil.copy(place / "out/before.rou.xml", place))
-    before = [in_sumo(case, without, seed).mean for seed in args.check]
+    means_before = [in_sumo(case, without, seed).mean for seed in args.check]
     obstacles = street.obstacles(place / "obstacles.rou.xml")
     yield (
-        f"| {name}, {' and '.join(street.edges)} | before | {float(here[0]['mean_trip_s']):.1f} | | "
-        f"{fmean(before):.1f} | | |"
+        f"| {name}, {' and '.join(street.edges)} | before | {float(rows_here[0]['mean_trip_s']):.1f} | | "
+        f"{fmean(means_before):.1f} | | |"
     )
-    for row in here[1:]:
+    for row in rows_here[1:]:
         runs = [in_sumo(case, place / f"found-{row['knowing']}.rou.xml", seed, obstacles) for seed in args.check]
-        apart, half = mean_and_half_width([one.mean - other for one, other in zip(runs, before, strict=True)])
+        apart, half = mean_and_half_width([one.mean - other for one, other in zip(runs, means_before, strict=True)])
         here_apart = f"{float(row['difference_s']):+.1f} +- {float(row['half_width_95_s']):.1f}"
         yield (
             f"| | {100 * float(row['knowing']):g} % know | {float(row['mean_trip_s']):.1f} | {here_apart} | "

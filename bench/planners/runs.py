@@ -20,7 +20,9 @@ from statistics import fmean
 from typing import TYPE_CHECKING
 
 import shared
+from networks.streets import generate
 from program import steps
+from repository.pages import add_put, keep_result
 from shared import TOOLS, TOP
 from streetsim.base import limits
 from streetsim.cli import run as running
@@ -42,9 +44,7 @@ HOURS = (5, 3, 3, 3, 5, 15, 45, 80, 75, 55, 45, 45, 50, 50, 50, 55, 75, 85, 75, 
 
 
 def make_network(path, side, kind):
-    words = ["netgenerate", "--grid", "--grid.number", side, "--grid.length", 200, "-L", 1, "-j", kind]
-    words += ["--no-turnarounds", "true", "--seed", 1, "-o", path]
-    subprocess.run([str(word) for word in words], check=True, stdout=subprocess.DEVNULL)
+    generate(path, f"--grid --grid.number {side} --grid.length 200 -L 1 -j {kind} --no-turnarounds true --seed 1")
 
 
 def name_of(column, row, side):
@@ -84,15 +84,17 @@ def write_routes(path, departs, draws, side):
 
 
 def measured(name, command, folder):
-    """Runs a command in a folder, and prints a row of what it and all that it starts took."""
-    begin, before, most = time.monotonic(), shared.children_seconds(), 0
+    """Runs a command in a folder, and prints a row of what it and all that it starts took; gives seconds of processors
+    and most memory, MB."""
+    begin, seconds_before, greatest_memory = time.monotonic(), shared.children_seconds(), 0
     environment = {**shared.with_sumo(), "PYTHONDONTWRITEBYTECODE": ""}
     with subprocess.Popen([str(word) for word in command], cwd=folder, env=environment) as process:
         while process.poll() is None:
-            most = max(most, sum(map(resident, family(process.pid))))
+            greatest_memory = max(greatest_memory, sum(map(resident, family(process.pid))))
             time.sleep(0.1)
-    took = shared.children_seconds() - before
-    print(f"| {name} | {time.monotonic() - begin:.0f} | {took:.1f} | {most / 1024:.0f} |", flush=True)
+    took = shared.children_seconds() - seconds_before
+    print(f"| {name} | {time.monotonic() - begin:.0f} | {took:.1f} | {greatest_memory / 1024:.0f} |", flush=True)
+    return took, greatest_memory / 1024
 
 
 def family(process):
@@ -139,7 +141,8 @@ def main_day(argv: list[str]) -> int | None:
     parser.add_argument("--type", default="traffic_light", help="of junctions: traffic_light, priority, ..")
     parser.add_argument("--until", type=int, default=86_400)
     parser.add_argument("--sumo", action="store_true", help="run it in SUMO too")
-    args, more = parser.parse_known_args(argv)
+    add_put(parser)
+    args, run_words = parser.parse_known_args(argv)
     folder = shared.work_of(args)
     network, routes, run, mapped = (folder / name for name in ("net.xml", "rou.xml", "run.jsonl", "map.json"))
     if not routes.exists():
@@ -152,7 +155,11 @@ def main_day(argv: list[str]) -> int | None:
         command = [TOP / "tools/streetsim-import", network, "--routes", routes, "-o", run, "--map", mapped]
         measured("import", command, folder)
     command = [TOP / "tools/streetsim-run", run, "--map", mapped, "--until", args.until, "--program", args.program]
-    measured("run", [*command, "--out", folder / "out", *more], folder)
+    took, most = measured("run", [*command, "--out", folder / "out", *run_words], folder)
+    if (args.type, args.until, run_words) == ("traffic_light", 86_400, ["--junctions", "900"]):
+        what = f"a day of {args.side**2} signals and {args.vehicles:,} vehicles, all tables"
+        told = f"tools and streetsim {took:.0f} s, {most:.0f} MB, at a load of {os.getloadavg()[0]:.0f}"
+        keep_result(args, "program", what, {"Measured": told})
     if args.sumo:
         measured("SUMO", sumo_words(network, routes, args.until, folder), folder)
 
@@ -222,14 +229,14 @@ def main_kernel_runs(argv: list[str]) -> int | None:
     for name in args.only:
         folder = top / name
         folder.mkdir(exist_ok=True)
-        one = RUNS[name](folder)
+        case = RUNS[name](folder)
         if not (folder / "run.map.json").exists():
-            words = [TOP / "tools/streetsim-import", one.net, "--routes", one.routes]
+            words = [TOP / "tools/streetsim-import", case.net, "--routes", case.routes]
             shared.run([*words, "-o", "run.jsonl", "--map", "run.map.json"], folder)
-        words = ["run.jsonl", "--map", "run.map.json", "--until", one.until, "--rounds", 0, *one.words]
+        words = ["run.jsonl", "--map", "run.map.json", "--until", case.until, "--rounds", 0, *case.words]
         turns = {
             "here": [TOP / "tools/streetsim-run", *words, "--program", args.program, "--out", "here"],
-            "sumo": sumo_words(one.net, one.routes, one.until, folder),
+            "sumo": sumo_words(case.net, case.routes, case.until, folder),
         }
         took = {turn: [] for turn in turns}
         for _ in range(args.times):
@@ -244,7 +251,7 @@ ROUNDS = range(5)
 
 def rounds_run(args, count):
     """Mean trips by seed, and processor seconds a run."""
-    before = os.times()
+    times_before = os.times()
     with tempfile.TemporaryDirectory() as folder:
         words = [
             args.run, "--map", args.map, "--until", str(args.until), "--every", "600", "--seeds", args.seeds,
@@ -253,7 +260,7 @@ def rounds_run(args, count):
         ]
         running.main([*words, "--rounds", str(count), "--out", folder, "--program", args.program])
         found = [read_folder(str(one)).trips() for one in sorted(Path(folder).glob("seed-*"))]
-    spent = sum(os.times()[:4]) - sum(before[:4])
+    spent = sum(os.times()[:4]) - sum(times_before[:4])
     return [fmean(float(trip["duration"]) for trip in trips if trip["duration"]) for trips in found], spent / len(found)
 
 
@@ -352,11 +359,11 @@ def opened(page: "Chrome", address: str, begin: int) -> None:
     page.execute_async_script("const done = arguments[1]; guarded(() => advance(arguments[0])).then(done)", begin)
 
 
-def measure(page: "Chrome", name: str, scale: float | str | None, seconds: int) -> None:
+def measure(page: "Chrome", name: str, scale: float | str | None, options: argparse.Namespace) -> None:
     """Plays in a view for some seconds, and prints a row."""
     lanes = page.execute_script(VIEW, scale)
     time.sleep(2)
-    frames, made, spent = page.execute_async_script(COUNT, seconds)
+    frames, made, spent = page.execute_async_script(COUNT, options.seconds)
     shown = json.loads(page.execute_script("if (playing) toggle(); return document.body.dataset.shown"))
     load = os.getloadavg()[0]
     print(
@@ -364,19 +371,21 @@ def measure(page: "Chrome", name: str, scale: float | str | None, seconds: int) 
         f"{1000 * made / spent:.1f} | {load:.1f} |",
         flush=True,
     )
+    told = f"{1000 * frames / spent:.0f}, beside a load of {load:.0f} on {len(os.sched_getaffinity(0))} processors"
+    keep_result(options, "program", f"frames a second of the live page, {name}", {"Measured": told})
 
 
-def measure_all(page: "Chrome", words: argparse.Namespace, folder: Path) -> None:
+def measure_all(page: "Chrome", options: argparse.Namespace, folder: Path) -> None:
     """Prints a row for each view of the corridor and the grid."""
-    corridor = read_run(words.corridor), read_map(words.map)
+    corridor = read_run(options.corridor), read_map(options.map)
     for name, (run, mapping), begin, views in (
         ("corridor", corridor, 900, {"whole": None}),
         (f"grid of {VEHICLES:,}", grid(folder), 500, VIEWS),
     ):
-        with served(run, mapping, words.program) as address:
+        with served(run, mapping, options.program) as address:
             opened(page, address, begin)
             for view, scale in views.items():
-                measure(page, f"{name}, {view}", scale, words.seconds)
+                measure(page, f"{name}, {view}", scale, options)
             page.get("about:blank")
 
 
@@ -393,6 +402,7 @@ def main_live(argv: list[str]) -> int | None:
     parser.add_argument("corridor")
     parser.add_argument("map")
     parser.add_argument("--seconds", type=int, default=6)
+    add_put(parser)
     args = parser.parse_args(argv)
     shared.print_heads("Page | lanes in view | vehicles driving | frames a second | steps a second | load")
     with tempfile.TemporaryDirectory() as folder, browser() as page:
@@ -506,14 +516,14 @@ def main_live_pictures(argv: list[str]) -> int | None:
     parser = shared.parser_of(main_live_pictures)
     parser.add_argument("--work", help="a folder for the runs (default: one that goes again)")
     parser.add_argument("--out", default=str(EXAMPLES), help="where the pictures go (default: tools/examples)")
-    words = parser.parse_args(argv)
+    options = parser.parse_args(argv)
     with tempfile.TemporaryDirectory() as spare, browser() as page:
-        work = Path(words.work or spare)
+        work = Path(options.work or spare)
         work.mkdir(parents=True, exist_ok=True)
         make_runs(work)
         for path, (run, wide, high, script) in PICTURES.items():
-            with served_by_tool(work, run, words.program) as address:
-                picture = Path(words.out) / path
+            with served_by_tool(work, run, options.program) as address:
+                picture = Path(options.out) / path
                 picture.parent.mkdir(parents=True, exist_ok=True)
                 picture.write_bytes(take(page, address, wide, high, script))
             print(path, flush=True)

@@ -24,6 +24,7 @@ from types import ModuleType
 
 import shared
 from beside_sumo.rows import run_files
+from networks.streets import Plain
 from shared import CORRIDOR, SAMPLES, SUMO_HOME, TOP
 from streetsim.control.actuated_logic import GO
 from streetsim.control.bus_coordinated import Coordinated
@@ -204,15 +205,15 @@ def files_of(name: str, folder: Path) -> list[str]:
     return ["-n", str(net), "-r", str(folder / f"{name}.rou.xml"), "-a", str(folder / f"{name}.add.xml"), "--seed", "1"]
 
 
-def run(script: Path, binary: str, asked: argparse.Namespace, words: list[str]) -> tuple[int, float]:
+def run(script: Path, binary: str, options: argparse.Namespace, script_words: list[str]) -> tuple[int, float]:
     """(arrived vehicles, processor seconds of the simulator) of a script."""
     variables = {**os.environ, "PYTHONPATH": f"{SUMO_HOME}/tools", "SUMO_HOME": SUMO_HOME}
-    variables["STREETSIM_PROGRAM"] = asked.program
-    variables |= {"XDG_CACHE_HOME": str(kept(asked)), "PYTHONPYCACHEPREFIX": str(asked.work / "bytecode")}
+    variables["STREETSIM_PROGRAM"] = options.program
+    variables |= {"XDG_CACHE_HOME": str(kept(options)), "PYTHONPYCACHEPREFIX": str(options.work / "bytecode")}
     variables.pop("PYTHONDONTWRITEBYTECODE", None)
     done = subprocess.run(
-        [sys.executable, "-c", RUN, script, binary, str(asked.seconds), *words], env=variables, capture_output=True,
-        text=True, check=True,
+        [sys.executable, "-c", RUN, script, binary, str(options.seconds), *script_words], env=variables,
+        capture_output=True, text=True, check=True,
     )  # fmt: skip
     *_, told, spent = [line for line in done.stdout.splitlines() if re.match(r"\d|seconds ", line)]
     return int(told.split()[0]), float(spent.split()[1])
@@ -223,13 +224,13 @@ def kept(asked: argparse.Namespace) -> Path:
     return asked.work.resolve() / "kept"
 
 
-def figures(script: Path, ours: str, asked: argparse.Namespace, words: list[str]) -> list[tuple[int, float]]:
+def figures(script: Path, ours: str, options: argparse.Namespace, script_words: list[str]) -> list[tuple[int, float]]:
     """(arrived vehicles, median of processor seconds) over SUMO, at first starts and at later ones."""
     found: list[list[tuple[int, float]]] = [[], [], []]
-    for _ in range(asked.times):
-        shutil.rmtree(kept(asked), ignore_errors=True)
+    for _ in range(options.times):
+        shutil.rmtree(kept(options), ignore_errors=True)
         for place, binary in zip(found, ("sumo", ours, ours)):
-            place.append(run(script, binary, asked, words))
+            place.append(run(script, binary, options, script_words))
     return [(own[0][0], statistics.median(seconds for _, seconds in own)) for own in found]
 
 
@@ -249,18 +250,18 @@ def main_sumo_scripts(argv: list[str]) -> int | None:
     parser.add_argument("--seconds", type=int, default=3600)
     parser.add_argument("--times", type=int, default=3)
     parser.add_argument("scripts", nargs="*")
-    asked = parser.parse_intermixed_args(argv)
-    shared.work_of(asked)
-    scripts = sorted(path for path in SCRIPTS.glob("*.py") if not asked.scripts or path.stem in asked.scripts)
+    options = parser.parse_intermixed_args(argv)
+    shared.work_of(options)
+    scripts = sorted(path for path in SCRIPTS.glob("*.py") if not options.scripts or path.stem in options.scripts)
     ours = os.environ.get("STREETSIM_SUMO", str(TOP / "tools/streetsim-sumo"))
     heads = "Script | Network | arrived in SUMO | here | processor seconds of SUMO | here, first start | later starts"
     shared.print_heads(heads)
     for script in scripts:
         for name in SCRIPT_NETS:
-            words = files_of(name, asked.work)
+            words = files_of(name, options.work)
             if script == scripts[0]:
-                run(script, ours, asked, words)  # which writes the bytecode
-            (there, theirs), (here, first), (_, later) = figures(script, ours, asked, words)
+                run(script, ours, options, words)  # which writes the bytecode
+            (there, theirs), (here, first), (_, later) = figures(script, ours, options, words)
             seconds = f"{theirs:.2f} | {first:.2f} | {later:.2f}"
             print(f"| {script.stem} | {name} | {there:,} | {here:,} | {seconds} |", flush=True)
 
@@ -312,7 +313,8 @@ class Waiting:
 
     def step(self, clock, indexes):
         """Acts by the places in its state that buses call."""
-        called = {at for at, one in enumerate(self.phases) if any(one.state[index] in GO for index in indexes)}
+        phases = enumerate(self.phases)
+        called = {number for number, phase in phases if any(phase.state[index] in GO for index in indexes)}
         if self.is_fixed:
             if called != set(self.logic.called):
                 self.logic.call(clock, called)
@@ -320,12 +322,12 @@ class Waiting:
                 self.logic.moves_on(clock, lambda _: 0.0)
                 self.lights.setPhase(self.name, self.logic.at)
             return
-        at = self.lights.getPhase(self.name)
-        if at != self.at:
-            self.at, self.since = at, clock
-        phase, lasted = self.phases[at], clock - self.since
-        if called and phase.is_extended and lasted < phase.most and (at in called or lasted >= phase.least):
-            self.lights.setPhaseDuration(self.name, max(1, phase.least - lasted) if at in called else 0)
+        phase_number = self.lights.getPhase(self.name)
+        if phase_number != self.at:
+            self.at, self.since = phase_number, clock
+        phase, lasted = self.phases[phase_number], clock - self.since
+        if called and phase.is_extended and lasted < phase.most and (phase_number in called or lasted >= phase.least):
+            self.lights.setPhaseDuration(self.name, max(1, phase.least - lasted) if phase_number in called else 0)
 
 
 def corridor_in_sumo(folder, seed, priority, kind):
@@ -333,10 +335,11 @@ def corridor_in_sumo(folder, seed, priority, kind):
     sys.path.insert(1, f"{shared.SUMO_HOME}/tools")
     import traci
 
-    words = ["sumo", "-n", "x.net.xml", "-a", "x.add.xml", "-r", "x.rou.xml", "--seed", str(seed), "--end", str(UNTIL)]
-    words += ["--tripinfo-output", "trips.xml", "--no-step-log", "--no-warnings", "--time-to-teleport", "300"]
+    command = ["sumo", "-n", "x.net.xml", "-a", "x.add.xml", "-r", "x.rou.xml", "--seed", str(seed)]
+    command += ["--end", str(UNTIL)]
+    command += ["--tripinfo-output", "trips.xml", "--no-step-log", "--no-warnings", "--time-to-teleport", "300"]
     if priority:
-        here = [str(folder / word) if word.endswith(".xml") else word for word in words]
+        here = [str(folder / word) if word.endswith(".xml") else word for word in command]
         traci.start(here)
         found = ElementTree.parse(folder / "x.add.xml").getroot().iter("tlLogic")
         offsets = {one.get("id"): int(one.get("offset")) for one in found}
@@ -356,7 +359,7 @@ def corridor_in_sumo(folder, seed, priority, kind):
                 light.step(clock, indexes[name])
         traci.close()
     else:
-        shared.run(words, folder)
+        shared.run(command, folder)
     return shared.trips_from_wish(folder / "trips.xml")
 
 
@@ -386,7 +389,7 @@ def priority_rows(args, work):
     """The table of what priority changes."""
     gains = "gain of buses: SUMO, here, s | loss of cars: SUMO, here, s"
     shared.print_heads(f"lights | buses: SUMO, here, s | cars: SUMO, here, s | {gains}")
-    for kind, told in KINDS.items():
+    for kind, lights_told in KINDS.items():
         if args.lights not in (None, kind):
             continue
         folder = work / f"corridor-{kind}"
@@ -401,7 +404,7 @@ def priority_rows(args, work):
         without = [f"{mean['sumo', False][at]:.1f}, {mean['here', False][at]:.1f}" for at in (0, 1)]
         more = [[mean[side, True][at] - mean[side, False][at] for side in ("sumo", "here")] for at in (0, 1)]
         gain, loss = f"{-more[0][0]:.1f}, {-more[0][1]:.1f}", f"{more[1][0]:.1f}, {more[1][1]:.1f}"
-        print(f"| {told} | {' | '.join(without)} | {gain} | {loss} |", flush=True)
+        print(f"| {lights_told} | {' | '.join(without)} | {gain} | {loss} |", flush=True)
 
 
 # Lanes, the edge of the stop, cars an hour. Buses to the second edge enter on either lane here, and in SUMO by chance.
@@ -417,12 +420,12 @@ STREET_UNTIL = 5400
 
 def make_street(folder, lanes, edge):
     """A street's network and its stop, on one of its edges."""
-    nodes = '<node id="A" x="0" y="0"/><node id="M" x="600" y="0" type="priority"/><node id="Z" x="1200" y="0"/>'
-    more = f'numLanes="{lanes}" speed="13.9"'
-    edges = f'<edge id="a" from="A" to="M" {more}/><edge id="b" from="M" to="Z" {more}/>'
-    (folder / "street.nod.xml").write_text(f"<nodes>{nodes}</nodes>", encoding="utf-8")
-    (folder / "street.edg.xml").write_text(f"<edges>{edges}</edges>", encoding="utf-8")
-    shared.run("netconvert -n street.nod.xml -e street.edg.xml -o street.net.xml".split(), folder)
+    plain = Plain()
+    for name, x in (("A", 0), ("M", 600), ("Z", 1200)):
+        plain.node(name, x, 0, "priority" if name == "M" else "")
+    for name, begin, end in (("a", "A", "M"), ("b", "M", "Z")):
+        plain.named_edge(name, begin, end, numLanes=lanes, speed=SPEED)
+    plain.make(folder / "street.net.xml")
     stop = f'<busStop id="stop" lane="{edge}_0" startPos="318" endPos="345"/>'
     (folder / "stops.add.xml").write_text(f"<additional>{stop}</additional>", encoding="utf-8")
 
@@ -431,13 +434,13 @@ def make_demand(path, edge, flow, dwell, seed):
     """Cars by chance and buses by the clock; equal seeds have equal cars, whatever the dwell."""
     draws, time, cars = random.Random(seed), 0.0, []
     while (time := time + draws.expovariate(flow / 3600)) < 3600:
-        more = 'departLane="best" departSpeed="max"'
-        cars.append((round(time), f'<vehicle id="car{len(cars)}" route="r" depart="{round(time)}" {more}/>'))
+        departing = 'departLane="best" departSpeed="max"'
+        cars.append((round(time), f'<vehicle id="car{len(cars)}" route="r" depart="{round(time)}" {departing}/>'))
     stop = f'<stop busStop="stop" duration="{dwell}"/>' if dwell else ""
     for number, time in enumerate(range(60, 3600, BUS_EACH)):
         lane = "0" if edge == "a" else "random"
-        more = f'type="bus" route="r" depart="{time}" departLane="{lane}" departSpeed="max"'
-        cars.append((time, f'<vehicle id="bus{number}" {more}>{stop}</vehicle>'))
+        departing = f'type="bus" route="r" depart="{time}" departLane="{lane}" departSpeed="max"'
+        cars.append((time, f'<vehicle id="bus{number}" {departing}>{stop}</vehicle>'))
     cars.sort(key=lambda one: one[0])
     head = '<vType id="bus" vClass="bus"/><route id="r" edges="a b"/>'
     path.write_text(f"<routes>{head}{''.join(text for _, text in cars)}</routes>", encoding="utf-8")

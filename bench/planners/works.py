@@ -14,6 +14,7 @@ from statistics import fmean
 
 import shared
 from beside_sumo.rows import sumo_trips
+from networks.streets import Plain
 from networks.unseen import Made, make, read_net, ways_of
 from shared import SAMPLES, SHIPPED, TOP, numbers, run, teleports_of
 
@@ -91,25 +92,25 @@ def convert(case: Case) -> None:
 
 def here(case: Case, works: Stretch | None, seed: int, label: str, program: str, joint: str) -> Seen:
     """A run of streetsim; joint: the lane of works, which is joint without them too."""
-    out = case.folder / f"here-{label}-{seed}"
+    run_folder = case.folder / f"here-{label}-{seed}"
     convert(case)
-    words = ["run.jsonl", "--map", "run.map.json", "--until", case.until, "--every", 0, "--rescue", 0, "--out", out]
-    words += ["--program", program]
+    command = ["run.jsonl", "--map", "run.map.json", "--until", case.until, "--every", 0, "--rescue", 0]
+    command += ["--out", run_folder, "--program", program]
     if works:
-        words.append(f"--close={works.closing()}")
+        command.append(f"--close={works.closing()}")
     elif joint:
-        words.append(f"--joint={joint}")
-    words += ["--seeds", f"{seed}-{seed}", "--departures", "listed"]
-    told = run([TOP / "tools/streetsim-run", *words], case.folder)
-    out = out / f"seed-{seed}"
-    with open(out / "trips.csv", encoding="utf-8") as file:
+        command.append(f"--joint={joint}")
+    command += ["--seeds", f"{seed}-{seed}", "--departures", "listed"]
+    printed = run([TOP / "tools/streetsim-run", *command], case.folder)
+    run_folder = run_folder / f"seed-{seed}"
+    with open(run_folder / "trips.csv", encoding="utf-8") as file:
         rows = list(csv.DictReader(file))
     trips = {row["id"]: (float(row["depart"]), float(row["arrival"] or case.until)) for row in rows}
     stood = 0
     if works:
-        with open(out / "works.csv", encoding="utf-8") as file:
+        with open(run_folder / "works.csv", encoding="utf-8") as file:
             stood = max((int(row["longest_stand_s"]) for row in csv.DictReader(file)), default=0)
-    doubt = next((line for line in told.splitlines() if "not to be trusted: " in line), "").partition("trusted: ")[2]
+    doubt = next((line for line in printed.splitlines() if "not to be trusted: " in line), "").partition("trusted: ")[2]
     return Seen(trips, stood, doubt)
 
 
@@ -133,21 +134,19 @@ BEGIN, END, UNTIL, WORKS = 1800, 5400, 9000, 200
 
 def plain_street(folder: Path, hourly: int) -> Case:
     """Two edges of two lanes at 50 km/h, 7,200 s of vehicles."""
-    own = folder / f"street-{hourly}"
-    own.mkdir(parents=True, exist_ok=True)
-    if not (own / "net.net.xml").exists():
-        nodes = "".join(f'<node id="{name}" x="{x}" y="0"/>' for name, x in (("a", 0), ("b", 800), ("c", 1600)))
-        edges = "".join(
-            f'<edge id="{name}" from="{begin}" to="{end}" numLanes="2" speed="13.89"/>'
-            for name, begin, end in (("in", "a", "b"), ("out", "b", "c"))
-        )
-        (own / "plain.nodes.xml").write_text(f"<nodes>{nodes}</nodes>", encoding="utf-8")
-        (own / "plain.edges.xml").write_text(f"<edges>{edges}</edges>", encoding="utf-8")
-        run("netconvert -n plain.nodes.xml -e plain.edges.xml -o net.net.xml".split(), own)
+    street_folder = folder / f"street-{hourly}"
+    street_folder.mkdir(parents=True, exist_ok=True)
+    if not (street_folder / "net.net.xml").exists():
+        plain = Plain()
+        for name, x in (("a", 0), ("b", 800), ("c", 1600)):
+            plain.node(name, x, 0, "")
+        for name, begin, end in (("in", "a", "b"), ("out", "b", "c")):
+            plain.named_edge(name, begin, end, numLanes=2, speed=13.89)
+        plain.make(street_folder / "net.net.xml")
         each = f'begin="0" end="7200" vehsPerHour="{hourly}" departLane="best" departSpeed="max"'
         text = f'<routes><flow id="f" {each}><route edges="in out"/></flow></routes>'
-        (own / "demand.rou.xml").write_text(text, encoding="utf-8")
-    return Case(own, own / "net.net.xml", (own / "demand.rou.xml",), (), UNTIL)
+        (street_folder / "demand.rou.xml").write_text(text, encoding="utf-8")
+    return Case(street_folder, street_folder / "net.net.xml", (street_folder / "demand.rou.xml",), (), UNTIL)
 
 
 def street_rows(folder: Path, program: str, seeds: range):
@@ -211,9 +210,9 @@ class Drawn:
 def drawn(seed: int, number: int, work: Path) -> Drawn:
     """A network of a kind, and works on one lane of an edge of two or more lanes that many pass."""
     kind, draws = DRAWN[number], random.Random(f"works {seed} {number}")
-    made = make(kind, seed + number, work, 0.7)
-    net = read_net(made.net)
-    through = Counter(edge for way in ways(made) for edge in way)
+    network = make(kind, seed + number, work, 0.7)
+    net = read_net(network.net)
+    through = Counter(edge for way in ways(network) for edge in way)
     able = next(filter(None, (edges_for(net, through, least, few) for few in FEW for least in LEAST)))
     able.sort(key=lambda edge: (-through[edge.getID()], edge.getID()))
     edge = able[draws.randrange(max(1, len(able) // 3))]
@@ -222,10 +221,10 @@ def drawn(seed: int, number: int, work: Path) -> Drawn:
     lanes = edge.getLaneNumber()
     wanted = draws.uniform(0.5, 0.95) * PASSES * (lanes - 1)
     if through[edge.getID()] > wanted:
-        made = make(kind, seed + number, work, vehicles=round(made.vehicles * wanted / through[edge.getID()]))
-        through = Counter(edge for way in ways(made) for edge in way)
+        network = make(kind, seed + number, work, vehicles=round(network.vehicles * wanted / through[edge.getID()]))
+        through = Counter(edge for way in ways(network) for edge in way)
     works = Stretch(edge.getID(), draws.randrange(lanes), begin, begin + length, FIRST, LAST)
-    return Drawn(made, works, lanes, through[edge.getID()] / (PASSES * (lanes - 1)))
+    return Drawn(network, works, lanes, through[edge.getID()] / (PASSES * (lanes - 1)))
 
 
 def edges_for(net, through: Counter, least: int, few: int) -> list:
@@ -247,8 +246,8 @@ def drawn_rows(seed: int, folder: Path, program: str, seeds: range):
         yield drawn_row(drawn(seed, number, folder), program, seeds)
 
 
-def drawn_row(one: Drawn, program: str, seeds: range) -> str:
-    case, names, works = one.case(), one.passing(), one.works
+def drawn_row(network: Drawn, program: str, seeds: range) -> str:
+    case, names, works = network.case(), network.passing(), network.works
     joint = f"{works.edge}_{works.lane}"
     added = []
     runs = []
@@ -261,9 +260,9 @@ def drawn_row(one: Drawn, program: str, seeds: range) -> str:
         runs.append(with_works)
     stood = max(seen.stood for seen in runs[1])
     doubt = "doubted" if any(seen.doubt for seen in runs[1]) else ""
-    what = f"{works.edge} ({one.lanes} lanes), lane {works.lane}, {works.end - works.begin} m"
-    name = f"{one.made.name}{street_in_words(one.made.drawn) if one.made.kind == 'street' else ''}"
-    cells = f"{100 * one.share:.0f} % | {added[0]:+.1f} | {added[1]:+.1f} | {stood} s | {doubt}"
+    what = f"{works.edge} ({network.lanes} lanes), lane {works.lane}, {works.end - works.begin} m"
+    name = f"{network.made.name}{street_in_words(network.made.drawn) if network.made.kind == 'street' else ''}"
+    cells = f"{100 * network.share:.0f} % | {added[0]:+.1f} | {added[1]:+.1f} | {stood} s | {doubt}"
     return f"| {name} | {what} | {cells} |"
 
 
@@ -318,14 +317,15 @@ def chosen(mapping, lines, counts):
     lanes, metres = Counter(), dict(zip(links["edge"], links["metres"], strict=True))
     for edge, own in zip(links["edge"], links["lanes"], strict=True):
         lanes[edge] += len(own)
-    for wanted, count in counts.items():
-        names = [name for name, _ in passing.most_common() if lanes[name] == wanted and metres[name] >= LEAST_METRES]
-        names = names if wanted == 1 else names[: (len(names) + 1) // 2]
+    for lane_count, count in counts.items():
+        alike = (name for name, _ in passing.most_common() if lanes[name] == lane_count)
+        names = [name for name in alike if metres[name] >= LEAST_METRES]
+        names = names if lane_count == 1 else names[: (len(names) + 1) // 2]
         for place in range(count):
             name = names[(2 * place + 1) * len(names) // (2 * count)]
             length = min(LENGTHS[place % 3], int(metres[name]) - 60)
             begin = (int(metres[name]) - length) // 2
-            yield Works(name, wanted, place % wanted, begin, begin + length, SECONDS[place % 2])
+            yield Works(name, lane_count, place % lane_count, begin, begin + length, SECONDS[place % 2])
 
 
 def wished(routes):
@@ -342,8 +342,8 @@ def sumo_trip(name, works, seed, folder):
     """The mean trip in SUMO, and the teleports."""
     network, routes, additional, _ = NETWORKS[name]
     stem = f"{name}-{works.edge.replace('/', '_') if works else 'none'}-{seed}"
-    trips, told = folder / f"{stem}.trips.xml", folder / f"{stem}.statistic.xml"
-    if not told.exists():
+    trips, statistic = folder / f"{stem}.trips.xml", folder / f"{stem}.statistic.xml"
+    if not statistic.exists():
         routes_words = str(routes)
         if works:
             obstacle = folder / f"{stem}.rou.xml"
@@ -354,28 +354,28 @@ def sumo_trip(name, works, seed, folder):
         words += ["-a", ",".join(map(str, additional))] if additional else []
         half = folder / "half.xml"
         run([*words, "--tripinfo-output", trips, "--statistic-output", half], folder)
-        os.replace(half, told)
+        os.replace(half, statistic)
     arrivals = {one.get("id"): float(one.get("arrival")) for one in ElementTree.parse(trips).iter("tripinfo")}
-    return mean_of(wished(routes), arrivals), teleports_of(told)
+    return mean_of(wished(routes), arrivals), teleports_of(statistic)
 
 
 def here_trip(name, works, closing, args, folder):
     """The mean trips here, and the rescues, of each seed; the lane of the works is joint also without them."""
-    words = [f"{name}.jsonl", "--map", f"{name}.map.json", "--until", LAST_SECOND, "--every", 0, "--jobs", 1]
-    words += ["--seeds", args.seeds, "--departures", "listed", "--out", "here", "--program", args.program]
+    command = [f"{name}.jsonl", "--map", f"{name}.map.json", "--until", LAST_SECOND, "--every", 0, "--jobs", 1]
+    command += ["--seeds", args.seeds, "--departures", "listed", "--out", "here", "--program", args.program]
     if closing:
-        words.append(f"--close={works.closing()}")
+        command.append(f"--close={works.closing()}")
     elif works.lanes > 1:
-        words += [f"--joint={works.edge}_{works.lane}"]
-    run([TOP / "tools/streetsim-run", *words], folder)
+        command += [f"--joint={works.edge}_{works.lane}"]
+    run([TOP / "tools/streetsim-run", *command], folder)
     departs = wished(NETWORKS[name][1])
-    found = []
+    seed_trips = []
     for seed in numbers(args.seeds):
         with open(folder / f"here/seed-{seed}/trips.csv", encoding="utf-8") as file:
             rows = list(csv.DictReader(file))
         arrivals = {row["id"]: float(row["arrival"]) for row in rows if row["arrival"]}
-        found.append((mean_of(departs, arrivals), sum(int(row["rescues"]) for row in rows)))
-    return found
+        seed_trips.append((mean_of(departs, arrivals), sum(int(row["rescues"]) for row in rows)))
+    return seed_trips
 
 
 def cells_of(before, after):

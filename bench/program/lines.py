@@ -17,6 +17,7 @@ from pathlib import Path
 
 import shared
 from disks import Fault, Noting
+from repository.pages import add_put, keep_result
 from shared import ring_of
 from test_kept import random_lines
 from trials import ERRORS, RECORD, Contradicted, LinkedTrial, Session, Trial, record_of
@@ -64,8 +65,8 @@ def kinds(number):
     plan = [FIRST_LINK + at for at in range(LINKS_OF_A_PLAN)]
     nobody = {"admitted": 0, "arrived": 0, "buffers": 0, "cells": 0, "clock": 0, "taken": 0, "waiting": 0}
     enter = {"cmd": "enter", "plan": plan, "lane": 0, "depart": 1_000}
-    yield "count", [{"cmd": "count"}] * number, [nobody] * number
-    yield f"enter of {LINKS_OF_A_PLAN} links", [enter] * number, [{"car": car} for car in range(number)]
+    yield "a `count` line", [{"cmd": "count"}] * number, [nobody] * number
+    yield f"an `enter` of {LINKS_OF_A_PLAN} links", [enter] * number, [{"car": car} for car in range(number)]
 
 
 def equal(said, wanted):
@@ -73,14 +74,14 @@ def equal(said, wanted):
         raise SystemExit(f"wanted {wanted!r:.120}, but the program gave {said!r:.120}")
 
 
-def session(words, text):
+def session(command, text):
     """A run from a file to a file: seconds on the wall, processor seconds, which other programs disturb less, and its
     replies."""
     with tempfile.TemporaryFile() as source, tempfile.TemporaryFile() as target:
         source.write(text)
         source.seek(0)
         begun, before = time.perf_counter(), shared.children_seconds()
-        subprocess.run(words, stdin=source, stdout=target, check=True)
+        subprocess.run(command, stdin=source, stdout=target, check=True)
         wall, spent = time.perf_counter() - begun, shared.children_seconds() - before
         target.seek(0)
         return wall, spent, target.read()
@@ -150,8 +151,11 @@ def time_kind(args, start, name, commands, replies):
     texts = [(start[0] + b"".join(map(line, sent)), said) for sent in (commands, with_null)]
     plain, null = zip(*(microseconds(args.program, start, texts, len(commands)) for _ in range(args.times)))
     print(f"{len(commands)} lines: {name}")
-    tell("processor time a line", f"{min(plain):.2f} µs (median {statistics.median(plain):.2f} µs)")
-    tell('with "x":null', f"{min(null):.2f} µs (median {statistics.median(null):.2f} µs)")
+    for told, what, spent in (
+        ("processor time a line", name, plain), ('with "x":null', f"{name} by way of a JSON value", null)
+    ):
+        tell(told, f"{min(spent):.2f} µs (median {statistics.median(spent):.2f} µs)")
+        keep_result(args, "program", what, {"Measured": f"{min(spent):.2f} µs"})
 
 
 def time_line(args, name, text, wanted, wanted_next):
@@ -175,6 +179,7 @@ def main_lines(argv: list[str]) -> int | None:
     parser = shared.parser_of(main_lines)
     parser.add_argument("--lines", type=int, default=500_000)
     parser.add_argument("--times", type=int, default=5)
+    add_put(parser)
     args = parser.parse_args(argv)
 
     time_short_lines(args)
@@ -209,14 +214,16 @@ def sessions(vehicles, lines, waiting):
     draws = random.Random(1)
     base, cars = driving(vehicles), [draws.randrange(vehicles) for _ in range(lines)]
     asked = b"".join(line({"cmd": "vehicle", "car": car}) for car in cars)
-    yield "vehicle", base, asked, [{"car": car} for car in cars]
+    beside = f"lines a second beside {vehicles:,} vehicles"
+    yield f"`vehicle` {beside}", base, asked, [{"car": car} for car in cars]
     counts = line({"cmd": "count"}) * lines
-    yield "count", base, counts, [{"admitted": vehicles, "arrived": 0, "waiting": 0}] * lines
+    yield f"`count` {beside}", base, counts, [{"admitted": vehicles, "arrived": 0, "waiting": 0}] * lines
     entered = b"".join(enter_on(0, draws.randrange(1_000_000)) for _ in range(waiting))
-    yield f"enter, {waiting} on one lane", rings_of(1), entered, [{"car": car} for car in range(waiting)]
+    name = f"`enter` lines a second, {waiting:,} on one lane, random departs"
+    yield name, rings_of(1), entered, [{"car": car} for car in range(waiting)]
     cars = [draws.randrange(waiting) for _ in range(lines // 100)]  # fewer, since who waits is sought
-    asked = b"".join(line({"cmd": "vehicle", "car": car}) for car in cars)
-    yield "vehicle, one of these", rings_of(1) + entered, asked, [{"car": car, "state": "waiting"} for car in cars]
+    asked, told = b"".join(line({"cmd": "vehicle", "car": car}) for car in cars), {"state": "waiting"}
+    yield "`vehicle` lines a second of these", rings_of(1) + entered, asked, [{"car": car, **told} for car in cars]
 
 
 def check(replies, expected):
@@ -238,18 +245,25 @@ def main_vehicles(argv: list[str]) -> int | None:
     parser.add_argument("--lines", type=int, default=300_000)
     parser.add_argument("--waiting", type=int, default=20_000)
     parser.add_argument("--times", type=int, default=5)
+    add_put(parser)
     args = parser.parse_args(argv)
 
     shared.print_heads("What | Measured")
     for name, base, timed, expected in sessions(args.vehicles, args.lines, args.waiting):
-        below, whole, words = [], [], [args.program, *ALL_CALLS]
+        below, with_lines, words = [], [], [args.program, *ALL_CALLS]
         for _ in range(args.times):
             below.append(session(words, base)[1])
             _, spent, replies = session(words, base + timed)
-            whole.append(spent)
+            with_lines.append(spent)
             check(replies, expected)
-        rate = len(expected) / (min(whole) - min(below))
-        print(f"| lines a second beside {args.vehicles:,} vehicles: {name} | {rate:,.0f} |", flush=True)
+        rate = len(expected) / (min(with_lines) - min(below))
+        print_and_keep(args, name, f"{rate:,.0f}")
+
+
+def print_and_keep(args: argparse.Namespace, what: str, cell: str) -> None:
+    """A row of what was measured, which is kept with --put."""
+    print(f"| {what} | {cell} |", flush=True)
+    keep_result(args, "program", what, {"Measured": cell})
 
 
 ROW = 7  # links of the ring
@@ -283,7 +297,8 @@ def memory(program: str, command: dict, count: int, refused: bool, prefix: Seque
     first, last = (run(program, [command] * times, prefix or [ring_of(ROW)]) for times in (count, 4 * count))
     if ("error" in json.loads(last[2])) != refused:
         raise SystemExit(f"{shared.text_of(command)[:80]}: {last[2][:200]}")
-    return f"{(last[1] - first[1]) / (3 * count):,.0f} bytes"
+    taken = (last[1] - first[1]) / (3 * count)
+    return f"{taken / 1e6:.2f} MB" if taken > 1e6 else f"{taken:,.0f} bytes"
 
 
 def seconds(program: str, commands: Sequence[dict], prefix: Sequence[dict]) -> float:
@@ -313,7 +328,7 @@ def closing(step: int) -> list[dict]:
 def closes(program: str, step: int, last: int) -> str:
     """Microseconds of each of the last closings of 64,000."""
     prefix, all_ = [ring_of(ROW, cells=200_000)], closing(step)
-    return f"{seconds(program, all_[-last:], [*prefix, *all_[:-last]]) / last * 1e6:.1f} µs"
+    return f"{seconds(program, all_[-last:], [*prefix, *all_[:-last]]) / last * 1e6:.1f} µs each"
 
 
 def departs(program: str, order: Callable[[int], float]) -> str:
@@ -331,7 +346,7 @@ def empty_steps(program: str) -> str:
     links = [[at, at % 1_000, (at + 1) % 1_000, 2, 100, 5] for at in range(3_968)]
     made = shared.load([[at, 1, 2] for at in range(1_000)], links, [])
     steps = [{"cmd": "advance", "steps": 10_000}]
-    return f"{seconds(program, steps, [made]) / 10_000 * 1e6:.0f} µs a step"
+    return f"{seconds(program, steps, [made]) / 10_000 * 1e6:.0f} µs"
 
 
 ROWS: tuple[tuple[str, Callable[[str], str]], ...] = (
@@ -339,15 +354,15 @@ ROWS: tuple[tuple[str, Callable[[str], str]], ...] = (
     ("of an `enter` of 100 links, refused", lambda it: memory(it, {**enter(100), "lane": 9}, 20_000, True)),
     ("of an `enter` of 100 links, admitted", lambda it: memory(it, enter(100), 20_000, False)),
     ("of an `enter` of one link, admitted", lambda it: memory(it, enter(1), 20_000, False)),
-    ("of a refused `signal` of 16 phases with 3 greens each", lambda it: memory(it, signal(), 5_000, True)),
-    ("of a refused `load` of 4,000 nodes, 4,000 links and 50,000 turns", lambda it: memory(it, great_load(), 4, True)),
-    ("`close` of single cells, every other cell", lambda it: closes(it, 2, 8_000)),
-    ("`close` of single cells, side by side", lambda it: closes(it, 1, 64_000)),
+    ("of a refused `signal` of 16 phases of 3 greens", lambda it: memory(it, signal(), 5_000, True)),
+    ("of a refused `load` of 4,000 nodes, 4,000 links, 50,000 turns", lambda it: memory(it, great_load(), 4, True)),
+    ("`close` of single cells, every other one, the last 8,000 of 64,000", lambda it: closes(it, 2, 8_000)),
+    ("`close` of 64,000 cells side by side", lambda it: closes(it, 1, 64_000)),
     ("100,000 `enter` on one lane, departs rising", lambda it: departs(it, lambda at: at)),
-    ("departs falling", lambda it: departs(it, lambda at: -at)),
-    ("departs in random order", lambda it: departs(it, lambda at: random.Random(at).random())),
+    ("100,000 `enter` on one lane, departs falling", lambda it: departs(it, lambda at: -at)),
+    ("100,000 `enter` on one lane, departs random", lambda it: departs(it, lambda at: random.Random(at).random())),
     ("`vehicle` of the first of 400,000 who wait", lambda it: waiting(it, 0)),
-    ("`vehicle` of the last", lambda it: waiting(it, 399_999)),
+    ("`vehicle` of the last of 400,000 who wait", lambda it: waiting(it, 399_999)),
     ("a step of 7,936 lanes with nobody on them", empty_steps),
 )
 
@@ -363,28 +378,29 @@ def main_calls(argv: list[str]) -> int | None:
     """
     parser = shared.parser_of(main_calls)
     parser.add_argument("--only", default="", help="rows whose name has this word")
+    add_put(parser)
     args = parser.parse_args(argv)
     shared.print_heads("What | Measured")
     for name, measure in ROWS:
         if args.only in name:
-            print(f"| {name} | {measure(args.program)} |", flush=True)
+            print_and_keep(args, name, measure(args.program))
 
 
 STREET = ring_of(2, cells=10)
-WAYS = (("--calls", "1000000"), ("--endless",), ("--keep", "day.jsonl", "--unsynced"), ("--keep", "day.jsonl"))
+WAYS = (("--calls", "1000000"), ("--endless",), ("--keep", "FILE", "--unsynced"), ("--keep", "FILE"))
 
 
 def seconds_by_way(args: argparse.Namespace, folder: Path) -> dict[tuple[str, ...], list[float]]:
     """How long each run takes by each of WAYS, in turn; all must have the same replies."""
     kept, pair = folder / "day.jsonl", line({**enter(1), "plan": [0, 1]}) + line({"cmd": "advance", "steps": 1})
-    given, taken, first = line(STREET) + pair * (args.lines // 2), {way: [] for way in WAYS}, b""
+    given, seconds_taken, first = line(STREET) + pair * (args.lines // 2), {way: [] for way in WAYS}, b""
     for way in WAYS * args.times:
         kept.unlink(missing_ok=True)
-        wall, _, replies = session([args.program, *(str(kept) if word == "day.jsonl" else word for word in way)], given)
-        taken[way].append(wall)
+        wall, _, replies = session([args.program, *(str(kept) if word == "FILE" else word for word in way)], given)
+        seconds_taken[way].append(wall)
         if replies != (first := first or replies):
             sys.exit(f"{way}: other replies")
-    return taken
+    return seconds_taken
 
 
 def most_memory(program: str, calls: int, folder: Path) -> int:
@@ -417,6 +433,7 @@ def main_kept(argv: list[str]) -> int | None:
     parser.add_argument("--times", type=int, default=5)
     parser.add_argument("--calls", type=int, default=5_000_000)
     parser.add_argument("--folder", type=Path)
+    add_put(parser)
     args = parser.parse_args(argv)
     with tempfile.TemporaryDirectory(dir=args.folder) as folder:
         taken = seconds_by_way(args, Path(folder))
@@ -424,10 +441,11 @@ def main_kept(argv: list[str]) -> int | None:
         for way, times in taken.items():
             ratio = statistics.median(one / base for one, base in zip(times, taken[WAYS[0]], strict=True))
             lines = args.lines / statistics.median(times)
-            print(f"| lines a second with `{' '.join(way)}` | {lines:,.0f}; {ratio:.2f} times as long |")
+            told = f"{lines:,.0f}" if way == WAYS[0] else f"{lines:,.0f}; {ratio:.2f} times as long"
+            print_and_keep(args, f"lines a second with `{' '.join(way)}`", told)
         for calls in (50_000, args.calls):
             memory = most_memory(args.program, calls, Path(folder))
-            print(f"| memory of `--endless` after {calls:,} calls | {memory:,} KiB |", flush=True)
+            print_and_keep(args, f"memory of `--endless` after {calls:,} calls", f"{memory:,} KiB")
 
 
 MOST_LINES, AT_ONCE = 900, 300  # of a session; of a run
@@ -452,13 +470,13 @@ def trial_of(draw: random.Random, seed: int, noting: Noting, folder: Path) -> Tr
     return kind(session, noting, words, folder / "kept", draw.choice((None, begin)))
 
 
-def run_on(trial: Trial, draw: random.Random, most: int) -> tuple[int, list[str]]:
+def run_on(trial: Trial, draw: random.Random, greatest_call: int) -> tuple[int, list[str]]:
     """A run of which one of so many calls fails, or four from it on, and what then ends: how many calls it made, and
     which of them failed."""
     # Where the file keeps its place, a sync that failed and could not be withdrawn is not covered.
     many = 1 if isinstance(trial, LinkedTrial) else draw.choice((1, 1, 4))
     # The later of two draws, since most calls are made before the first line is read.
-    fault = Fault(max(draw.randint(1, most), draw.randint(1, most)), draw.choice(ERRORS), many)
+    fault = Fault(max(draw.randint(1, greatest_call), draw.randint(1, greatest_call)), draw.choice(ERRORS), many)
     calls = trial.go_on(fault, trial.next() + draw.randint(1, AT_ONCE))
     made = [call.name for call in calls if call.name != "close"]
     if draw.random() < 0.5:
@@ -470,18 +488,18 @@ def tried(seed: int, noting: Noting, folder: Path) -> Counter[str]:
     """The trial of a seed: how many runs it had, and which calls failed in them; what contradicted a reply is told."""
     draw, most = random.Random(seed), 30
     trial = trial_of(draw, seed, noting, folder)
-    found: Counter[str] = Counter()
+    counts: Counter[str] = Counter()
     try:
-        while found["runs"] < MOST_RUNS and trial.next() < len(trial.session.lines):
+        while counts["runs"] < MOST_RUNS and trial.next() < len(trial.session.lines):
             most, failed = run_on(trial, draw, most)
-            found.update(["runs", *(["failing"] if failed else []), *(f"call {name}" for name in failed)])
+            counts.update(["runs", *(["failing"] if failed else []), *(f"call {name}" for name in failed)])
         trial.go_on()
         trial.check_crashes()
     except Contradicted as fault:
         print(f"seed {seed}, {' '.join(trial.words)}: {fault}"[:1000])
-        found["contradicted"] += 1
-    found["lines"] += trial.answered
-    return found
+        counts["contradicted"] += 1
+    counts["lines"] += trial.answered
+    return counts
 
 
 def failed_in(found: Counter[str]) -> dict[str, int]:
@@ -507,16 +525,23 @@ def main_failing_calls(argv: list[str]) -> int | None:
     parser.add_argument("--runs", type=int, default=2_000, help="of which a call fails, at least")
     parser.add_argument("--seed", type=int, default=1, help="of the first session")
     parser.add_argument("--jobs", type=int, default=len(os.sched_getaffinity(0)))
+    add_put(parser)
     args = parser.parse_args(argv)
-    found, seed = Counter[str](), args.seed
+    counts, seed = Counter[str](), args.seed
     with tempfile.TemporaryDirectory() as made, ThreadPoolExecutor(args.jobs) as pool:
         noting = Noting(Path(made))
-        while found["failing"] < args.runs:
+        while counts["failing"] < args.runs:
             seeds = range(seed, seed := seed + args.jobs)
-            found += sum(pool.map(lambda one: tried(one, noting, Path(made) / str(one)), seeds), Counter[str]())
-    failed = failed_in(found)
-    print(f"{found['runs']:,} runs of {seed - args.seed:,} sessions, {found['lines']:,} lines answered")
-    print(f"in {found['failing']:,} of them calls failed:")
+            counts += sum(pool.map(lambda one: tried(one, noting, Path(made) / str(one)), seeds), Counter[str]())
+    failed = failed_in(counts)
+    print(f"{counts['runs']:,} runs of {seed - args.seed:,} sessions, {counts['lines']:,} lines answered")
+    print(f"in {counts['failing']:,} of them calls failed:")
     print(f"{sum(failed.values()):,} calls: {', '.join(f'{name} {count:,}' for name, count in failed.items())}")
-    print(f"{found['contradicted']:,} sessions in which a reply was contradicted")
-    return 1 if found["contradicted"] else 0
+    print(f"{counts['contradicted']:,} sessions in which a reply was contradicted")
+    if counts["contradicted"]:
+        return 1
+    told = f"no reply of {counts['lines']:,} contradicted, in {counts['runs']:,} runs of {seed - args.seed:,} sessions"
+    told += f"; in {counts['failing']:,} of these runs calls failed, {sum(failed.values()):,} in all"
+    what = "kept sessions of which calls of the system fail or come short"
+    keep_result(args, "program", what, {"Measured": told})
+    return 0

@@ -16,6 +16,7 @@ from dataclasses import dataclass
 from pathlib import Path
 
 import shared
+from repository.pages import add_put, keep_result
 from shared import ring_of
 from streetsim.base.program import find_program
 from streetsim.model.record import ARRIVED, RecordReader, open_record
@@ -118,12 +119,20 @@ def star(vehicles, arms=200):
 SESSIONS = {
     "ring 0.1": lambda: ring(0.1),
     "ring 0.3": lambda: ring(0.3),
+    "grid 5000": lambda: grid(5_000),
     "grid 20000": lambda: grid(20_000),
     "grid 100000": lambda: grid(100_000),
     "grid 400000": lambda: grid(400_000, advances=8),
     "sparse 10000": lambda: sparse(10_000),
     "star 10000": lambda: star(10_000),
 }
+TOLD = {  # in the words of RESULTS.md
+    **{f"ring 0.{tenth}": f"ring of 100 links, {tenth}0 % full" for tenth in (1, 3)},
+    **{f"grid {count}": f"grid of two-lane links, {count:,} vehicles" for count in (5_000, 20_000, 100_000, 400_000)},
+    "sparse 10000": "4,096 links of 7,500 km, 10,000 vehicles",
+    "star 10000": "200 links into one node, and 200 out of it",
+}
+RUNS = {1: " (one run)", 5: ""}  # of which medians are kept, and how that is told there
 
 
 class Program:
@@ -183,38 +192,72 @@ def main_steps(argv: list[str]) -> int | None:
     with 10,000 vehicles; a star of 200 two-lane links of 100 cells into one node and 200 out of it, with 10,000
     vehicles. OTHER is another program for the same lines and the option --calls. All take turns, advance by advance,
     and their replies must be the same, byte for byte. Times are those of the clock on the wall, so that workers on
-    threads count; the best of the runs of each advance is taken.
+    threads count; of each advance the best of so many times is taken. Of several runs the medians are told, of rates
+    and of their ratios to the first of the same run.
     """
     parser = shared.parser_of(main_steps)
     parser.add_argument("--workers", default="1")
     parser.add_argument("--beside")
     parser.add_argument("--only", default="")
     parser.add_argument("--times", type=int, default=3)
+    parser.add_argument("--runs", type=int, default=1)
+    add_put(parser)
     args = parser.parse_args(argv)
 
-    words = {f"{workers} workers": [args.program, "--workers", workers, *CALLS] for workers in args.workers.split(",")}
+    counts = args.workers.split(",")
+    command_lines = {of_workers(count): [args.program, "--workers", count, *CALLS] for count in counts}
     if args.beside:
-        words = {"beside": [args.beside, *CALLS], **words}
-    print(f"million vehicle updates a second (best of {args.times} runs)")
+        command_lines = {"beside": [args.beside, *CALLS], **command_lines}
+    print(f"million vehicle updates a second (best of {args.times}; medians of {args.runs} runs)")
     for name, make in SESSIONS.items():
-        if args.only not in name:
-            continue
-        lines, chunks = make()
-        best = {}
-        for _ in range(args.times):
-            updates, spent = run(words, lines, chunks)
-            best = {it: [min(pair) for pair in zip(spent[it], best.get(it, spent[it]), strict=True)] for it in spent}
-        rates = {it: sum(updates) / sum(best[it]) / 1e6 for it in best}
-        of = rates[next(iter(rates))]
-        print(
-            f"  {name:<14}" + ", ".join(f"{it} {rate:.1f} ({rate / of:.2f})" for it, rate in rates.items()), flush=True
-        )
+        if args.only in name:
+            runs = [rates_of(command_lines, *make(), args.times) for _ in range(args.runs)]
+            found = cells_of(runs)
+            print(f"  {name:<14}" + ", ".join(f"{it} {cell}" for it, cell in found.items()), flush=True)
+            keep_rates(args, TOLD[name] + RUNS.get(args.runs, f" ({args.runs} runs)"), found, runs)
+
+
+def of_workers(count):
+    return "1 worker" if count == "1" else f"{count} workers"
+
+
+def rates_of(words, lines, chunks, times):
+    """Million updates a second of each program, of each advance the best of so many times."""
+    best = {}
+    for _ in range(times):
+        updates, spent = run(words, lines, chunks)
+        best = {it: [min(pair) for pair in zip(spent[it], best.get(it, spent[it]), strict=True)] for it in spent}
+    return {it: sum(updates) / sum(best[it]) / 1e6 for it in best}
+
+
+def ratio_of(runs, one, other):
+    """The median ratio of two programs' rates."""
+    return f"{statistics.median(rates[one] / rates[other] for rates in runs):.2f}"
+
+
+def cells_of(runs):
+    """The median rate of each program, and in brackets its ratio to the first."""
+    first, *others = runs[0]
+    rates = {one: f"{statistics.median(rates[one] for rates in runs):.1f}" for one in runs[0]}
+    return {first: rates[first], **{one: f"{rates[one]} ({ratio_of(runs, one, first)})" for one in others}}
+
+
+def keep_rates(args, session, found, runs):
+    """Keeps the rates beside another program, and the ratios to one worker."""
+    first, *others = found
+    if first == "beside":
+        keep_result(args, "steps", session, {"C++": found[first], **{one: found[one] for one in others}})
+    if "1 worker" in found:
+        more = {one: ratio_of(runs, one, "1 worker") for one in others if one != "1 worker"}
+        keep_result(args, "workers", session, more)
 
 
 WARM = 32  # steps with caches before those that are counted
 CACHES = ["--cache-sim=yes", "--D1=32768,8,64", "--LL=1048576,16,64"]
 # What is shown of each function: instructions, reads that miss the near cache, reads that miss the far one.
 EVENTS = ("Ir", "D1mr", "DLmr")
+ALL = "PROGRAM TOTALS"  # as callgrind_annotate calls them
+COLUMNS = {"ring 0.3": "Ring, 30 % full", "grid 20000": "Grid, 20,000 vehicles"}  # of RESULTS.md
 NUMBER = re.compile(r"([\d,]+|\.)(?: \( ?[\d.]+%\))?(?=\s)")
 
 
@@ -231,27 +274,27 @@ def cells(program):
     return json.loads(program.ask([line(cmd="count")])[0])["cells"]
 
 
-def counted(path, lines, before, steps, folder):
+def counted(path, lines, warm_up_steps, steps, folder):
     """Runs a session up to the steps that are counted, and these;
     gives callgrind's file and how many updates they are."""
-    found = Path(folder) / "callgrind.out"
+    profile = Path(folder) / "callgrind.out"
     words = [
-        "valgrind", "--tool=callgrind", "--instr-atstart=no", *CACHES, f"--callgrind-out-file={found}",
+        "valgrind", "--tool=callgrind", "--instr-atstart=no", *CACHES, f"--callgrind-out-file={profile}",
         f"--log-file={folder}/log",
     ]
     program = Program("counted", [*words, path, "--workers", "1", *CALLS])
     program.ask(lines)
-    if before > WARM:
-        program.ask([line(cmd="advance", steps=before - WARM)])
+    if warm_up_steps > WARM:
+        program.ask([line(cmd="advance", steps=warm_up_steps - WARM)])
     control(program, "-i", "on")
-    program.ask([line(cmd="advance", steps=min(before, WARM))])
+    program.ask([line(cmd="advance", steps=min(warm_up_steps, WARM))])
     first = cells(program)
     control(program, "-z")
     program.ask([line(cmd="advance", steps=steps)])
     control(program, "-d")
     updates = steps * (first + cells(program)) / 2
     program.end()
-    return found.with_name("callgrind.out.1"), updates
+    return profile.with_name("callgrind.out.1"), updates
 
 
 def by_function(path):
@@ -282,6 +325,7 @@ def main_instructions(argv: list[str]) -> int | None:
     parser.add_argument("--before", type=int, default=200)
     parser.add_argument("--steps", type=int, default=32)
     parser.add_argument("--least", type=float, default=1.0)
+    add_put(parser)
     args = parser.parse_args(argv)
     print("instructions a vehicle and step (reads that miss 32 KB, and 1 MB)")
     for name in args.only:
@@ -292,6 +336,9 @@ def main_instructions(argv: list[str]) -> int | None:
             instructions, near, far = (number / updates for number in numbers)
             if instructions >= args.least:
                 print(f"  {name:<12} {instructions:7.1f} ({near:.2f}, {far:.2f})  {function}", flush=True)
+            if function == ALL:
+                told = f"{instructions:.0f} ({near:.1f}, {far:.1f})"
+                keep_result(args, "instructions", "all", {COLUMNS.get(name, name): told})
 
 
 LINKS, LENGTH, VEHICLES = 70, 200, 2_400
@@ -327,6 +374,7 @@ def main_short_sessions(argv: list[str]) -> int | None:
     parser = shared.parser_of(main_short_sessions)
     parser.add_argument("--runs", type=int, default=10_000)
     parser.add_argument("--jobs", type=int, default=3)
+    add_put(parser)
     args = parser.parse_args(argv)
 
     texts = ["".join(shared.text_of(command) + "\n" for command in commands(seed)).encode() for seed in range(SEEDS)]
@@ -340,38 +388,43 @@ def main_short_sessions(argv: list[str]) -> int | None:
     with ThreadPoolExecutor(args.jobs) as pool:
         equal = sum(pool.map(is_equal, range(args.runs)))
     told = f"{args.runs - equal:,} with other replies than one worker's"
-    print(f"{args.runs:,} sessions with {WORKERS[0]} to {WORKERS[-1]} workers: {told}, none hung")
+    what = f"sessions with {WORKERS[0]} to {WORKERS[-1]} workers"
+    print(f"{args.runs:,} {what}: {told}, none hung")
+    found = f"{equal:,} of {args.runs:,} as one worker, none hung"
+    keep_result(args, "program", f"{what} on threads", {"Measured": found})
 
 
+RECORD_HEADS = ("Without, s", "With the record, s", "Ratio", "Aim", "MB")
 ADVANCE, COUNT = '{"cmd":"advance","steps":1}', '{"cmd":"count"}'
 IN_MEMORY = "/dev/shm"
 
 
 @dataclass
 class Recorded:
-    """The lines that a session begins with, and the seconds that it goes on for."""
+    """The lines that a session begins with, and the seconds that it goes on for. aim: of the record's cost, a ratio."""
 
     name: str
     begin: list[str]
     seconds: int
+    aim: float
 
     def text(self) -> bytes:
         return "".join(f"{text}\n" for text in [*self.begin, *[ADVANCE] * self.seconds, COUNT]).encode()
 
 
-def imported(name: str, net: Path, routes: Path, seconds: int) -> Recorded:
+def imported(name: str, net: Path, routes: Path, seconds: int, aim: float) -> Recorded:
     """A session of SUMO's files, as streetsim-import makes its run, without what is sent later."""
     with tempfile.TemporaryDirectory() as folder:
         words = ["-o", "run.jsonl", "--map", "run.map.json"]
         shared.run([shared.TOP / "tools/streetsim-import", net, "--routes", routes, *words], folder)
         lines = Path(folder, "run.jsonl").read_text().splitlines()
-    return Recorded(name, [line for line in lines if '"at":' not in line], seconds)
+    return Recorded(name, [line for line in lines if '"at":' not in line], seconds, aim)
 
 
 def corridor() -> Recorded:
     return imported(
         "corridor, 2,400 vehicles, 4,500 s", shared.CORRIDOR / "corridor.net.xml.gz",
-        shared.CORRIDOR / "corridor.rou.xml", 4_500,
+        shared.CORRIDOR / "corridor.rou.xml", 4_500, 1.3,
     )
 
 
@@ -379,9 +432,9 @@ def sessions() -> Iterator[Recorded]:
     """All sessions, each made when it is its turn."""
     yield corridor()
     samples = shared.SAMPLES
-    yield imported("sample grid, 5,400 s", samples / "grid.net.xml.gz", samples / "grid.rou.xml.gz", 5_400)
+    yield imported("sample grid, 5,400 s", samples / "grid.net.xml.gz", samples / "grid.rou.xml.gz", 5_400, 1.35)
     lines, chunks = grid(100_000)
-    yield Recorded("grid of 100,000, 1,000 s", lines, sum(chunks))
+    yield Recorded("grid of 100,000, 1,000 s", lines, sum(chunks), 1.7)
 
 
 def run_once(words: Sequence[str | Path], given: Path, told: Path) -> float:
@@ -404,22 +457,25 @@ def check_record(record: Path, replies: list[bytes], seconds: int) -> None:
         sys.exit(f"{record}: {found} are not of {seconds} seconds with {count}")
 
 
-def measured(program: str, session: Recorded, times: int, folder: Path) -> str:
-    """The row of a session."""
-    given, told, same, record = (folder / name for name in ("lines", "replies", "replies-too", "record"))
+def measured(program: str, session: Recorded, times: int, folder: Path) -> dict[str, str]:
+    """The row of a session, by the heads of its columns."""
+    names = "lines", "replies", "replies-too", "record"
+    given, plain_replies, recorded_replies, record = (folder / name for name in names)
     given.write_bytes(session.text())
     without, beside = [], []
     for _ in range(times):
-        without.append(run_once([program, "--endless"], given, told))
-        beside.append(run_once([program, "--record", record], given, same))
-        if told.read_bytes() != same.read_bytes():
+        without.append(run_once([program, "--endless"], given, plain_replies))
+        beside.append(run_once([program, "--record", record], given, recorded_replies))
+        if plain_replies.read_bytes() != recorded_replies.read_bytes():
             sys.exit(f"{session.name}: the replies are not the same")
-    check_record(record, told.read_bytes().splitlines(), session.seconds)
+    check_record(record, plain_replies.read_bytes().splitlines(), session.seconds)
     megabytes = record.stat().st_size / 1e6
     record.unlink()
     ratio = statistics.median(two / one for one, two in zip(without, beside, strict=True))
     one, two = statistics.median(without), statistics.median(beside)
-    return f"| {session.name} | {one:.3f} | {two:.3f} | {ratio:.2f} | {megabytes:,.0f} |"
+    told_ratio = f"{ratio:.2f}, above the aim" if ratio > session.aim else f"{ratio:.2f}"
+    cells = f"{one:.3f}", f"{two:.3f}", told_ratio, f"{session.aim:g}", f"{megabytes:,.0f}"
+    return dict(zip(RECORD_HEADS, cells, strict=True))
 
 
 class Followed(Program):
@@ -451,14 +507,14 @@ def lock_step(program: str, session: Recorded) -> tuple[float, float, float, int
     """Seconds on the wall of all seconds in lock step, processor seconds of this script, of the program with its begin,
     and how many vehicles stood still in a second, summed."""
     with tempfile.TemporaryDirectory() as folder:
-        before = shared.children_seconds()
+        earlier_seconds = shared.children_seconds()
         followed = Followed(program, Path(folder))
         followed.ask(session.begin)
         begin, own = time.perf_counter(), time.process_time()
         stand = sum(followed.second() for _ in range(session.seconds))
         wall, own = time.perf_counter() - begin, time.process_time() - own
         followed.end()
-        return wall, own, shared.children_seconds() - before, stand
+        return wall, own, shared.children_seconds() - earlier_seconds, stand
 
 
 def main_record(argv: list[str]) -> int | None:
@@ -480,13 +536,16 @@ def main_record(argv: list[str]) -> int | None:
     parser.add_argument("--only", default="")
     parser.add_argument("--times", type=int, default=5)
     parser.add_argument("--folder", type=Path, default=IN_MEMORY)
+    add_put(parser)
     args = parser.parse_args(argv)
     program = find_program(args.program)
-    shared.print_heads("Session | without, s | with the record, s | ratio | MB")
+    shared.print_heads(f"Session | {' | '.join(RECORD_HEADS)}")
     with tempfile.TemporaryDirectory(dir=args.folder) as folder:
         for session in sessions():
             if args.only in session.name:
-                print(measured(program, session, args.times, Path(folder)), flush=True)
+                found = measured(program, session, args.times, Path(folder))
+                print(f"| {session.name} | {' | '.join(found.values())} |", flush=True)
+                keep_result(args, "record", session.name, found)
     if args.only in "lock step":
         runs = [lock_step(program, corridor()) for _ in range(args.times)]
         wall, own, theirs, _ = (statistics.median(column) for column in zip(*runs, strict=True))

@@ -1,10 +1,13 @@
-"""What pages show: tables, which of them are of the present tools, and putting rows into pages; and walks.
+"""What pages show: tables, which of them are of the present tools, and putting rows into pages; what RESULTS.md is made
+of; and walks.
 
 A page may leave out columns and rows of what was printed; the heads of its columns are those of the measurement, in the
 same order. A row is known by its first cells, as many as tell the printed rows apart; an empty first cell is the one
 above.
 """
 
+import argparse
+import csv
 import fcntl
 import json
 import os
@@ -13,9 +16,11 @@ import shlex
 import subprocess
 import sys
 import time
-from collections.abc import Iterator, Sequence
-from dataclasses import dataclass, field
-from itertools import takewhile
+from collections.abc import Iterator, Mapping, Sequence
+from dataclasses import asdict, dataclass, field, fields
+from decimal import Decimal
+from itertools import groupby, takewhile
+from operator import attrgetter
 from pathlib import Path
 
 import shared
@@ -336,6 +341,103 @@ def main_tables(argv: list[str]) -> int | None:
     if not (args.program and args.work):
         parser.error("PROGRAM and --work are needed, but for --list")
     return 1 if make_all(chosen(args.only), args.program, shared.work_of(args), args.put) else 0
+
+
+RESULTS, RESULT_ROWS = TOP / "bench/RESULTS.md", TOP / "bench/results.csv"
+NUMBER = re.compile(r"\d+(?:,\d{3})*(?:\.\d+)?")
+
+
+@dataclass
+class MeasuredCell:
+    """A cell of RESULTS.md that was measured."""
+
+    table: str
+    row: str
+    column: str
+    figures: str  # numbers, with blanks between
+    unit: str  # with the words around the figures, {} for each
+    bound: str  # what bounds it
+    command: str  # by which it is measured again
+
+    @property
+    def cell(self) -> str:
+        return self.unit.format(*(f"{Decimal(figure):,}" for figure in self.figures.split()))
+
+    def take(self, cell: str) -> None:
+        """Takes figures and unit of a cell."""
+        self.figures = " ".join(figure.replace(",", "") for figure in NUMBER.findall(cell))
+        self.unit = NUMBER.sub("{}", cell)
+
+
+def read_results() -> list[MeasuredCell]:
+    with RESULT_ROWS.open(encoding="utf-8", newline="") as file:
+        return [MeasuredCell(**row) for row in csv.DictReader(file)]
+
+
+def with_results(text: str, kept_cells: Sequence[MeasuredCell]) -> str:
+    """The text of RESULTS.md with the rows of its tables as they are kept, in the order of both."""
+    lines = text.split("\n")
+    tables = [[*own] for _, own in groupby(kept_cells, attrgetter("table"))]
+    for grid, own in reversed([*zip(grids(lines), tables, strict=True)]):
+        lines[min(grid.rows) : max(grid.rows) + 1] = result_rows(grid.head, own)
+    return "\n".join(lines)
+
+
+def result_rows(head: Row, kept_cells: Sequence[MeasuredCell]) -> Iterator[str]:
+    """The rows of a table; a command that is that of the row above is the same."""
+    above = ""
+    for row, own in groupby(kept_cells, attrgetter("row")):
+        measured = [*own]
+        found = {one.column: one.cell for one in measured}
+        bound, command = measured[0].bound, measured[0].command
+        found |= {"What bounds it": bound, "By": "the same" if command == above else f"`{command}`"}
+        above = command
+        yield f"| {' | '.join((row, *(found[column] for column in head[1:])))} |".replace("|  |", "| |")
+
+
+def add_put(parser: argparse.ArgumentParser) -> None:
+    """The word of measurements whose figures stand in RESULTS.md."""
+    parser.add_argument("--put", action="store_true", help="keep figures in results.csv, and put them into RESULTS.md")
+
+
+def keep_result(args: argparse.Namespace, table: str, row: str, measured: Mapping[str, str]) -> None:
+    """With --put keeps what was found of a row, by columns; it says what RESULTS.md does not have."""
+    if not args.put:
+        return
+    with RESULT_ROWS.open("a", encoding="utf-8") as lock:  # of another measurement that puts, too
+        fcntl.flock(lock, fcntl.LOCK_EX)
+        kept_cells = read_results()
+        known = {one.column: one for one in kept_cells if (one.table, one.row) == (table, row)}
+        for column, cell in measured.items():
+            if column in known:
+                known[column].take(cell)
+            else:
+                print(f"  not in RESULTS.md: {row}, {column}", file=sys.stderr)
+        write_results(kept_cells)
+
+
+def write_results(kept_cells: Sequence[MeasuredCell]) -> None:
+    """Writes kept rows, and the page with them."""
+    page = with_results(RESULTS.read_text(encoding="utf-8"), kept_cells)
+    with RESULT_ROWS.open("w", encoding="utf-8", newline="") as file:
+        table = csv.DictWriter(file, [one.name for one in fields(MeasuredCell)], lineterminator="\n")
+        table.writeheader()
+        table.writerows(asdict(one) for one in kept_cells)
+    RESULTS.write_text(page, encoding="utf-8")
+
+
+def main_results(argv: list[str]) -> int | None:
+    """Writes the tables of RESULTS.md from the rows that are kept in results.csv.
+
+    Takes a second.
+
+    It measures nothing. A row of results.csv is a cell of a table: its figures as numbers, the unit and the words
+    around them, what bounds it, and the command that measures it. The tables stand in the order of the page, and so do
+    their rows. Measurements with --put write their figures there, and the page. What no measurement has, such as a new
+    row, is written by hand, into results.csv alone.
+    """
+    shared.parser_of(main_results, program=False).parse_args(argv)
+    write_results(read_results())
 
 
 FIRST = ""  # what stands before the first heading of a page

@@ -1,16 +1,26 @@
-"""bench/run tables: what a table rests on, what of printed rows stands otherwise on a page, and putting it there."""
+"""bench/run tables: what a table rests on, what of printed rows stands otherwise on a page, and putting it there; and
+bench/run results: the rows that RESULTS.md is made of."""
+import contextlib
+import io
 import json
 import re
 import subprocess
 import sys
 import unittest
+from argparse import Namespace
+from dataclasses import replace
 from pathlib import Path
+from unittest import mock
 
 from support import TOOLS, Case
 
 TOP = TOOLS.parent
 sys.path.insert(0, str(TOP / "bench"))
-from repository.pages import TABLES, grids, put, section  # noqa: E402
+from program.lines import ROWS  # noqa: E402
+from repository import pages  # noqa: E402
+from repository.pages import (  # noqa: E402
+    RESULTS, TABLES, MeasuredCell, grids, keep_result, put, read_results, section, with_results, write_results,
+)
 from shared import all_commands, digests_of, loaded_by  # noqa: E402
 
 PAGE = """# Page
@@ -162,6 +172,81 @@ class Sources(Case):
         loaded = loaded_by(all_commands()["closeness"], TOP).keys()
         self.assertLessEqual({"shared", "networks.streets", "streetsim.cli.run", "streetsim.cli.import_"}, loaded)
         self.assertEqual([name for name in loaded if name.startswith(("streetsim.live", "streetsim.traci"))], [])
+
+
+CALL = MeasuredCell("calls", "memory of a call", "Measured", "1328", "{} bytes", "the line", "bench/run calls")
+SLOW, NEXT = replace(CALL, row="a step", figures="15 0.10", unit="{} to {} s"), replace(CALL, row="the next")
+STEPS = MeasuredCell("steps", "ring", "1 worker", "55.6", "{}", "", "bench/run steps"), MeasuredCell(
+    "steps", "ring", "2 workers", "84.7 1.54", "{} ({})", "", "bench/run steps"
+)
+MEASURED = """# Results
+
+| What | Measured | What bounds it | By |
+|---|---|---|---|
+| memory of a call | 1,328 bytes | the line | `bench/run calls` |
+| a step | 15 to 0.10 s | the line | the same |
+
+Words.
+
+| Session | 1 worker | 2 workers |
+|---|---|---|
+| ring | 55.6 | 84.7 (1.54) |
+
+More.
+"""
+
+
+class Results(Case):
+    def setUp(self):
+        super().setUp()
+        self.page, self.rows = (Path(self.write(name, "")) for name in ("page", "rows"))
+        for name, path in (("RESULTS", self.page), ("RESULT_ROWS", self.rows)):
+            patched = mock.patch.object(pages, name, path)
+            patched.start()
+            self.addCleanup(patched.stop)
+        self.page.write_text(MEASURED, encoding="utf-8")
+
+    def test_rows_are_kept_and_read_again(self):
+        write_results([CALL, SLOW, *STEPS])
+        self.assertEqual(read_results(), [CALL, SLOW, *STEPS])
+        self.assertEqual(self.page.read_text(encoding="utf-8"), MEASURED)
+
+    def test_the_page_has_all_rows_that_are_kept(self):
+        row = "| the next | 1,328 bytes | the line | the same |\n"
+        before, below, after = MEASURED.partition("\nWords.")
+        self.assertEqual(with_results(MEASURED, [CALL, SLOW, NEXT, *STEPS]), before + row + below + after)
+        self.assertEqual(with_results(before + row + below + after, [CALL, SLOW, *STEPS]), MEASURED)
+
+    def test_a_table_without_rows_and_a_column_without_a_cell_are_refused(self):
+        for lacking in ([CALL, SLOW], [CALL, SLOW, STEPS[0]]):
+            self.assertRaises((ValueError, KeyError), with_results, MEASURED, lacking)
+
+    def test_a_measurement_puts_its_figures_alone(self):
+        write_results([CALL, SLOW, *STEPS])
+        keep_result(Namespace(put=False), "steps", "ring", {"1 worker": "9.9"})
+        with contextlib.redirect_stderr(io.StringIO()) as said:
+            keep_result(Namespace(put=True), "steps", "ring", {"2 workers": "1,084.7 (none)", "3 workers": "1"})
+        self.assertEqual(said.getvalue(), "  not in RESULTS.md: ring, 3 workers\n")
+        self.assertEqual(read_results()[-1], replace(STEPS[1], figures="1084.7", unit="{} (none)"))
+        self.assertEqual(
+            self.page.read_text(encoding="utf-8"), MEASURED.replace("| 84.7 (1.54) |", "| 1,084.7 (none) |")
+        )
+
+
+class KeptResults(Case):
+    def test_the_page_is_what_the_rows_give(self):
+        text = RESULTS.read_text(encoding="utf-8")
+        self.assertEqual(with_results(text, read_results()), text)
+
+    def test_each_row_is_measured_by_what_is_there(self):
+        known = {f"bench/run {name}" for name in all_commands()}
+        for row in read_results():
+            own = " ".join(row.command.split()[:2])
+            self.assertTrue(not own or own in known or (TOP / own).is_file(), row.command)
+
+    def test_rows_of_calls_are_those_of_the_measurement(self):
+        kept = [cell.row for cell in read_results() if cell.command == "bench/run calls"]
+        self.assertEqual(kept, [name for name, _ in ROWS])
 
 
 class Pages(Case):
