@@ -318,14 +318,15 @@ class Waiting:
                 self.logic.call(clock, called)
             if self.logic.due <= clock:
                 self.logic.moves_on(clock, lambda _: 0.0)
-                self.lights.setPhase(self.name, self.logic.at)
+                self.lights.setPhase(self.name, self.logic.phase_index)
             return
         at = self.lights.getPhase(self.name)
         if at != self.at:
             self.at, self.since = at, clock
         phase, lasted = self.phases[at], clock - self.since
-        if called and phase.is_extended and lasted < phase.most and (at in called or lasted >= phase.least):
-            self.lights.setPhaseDuration(self.name, max(1, phase.least - lasted) if at in called else 0)
+        may_change = called and phase.is_extended and lasted < phase.most_seconds
+        if may_change and (at in called or lasted >= phase.least_seconds):
+            self.lights.setPhaseDuration(self.name, max(1, phase.least_seconds - lasted) if at in called else 0)
 
 
 def corridor_in_sumo(folder, seed, priority, kind):

@@ -21,7 +21,7 @@ class Turns(unittest.TestCase):
     """Works from cell 40 of lane 0; a car stands in 39 from the first look on."""
 
     def told(self, merging, clock, closed, other):
-        beside = [(min(cells), max(cells)) for cells in [merging.held[1]] if cells]
+        beside = [(min(cells), max(cells)) for cells in [merging.held_cells[1]] if cells]
         return merging.changes_by_turns(clock, sides(closed, other, beside))
 
     def held(self, closed=((39, 0),)):

@@ -15,8 +15,8 @@ class RingPhase:
 
     number: int  # 1 to 8
     state: str
-    least: float
-    most: float
+    least_seconds: float
+    most_seconds: float
     extension: float  # how long its green stays after somebody was last on an area
     yellow: float
     red: float  # of all its signals, after yellow
@@ -33,7 +33,7 @@ class RingPhase:
     @property
     def usual(self) -> float:
         """The seconds of green that it is thought to last as long as none of it has ended: the mean of its bounds."""
-        return (self.least + self.most) / 2
+        return (self.least_seconds + self.most_seconds) / 2
 
     @property
     def is_recalled(self) -> bool:

@@ -32,7 +32,7 @@ class ClosedLanes:
 
     def at(self, clock: int) -> Stretches:
         """By slot the stretches at a poll; clocks rise."""
-        sent, before = self.kernel.sent, self.next_sent
+        sent, before = self.kernel.sent_lines, self.next_sent
         while self.next_sent < len(sent):
             following = sent[self.next_sent]
             if (following.clock, following.passed_on) > (clock, False):

@@ -73,9 +73,9 @@ def actuated_bounds(light: Driven) -> Bounds:
     """The bounds of the greens of an actuated light that detectors extend, without those whose most is above 600 s; its
     one gap is the greatest of its detectors' gaps."""
     greens = tuple(
-        (at, phase.least, phase.most)
+        (at, phase.least_seconds, phase.most_seconds)
         for at, phase in enumerate(light.phases)
-        if phase.is_extended and phase.detectors and phase.most <= limits.PHASE_STEPS
+        if phase.is_extended and phase.detectors and phase.most_seconds <= limits.PHASE_STEPS
     )
     return Bounds(greens, (max(light.gaps),) if greens else ())
 
@@ -84,10 +84,9 @@ def ring_bounds(light: DrivenRings) -> Bounds:
     """The bounds of a NEMA light, in whole seconds, its extensions (vehext) as gaps; without greens that no area
     extends, as they have none or always last their most (maxRecall), whose most is above 600 s, or is their least."""
     extended = (phase for phase in light.rings.phases if phase.areas and not phase.most_recall)
-    phases = [phase for phase in extended if phase.least < phase.most <= limits.PHASE_STEPS]
-    return Bounds(
-        tuple((one.number, round(one.least), round(one.most)) for one in phases), tuple(one.extension for one in phases)
-    )
+    phases = [phase for phase in extended if phase.least_seconds < phase.most_seconds <= limits.PHASE_STEPS]
+    greens = tuple((phase.number, round(phase.least_seconds), round(phase.most_seconds)) for phase in phases)
+    return Bounds(greens, tuple(phase.extension for phase in phases))
 
 
 def kept_with(program: Json, bounds: Bounds) -> Json:
