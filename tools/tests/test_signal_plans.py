@@ -238,7 +238,7 @@ class Climbing(unittest.TestCase):
         streets = self.streets()
         search_plan(search, self.plan, {"L": self.light, "M": self.light}, streets, ["offsets"], [])
         self.assertEqual((len(asked), search.simulations), (7, 7))
-        self.assertEqual(search.best[0], min(trial.value for trial in search.trials))
+        self.assertEqual(search.best[0], min(trial.mean_trip for trial in search.trials))
 
 
 class Searching(Case):

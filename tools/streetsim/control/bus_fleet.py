@@ -192,15 +192,13 @@ class BusFleet:
         self.calls.set(bus.owner, light_ahead)
 
     def seconds_to_light(self, bus: Bus, plan_index: int, cell: int, light_ahead: LightAhead) -> int:
-        """The fewest seconds, rounded down, from a cell of the link at plan_index to the stop line of a
-        light ahead."""
+        """The fewest seconds, rounded down, from a cell of the link at plan_index to the stop line of a light ahead."""
         link = self.mapping.links[bus.plan[light_ahead.plan_index]]
         cells = link.cells - (cell if plan_index == light_ahead.plan_index else 0)
         return int(self.seconds_to_link(bus, plan_index, cell, light_ahead.plan_index) + cells / link.limit)
 
     def seconds_to_link(self, bus: Bus, plan_index: int, cell: int, target: int) -> float:
-        """The fewest seconds from a cell of the link at plan_index to the begin of that at the index
-        target."""
+        """The fewest seconds from a cell of the link at plan_index to the begin of that at the index target."""
         links, begin, seconds = self.mapping.links, cell, 0.0
         for link in bus.plan[plan_index:target]:
             seconds += max(0, links[link].cells - begin) / links[link].limit + self.mapping.nodes[links[link].end][3]
@@ -221,8 +219,8 @@ class BusFleet:
         return Road(2, link.limit, link.cells, (leads[0], leads[1]))
 
     def seconds_to_look(self, bus: Bus, plan_index: int, cell: int) -> int:
-        """The fewest seconds, from a cell of the link at plan_index, until a bus is to be looked at. It must
-        have a stop or a light to come."""
+        """The fewest seconds, from a cell of the link at plan_index, until a bus is to be looked at. It must have a
+        stop or a light to come."""
         seconds = []
         if bus.visits:
             visit = bus.visits[0]

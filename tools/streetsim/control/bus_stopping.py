@@ -141,8 +141,8 @@ class BusAtStop:
             self.closed |= {(lane, cell) for cell in cells}
 
     def halt_at(self, bus: SeenVehicle, vehicles_ahead: Sequence[SeenVehicle], last_cell: int) -> None:
-        """Closes the cell beyond last_cell, where the bus could pass that in the next step and nobody before it is
-        at the cell beyond or nearer. vehicles_ahead: those before it on its lane."""
+        """Closes the cell beyond last_cell, where the bus could pass that in the next step and nobody before it is at
+        the cell beyond or nearer. vehicles_ahead: those before it on its lane."""
         if min(bus.speed + 1, self.road.limit) > last_cell - bus.cell and rear_of(vehicles_ahead) > last_cell + 1:
             self.closed.add((self.lane, last_cell + 1))
 

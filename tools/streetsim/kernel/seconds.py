@@ -124,8 +124,8 @@ class Seconds:
         return np.repeat(np.append(False, is_wanted[1:]), np.diff(self.first))
 
     def joined_buffer(self, stay_steps: Array) -> Array:
-        """The rows of those who passed their stop line in their second: who joins in a step may go on stay_steps
-        (by slot) later."""
+        """The rows of those who passed their stop line in their second: who joins in a step may go on stay_steps (by
+        slot) later."""
         begin = int(self.first[1])
         rows = np.flatnonzero(~self.on[begin:]) + begin
         clock = self.clocks[self.second[rows]]

@@ -60,7 +60,8 @@ class Detours(Controller):
             plan = self.plan_since_entry(number)
             if number in positions:
                 diversion, link = self.turning.get(number), positions[number].link
-                plan = diversion.ahead + diversion.rest if diversion and link in diversion.ahead else plan
+                if diversion and link in diversion.links_ahead:
+                    plan = diversion.links_ahead + diversion.links_after
                 driving[number] = PlannedVehicle(name, clock, plan[plan.index(link) :])
             elif not simulation.view.has_ended[number]:
                 waiting[number] = PlannedVehicle(name, max(clock, fleet.departs[number]), plan)
@@ -84,15 +85,15 @@ class Detours(Controller):
         when to look again; those that have ended, or left the links ahead, are forgotten."""
         for number in [number for number, diversion in self.turning.items() if diversion.due <= clock]:
             diversion, position = self.turning[number], self.simulation.view.positions.get(number)
-            if position is None or position.link not in diversion.ahead:
+            if position is None or position.link not in diversion.links_ahead:
                 del self.turning[number]
-            elif position.cell is not None or position.link != diversion.ahead[-1]:
+            elif position.cell is not None or position.link != diversion.links_ahead[-1]:
                 diversion.due = clock + diversion.least_steps(self.simulation.map.links, position.link, position.cell)
             else:
                 del self.turning[number]
                 fleet = self.simulation.fleet
                 driven = fleet.plans[number].index(position.link, fleet.links_driven(number)) + 1
-                self.enter_anew(number, driven, diversion.rest, clock)
+                self.enter_anew(number, driven, diversion.links_after, clock)
 
     def enter_anew(self, number: int, driven: int, links: Sequence[int], depart: int) -> None:
         """Takes a vehicle out, and enters it on other links at the clock depart. driven: how many links of its
