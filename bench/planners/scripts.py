@@ -25,9 +25,9 @@ from types import ModuleType
 import shared
 from beside_sumo.rows import run_files
 from shared import CORRIDOR, SAMPLES, SUMO_HOME, TOP
-from streetsim.control.actuated_logic import GO
+from streetsim.control.actuated_logic import GREEN_LETTERS
 from streetsim.control.bus_coordinated import Coordinated
-from streetsim.control.bus_planned import SEEN
+from streetsim.control.bus_planned import SEEN_SECONDS
 from streetsim.control.bus_priority import bounded
 from streetsim.env import SignalEnv
 
@@ -306,13 +306,15 @@ class Waiting:
         program = self.lights.getAllProgramLogics(name)[-1]
         ends = [(None, None) if self.is_fixed else (one.minDur, one.maxDur) for one in program.phases]
         rows = [(one.duration, one.state, *both) for one, both in zip(program.phases, ends, strict=True)]
-        self.phases = [bounded(row, SEEN) for row in rows]
+        self.phases = [bounded(row, SEEN_SECONDS) for row in rows]
         self.logic, self.since, self.at = Coordinated(self.phases, ()), 0, 0
         self.logic.begin_at(0, offset or 0)
 
     def step(self, clock, indexes):
         """Acts by the places in its state that buses call."""
-        called = {at for at, one in enumerate(self.phases) if any(one.state[index] in GO for index in indexes)}
+        called = {
+            at for at, one in enumerate(self.phases) if any(one.state[index] in GREEN_LETTERS for index in indexes)
+        }
         if self.is_fixed:
             if called != set(self.logic.called):
                 self.logic.call(clock, called)
@@ -369,7 +371,7 @@ def seen_before(traci, bus):
     if not following or (stops and stops[0].lane.rpartition("_")[0] == edge):
         return []
     light, index, metres, _ = following[0]
-    return [(light, index)] if metres / SPEED <= SEEN else []
+    return [(light, index)] if metres / SPEED <= SEEN_SECONDS else []
 
 
 def corridor_here(program, folder, seed, priority):

@@ -5,7 +5,7 @@ from collections.abc import Iterable, Mapping, Sequence
 from dataclasses import dataclass, field
 from typing import NamedTuple
 
-from streetsim.control.actuated_logic import GO, ActuatedPhase
+from streetsim.control.actuated_logic import GREEN_LETTERS, ActuatedPhase
 
 LEAD, PASSING, GAP = 2.0, 1.9, 3.0  # seconds: SUMO's detector-gap, passing-time and max-gap where none is given
 ROOM = 7.5  # metres of a vehicle in a queue
@@ -90,7 +90,7 @@ def shortest_greens(layout: Layout, phases: Sequence[ActuatedPhase]) -> dict[str
     bounds differ, so that detectors decide their length; lanes without such a phase are left out."""
     least_by_lane: dict[str, int] = {}
     for lane, indexes in sorted(layout.indexes().items()):
-        greens = [phase for phase in phases if any(phase.state[index] in GO for index in indexes)]
+        greens = [phase for phase in phases if any(phase.state[index] in GREEN_LETTERS for index in indexes)]
         extended = [phase.least_seconds for phase in greens if phase.least_seconds != phase.most_seconds]
         if extended:
             least_by_lane[lane] = min(extended)

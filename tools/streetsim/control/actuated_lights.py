@@ -17,7 +17,7 @@ from streetsim.control.actuated_detectors import (
 from streetsim.control.actuated_kept import (
     OFF_VALUES, Cell, DetectorArea, Listed, NodeOf, kept_of, node_of, number_of, phase_bounds,
 )
-from streetsim.control.actuated_logic import GO, Actuated, ActuatedPhase
+from streetsim.control.actuated_logic import GREEN_LETTERS, Actuated, ActuatedPhase
 from streetsim.control.nema_lights import DrivenRings, driven_rings
 from streetsim.model.detectors import E1
 from streetsim.model.mapping import Map
@@ -52,7 +52,8 @@ class Driven:
 
     def phases_serving(self, indexes: Collection[int]) -> frozenset[int]:
         """The places of the phases in which a movement, by its places in a state, has green."""
-        found = (at for at, phase in enumerate(self.phases) if any(phase.state[index] in GO for index in indexes))
+        states = enumerate(phase.state for phase in self.phases)
+        found = (at for at, state in states if any(state[index] in GREEN_LETTERS for index in indexes))
         return frozenset(found)
 
     def new_logic(self) -> Actuated:

@@ -11,7 +11,7 @@ from math import ceil
 from typing import NamedTuple
 
 GapOf = Callable[[int], float]  # by position, the seconds since a detector last saw anybody, 0 while it does
-GO, YELLOW = "Gg", "yY"  # letters of a state
+GREEN_LETTERS, YELLOW = "Gg", "yY"  # letters of a state
 BY_GAP, BY_MOST, BY_LIST = "gap", "most", "listed"  # why a phase ended
 BY_OTHER, BY_CALL = "barrier", "call"  # those of a ring: with the other one, or after resting until somebody came
 BY_SCRIPT, BY_BUS = "script", "bus"
@@ -31,7 +31,7 @@ class ActuatedPhase:
     @property
     def is_green(self) -> bool:
         """Whether some signal is green (G or g) in its state and none is yellow."""
-        return any(one in GO for one in self.state) and not any(one in YELLOW for one in self.state)
+        return any(one in GREEN_LETTERS for one in self.state) and not any(one in YELLOW for one in self.state)
 
     @property
     def is_extended(self) -> bool:

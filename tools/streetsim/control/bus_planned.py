@@ -11,7 +11,7 @@ from streetsim.model.mapping import Map
 from streetsim.model.runs import Run
 from streetsim.model.stops import Visit
 
-SEEN, MOST_SEEN = 15, 60  # seconds before a stop line: where nothing else is asked, and that may be asked for
+SEEN_SECONDS, MOST_SEEN = 15, 60  # seconds before a stop line: where nothing else is asked, and that may be asked for
 OTHER_WAY = "as the run has another way for them than the map"
 AT_WORKS = "as their lane is closed there by road works, which end after the vehicle departs"
 

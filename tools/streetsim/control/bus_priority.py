@@ -13,7 +13,7 @@ from streetsim.control.actuated_kept import Listed, node_of
 from streetsim.control.actuated_lights import ActuatedLights, DrivenLight, passing
 from streetsim.control.actuated_logic import ActuatedPhase
 from streetsim.control.bus_coordinated import Fixed
-from streetsim.control.bus_planned import SEEN, LightAhead, Planned
+from streetsim.control.bus_planned import SEEN_SECONDS, LightAhead, Planned
 from streetsim.model.mapping import Map
 from streetsim.model.runs import Run
 from streetsim.model.stops import bus_lines_of, vehicle_classes_of
@@ -33,8 +33,8 @@ def prioritised(
 ) -> tuple[ActuatedLights, Planned]:
     """(the lights, the buses) of a run in which lights wait for vehicles of the classes and lines in names; with the
     buses it is told which cannot, and why. lights: those that detectors drive, which wait too; buses: the stops that
-    are made; seen_seconds: those before the stop line, None: SEEN. Fault where a name has no vehicle."""
-    owners, seen_seconds = owners_of(run, mapping, names), SEEN if seen_seconds is None else seen_seconds
+    are made; seen_seconds: those before the stop line, None: SEEN_SECONDS. Fault where a name has no vehicle."""
+    owners, seen_seconds = owners_of(run, mapping, names), SEEN_SECONDS if seen_seconds is None else seen_seconds
     timed = {line.command["node"] for _, line in run.timed if line.command["cmd"] == "signal"}
     changed = {light for light, node in mapping.signals if node in timed}
     waiting: dict[str, DrivenLight] = {light.name: light for light in lights.driven}

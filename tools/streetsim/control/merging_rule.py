@@ -2,9 +2,9 @@
 
 Who stands at the head of a closed lane seldom finds the gap behind that the rule for lane changing wants. So where the
 same vehicle has stood first for PATIENCE seconds, the lane beside is held: it is closed beside those who stand in the
-last PLATOON cells before the works, and BEHIND cells further up. Who is there drives out. Once nobody is there, nor in
-the AHEAD cells after it, the lane is opened again, and in the next step all who stood change lane by the simulator's
-own rule.
+last PLATOON cells before the works, and GAP_BEHIND cells further up. Who is there drives out. Once nobody is there, nor
+in the GAP_AHEAD cells after it, the lane is opened again, and in the next step all who stood change lane by the
+simulator's own rule.
 
 `MergingRule` is of one link of two lanes. It is told what both have, and says what to close and to reopen before the
 next step. It draws nothing and has no clock of its own, so equal states give equal commands. The constants are the
@@ -15,7 +15,7 @@ from dataclasses import dataclass, field
 
 from streetsim.model.rows import Stretch, unbroken_stretches
 
-BEHIND, AHEAD = 6, 2  # cells: the least gaps on the other lane that the rule wants of one who stands
+GAP_BEHIND, GAP_AHEAD = 6, 2  # cells: the least gaps on the other lane that the rule wants of one who stands
 PATIENCE = 10  # seconds for which the same one stands first before the other lane is held
 PLATOON = 8  # cells
 NEAR = 2  # cells before the works in which one stands first
@@ -87,7 +87,8 @@ class MergeTurn:
     def update_hold(self, clock: int, point: MergePoint, sides: Sequence[Side]) -> None:
         """Begins or ends the hold of the other lane at a point, by what stands on both lanes (sides) at a clock. A hold
         begins when the same one has stood first for PATIENCE seconds; it ends when nobody is on the held cells or the
-        AHEAD ones after them, when nobody stands first, or when the same one has for more than MOST_WAIT seconds."""
+        GAP_AHEAD ones after them, when nobody stands first, or when the same one has for more than MOST_WAIT
+        seconds."""
         cells = range(point.low, point.works_cell)
         approaching = [vehicle for vehicle in sides[point.lane].vehicles if vehicle.cell in cells]
         front = approaching[0] if approaching else None
@@ -97,13 +98,13 @@ class MergeTurn:
         waited = clock - self.since
         if self.held_stretch:
             beside = {cell for one in sides[1 - point.lane].vehicles for cell in range(one.rear, one.cell + 1)}
-            is_free = beside.isdisjoint(range(self.held_stretch[0], self.held_stretch[1] + AHEAD + 1))
+            is_free = beside.isdisjoint(range(self.held_stretch[0], self.held_stretch[1] + GAP_AHEAD + 1))
             if head is None or waited > MOST_WAIT or is_free:
                 self.held_stretch, self.since = None, clock
         elif front and head is not None and waited >= PATIENCE:
             rears = [vehicle.rear for vehicle in approaching if vehicle.speed == 0]
             rear = min(rears[0], *(cell for cell in rears if cell >= point.works_cell - PLATOON))
-            self.held_stretch = max(point.low, rear - BEHIND), front.cell
+            self.held_stretch = max(point.low, rear - GAP_BEHIND), front.cell
 
 
 @dataclass(slots=True)

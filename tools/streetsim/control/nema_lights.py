@@ -8,7 +8,7 @@ from typing import Any
 from streetsim.control.actuated_kept import (
     OFF_VALUES, Cell, DetectorArea, Listed, NodeOf, node_of, number_of, phase_bounds,
 )
-from streetsim.control.actuated_logic import GO
+from streetsim.control.actuated_logic import GREEN_LETTERS
 from streetsim.control.nema_logic import Nema
 from streetsim.control.nema_phases import RingPhase, Rings
 from streetsim.model.detectors import E2
@@ -40,7 +40,7 @@ class DrivenRings:
         first (G), or where there is none those in which it gives way (g)."""
         found = (
             frozenset(one.number for one in self.rings.phases if any(one.state[at] == letter for at in indexes))
-            for letter in GO
+            for letter in GREEN_LETTERS
         )
         return next(filter(None, found), frozenset())
 

@@ -15,7 +15,7 @@ from math import ceil
 from typing import NamedTuple
 
 from streetsim.control.actuated_logic import BY_BUS, BY_CALL, BY_GAP, BY_MOST, BY_OTHER, EndedPhase
-from streetsim.control.nema_phases import GREEN, RED, REST, TRANSFER, YELLOW, RingPhase, Rings, letters_together
+from streetsim.control.nema_phases import GREEN, RED, RESTING, TRANSFER, YELLOW, RingPhase, Rings, letters_together
 
 PresentAt = Callable[[int], bool]  # whether anybody is on an area, by its position
 
@@ -51,7 +51,7 @@ class RunningPhase:
 
     @property
     def is_green(self) -> bool:
-        """Whether it shows green: GREEN, TRANSFER (waits for the other ring) or REST."""
+        """Whether it shows green: GREEN, TRANSFER (waits for the other ring) or RESTING."""
         return self.stage >= GREEN
 
     def change_to(self, target: RunningPhase) -> PhaseChange:
@@ -189,7 +189,7 @@ class Nema:
         since, phase = self.clock - running.since, running.phase
         if running.stage != TRANSFER and running.lasts < running.most_seconds and self.extends(running, since):
             running.lasts = min(max(since + phase.extension, phase.least_seconds), running.most_seconds)
-        if running.stage == REST:
+        if running.stage == RESTING:
             self.rest_in_green(running, since)
         if since >= running.lasts:
             running.ready = True
@@ -221,7 +221,7 @@ class Nema:
         """Whether a green is given its extension anew, by somebody on its areas or a bus: where that makes it longer,
         and always as it rests; since: seconds of green so far. Areas are not asked where it would not."""
         longer = max(since + running.phase.extension, running.phase.least_seconds) > running.lasts
-        return (longer or running.stage == REST) and self.is_on(running)
+        return (longer or running.stage == RESTING) and self.is_on(running)
 
     def rest_in_green(self, running: RunningPhase, since: float) -> None:
         """A second of resting in green. From when another phase is called it lasts its greatest time on, and then may
@@ -250,7 +250,7 @@ class Nema:
         running.since, running.began, running.ready = self.clock, self.clock, False
         running.chosen, running.stage = None, GREEN
         if running.rests:
-            running.stage, running.resting = REST, running.phase.most_seconds
+            running.stage, running.resting = RESTING, running.phase.most_seconds
         running.lasts = running.most_seconds if running.phase.most_recall else running.phase.least_seconds
         self.active[running.ring] = running
 
@@ -295,8 +295,8 @@ class Nema:
         other_phase, phase = self.shown_by_other_ring(running), running.phase
         running.ready = False
         both = following[other_phase.ring] is other_phase and other_phase.ready
-        if both or (other_phase.stage == REST and other_phase.resting >= other_phase.phase.most_seconds):
-            running.stage, running.since, running.lasts = REST, self.clock - phase.least_seconds, phase.least_seconds
+        if both or (other_phase.stage == RESTING and other_phase.resting >= other_phase.phase.most_seconds):
+            running.stage, running.since, running.lasts = RESTING, self.clock - phase.least_seconds, phase.least_seconds
             running.resting = phase.most_seconds * running.rests
         else:
             running.stage = TRANSFER

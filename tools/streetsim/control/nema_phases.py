@@ -3,9 +3,9 @@ together."""
 from collections.abc import Sequence
 from dataclasses import dataclass
 
-from streetsim.control.actuated_logic import GO
+from streetsim.control.actuated_logic import GREEN_LETTERS
 
-RED, YELLOW, GREEN, TRANSFER, REST = range(5)  # what a phase shows; from GREEN on it is green
+RED, YELLOW, GREEN, TRANSFER, RESTING = range(5)  # what a phase shows; from GREEN on it is green
 LETTERS = "GgyuOs"  # of two phases that show a signal that neither controls, the first of these is shown
 
 
@@ -45,7 +45,9 @@ class RingPhase:
         g), at RED all red."""
         if stage >= GREEN:
             return self.state
-        return "".join("y" if one in GO else one for one in self.state) if stage == YELLOW else "r" * len(self.state)
+        if stage == YELLOW:
+            return "".join("y" if letter in GREEN_LETTERS else letter for letter in self.state)
+        return "r" * len(self.state)
 
 
 @dataclass(slots=True, frozen=True)
