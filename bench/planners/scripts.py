@@ -26,9 +26,9 @@ import shared
 from beside_sumo.rows import run_files
 from networks.streets import Plain
 from shared import CORRIDOR, SAMPLES, SUMO_HOME, TOP
-from streetsim.control.actuated_logic import GO
+from streetsim.control.actuated_logic import GREEN_LETTERS
 from streetsim.control.bus_coordinated import Coordinated
-from streetsim.control.bus_planned import SEEN
+from streetsim.control.bus_planned import SEEN_SECONDS
 from streetsim.control.bus_priority import bounded
 from streetsim.env import SignalEnv
 
@@ -307,27 +307,31 @@ class Waiting:
         program = self.lights.getAllProgramLogics(name)[-1]
         ends = [(None, None) if self.is_fixed else (one.minDur, one.maxDur) for one in program.phases]
         rows = [(one.duration, one.state, *both) for one, both in zip(program.phases, ends, strict=True)]
-        self.phases = [bounded(row, SEEN) for row in rows]
+        self.phases = [bounded(row, SEEN_SECONDS) for row in rows]
         self.logic, self.since, self.at = Coordinated(self.phases, ()), 0, 0
         self.logic.begin_at(0, offset or 0)
 
     def step(self, clock, indexes):
         """Acts by the places in its state that buses call."""
         phases = enumerate(self.phases)
-        called = {number for number, phase in phases if any(phase.state[index] in GO for index in indexes)}
+        called = {
+            number for number, phase in phases if any(phase.state[index] in GREEN_LETTERS for index in indexes)
+        }
         if self.is_fixed:
             if called != set(self.logic.called):
                 self.logic.call(clock, called)
             if self.logic.due <= clock:
                 self.logic.moves_on(clock, lambda _: 0.0)
-                self.lights.setPhase(self.name, self.logic.at)
+                self.lights.setPhase(self.name, self.logic.phase_index)
             return
         phase_number = self.lights.getPhase(self.name)
         if phase_number != self.at:
             self.at, self.since = phase_number, clock
         phase, lasted = self.phases[phase_number], clock - self.since
-        if called and phase.is_extended and lasted < phase.most and (phase_number in called or lasted >= phase.least):
-            self.lights.setPhaseDuration(self.name, max(1, phase.least - lasted) if phase_number in called else 0)
+        may_change = called and phase.is_extended and lasted < phase.most_seconds
+        if may_change and (phase_number in called or lasted >= phase.least_seconds):
+            least_seconds = max(1, phase.least_seconds - lasted) if phase_number in called else 0
+            self.lights.setPhaseDuration(self.name, least_seconds)
 
 
 def corridor_in_sumo(folder, seed, priority, kind):
@@ -371,7 +375,7 @@ def seen_before(traci, bus):
     if not following or (stops and stops[0].lane.rpartition("_")[0] == edge):
         return []
     light, index, metres, _ = following[0]
-    return [(light, index)] if metres / SPEED <= SEEN else []
+    return [(light, index)] if metres / SPEED <= SEEN_SECONDS else []
 
 
 def corridor_here(program, folder, seed, priority):

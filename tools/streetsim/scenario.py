@@ -170,7 +170,7 @@ class Scenario(Running):
 
     def end_of(self, number: int) -> End:
         """How a vehicle ended, or where it is."""
-        if self.view.ended[number]:
+        if self.view.has_ended[number]:
             arrival = int(self.view.arrival[number])
             return (arrival, "arrived") if arrival else (None, "taken")
         position = self.view.positions.get(number)
@@ -349,7 +349,7 @@ class TrafficLight(ScenarioPart):
         tlLogic has them; detectors drive it no more. Of permissive greens the usual share is shown, as flows are not
         known here. Gives warnings. KeyError for an unknown light, Fault (streetsim.files), after which all is as
         before, where a state is too short for the light, or the cycle rounds to 0 s or is longer than 200,000 s."""
-        if not self.scenario.shown.nodes(name):
+        if not self.scenario.signals_in_force.nodes(name):
             raise KeyError(name)
         return self.scenario.show_program(name, [(seconds, state) for seconds, state in phases], offset)
 

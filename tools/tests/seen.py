@@ -46,7 +46,7 @@ def kernel_of(mapping, plans, first=(), sent=(), dawdle=0, departs=None):
     vehicles = Vehicles()
     vehicles.add(range(len(plans)), [1] * len(plans))
     return SimpleNamespace(
-        run=run, map=mapping, start=0, until=0, clock=0, vehicles=vehicles, entered=len(plans), sent=list(sent),
+        run=run, map=mapping, start=0, until=0, clock=0, vehicles=vehicles, entered=len(plans), sent_lines=list(sent),
         plans=Plans(run, mapping), departs=sorted(departs), last_second=None,
     )  # fmt: skip
 

@@ -36,7 +36,7 @@ def drive(light, seen, until, offset=0):
             return clock - max(left) if left else inf
 
         light.moves_on(clock, gap)
-    return [(row.phase, row.seconds, row.why) for row in light.ended]
+    return [(row.phase, row.seconds, row.why) for row in light.ended_phases]
 
 
 class Logic(unittest.TestCase):
@@ -86,7 +86,7 @@ class Logic(unittest.TestCase):
         self.assertEqual(drive(light, {0: range(99)}, 3), [(0, 3, "listed")])
 
     def test_the_next_phase_by_name(self):
-        phases = [Phase("Gr", 5, 5, 5, next=2), Phase("rr", 3, 3, 3), Phase("rG", 4, 4, 4, next=0)]
+        phases = [Phase("Gr", 5, 5, 5, next_phase=2), Phase("rr", 3, 3, 3), Phase("rG", 4, 4, 4, next_phase=0)]
         self.assertEqual([row[0] for row in drive(Actuated(phases, ()), {}, 14)], [0, 2, 0])
 
     def test_it_begins_with_the_phase_that_is_listed(self):
@@ -94,25 +94,25 @@ class Logic(unittest.TestCase):
         for offset, begin, place, end in ((0, 0, 0, 5), (1, 0, 3, 3), (20, 0, 2, 5), (43, 0, 2, 5), (0, 50, 2, 55)):
             light = Actuated(TWO, (3.0, 3.0))
             light.begin_at(begin, offset)
-            self.assertEqual((light.at, light.due), (place, end))
+            self.assertEqual((light.phase_index, light.due), (place, end))
 
     def test_it_comes_back_to_its_plan_from_where_this_is_at_the_begin(self):
         # A cycle of 90 s that began at -20 s, 10 s of the second green are gone at 55 - 20 s.
         light = Coordinated(TWO, (3.0, 3.0))
         light.begin_at(100, 45)
-        self.assertEqual((light.at, light.due), (2, 100 + 42 - 10))
+        self.assertEqual((light.phase_index, light.due), (2, 100 + 42 - 10))
         # With an offset of 10 the last 10 s of the cycle come first.
         light.begin_at(0, 10)
-        self.assertEqual((light.at, light.due), (2, 7))
+        self.assertEqual((light.phase_index, light.due), (2, 7))
 
     def test_few_questions(self):
         asked = []
         light = self.two()
         light.begin_at(0)
-        while not light.ended:
+        while not light.ended_phases:
             now = light.due
             light.moves_on(now, lambda detector: asked.append(detector) or (0.5 if now < 40 else 3.0))
-        self.assertEqual(light.ended[0].seconds, 41)
+        self.assertEqual(light.ended_phases[0].seconds, 41)
         self.assertLessEqual(len(asked), 14)
 
 
@@ -178,11 +178,11 @@ class Detectors(unittest.TestCase):
 class Due(unittest.TestCase):
     def test_a_phase_of_more_than_its_plan_goes_on(self):
         """At the second at which the plan of 600 s would begin anew, and not before."""
-        light = SimpleNamespace(stopped=inf, logic=SimpleNamespace(due=900), wraps=600, goes_on=lambda: ["goes on"])
+        light = SimpleNamespace(stop_clock=inf, logic=SimpleNamespace(due=900), wraps=600, goes_on=lambda: ["goes on"])
         driver = Driver.__new__(Driver)
         driver.controllers = [light]
         self.assertEqual([[*driver.commands_after_look(clock, None)] for clock in (599, 600)], [[], ["goes on"]])
-        light.stopped = 0
+        light.stop_clock = 0
         self.assertEqual([*driver.commands_after_look(600, None)], [])
 
 
@@ -210,9 +210,9 @@ class Reading(unittest.TestCase):
 
     def test_bounds_as_sumo_reads_them(self):
         self.assertEqual(phase_of([42, "G", 5, 50, []]), Phase("G", 42, 5, 50))
-        self.assertEqual(phase_of([42, "G", None, None, [2]]), Phase("G", 42, 42, 42, next=2))
+        self.assertEqual(phase_of([42, "G", None, None, [2]]), Phase("G", 42, 42, 42, next_phase=2))
         self.assertFalse(phase_of([3, "y", None, None, []]).is_extended)
-        self.assertGreater(phase_of([42, "G", 5, None, []]).most, 100_000)
+        self.assertGreater(phase_of([42, "G", 5, None, []]).most_seconds, 100_000)
 
     def test_lengths_are_running_means(self):
         # Of 42 s as listed; the newest counts for a fifth: 42 + 0.2 (12 - 42) = 36, 36 + 0.2 (11 - 36) = 31. The first
@@ -221,9 +221,10 @@ class Reading(unittest.TestCase):
         shown = NodesOfLight(Driven("L", 0, phases, 2.0, (), (), ()), SimpleNamespace(links=[]))
         light = Actuated(phases, ())
         self.assertEqual(shown.learn(light), (42, 3))
-        light.ended = [EndedPhase(1, 0, 1, "listed"), EndedPhase(0, 1, 12, "gap"), EndedPhase(1, 13, 3, "listed")]
+        light.ended_phases = [EndedPhase(1, 0, 1, "listed"), EndedPhase(0, 1, 12, "gap")]
+        light.ended_phases.append(EndedPhase(1, 13, 3, "listed"))
         self.assertEqual(shown.learn(light), (36, 3))
-        light.ended.append(EndedPhase(0, 16, 11, "gap"))
+        light.ended_phases.append(EndedPhase(0, 16, 11, "gap"))
         self.assertEqual(shown.learn(light), (31, 3))
 
     def test_a_plan_is_of_the_phase_under_way(self):
@@ -238,7 +239,7 @@ class Reading(unittest.TestCase):
             (0, ended, [[2, []], [600, [[0, 0, 1]]]]), (1, ended, [[600, []]]), (2, ended, [[600, [[0, 0, 2]]]]),
             (0, [], [[600, [[0, 0, 1]]]]),
         ):  # fmt: skip
-            [command] = shown.plans(SimpleNamespace(at=at, ended=before, due=110), 100)
+            [command] = shown.plans(SimpleNamespace(phase_index=at, ended_phases=before, due=110), 100)
             self.assertEqual((command["node"], command["phases"]), (7, phases))
 
     def test_who_gives_way_goes_before_a_least_green_ends(self):
@@ -264,7 +265,7 @@ class Reading(unittest.TestCase):
             rows = [frozenset(turn for turn, begin, end in spans if begin <= at < end) for at in range(29)]
             shown.greens_by_second = lambda *_, rows=rows: rows
             ended = [EndedPhase(1, 0, 9, "listed") for _ in before]
-            [command] = shown.plans(SimpleNamespace(at=0, ended=ended, due=105), 100)
+            [command] = shown.plans(SimpleNamespace(phase_index=0, ended_phases=ended, due=105), 100)
             names = {"m": [*main], "l": [*left]}
             self.assertEqual(command["phases"], [[seconds, [names[one] for one in own]] for seconds, own in phases])
 
@@ -332,7 +333,7 @@ class Runs(Case):
 
     def test_the_map_keeps_what_drives_a_light(self):
         [light] = self.lights().driven
-        phases = [(one.least, one.most, one.detectors) for one in light.phases]
+        phases = [(one.least_seconds, one.most_seconds, one.detectors) for one in light.phases]
         self.assertEqual(phases, [(5, 40, (0,)), (3, 3, ()), (20, 20, ())])
         # 23.5 m before the end of 200 m, which are 30 cells.
         self.assertEqual([(one.link, one.lane, one.cell) for one in light.cells], [(0, 0, 26)])

@@ -109,7 +109,7 @@ class Runs(Case):
         self.assertEqual(given_bounds(lights, ()), {"L": Bounds(((0, 5, 40),), (4.0,))})
         self.assertEqual(given_bounds(lights, ("L",)), {})
         [made] = with_bounds(lights, mapping, {"L": Bounds(((0, 8, 60),), (2.0,))}).driven
-        self.assertEqual((made.phases[0].least, made.phases[0].most, made.gaps), (8, 60, (2.0,)))
+        self.assertEqual((made.phases[0].least_seconds, made.phases[0].most_seconds, made.gaps), (8, 60, (2.0,)))
         self.assertEqual(kept_with(mapping.programs[0], OWN)["parameters"], {"max-gap": "3"})
         self.write("x.add.xml", bounds_text(mapping, {"L": Bounds(((0, 8, 60),), (2.0,))}))
         text = (self.folder / "x.add.xml").read_text(encoding="utf-8")
@@ -129,7 +129,7 @@ class Runs(Case):
         self.assertEqual(given_bounds(lights, ()), {"L": given})
         found = Bounds(((2, 7, 40), (6, 5, 30)), (2.0, 3.5))
         [made] = with_bounds(lights, mapping, {"L": found}).driven
-        phases = [(one.number, one.least, one.most, one.extension) for one in made.rings.phases]
+        phases = [(one.number, one.least_seconds, one.most_seconds, one.extension) for one in made.rings.phases]
         self.assertEqual(phases, [(2, 7, 40, 2.0), (4, 5, 40, 2.0), (6, 5, 30, 3.5), (8, 5, 40, 2.0)])
         self.write("x.add.xml", bounds_text(mapping, {"L": found}))
         text = (self.folder / "x.add.xml").read_text(encoding="utf-8")

@@ -225,7 +225,7 @@ class Bounds(unittest.TestCase):
         is seen; none is shorter than 5 s, or than it is listed. A yellow lasts as long as it does."""
         def bounds(*kept):
             one = bounded(kept, 15)
-            return one.least, one.most
+            return one.least_seconds, one.most_seconds
 
         self.assertEqual([bounds(seconds, "Gr", None, None) for seconds in (31, 8, 4)], [(16, 46), (5, 23), (4, 19)])
         self.assertEqual([bounds(31, "Gr", 20, 40), bounds(31, "Gr", 20, 10), bounds(3, "yr", None, None)],
@@ -316,7 +316,7 @@ class OneStop(unittest.TestCase):
         self.closed(one, bus(17, 0), other=[SeenVehicle(1, 18, 0)], clock=PATIENCE)
         self.assertEqual(one.state, STANDING)
         self.closed(one, bus(17, 0), clock=one.leaves)
-        self.closed(one, bus(17, 0), clock=one.goes)
+        self.closed(one, bus(17, 0), clock=one.let_go_clock)
         self.assertEqual(one.state, OTHER_LANE)
 
 
@@ -446,7 +446,7 @@ class Planned(unittest.TestCase):
                 light.call(clock, calls[clock])
             if light.due <= clock:
                 light.moves_on(clock, lambda _: 0.0)
-        return [(row.phase, row.begin, row.seconds, row.why) for row in light.ended]
+        return [(row.phase, row.begin, row.seconds, row.why) for row in light.ended_phases]
 
     def test_without_buses_it_is_its_plan(self):
         told = [(0, 0, 30, "listed"), (1, 30, 5, "listed"), (2, 35, 30, "listed"), (3, 65, 5, "listed")]
@@ -483,7 +483,7 @@ class Planned(unittest.TestCase):
                 light.call(clock, ())
             if light.due <= clock:
                 light.moves_on(clock, lambda _: 99.0)
-        self.assertEqual([(row.phase, row.seconds) for row in light.ended], [(0, 20), (1, 3), (2, 5)])
+        self.assertEqual([(row.phase, row.seconds) for row in light.ended_phases], [(0, 20), (1, 3), (2, 5)])
 
 
     def test_a_driven_light_ends_a_green_that_traffic_would_hold(self):
@@ -498,7 +498,7 @@ class Planned(unittest.TestCase):
                 light.call(clock, calls[clock])
             if light.due <= clock:
                 light.moves_on(clock, lambda _: 0.0)
-        self.assertEqual([(row.phase, row.seconds, row.why) for row in light.ended], [
+        self.assertEqual([(row.phase, row.seconds, row.why) for row in light.ended_phases], [
             (0, 12, "bus"), (1, 3, "listed"), (2, 50, "most"),
         ])
 

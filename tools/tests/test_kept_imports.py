@@ -104,7 +104,7 @@ class KeptImports(Case):
             self.assertIsNone(read_kept(KEY))
 
     def test_the_folder_is_bounded(self):
-        with patch.object(kept_imports, "MOST", 3):
+        with patch.object(kept_imports, "MOST_ENTRIES", 3):
             for number in range(6):
                 write_kept(f"{number:064}", MADE)
                 os.utime(self.kept / f"{number:064}", (number, number))

@@ -126,7 +126,7 @@ class Noting(Controller):
         self.due = self.due[1:]
         self.calls.append((clock, self.name, len(now.car)))
 
-    def hear(self, clock, command):
+    def commands_before_line(self, clock, command):
         self.calls.append((clock, self.name, command["cmd"]))
         return []
 

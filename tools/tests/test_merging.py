@@ -5,7 +5,7 @@ from support import PROGRAM, needs_simulator
 from streetsim.client import Client
 from streetsim.control.merging_links import Merges
 from streetsim.control.merging_rule import (
-    AHEAD, BEHIND, EVERY, MOST_WAIT, PATIENCE, Change, MergePoint, MergingRule, SeenVehicle, Side,
+    GAP_AHEAD, GAP_BEHIND, EVERY, MOST_WAIT, PATIENCE, Change, MergePoint, MergingRule, SeenVehicle, Side,
 )
 
 WORKS = (40, 49)
@@ -21,7 +21,7 @@ class Turns(unittest.TestCase):
     """Works from cell 40 of lane 0; a car stands in 39 from the first look on."""
 
     def told(self, merging, clock, closed, other):
-        beside = [(min(cells), max(cells)) for cells in [merging.held[1]] if cells]
+        beside = [(min(cells), max(cells)) for cells in [merging.held_cells[1]] if cells]
         return merging.changes_by_turns(clock, sides(closed, other, beside))
 
     def held(self, closed=((39, 0),)):
@@ -32,17 +32,17 @@ class Turns(unittest.TestCase):
         return merging, self.told(merging, PATIENCE, closed, [(38, 2)])
 
     def test_a_lane_is_held_beside_who_stands_and_further_up(self):
-        self.assertEqual(self.held()[1], [Change("close", 1, 39 - BEHIND, 39)])
+        self.assertEqual(self.held()[1], [Change("close", 1, 39 - GAP_BEHIND, 39)])
 
     def test_those_of_a_platoon_are_let_in_together(self):
         """The last of those within 8 cells of the works; not who drives, nor who is further up."""
-        self.assertEqual(self.held([(39, 0), (37, 0), (35, 1), (31, 0)])[1], [Change("close", 1, 37 - BEHIND, 39)])
+        self.assertEqual(self.held([(39, 0), (37, 0), (35, 1), (31, 0)])[1], [Change("close", 1, 37 - GAP_BEHIND, 39)])
 
     def test_it_is_opened_when_nobody_is_beside_them(self):
         merging, _ = self.held()
         self.assertEqual(merging.seconds_to_next_look(), 1)
-        self.assertEqual(self.told(merging, 11, [(39, 0)], [(39 + AHEAD, 2)]), [])
-        beside = [(39 + AHEAD + 1, 2), (32, 0)]
+        self.assertEqual(self.told(merging, 11, [(39, 0)], [(39 + GAP_AHEAD, 2)]), [])
+        beside = [(39 + GAP_AHEAD + 1, 2), (32, 0)]
         self.assertEqual(self.told(merging, 12, [(39, 0)], beside), [Change("reopen", 1, 33, 39)])
         self.assertEqual(merging.seconds_to_next_look(), EVERY)
 
@@ -66,7 +66,7 @@ class Turns(unittest.TestCase):
         merging = MergingRule(60)
         lanes = [Side([SeenVehicle(1, 39, 0, 3)], [WORKS]), Side([SeenVehicle(2, 44, 0, 3)], [])]
         merging.changes_by_turns(0, lanes)
-        self.assertEqual(merging.changes_by_turns(10, lanes), [Change("close", 1, 37 - BEHIND, 39)])
+        self.assertEqual(merging.changes_by_turns(10, lanes), [Change("close", 1, 37 - GAP_BEHIND, 39)])
         lanes = [lanes[0], Side(lanes[1].vehicles, [(31, 39)])]
         self.assertEqual(merging.changes_by_turns(11, lanes), [Change("reopen", 1, 31, 39)])
 

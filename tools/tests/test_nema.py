@@ -47,7 +47,7 @@ def drive(program, seen, until, calls=()):
             light.call(clock, calls[clock])
         if light.due <= clock:
             light.moves_on(clock, lambda area, now=clock: now in seen.get(area, ()))
-    return [tuple(row) for row in light.ended]
+    return [tuple(row) for row in light.ended_phases]
 
 
 class Logic(unittest.TestCase):
@@ -156,7 +156,7 @@ class Logic(unittest.TestCase):
             if light.due <= clock:
                 light.moves_on(clock, lambda area: lanes[area] == "1")
             self.assertEqual(light.state(), state, clock)
-        self.assertGreater(len(light.ended), 50)
+        self.assertGreater(len(light.ended_phases), 50)
 
 
 class Showing(unittest.TestCase):

@@ -67,13 +67,13 @@ class ByHand(Case):
         if back:
             session.go_back(back)
             self.play(session, 900, stride)
-        return [(one.clock, one.line.command) for one in session.current.kernel.sent]
+        return [(one.clock, one.line.command) for one in session.current.kernel.sent_lines]
 
     def in_run(self, run, mapping, deeds, until=900):
         """The same of streetsim-run."""
         run.timed = [(clock, Line(0, json.dumps(command), command)) for clock, command in deeds]
         kernel, _ = made(PROGRAM, run, mapping, Settings(until, 0, rescue=0))
-        return [(one.clock, one.line.command) for one in kernel.sent]
+        return [(one.clock, one.line.command) for one in kernel.sent_lines]
 
     def test_the_same_lines_at_the_same_clocks(self):
         expected = self.in_run(*street(), DEEDS)
@@ -93,7 +93,7 @@ class ByHand(Case):
         self.play(session, 60)
         session.change("works", [{"clock": 60, "command": DEEDS[0][1]}])
         self.play(session, 900)
-        self.assertEqual([one.line.command for one in session.current.kernel.sent], [DEEDS[0][1]])
+        self.assertEqual([one.line.command for one in session.current.kernel.sent_lines], [DEEDS[0][1]])
 
     def works(self, session, **more):
         asked = {"cmd": "close", "link": 0, "lanes": [0], "begin": 370, "end": 530, "from": 0, "until": None}
@@ -105,11 +105,12 @@ class ByHand(Case):
         self.works(session, until=100)
         self.works(session, lanes=[0, 1], begin=0, end=60)
         self.works(session, cmd="reopen", begin=375, end=450)
-        sent = [tuple(one.line.command[name] for name in SPAN) for one in session.current.kernel.sent]
+        sent = [tuple(one.line.command[name] for name in SPAN) for one in session.current.kernel.sent_lines]
         self.assertEqual(sent, [("close", 0, 49, 70), ("close", 0, 4, 7), ("close", 1, 4, 7), ("reopen", 0, 50, 59)])
         self.play(session, 101)
         self.assertIn(("reopen", 0, 49, 70), [
-            tuple(one.line.command[name] for name in SPAN) for one in session.current.kernel.sent if one.clock == 100
+            tuple(one.line.command[name] for name in SPAN)
+            for one in session.current.kernel.sent_lines if one.clock == 100
         ])
 
     def test_parallel_links_are_refused(self):
@@ -134,7 +135,7 @@ class ByHand(Case):
         ):
             told = told_by(session.change("", [{"clock": 0, "command": command}]))
             self.assertIn(name, told["refused"])
-            self.assertEqual((told["changes"], session.current.kernel.sent), ([], []))
+            self.assertEqual((told["changes"], session.current.kernel.sent_lines), ([], []))
 
 
 if __name__ == "__main__":

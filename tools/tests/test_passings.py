@@ -35,7 +35,7 @@ class Closed(unittest.TestCase):
             return SimpleNamespace(clock=clock, passed_on=passed_on, line=line)
 
         lines = [sent(5, "close", 0), sent(5, "close", 1, True), sent(9, "reopen", 0)]
-        kernel = SimpleNamespace(run=SimpleNamespace(first=[]), sent=lines)
+        kernel = SimpleNamespace(run=SimpleNamespace(first=[]), sent_lines=lines)
         closed = ClosedLanes(kernel, [True] * 2)
         found = [closed.stretches_at(clock) for clock in (4, 5, 6, 9)]
         self.assertEqual(found, [{}, {0: [(2, 3)]}, {0: [(2, 3)], 1: [(2, 3)]}, {1: [(2, 3)]}])

@@ -43,7 +43,7 @@ class Scripts(Case):
         for _, line in run.timed:
             line.text = json.dumps(line.command)
         kernel, _ = made(PROGRAM, run, mapping, Settings(UNTIL, 0, rescue=0))
-        return [(one.clock, one.line.command) for one in kernel.sent]
+        return [(one.clock, one.line.command) for one in kernel.sent_lines]
 
     def test_scenario_sends_what_a_run_sends(self):
         expected, sent = self.in_run(), []
@@ -125,7 +125,7 @@ class Scripts(Case):
         session, path = self.started(), str(self.folder / "state.json")
         link, _ = session.lane_of["a_0"]
         for _ in range(60):
-            if any(session.merges.links[link].merging.held):
+            if any(session.merges.links[link].merging.held_cells):
                 break
             traci.simulationStep()
         self.assertTrue(session.client.lane(link, 1).closed)

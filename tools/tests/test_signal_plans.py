@@ -216,8 +216,8 @@ class Climbing(unittest.TestCase):
         self.assertEqual(len({(one["L"].offset, one["M"].offset) for one in asked}), len(asked))
 
     def streets(self):
-        behind = {"L": ["L", "M"], "M": ["M"]}
-        return type("Streets", (), {"order": ["L", "M"], "behind": behind, "hops": {}, "loads": {}})
+        lights_behind = {"L": ["L", "M"], "M": ["M"]}
+        return type("Streets", (), {"order": ["L", "M"], "lights_behind": lights_behind, "hops": {}, "loads": {}})
 
     def test_how_many_climbs_there_are_is_known_before(self):
         for changed in (["offsets"], ["offsets", "splits"]):
@@ -238,7 +238,7 @@ class Climbing(unittest.TestCase):
         streets = self.streets()
         search_plan(search, self.plan, {"L": self.light, "M": self.light}, streets, ["offsets"], [])
         self.assertEqual((len(asked), search.simulations), (7, 7))
-        self.assertEqual(search.best[0], min(trial.value for trial in search.trials))
+        self.assertEqual(search.best[0], min(trial.mean_trip for trial in search.trials))
 
 
 class Searching(Case):

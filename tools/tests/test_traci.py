@@ -90,7 +90,7 @@ class Loops(unittest.TestCase):
         driving = 100 * 5 / 15
         for where, percent in ((OnRoad(1, 0, 3, 2), driving), (OnRoad(0, 1, 3, 2), driving), (OnRoad(0, 0, 3, 0), 100)):
             view, fleet = SimpleNamespace(positions={7: where}, positions_before={}), SimpleNamespace(size={7: 1}.get)
-            loops = SimpleNamespace(passed={"loop": [7]}.__getitem__)
+            loops = SimpleNamespace(vehicles_on={"loop": [7]}.__getitem__)
             mapping = SimpleNamespace(links=[SimpleNamespace(cell_metres=7.5)])
             session = SimpleNamespace(view=view, fleet=fleet, detectors={"loop": detector}, loops=loops, map=mapping)
             loop = InductionLoopDomain(lambda session=session: session)

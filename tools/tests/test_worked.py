@@ -119,7 +119,7 @@ class Seen(unittest.TestCase):
         for clock, seen in looks:
             one.note_look(clock, lanes(**{"a0": (), "a1": (), **seen}), lambda *_: True)
         # 2 was past them at the first look; 3 was seen in cell 10, ten seconds from them; 4 came between two looks.
-        self.assertEqual(one.passed, [WorksPassing(115, 0.0), WorksPassing(135, 25.0), WorksPassing(135, 0.0)])
+        self.assertEqual(one.passings, [WorksPassing(115, 0.0), WorksPassing(135, 25.0), WorksPassing(135, 0.0)])
         self.assertEqual([stand.seconds for stand in one.stands], [0, 0, 5, 0])
 
     def test_who_is_rescued_has_not_passed_and_keeps_its_seconds(self):
@@ -129,11 +129,11 @@ class Seen(unittest.TestCase):
         one.note_look(105, lanes(a0=near, z0=[(1, 39, 0)]), lambda *_: True)
         one.rescue(1, 2)
         one.note_look(110, lanes(a0=near, z0=()), lambda *_: True)
-        self.assertEqual(one.passed, [])
+        self.assertEqual(one.passings, [])
         one.note_look(115, lanes(a0=[*near, (2, 1, 1)], z0=()), lambda *_: True)
         one.note_look(145, lanes(a0=near, z0=()), lambda *_: True)
         # Alone it would take half a second to the end of z, one in the junction, and 15 s from there to cell 30.
-        self.assertEqual(one.passed, [WorksPassing(145, 145 - 105 - 16.5)])
+        self.assertEqual(one.passings, [WorksPassing(145, 145 - 105 - 16.5)])
 
     def test_who_comes_over_links_between_is_late_by_what_it_takes_longer_on_them(self):
         """Before z lies y: two lanes of 40 cells, 20 s alone, and a second in each junction."""
@@ -192,7 +192,7 @@ class Seen(unittest.TestCase):
         one = self.watched()
         for clock in range(105, 1901, 5):
             one.note_look(clock, lanes(a0=[(1, 29, 0)] if clock <= 1100 else [], a1=()), lambda *_: True)
-            one.passed.append(WorksPassing(clock, 4.0 if clock < 1000 else 6.0))
+            one.passings.append(WorksPassing(clock, 4.0 if clock < 1000 else 6.0))
         found = [dict(zip(("begin", "end"), row[:2])) | {"rest": row[2:]} for row in works_rows([one], TWO, 0, 900)]
         self.assertEqual([(row["begin"], row["end"]) for row in found], [(100, 900), (900, 1800), (1800, 1900)])
         edge, number, begin, end, vehicles, capacity, mean, most, *queues, stood = found[1]["rest"]
@@ -212,7 +212,7 @@ class Seen(unittest.TestCase):
     def test_capacity_is_that_of_quarters_with_a_queue(self):
         one = self.watched()
         self.assertIsNone(capacity_of(one, Period(100, 900)))
-        one.passed = [WorksPassing(clock, 0.0) for clock in range(101, 1900, 2)]
+        one.passings = [WorksPassing(clock, 0.0) for clock in range(101, 1900, 2)]
         one.queues = [WorksQueue(clock, 5, 0.0 if clock == 500 else 9.0) for clock in range(105, 1901, 5)]
         self.assertIsNone(capacity_of(one, Period(100, 1300)), "a queue since 500 alone")
         self.assertEqual(capacity_of(one, Period(1300, 1900)), 1800)
@@ -470,7 +470,7 @@ class Beside(unittest.TestCase):
         works = WorksTable(closures_of(run, 900))
         _, steering = made(PROGRAM, run, TWO, Settings(900, 0), works)
         self.assertGreater(steering.rescue.count.total(), 0)
-        self.assertEqual([one.passed for one in works.watched], [[], []])
+        self.assertEqual([one.passings for one in works.watched], [[], []])
 
     def test_queue_beside_looks_in_every_second(self):
         """Over two links: 2,400 vehicles an hour come to one open lane. Means and greatest within 15 m or 5 %."""

@@ -21,7 +21,7 @@ from streetsim.model import trust
 from streetsim.model.sources import program_digest
 from streetsim.search.route_diverting import check_works, give_ways_of_file
 from streetsim.search.route_job import (
-    AFTER, Job, RouteFiles, RouteWorks, search_routes, tell_found, tell_stops, write_found,
+    LONGEST_TRIP, Job, RouteFiles, RouteWorks, search_routes, tell_found, tell_stops, write_found,
 )
 from streetsim.search.route_loading import read_town
 from streetsim.search.route_search import RouteSettings
@@ -68,7 +68,7 @@ def parser() -> Parser:
 def add_search(tool_parser: argparse.ArgumentParser) -> None:
     """Adds the words that say how routes are searched and judged."""
     tool_parser.add_argument("--anew", action="store_true", help="forget the routes that vehicles have")
-    until = f"the clock at the end (default: {AFTER:,} s after the last departure)"
+    until = f"the clock at the end (default: {LONGEST_TRIP:,} s after the last departure)"
     add_clock(tool_parser, "--until", until, least=1)
     tool_parser.add_argument(
         "--slice", type=time_within(60, 86_400), default=300, metavar="S",
@@ -178,7 +178,7 @@ def job_of(args: argparse.Namespace) -> Job:
         give_ways_of_file(trips.trips, before, town.graph, args.before)
     print(*report.lines(), sep="\n", end="\n" if any(report.lines()) else "", file=sys.stderr)
     last = int(trips.trips[-1].depart)
-    until = min(limits.CLOCK, last + AFTER) if args.until is None else args.until
+    until = min(limits.CLOCK, last + LONGEST_TRIP) if args.until is None else args.until
     if until <= last:
         raise Fault(f"--until {until}: the last trip departs at {last:,} s")
     closed = [works for text in args.close for works in names_in(text)]
@@ -194,5 +194,5 @@ def job_of(args: argparse.Namespace) -> Job:
         check=seeds_to_check(args),
         works=RouteWorks(closed, args.sign, args.lost or "lead", args.knowing or [1.0], args.before),
         target=RouteFiles(args.output, args.run, args.map, args.out),
-        words={**{name: getattr(args, name) for name in SETTING_WORDS}, **files},
+        setting_words={**{name: getattr(args, name) for name in SETTING_WORDS}, **files},
     )

@@ -8,7 +8,7 @@ from streetsim.base.words import (
 from streetsim.cli.defaults import complete_outputs, complete_run, stem_of
 from streetsim.cli.given_words import given_words
 from streetsim.cli.words import add_clock, add_departures, add_out, add_simulator
-from streetsim.control.bus_planned import MOST_SEEN, SEEN
+from streetsim.control.bus_planned import MOST_SEEN, SEEN_SECONDS
 from streetsim.model.folder import POLLS
 from streetsim.model.replications import DRAWN
 from streetsim.model.tables import ROUTES_FILE
@@ -123,7 +123,7 @@ def add_priority(tool_parser: argparse.ArgumentParser) -> None:
     )
     tool_parser.add_argument(
         "--seen", type=integer_within(1, MOST_SEEN), metavar="S",
-        help=f"seconds before the stop line from which on such a vehicle is seen (default {SEEN})",
+        help=f"seconds before the stop line from which on such a vehicle is seen (default {SEEN_SECONDS})",
     )
 
 

@@ -31,7 +31,7 @@ from streetsim.search.signal_in_sumo import PROGRAM_ID, sumo_for, verified
 from streetsim.search.signal_planning import (
     CHANGES, CYCLES, DRAWN, TRIED, ended_search, proposed_cycles, refuse_budget, tried_seeds,
 )
-from streetsim.search.signal_plans import LEAST, plan_text
+from streetsim.search.signal_plans import LEAST_GREEN, plan_text
 from streetsim.search.signal_search import PlanSearch, search_plan
 from streetsim.search.signal_town import Reading, Runner, SignalTown, read_town, sessions_of
 
@@ -92,8 +92,8 @@ def add_search(tool_parser: argparse.ArgumentParser) -> None:
     tool_parser.add_argument("--cycle", metavar="S-S", help=f"cycles to try (default {CYCLES})")
     tool_parser.add_argument(
         "--least", type=integer_within(1, limits.PHASE_STEPS), metavar="S",
-        help=f"the least green (default {LEAST}); a phase's minDur and maxDur bound it too, but with --bounds: there "
-        "minDur is brought down to it, and without this word never below what is given",
+        help=f"the least green (default {LEAST_GREEN}); a phase's minDur and maxDur bound it too, but with --bounds: "
+        "there minDur is brought down to it, and without this word never below what is given",
     )
     tool_parser.add_argument(
         "--constraints", metavar="FILE",
@@ -253,7 +253,7 @@ def reading_of(args: argparse.Namespace) -> Reading:
         plans=plans,
         until=args.until,
         program=program.find_program(args.program),
-        least=args.least or LEAST,
+        least_green=args.least or LEAST_GREEN,
         keep=names_in(args.fixed),
         rounds=args.rounds,
         reserve=args.reserve if {"splits", "cycle"} & {*changed} or args.bounds else 0,
@@ -274,7 +274,7 @@ def check_cycles(args: argparse.Namespace, town: SignalTown) -> None:
     _, cycles = changes_and_cycles(args)
     able = (town.lights[name].scaled(timing, cycle) for name, timing in town.base.items() for cycle in cycles)
     if cycles and not any(able):
-        text = f"no light can keep such a cycle (--least {args.least or LEAST}, and the bounds of its phases)"
+        text = f"no light can keep such a cycle (--least {args.least or LEAST_GREEN}, and the bounds of its phases)"
         raise Fault(f"--cycle {args.cycle or CYCLES}: {text}")
     for name, light in town.lights.items():
         needed = sum(least for least, _ in light.bounds)
@@ -339,7 +339,7 @@ def search_for_plan(args: argparse.Namespace, runner: Runner, check: Sequence[in
         search_plan(search, town.base, town.lights, streets, changed, proposed_cycles(cycles, town, streets))
 
     search, stopped = ended_search(
-        lambda plans: runner.mean_trips(plans, seeds), args.budget, len(seeds), search_from_given, after=judging
+        lambda plans: runner.mean_trips(plans, seeds), args.budget, len(seeds), search_from_given, seconds_after=judging
     )
     told = f"the search has ended after {search.simulations} simulations"
     print(f"{told}: plans are now run by {len(check)} other seeds", file=sys.stderr)

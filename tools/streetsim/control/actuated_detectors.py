@@ -5,7 +5,7 @@ from collections.abc import Iterable, Mapping, Sequence
 from dataclasses import dataclass, field
 from typing import NamedTuple
 
-from streetsim.control.actuated_logic import GO, ActuatedPhase
+from streetsim.control.actuated_logic import GREEN_LETTERS, ActuatedPhase
 
 LEAD, PASSING, GAP = 2.0, 1.9, 3.0  # seconds: SUMO's detector-gap, passing-time and max-gap where none is given
 ROOM = 7.5  # metres of a vehicle in a queue
@@ -57,7 +57,7 @@ class Layout:
     lanes: Mapping[str, LitLane]  # by name
     parameters: Mapping[str, str] = field(default_factory=dict)
 
-    def value(self, name: str, usual: float, lane: str = "") -> float:
+    def parameter(self, name: str, usual: float, lane: str = "") -> float:
         """A number among the program's parameters: that of a lane (name:lane) before that of all lanes, and `usual`
         where neither is given. ValueError where it is no number."""
         return float(self.parameters.get(f"{name}:{lane}", self.parameters.get(name, usual)))
@@ -78,8 +78,8 @@ def spots(layout: Layout, phases: Sequence[ActuatedPhase]) -> dict[str, Detector
     for lane, least in shortest_greens(layout, phases).items():
         if lane not in layout.parameters:
             before = min(
-                layout.value("detector-gap", LEAD) * layout.lanes[lane].speed,
-                (least / layout.value("passing-time", PASSING) + 0.5) * ROOM,
+                layout.parameter("detector-gap", LEAD) * layout.lanes[lane].speed,
+                (least / layout.parameter("passing-time", PASSING) + 0.5) * ROOM,
             )
             spot_by_lane[lane] = spot_before(layout.lanes[lane].stretches, before)
     return spot_by_lane
@@ -90,9 +90,10 @@ def shortest_greens(layout: Layout, phases: Sequence[ActuatedPhase]) -> dict[str
     bounds differ, so that detectors decide their length; lanes without such a phase are left out."""
     least_by_lane: dict[str, int] = {}
     for lane, indexes in sorted(layout.indexes().items()):
-        own = [one.least for one in phases if one.least != one.most and any(one.state[at] in GO for at in indexes)]
-        if own:
-            least_by_lane[lane] = min(own)
+        greens = [phase for phase in phases if any(phase.state[index] in GREEN_LETTERS for index in indexes)]
+        extended = [phase.least_seconds for phase in greens if phase.least_seconds != phase.most_seconds]
+        if extended:
+            least_by_lane[lane] = min(extended)
     return least_by_lane
 
 
@@ -119,7 +120,7 @@ def extending(layout: Layout, phases: Sequence[ActuatedPhase], detected: Iterabl
             leads[turn.lane].add(turn.target)
     lanes_by_phase = []
     for phase in phases:
-        green = green_indexes(layout, phases, phase.state) if phase.least != phase.most else set()
+        green = green_indexes(layout, phases, phase.state) if phase.least_seconds != phase.most_seconds else set()
         usable = [lane for lane in detected if indexes[lane] and indexes[lane] <= green]
         beyond = {lane: leads[lane] & {*detected} for lane in usable}
         lanes_by_phase.append([lane for lane in usable if all(indexes[other] <= green for other in beyond[lane])])

@@ -36,13 +36,13 @@ class DrivenProgram:
 
     light: DrivenLight
     logic: Actuated | Nema
-    shown: NodesOfLight | ShownRings
+    display: NodesOfLight | ShownRings
     meters: range  # the positions of its detectors among those of all lights, from 0
     shows: list[Command] = field(default_factory=list)  # the plans that were sent last
     wraps: float = inf  # the clock by which these would begin anew
     in_force: bool = True  # its plans are shown; else it goes on unseen, as in SUMO
     spans: list[list[float]] = field(default_factory=list)  # [begin, end]: clocks between which they were shown
-    stopped: float = inf  # the clock from which on it is left alone, for good
+    stop_clock: float = inf  # the clock from which on it is left alone, for good
 
     @property
     def name(self) -> str:
@@ -71,10 +71,10 @@ class DrivenProgram:
 
     def plans(self, clock: int) -> Iterator[Command]:
         """The commands that show from a clock on what the logic has come to."""
-        if isinstance(self.logic, Actuated) and isinstance(self.shown, NodesOfLight):
-            return self.shown.plans(self.logic, clock)
-        assert isinstance(self.logic, Nema) and isinstance(self.shown, ShownRings)
-        return self.shown.plans(self.logic, clock)
+        if isinstance(self.logic, Actuated) and isinstance(self.display, NodesOfLight):
+            return self.display.plans(self.logic, clock)
+        assert isinstance(self.logic, Nema) and isinstance(self.display, ShownRings)
+        return self.display.plans(self.logic, clock)
 
     def goes_on(self) -> Iterator[Command]:
         """The commands that keep a phase on for more than the 600 s of its plan; none where it is not in force."""
@@ -106,7 +106,7 @@ class DrivenProgram:
     def next_clock(self) -> int:
         """The next clock at which it has something to look at or to send; the greatest clock where it is left alone for
         good."""
-        return int(min(self.logic.due, self.wraps)) if self.stopped == inf else limits.CLOCK
+        return int(min(self.logic.due, self.wraps)) if self.stop_clock == inf else limits.CLOCK
 
 
 class Driver:
@@ -124,10 +124,10 @@ class Driver:
         for light, in_force in (*((light, True) for light in lights), *((light, False) for light in idle)):
             meters = range(len(self.cells), len(self.cells) + len(light.cells))
             self.cells += light.cells
-            shown: NodesOfLight | ShownRings = (
+            display: NodesOfLight | ShownRings = (
                 NodesOfLight(light, mapping) if isinstance(light, Driven) else ShownRings(light, mapping)
             )
-            self.controllers.append(DrivenProgram(light, light.new_logic(), shown, meters, in_force=in_force))
+            self.controllers.append(DrivenProgram(light, light.new_logic(), display, meters, in_force=in_force))
         self.lights = {program.name for program in self.controllers}
 
     def controller_of(self, light: str, program: str | None = None) -> DrivenProgram | None:
@@ -142,9 +142,9 @@ class Driver:
         for good, or until the light changes by time of day. Nothing where no driven light is there."""
         to_come = {light for _, light, _ in self.switches}
         for one in self.controllers:
-            if one.stopped == inf and any(own.node == node for own in one.light.nodes):
+            if one.stop_clock == inf and any(own.node == node for own in one.light.nodes):
                 one.leaves(clock)
-                one.stopped = inf if one.name in to_come else clock
+                one.stop_clock = inf if one.name in to_come else clock
 
     def switch(self, clock: int) -> Iterator[Command]:
         """Makes the changes by time of day that are due at a clock, and gives the commands that show the new programs
@@ -156,7 +156,7 @@ class Driver:
                 yield from one.resumes(clock)
             if all(light != name for _, name, _ in self.switches):
                 for one in self.controllers:
-                    one.stopped = clock if one.name == light and not one.in_force else one.stopped
+                    one.stop_clock = clock if one.name == light and not one.in_force else one.stop_clock
 
     def release(self, light: str, clock: int) -> None:
         """Takes all programs of a light out of force at a clock, and forgets its changes by time of day."""
@@ -187,7 +187,7 @@ class Driver:
     def commands_after_look(self, clock: int, senses: Senses) -> Iterator[Command]:
         """Looks at the lights that are due at a clock, and gives the commands to send before the next step."""
         for program in self.controllers:
-            if program.stopped < inf:
+            if program.stop_clock < inf:
                 continue
             if program.logic.due <= clock and program.moves_on(clock, senses):
                 yield from program.begins(clock)
@@ -205,15 +205,15 @@ def present_by(
     """A function of an area's position that says whether anybody is on it, by what stands on its lane; each lane is
     asked for once. lane: as of Senses. On an area at the lane's end who is in the buffer, and may not go on yet, counts
     too."""
-    known: dict[Place, Lane | None] = {}
+    lane_by_place: dict[Place, Lane | None] = {}
 
     def present(number: int) -> bool:
         """Whether anybody is on the area at a position."""
         area = areas[number]
         place = area.link, area.lane
-        if place not in known:
-            known[place] = lane(place)
-        found = known[place]
+        if place not in lane_by_place:
+            lane_by_place[place] = lane(place)
+        found = lane_by_place[place]
         if found is None:
             return False
         leaving = area.at_end and any(ready > clock for _, _, ready, *_ in found.buffer)

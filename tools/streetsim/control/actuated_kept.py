@@ -10,7 +10,7 @@ from streetsim.base.files import Fault, Json
 from streetsim.sumo.net import NetConnection
 
 LONGEST = 1_000_000  # seconds of a green whose program gives no greatest length
-OFF = ("", "0", "false")  # values by which a parameter is switched off
+OFF_VALUES = ("", "0", "false")  # values by which a parameter is switched off
 
 
 class Listed(Fault):

@@ -15,9 +15,9 @@ from streetsim.control.actuated_detectors import (
     GAP, LEAD, NO_DETECTOR, DetectorSpot, Layout, LeadingLane, LitLane, LitTurn, extending, spots,
 )
 from streetsim.control.actuated_kept import (
-    OFF, Cell, DetectorArea, Listed, NodeOf, kept_of, node_of, number_of, phase_bounds,
+    OFF_VALUES, Cell, DetectorArea, Listed, NodeOf, kept_of, node_of, number_of, phase_bounds,
 )
-from streetsim.control.actuated_logic import GO, Actuated, ActuatedPhase
+from streetsim.control.actuated_logic import GREEN_LETTERS, Actuated, ActuatedPhase
 from streetsim.control.nema_lights import DrivenRings, driven_rings
 from streetsim.model.detectors import E1
 from streetsim.model.mapping import Map
@@ -48,11 +48,12 @@ class Driven:
     @property
     def longest(self) -> float:
         """The seconds of a cycle in which each phase lasts its most, 600 at most."""
-        return sum(min(phase.most, limits.PHASE_STEPS) for phase in self.phases)
+        return sum(min(phase.most_seconds, limits.PHASE_STEPS) for phase in self.phases)
 
     def phases_serving(self, indexes: Collection[int]) -> frozenset[int]:
         """The places of the phases in which a movement, by its places in a state, has green."""
-        found = (at for at, phase in enumerate(self.phases) if any(phase.state[index] in GO for index in indexes))
+        states = enumerate(phase.state for phase in self.phases)
+        found = (at for at, state in states if any(state[index] in GREEN_LETTERS for index in indexes))
         return frozenset(found)
 
     def new_logic(self) -> Actuated:
@@ -160,7 +161,7 @@ def driven_of(program: Mapping[str, Any], mapping: Map) -> DrivenLight:
             replace(phase, detectors=tuple(number[lane] for lane in own))
             for phase, own in zip(phases, loops, strict=True)
         ),
-        lead=layout.value("detector-gap", LEAD),
+        lead=layout.parameter("detector-gap", LEAD),
         cells=tuple(cells.values()),
         gaps=tuple(max_gap_of(layout, lane) for lane in cells),
         nodes=tuple(node_of(node) for node in program["nodes"]),
@@ -184,7 +185,7 @@ def refuse_unlike(program: Mapping[str, Any]) -> None:
         key = name.partition(":")[0]
         least = 0.1 if key == "passing-time" else 0.0
         unread = key in NUMBERS and number_of(value) < least
-        if unread or (key in UNLIKE and value not in OFF) or (key in ZERO and number_of(value) > 0):
+        if unread or (key in UNLIKE and value not in OFF_VALUES) or (key in ZERO and number_of(value) > 0):
             raise Listed(f"as {name}={value} is not driven here")
 
 
@@ -194,7 +195,7 @@ def phase_of(row: list[Any]) -> ActuatedPhase:
     seconds, state, *_, following = row
     step = following[0] if following and following[0] >= 0 else None
     least, most = phase_bounds(row)
-    return ActuatedPhase(state, round(seconds), round(least), round(most), next=step)
+    return ActuatedPhase(state, round(seconds), round(least), round(most), next_phase=step)
 
 
 def layout_of(program: Mapping[str, Any]) -> Layout:
@@ -208,7 +209,7 @@ def layout_of(program: Mapping[str, Any]) -> Layout:
 
 def max_gap_of(layout: Layout, lane: str) -> float:
     """The seconds of max-gap of a lane's detector; raises Listed from 32 on, as a detector keeps so many rows."""
-    gap = layout.value("max-gap", GAP, lane)
+    gap = layout.parameter("max-gap", GAP, lane)
     if gap >= limits.ROWS:
         raise Listed(f"as detectors keep {limits.ROWS} s and max-gap={gap:g}")
     return gap

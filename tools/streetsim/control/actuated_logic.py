@@ -11,7 +11,7 @@ from math import ceil
 from typing import NamedTuple
 
 GapOf = Callable[[int], float]  # by position, the seconds since a detector last saw anybody, 0 while it does
-GO, YELLOW = "Gg", "yY"  # letters of a state
+GREEN_LETTERS, YELLOW = "Gg", "yY"  # letters of a state
 BY_GAP, BY_MOST, BY_LIST = "gap", "most", "listed"  # why a phase ended
 BY_OTHER, BY_CALL = "barrier", "call"  # those of a ring: with the other one, or after resting until somebody came
 BY_SCRIPT, BY_BUS = "script", "bus"
@@ -23,32 +23,32 @@ class ActuatedPhase:
 
     state: str
     seconds: int  # as listed
-    least: int  # seconds
-    most: int  # seconds
+    least_seconds: int  # seconds
+    most_seconds: int  # seconds
     detectors: tuple[int, ...] = ()  # positions of those that may extend it
-    next: int | None = None  # place of the next phase; none: the one that follows in the program
+    next_phase: int | None = None  # place of the next phase; none: the one that follows in the program
 
     @property
     def is_green(self) -> bool:
         """Whether some signal is green (G or g) in its state and none is yellow."""
-        return any(one in GO for one in self.state) and not any(one in YELLOW for one in self.state)
+        return any(one in GREEN_LETTERS for one in self.state) and not any(one in YELLOW for one in self.state)
 
     @property
     def is_extended(self) -> bool:
         """Whether it may last longer than its least: it is green, and its most is above that. Its detectors decide, and
         buses that call; with no detectors, and no bus, it ends at its least."""
-        return self.is_green and self.least < self.most
+        return self.is_green and self.least_seconds < self.most_seconds
 
     @property
     def usual(self) -> int:
         """The seconds that it is thought to last as long as none of it has ended: those listed, within its bounds,
         where it may be extended, else `shortest`."""
-        return min(max(self.seconds, self.least), self.most) if self.is_extended else self.shortest
+        return min(max(self.seconds, self.least_seconds), self.most_seconds) if self.is_extended else self.shortest
 
     @property
     def shortest(self) -> int:
         """The least seconds, one at least."""
-        return max(1, self.least)
+        return max(1, self.least_seconds)
 
 
 class EndedPhase(NamedTuple):
@@ -68,10 +68,10 @@ class Actuated:
     phases: Sequence[ActuatedPhase]
     gaps: Sequence[float]  # of each detector: so long nobody, and it extends no green
     lead: float = 2.0  # seconds from the detectors to the stop line: SUMO's detector-gap
-    at: int = 0  # place of the phase that is shown
+    phase_index: int = 0  # place of the phase that is shown
     since: int = 0  # its begin
     due: int = 0
-    ended: list[EndedPhase] = field(default_factory=list)
+    ended_phases: list[EndedPhase] = field(default_factory=list)
     last_extender: dict[int, int] = field(default_factory=dict)  # by phase: the detector that extended it last
     told_to_end: bool = False  # by a script, when it is looked at next
     called: Collection[int] = ()  # phases that buses keep, or fetch, within bounds
@@ -79,8 +79,8 @@ class Actuated:
     def begin_at(self, clock: int, offset: int = 0) -> None:
         """Begins at `clock` with the phase in which a light with the listed seconds would be whose first phase
         began at the clock `offset`. As in SUMO this phase begins anew then, however much of it would be over."""
-        self.since, (self.at, _) = clock, self.listed_at(clock, offset)
-        self.due = clock + self.phases[self.at].shortest
+        self.since, (self.phase_index, _) = clock, self.listed_at(clock, offset)
+        self.due = clock + self.phases[self.phase_index].shortest
 
     def listed_at(self, clock: int, offset: int) -> tuple[int, int]:
         """(the place of the phase that a light with the listed seconds shows at `clock` whose first phase began
@@ -93,40 +93,40 @@ class Actuated:
         return len(self.phases) - 1, over
 
     def moves_on(self, clock: int, gap: GapOf) -> bool:
-        """Goes on to the next phase, and adds this one, of which `due` has come, to `ended`, if it is over at
+        """Goes on to the next phase, and adds this one, of which `due` has come, to `ended_phases`, if it is over at
         `clock`; says whether. Sets `due`, when to look again. gap: seconds since a detector, by position, saw
         anybody."""
-        phase = self.phases[self.at]
-        may_stay = phase.is_green and clock - self.since < phase.most and not self.told_to_end
-        wait = self.stays(phase, gap) if may_stay else 0
+        phase = self.phases[self.phase_index]
+        may_stay = phase.is_green and clock - self.since < phase.most_seconds and not self.told_to_end
+        wait = self.seconds_to_end(phase, gap) if may_stay else 0
         if wait:
-            self.due = min(max(clock + wait, self.since + phase.least), self.since + phase.most)
+            self.due = min(max(clock + wait, self.since + phase.least_seconds), self.since + phase.most_seconds)
             return False
-        self.ended.append(EndedPhase(self.at, self.since, clock - self.since, self.why(phase, clock)))
+        self.ended_phases.append(EndedPhase(self.phase_index, self.since, clock - self.since, self.why(phase, clock)))
         self.told_to_end = False
-        self.at = (self.at + 1) % len(self.phases) if phase.next is None else phase.next
-        self.since, self.due = clock, clock + self.phases[self.at].shortest
+        self.phase_index = (self.phase_index + 1) % len(self.phases) if phase.next_phase is None else phase.next_phase
+        self.since, self.due = clock, clock + self.phases[self.phase_index].shortest
         return True
 
-    def stays(self, phase: ActuatedPhase, gap: GapOf) -> int:
+    def seconds_to_end(self, phase: ActuatedPhase, gap: GapOf) -> int:
         """The seconds, 0 for now, until the green that is shown can end. Where buses call any phase, and it may be
         extended, they decide: 1 where they call it, else 0; otherwise its detectors do."""
-        return int(self.at in self.called) if self.called and phase.is_extended else self.wait(phase, gap)
+        return int(self.phase_index in self.called) if self.called and phase.is_extended else self.wait(phase, gap)
 
     def call(self, clock: int, phases: Collection[int]) -> None:
         """From now on buses call some phases, by their places: a green of these that is shown stays until its greatest
         length, any other ends at its least, for which `due` may come earlier. Empty: no bus is seen any more."""
         self.called = phases
-        if phases and self.at not in phases:
-            self.due = min(self.due, max(clock, self.since + self.phases[self.at].shortest))
+        if phases and self.phase_index not in phases:
+            self.due = min(self.due, max(clock, self.since + self.phases[self.phase_index].shortest))
 
     def state(self) -> str:
         """The letters of the signals that are shown."""
-        return self.phases[self.at].state
+        return self.phases[self.phase_index].state
 
     def index(self) -> int:
         """The place of the phase that is shown, from 0, as scripts ask for it."""
-        return self.at
+        return self.phase_index
 
     def phase_name(self) -> str:
         """The name of the phase that is shown; here always empty, a NEMA light has one."""
@@ -138,12 +138,12 @@ class Actuated:
 
     def go_to(self, index: int, clock: int) -> bool:
         """Goes on at `clock` with the phase at a place, from its begin, and adds the one that was shown to
-        `ended`; nothing where it is shown already. Says whether it does. When it is looked at next stays as it was, as
-        in SUMO."""
-        if index == self.at:
+        `ended_phases`; nothing where it is shown already. Says whether it does. When it is looked at next stays as it
+        was, as in SUMO."""
+        if index == self.phase_index:
             return False
-        self.ended.append(EndedPhase(self.at, self.since, clock - self.since, BY_SCRIPT))
-        self.at, self.since = index, clock
+        self.ended_phases.append(EndedPhase(self.phase_index, self.since, clock - self.since, BY_SCRIPT))
+        self.phase_index, self.since = index, clock
         return True
 
     def end_at(self, clock: int) -> None:
@@ -153,8 +153,8 @@ class Actuated:
     def phases_until(self, until: int) -> Iterator[tuple[EndedPhase, str]]:
         """(phase, its state) of all phases that have ended, in their order, and of the one under way where it began
         before the clock `until`: that ends there, with an empty reason."""
-        under_way = [EndedPhase(self.at, self.since, until - self.since, "")] if self.since < until else []
-        for row in (*self.ended, *under_way):
+        under_way = [EndedPhase(self.phase_index, self.since, until - self.since, "")] if self.since < until else []
+        for row in (*self.ended_phases, *under_way):
             yield row, self.phases[row.phase].state
 
     def why(self, phase: ActuatedPhase, clock: int) -> str:
@@ -163,9 +163,9 @@ class Actuated:
             return BY_SCRIPT
         if not phase.is_extended:
             return BY_LIST
-        if self.called and self.at not in self.called and clock - self.since < phase.most:
+        if self.called and self.phase_index not in self.called and clock - self.since < phase.most_seconds:
             return BY_BUS
-        return BY_MOST if clock - self.since >= phase.most else BY_GAP
+        return BY_MOST if clock - self.since >= phase.most_seconds else BY_GAP
 
     def wait(self, phase: ActuatedPhase, gap: GapOf) -> int:
         """The seconds until the phase that is shown can end by its detectors, 0 if it can now, as each has seen nobody
@@ -173,10 +173,10 @@ class Actuated:
         extended the phase last (`last_extender`) is asked first. Once one wants nearly its whole gap those after it may
         be left out, so that it may be too few seconds."""
         longest, enough = 0, self.lead <= min(self.gaps, default=0.0)
-        for detector in sorted(phase.detectors, key=lambda one: one != self.last_extender.get(self.at)):
+        for detector in sorted(phase.detectors, key=lambda one: one != self.last_extender.get(self.phase_index)):
             seen, most = gap(detector), self.gaps[detector]
             if seen < most:
-                self.last_extender[self.at] = detector
+                self.last_extender[self.phase_index] = detector
                 longest = max(longest, ceil(max(most, self.lead) - seen))
                 if enough and longest >= most - 1:
                     break

@@ -34,7 +34,7 @@ class NodesOfLight:
         cycle = [(float(phase.seconds), phase.state) for phase in light.phases]
         self.nodes = [(node, lit_node(light.name, node, mapping, light.offset, cycle)) for node in light.nodes]
         self.means = [float(phase.usual) for phase in light.phases]
-        self.known = 0  # ended phases that are in the means
+        self.learned_count = 0  # ended phases that are in the means
         self.rows: dict[tuple[int, Lengths], list[Green]] = {}  # by place of a node: green turns second by second
         # By place of a node, lengths, phase and seconds: phases of a plan, one list for all plans that show them.
         self.phases: dict[tuple[int, Lengths, int, int], list[list[Any]]] = {}
@@ -42,27 +42,28 @@ class NodesOfLight:
     def learn(self, logic: Actuated) -> Lengths:
         """Takes the phases that ended since it last did into the means, and gives these in whole seconds, 1 to 600. The
         first phase is left out, as it may have begun before the run."""
-        for place in range(max(1, self.known), len(logic.ended)):
-            at, _, seconds, _ = logic.ended[place]
+        for place in range(max(1, self.learned_count), len(logic.ended_phases)):
+            at, _, seconds, _ = logic.ended_phases[place]
             self.means[at] += WEIGHT * (seconds - self.means[at])
-        self.known = len(logic.ended)
+        self.learned_count = len(logic.ended_phases)
         return tuple(max(1, round(min(mean, limits.PHASE_STEPS))) for mean in self.means)
 
     def plans(self, logic: Actuated, clock: int) -> Iterator[Command]:
         """The signal commands, one for each node, that show the phase that the logic is in, whose begin (or the run's)
         is `clock`; first takes what ended into the means, as `learn`."""
         lengths = self.learn(logic)
-        end = sum(lengths[: logic.at + 1])
+        end = sum(lengths[: logic.phase_index + 1])
         # At the begin of a run the end of a phase may be all that is left of it.
-        remaining = lengths[logic.at] if logic.ended else min(lengths[logic.at], logic.due - clock)
-        for at, (map_node, node) in enumerate(self.nodes):
-            if (at, lengths) not in self.rows:
-                self.rows[at, lengths] = self.greens_by_second(map_node, node, lengths)
-            key = at, lengths, logic.at, remaining
+        length = lengths[logic.phase_index]
+        remaining = length if logic.ended_phases else min(length, logic.due - clock)
+        for node_index, (map_node, node) in enumerate(self.nodes):
+            if (node_index, lengths) not in self.rows:
+                self.rows[node_index, lengths] = self.greens_by_second(map_node, node, lengths)
+            key = node_index, lengths, logic.phase_index, remaining
             if key not in self.phases:
-                phase = self.light.phases[logic.at]
-                rows: Sequence[Green] = self.rows[at, lengths][end - remaining : end]
-                if phase.detectors and remaining == lengths[logic.at]:
+                phase = self.light.phases[logic.phase_index]
+                rows: Sequence[Green] = self.rows[node_index, lengths][end - remaining : end]
+                if phase.detectors and remaining == length:
                     rows = let_go_in_time(rows, phase.shortest, yielding(node, phase))
                 self.phases[key] = phases_of(rows)
             yield command_of(node.node, self.phases[key], clock)
@@ -84,16 +85,18 @@ def yielding(node: LitNode, phase: ActuatedPhase) -> Green:
     )
 
 
-def let_go_in_time(rows: Sequence[Green], least: int, turns: Green) -> Sequence[Green]:
-    """The green turns in each second of a phase that may end after `least` seconds. Of some turns those that are green
+def let_go_in_time(rows: Sequence[Green], least_seconds: int, turns: Green) -> Sequence[Green]:
+    """The green turns in each second of a phase that may end after `least_seconds`. Of some turns those that are green
     at its end, and not before its least end, have their first seconds (LAST; not the phase's last one) before that:
     whatever comes, one vehicle passes in a green, and would else hold up the only lane of an edge for a cycle."""
-    late, moved = (rows[-1] & turns).difference(*rows[:least]), min(LAST, least)
+    late, moved = (rows[-1] & turns).difference(*rows[:least_seconds]), min(LAST, least_seconds)
     if not late:
         return rows
     begins = {turn: next(at for at, row in enumerate(rows) if turn in row) for turn in late}
     after = [row - {turn for turn in late if at < begins[turn] + moved} for at, row in enumerate(rows)]
-    return [*rows[: least - moved], *(row | late for row in rows[least - moved : least]), *after[least:-1], rows[-1]]
+    first_green = least_seconds - moved
+    let_go = (row | late for row in rows[first_green:least_seconds])
+    return [*rows[:first_green], *let_go, *after[least_seconds:-1], rows[-1]]
 
 
 def settled(node: LitNode, map_node: NodeOf, states: Sequence[str], limits_of: Mapping[str, int]) -> LitNode:

@@ -16,12 +16,12 @@ class Coordinated(Actuated):
         """Begins, at a clock, in the phase in which the plan is then; offset: of the plan, seconds."""
         Actuated.begin_at(self, clock, offset)
         self.planned = clock - self.listed_at(clock, offset)[1]
-        self.due = max(clock + 1, self.planned + self.phases[self.at].seconds)
+        self.due = max(clock + 1, self.planned + self.phases[self.phase_index].seconds)
 
     def moves_on(self, clock: int, gap: GapOf) -> bool:
         """Goes on to the next phase where the present one is over at a clock; gives whether it does. The plan's
         clock goes on with it, by whole cycles where it is far off."""
-        seconds, self.due = self.phases[self.at].seconds, clock
+        seconds, self.due = self.phases[self.phase_index].seconds, clock
         if not Actuated.moves_on(self, clock, gap):
             return False
         cycle = sum(phase.seconds for phase in self.phases)

@@ -8,7 +8,7 @@ from typing import NamedTuple
 
 from streetsim.base import limits
 from streetsim.base.client import Lane, Vehicle
-from streetsim.control.bus_planned import Ahead, Planned
+from streetsim.control.bus_planned import LightAhead, Planned
 from streetsim.control.bus_stopping import APPROACH, BusAtStop, Road
 from streetsim.control.merging_rule import SeenVehicle
 from streetsim.control.works_closures import closures_of
@@ -19,11 +19,11 @@ from streetsim.model.stops import AHEAD, MISSED, STANDING, UNMADE, Visit
 Ask = Callable[[Iterable[int]], list[Vehicle]]  # of vehicles of the run's file
 Look = Callable[[Iterable[Place]], dict[Place, Lane]]  # gives the lanes on which anything is
 Closed = tuple[int, int, int]  # link, lane, cell
-ENDED = ("arrived", "taken")
+ENDED_STATES = ("arrived", "taken")
 
 
 @dataclass(slots=True, frozen=True)
-class Done:
+class StopOutcome:
     """What became of a stop. Clocks are as in SUMO: when the bus came to stand, and when its doors closed; None where
     that did not come about."""
 
@@ -49,7 +49,7 @@ class Dwell(NamedTuple):
         return self.departed - self.arrived
 
 
-def dwells(stops: Iterable[Done]) -> dict[int, list[Dwell]]:
+def dwells(stops: Iterable[StopOutcome]) -> dict[int, list[Dwell]]:
     """By vehicle (its number in the file) the stops that it has left, of what became of all stops."""
     by_vehicle: defaultdict[int, list[Dwell]] = defaultdict(list)
     for stop in stops:
@@ -67,7 +67,7 @@ class Bus:
     owner: int  # its number in the run's file
     plan: Sequence[int]
     visits: list[Visit]  # to come
-    lights: list[Ahead]  # to come
+    lights: list[LightAhead]  # to come
     due: int  # clock
     car: int = 0
     stopping: BusAtStop | None = None  # on the link of its next stop
@@ -82,15 +82,15 @@ class PriorityCalls:
         self.by_light: defaultdict[str, dict[int, frozenset[int]]] = defaultdict(dict)  # phases by vehicle
         self.changed: set[str] = set()  # lights
 
-    def set(self, owner: int, ahead: Ahead | None) -> None:
+    def set(self, owner: int, light_ahead: LightAhead | None) -> None:
         """Has a vehicle, by its number in the file (owner), call at one light alone; None: at none."""
         for light, calls in self.by_light.items():
-            if owner in calls and (ahead is None or ahead.light != light):
+            if owner in calls and (light_ahead is None or light_ahead.light != light):
                 del calls[owner]
                 self.changed.add(light)
-        if ahead and self.by_light[ahead.light].get(owner) != ahead.phases:
-            self.by_light[ahead.light][owner] = ahead.phases
-            self.changed.add(ahead.light)
+        if light_ahead and self.by_light[light_ahead.light].get(owner) != light_ahead.phases:
+            self.by_light[light_ahead.light][owner] = light_ahead.phases
+            self.changed.add(light_ahead.light)
 
     def take_changed(self) -> list[tuple[str, frozenset[int]]]:
         """(light, all phases called there) for the lights where calls have changed since this was asked last; no
@@ -107,17 +107,17 @@ class BusFleet:
         """plan: the stops to make, and the lights that wait for vehicles of the run."""
         self.mapping, self.turns = mapping, {(turn.link, turn.lane, turn.next) for turn in mapping.turns}
         self.plan, self.calls = plan, PriorityCalls()
-        self.outcomes: list[Done] = []
+        self.outcomes: list[StopOutcome] = []
         self.closed: frozenset[Closed] = frozenset()  # by all
         self.works = closures_of(run, limits.CLOCK) if plan.visits else []
         visits: defaultdict[int, list[Visit]] = defaultdict(list)
         for visit in plan.visits:
             visits[visit.vehicle].append(visit)
         self.buses: dict[int, Bus] = {}
-        for owner in sorted({*visits, *plan.ahead}):
+        for owner in sorted({*visits, *plan.lights_ahead}):
             command = run.enters[owner].command
             first = max(run.start(), command["depart"]) + 1
-            bus = Bus(owner, command["plan"], visits[owner], [*plan.ahead.get(owner, ())], first)
+            bus = Bus(owner, command["plan"], visits[owner], [*plan.lights_ahead.get(owner, ())], first)
             self.buses[owner] = bus
             bus.due += self.seconds_to_look(bus, 0, 0)
 
@@ -153,54 +153,54 @@ class BusFleet:
         is closed for it."""
         bus = self.buses.pop(owner)
         self.calls.set(owner, None)
-        self.outcomes += [Done(visit, UNMADE) for visit in bus.visits]
+        self.outcomes += [StopOutcome(visit, UNMADE) for visit in bus.visits]
         yield from self.closing_commands(clock)
 
     def locate(self, clock: int, bus: Bus, reply: Vehicle) -> None:
         """Notes by the program's reply which stops (as missed) and lights a bus has passed, has the next light wait for
         it where it is near, and begins its stopping where it is near its stop; else sets when it is due next."""
-        at, cell, waits = len(bus.plan) - len(reply.plan), reply.cell or 0, 0
+        plan_index, cell, waits = len(bus.plan) - len(reply.plan), reply.cell or 0, 0
         if reply.state == "buffer":  # it has left its link
-            at, waits = at + 1, max(0, (reply.ready or 0) - clock)
-        if reply.state in ENDED:
-            at = len(bus.plan)
+            plan_index, waits = plan_index + 1, max(0, (reply.ready or 0) - clock)
+        if reply.state in ENDED_STATES:
+            plan_index = len(bus.plan)
         bus.car = reply.car
-        while bus.visits and bus.visits[0].at < at:
-            self.note_outcome(bus, Done(bus.visits[0], MISSED))
-        bus.lights = [one for one in bus.lights if one.at >= at]
-        self.call(bus, at, cell, waits)
+        while bus.visits and bus.visits[0].at < plan_index:
+            self.note_outcome(bus, StopOutcome(bus.visits[0], MISSED))
+        bus.lights = [one for one in bus.lights if one.plan_index >= plan_index]
+        self.call(bus, plan_index, cell, waits)
         if not bus.visits and not bus.lights:
             return
-        if reply.state == "cell" and bus.visits and at == bus.visits[0].at:
+        if reply.state == "cell" and bus.visits and plan_index == bus.visits[0].at:
             visit = bus.visits[0]
             if visit.last - cell <= self.approach_cells(visit):
                 assert reply.lane is not None
                 bus.stopping = BusAtStop(visit, self.road_at_stop(bus, visit), reply.lane)
                 return
-        bus.due = clock + max(1, waits + self.seconds_to_look(bus, at, cell))
+        bus.due = clock + max(1, waits + self.seconds_to_look(bus, plan_index, cell))
 
-    def call(self, bus: Bus, at: int, cell: int, waits: int) -> None:
+    def call(self, bus: Bus, plan_index: int, cell: int, waits: int) -> None:
         """Has the next light wait for a bus that is near enough, unless the bus stops before it; else no light waits
-        for it any more. at: the index of its link in its plan; cell: of that link; waits: seconds that it stays in the
+        for it any more. plan_index: of its link in its plan; cell: of that link; waits: seconds that it stays in the
         junction."""
-        ahead = bus.lights[0] if bus.lights else None
+        light_ahead = bus.lights[0] if bus.lights else None
         seen_seconds = self.plan.seen_seconds - waits
-        if ahead and (stops_before(bus, ahead) or self.seconds_to_light(bus, at, cell, ahead) > seen_seconds):
-            ahead = None
-        self.calls.set(bus.owner, ahead)
+        if light_ahead and stops_before(bus, light_ahead):
+            light_ahead = None
+        if light_ahead and self.seconds_to_light(bus, plan_index, cell, light_ahead) > seen_seconds:
+            light_ahead = None
+        self.calls.set(bus.owner, light_ahead)
 
-    def seconds_to_light(self, bus: Bus, at: int, cell: int, ahead: Ahead) -> int:
-        """The fewest seconds, rounded down, from a cell of the link at an index of a bus's plan to the stop line of a
-        light ahead."""
-        link = self.mapping.links[bus.plan[ahead.at]]
-        cells = link.cells - (cell if at == ahead.at else 0)
-        return int(self.seconds_to_link(bus, at, cell, ahead.at) + cells / link.limit)
+    def seconds_to_light(self, bus: Bus, plan_index: int, cell: int, light_ahead: LightAhead) -> int:
+        """The fewest seconds, rounded down, from a cell of the link at plan_index to the stop line of a light ahead."""
+        link = self.mapping.links[bus.plan[light_ahead.plan_index]]
+        cells = link.cells - (cell if plan_index == light_ahead.plan_index else 0)
+        return int(self.seconds_to_link(bus, plan_index, cell, light_ahead.plan_index) + cells / link.limit)
 
-    def seconds_to_link(self, bus: Bus, at: int, cell: int, target: int) -> float:
-        """The fewest seconds from a cell of the link at an index of a bus's plan to the begin of that at the index
-        target."""
+    def seconds_to_link(self, bus: Bus, plan_index: int, cell: int, target: int) -> float:
+        """The fewest seconds from a cell of the link at plan_index to the begin of that at the index target."""
         links, begin, seconds = self.mapping.links, cell, 0.0
-        for link in bus.plan[at:target]:
+        for link in bus.plan[plan_index:target]:
             seconds += max(0, links[link].cells - begin) / links[link].limit + self.mapping.nodes[links[link].end][3]
             begin = 0
         return seconds
@@ -218,16 +218,17 @@ class BusFleet:
         leads = [(visit.link, lane, bus.plan[visit.at + 1]) in self.turns for lane in (visit.lane, 1 - visit.lane)]
         return Road(2, link.limit, link.cells, (leads[0], leads[1]))
 
-    def seconds_to_look(self, bus: Bus, at: int, cell: int) -> int:
-        """The fewest seconds, from a cell of the link at an index of its plan, until a bus is to be looked at. It must
-        have a stop or a light to come."""
+    def seconds_to_look(self, bus: Bus, plan_index: int, cell: int) -> int:
+        """The fewest seconds, from a cell of the link at plan_index, until a bus is to be looked at. It must have a
+        stop or a light to come."""
         seconds = []
         if bus.visits:
             visit = bus.visits[0]
-            cells = visit.last - self.approach_cells(visit) - (cell if at == visit.at else 0)
-            seconds.append(self.seconds_to_link(bus, at, cell, visit.at) + cells / self.mapping.links[visit.link].limit)
+            cells = visit.last - self.approach_cells(visit) - (cell if plan_index == visit.at else 0)
+            to_link = self.seconds_to_link(bus, plan_index, cell, visit.at)
+            seconds.append(to_link + cells / self.mapping.links[visit.link].limit)
         if bus.lights and not stops_before(bus, bus.lights[0]):
-            seconds.append(self.seconds_to_light(bus, at, cell, bus.lights[0]) - self.plan.seen_seconds)
+            seconds.append(self.seconds_to_light(bus, plan_index, cell, bus.lights[0]) - self.plan.seen_seconds)
         return max(0, int(min(seconds)))
 
     def attend(self, clock: int, bus: Bus, replies: Mapping[Place, Lane], ask_vehicles: Ask) -> None:
@@ -238,21 +239,21 @@ class BusFleet:
         assert stopping is not None
         lanes = {lane: seen_on(replies.get((visit.link, lane))) for lane in stopping.wants(clock)}
         spots = [(lane, vehicle) for lane, seen in lanes.items() for vehicle in seen if vehicle.car == bus.car]
-        ends = clock >= (stopping.leaves if stopping.goes is None else stopping.goes)
-        if stopping.held and (not ends or ask_vehicles([bus.owner])[0].car == bus.car):
-            spots = [(stopping.lane, stopping.held)]
+        ends = clock >= (stopping.leaves if stopping.let_go_clock is None else stopping.let_go_clock)
+        if stopping.standing_bus and (not ends or ask_vehicles([bus.owner])[0].car == bus.car):
+            spots = [(stopping.lane, stopping.standing_bus)]
         if not spots:  # it was put down elsewhere, or left by the lane's end
             bus.stopping, bus.closed, bus.due = None, frozenset(), clock + 1
-            if stopping.held:
-                self.note_outcome(bus, Done(visit, MISSED, stopping.lane, stopping.arrived))
+            if stopping.standing_bus:
+                self.note_outcome(bus, StopOutcome(visit, MISSED, stopping.lane, stopping.arrived))
             return
         stopping.lane, vehicle = spots[0]
         bus.due = clock + stopping.decide_closed(clock, vehicle, lanes)
         bus.closed = frozenset((visit.link, lane, cell) for lane, cell in stopping.closed)
         if stopping.is_over:
-            self.note_outcome(bus, Done(visit, stopping.state, stopping.lane, stopping.arrived, stopping.leaves))
+            self.note_outcome(bus, StopOutcome(visit, stopping.state, stopping.lane, stopping.arrived, stopping.leaves))
 
-    def note_outcome(self, bus: Bus, outcome: Done) -> None:
+    def note_outcome(self, bus: Bus, outcome: StopOutcome) -> None:
         """Keeps what became of a bus's next stop, which is then over for it."""
         bus.stopping = None
         bus.visits.pop(0)
@@ -274,20 +275,20 @@ class BusFleet:
         own = (closure for closure in on_lane if closure.first_cell <= cell <= closure.last_cell)
         return any(closure.begin <= clock < closure.end for closure in own)
 
-    def stop_outcomes(self) -> list[Done]:
+    def stop_outcomes(self) -> list[StopOutcome]:
         """What became of all stops of vehicles in the run, those to come and those not made too; asked at its end."""
-        to_come = []
+        outcomes_to_come = []
         for bus in self.buses.values():
-            ahead = [Done(visit, AHEAD) for visit in bus.visits]
+            ahead = [StopOutcome(visit, AHEAD) for visit in bus.visits]
             if (stopping := bus.stopping) and stopping.state == STANDING:
-                ahead[0] = Done(stopping.visit, STANDING, stopping.lane, stopping.arrived)
-            to_come += ahead
-        return [*self.outcomes, *to_come, *(Done(visit, UNMADE) for visit in self.plan.off)]
+                ahead[0] = StopOutcome(stopping.visit, STANDING, stopping.lane, stopping.arrived)
+            outcomes_to_come += ahead
+        return [*self.outcomes, *outcomes_to_come, *(StopOutcome(visit, UNMADE) for visit in self.plan.unmade_visits)]
 
 
-def stops_before(bus: Bus, ahead: Ahead) -> bool:
+def stops_before(bus: Bus, light_ahead: LightAhead) -> bool:
     """Whether a bus has a stop to make before a light ahead."""
-    return bool(bus.visits) and bus.visits[0].at <= ahead.at
+    return bool(bus.visits) and bus.visits[0].at <= light_ahead.plan_index
 
 
 def seen_on(lane: Lane | None) -> list[SeenVehicle]:

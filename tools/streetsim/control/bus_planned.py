@@ -11,29 +11,29 @@ from streetsim.model.mapping import Map
 from streetsim.model.runs import Run
 from streetsim.model.stops import Visit
 
-SEEN, MOST_SEEN = 15, 60  # seconds before a stop line: where nothing else is asked, and that may be asked for
+SEEN_SECONDS, MOST_SEEN = 15, 60  # seconds before a stop line: where nothing else is asked, and that may be asked for
 OTHER_WAY = "as the run has another way for them than the map"
 AT_WORKS = "as their lane is closed there by road works, which end after the vehicle departs"
 
 
 @dataclass(frozen=True, slots=True)
-class Ahead:
+class LightAhead:
     """A light on a vehicle's way that waits for it."""
 
-    at: int  # the index in its plan of the link before the light
+    plan_index: int  # the index in its plan of the link before the light
     light: str
     phases: frozenset[int]  # in which its movement is green
 
 
 @dataclass(frozen=True, slots=True)
 class Planned:
-    """The stops that a run makes, and the lights that wait for vehicles. ahead: by vehicle with priority, the lights on
-    its way."""
+    """The stops that a run makes, and the lights that wait for vehicles. lights_ahead: by vehicle with priority, those
+    on its way."""
 
     visits: tuple[Visit, ...] = ()
     unmade: Mapping[str, tuple[str, ...]] = field(default_factory=dict)  # by reason, vehicle at stop
-    off: tuple[Visit, ...] = ()  # those of unmade whose vehicles are in the run
-    ahead: Mapping[int, tuple[Ahead, ...]] = field(default_factory=dict)
+    unmade_visits: tuple[Visit, ...] = ()  # those of unmade whose vehicles are in the run
+    lights_ahead: Mapping[int, tuple[LightAhead, ...]] = field(default_factory=dict)
     seen_seconds: int = 0  # seconds before a stop line from which on lights wait for them
     priority_notes: tuple[str, ...] = ()  # of priority
 
@@ -52,7 +52,7 @@ def planned(run: Run, mapping: Map) -> Planned:
     are in unmade, by reason. No lights wait for anybody yet."""
     plans = [line.command["plan"] for line in run.enters]
     visits: list[Visit] = []
-    off: list[Visit] = []
+    unmade_visits: list[Visit] = []
     unmade: defaultdict[str, list[str]] = defaultdict(list)
     closed = closures_of(run, limits.CLOCK) if mapping.visits else []
     for visit in mapping.visits:
@@ -65,8 +65,8 @@ def planned(run: Run, mapping: Map) -> Planned:
             visits.append(visit)
             continue
         unmade[why].append(f"{mapping.cars[visit.vehicle]} at {visit.stop}")
-        off += [visit] if plan else []
-    return Planned(tuple(visits), {why: tuple(names) for why, names in unmade.items()}, tuple(off))
+        unmade_visits += [visit] if plan else []
+    return Planned(tuple(visits), {why: tuple(names) for why, names in unmade.items()}, tuple(unmade_visits))
 
 
 def meets(visit: Visit, depart: int, closed: Closure) -> bool:

@@ -13,12 +13,12 @@ from streetsim.control.actuated_kept import Listed, node_of
 from streetsim.control.actuated_lights import ActuatedLights, DrivenLight, passing
 from streetsim.control.actuated_logic import ActuatedPhase
 from streetsim.control.bus_coordinated import Fixed
-from streetsim.control.bus_planned import SEEN, Ahead, Planned
+from streetsim.control.bus_planned import SEEN_SECONDS, LightAhead, Planned
 from streetsim.model.mapping import Map
 from streetsim.model.runs import Run
 from streetsim.model.stops import bus_lines_of, vehicle_classes_of
 
-LEAST = 5  # seconds of a green without bounds of its own, or half of what is listed
+LEAST_GREEN = 5  # seconds of a green without bounds of its own, or half of what is listed
 LESS_GAIN = (
     "at lights that detectors drive these vehicles gain fewer seconds than in SUMO, where each stop that they are "
     "spared saves them the seconds of braking and starting too"
@@ -33,8 +33,8 @@ def prioritised(
 ) -> tuple[ActuatedLights, Planned]:
     """(the lights, the buses) of a run in which lights wait for vehicles of the classes and lines in names; with the
     buses it is told which cannot, and why. lights: those that detectors drive, which wait too; buses: the stops that
-    are made; seen_seconds: those before the stop line, None: SEEN. Fault where a name has no vehicle."""
-    owners, seen_seconds = named(run, mapping, names), SEEN if seen_seconds is None else seen_seconds
+    are made; seen_seconds: those before the stop line, None: SEEN_SECONDS. Fault where a name has no vehicle."""
+    owners, seen_seconds = owners_of(run, mapping, names), SEEN_SECONDS if seen_seconds is None else seen_seconds
     timed = {line.command["node"] for _, line in run.timed if line.command["cmd"] == "signal"}
     changed = {light for light, node in mapping.signals if node in timed}
     waiting: dict[str, DrivenLight] = {light.name: light for light in lights.driven}
@@ -51,17 +51,17 @@ def prioritised(
         except Listed as why:
             unable[str(why)].append(light)
     turns, plans = turns_of(mapping), {owner: run.enters[owner].command["plan"] for owner in owners}
-    ahead = {owner: way for owner, plan in plans.items() if (way := tuple(ahead_of(plan, turns, waiting)))}
-    waits = {one.light for way in ahead.values() for one in way}
-    notes = [f"{len(waits):,} lights wait for {len(ahead):,} vehicles that are seen {seen_seconds} s before"]
+    lights_ahead = {owner: way for owner, plan in plans.items() if (way := tuple(ahead_of(plan, turns, waiting)))}
+    waits = {one.light for way in lights_ahead.values() for one in way}
+    notes = [f"{len(waits):,} lights wait for {len(lights_ahead):,} vehicles that are seen {seen_seconds} s before"]
     if by_detectors := sorted(waits & {driven.name for driven in lights.driven}):
         notes.append(f"{LESS_GAIN}: {first_few(by_detectors)}")
     notes += [f"lights do not wait for them, {why}: {first_few(those)}" for why, those in unable.items()]
     all_lights = replace(lights, driven=(*lights.driven, *mine))
-    return all_lights, replace(buses, ahead=ahead, seen_seconds=seen_seconds, priority_notes=tuple(notes))
+    return all_lights, replace(buses, lights_ahead=lights_ahead, seen_seconds=seen_seconds, priority_notes=tuple(notes))
 
 
-def named(run: Run, mapping: Map, names: Sequence[str]) -> list[int]:
+def owners_of(run: Run, mapping: Map, names: Sequence[str]) -> list[int]:
     """The numbers in the file of the vehicles whose class or line is one of names; Fault where one has none."""
     count = len(run.enters)
     classes, lines = vehicle_classes_of(mapping.kinds, count), bus_lines_of(mapping.kinds, count)
@@ -86,27 +86,28 @@ def fixed_light(light: str, programs: Mapping[str, Any], seen_seconds: int) -> F
 
 def bounded(row: Sequence[Any], seen_seconds: int) -> ActuatedPhase:
     """A phase, as kept ([seconds, state, least or none, greatest or none]), with its bounds in seconds. A green has
-    those of the file (its most never below its least), else it may be as short as half its seconds (LEAST at least, but
-    never above its own), and as long as its own and seen_seconds, those that a vehicle is seen before the stop line;
-    any other phase lasts its listed seconds."""
-    seconds, state, least, most, *_ = row
+    those of the file (its most never below its least), else it may be as short as half its seconds (LEAST_GREEN at
+    least, but never above its own), and as long as its own and seen_seconds, those that a vehicle is seen before the
+    stop line; any other phase lasts its listed seconds."""
+    seconds, state, least_seconds, most_seconds, *_ = row
     phase = ActuatedPhase(state, round(seconds), round(seconds), round(seconds))
     if not phase.is_green:
         return phase
-    least = min(phase.seconds, max(LEAST, ceil(seconds / 2))) if least is None else round(least)
-    longest = phase.seconds + seen_seconds if most is None else max(least, round(most))
-    return ActuatedPhase(state, phase.seconds, least, longest)
+    half = min(phase.seconds, max(LEAST_GREEN, ceil(seconds / 2)))
+    shortest = half if least_seconds is None else round(least_seconds)
+    longest = phase.seconds + seen_seconds if most_seconds is None else max(shortest, round(most_seconds))
+    return ActuatedPhase(state, phase.seconds, shortest, longest)
 
 
 def ahead_of(
     plan: Sequence[int], turns: Mapping[LinkPair, Turns], lights: Mapping[str, DrivenLight]
-) -> Iterator[Ahead]:
+) -> Iterator[LightAhead]:
     """The lights on a vehicle's way (plan: links) that wait for it, in their order; lights: all that wait, by name."""
     for at, pair in enumerate(pairwise(plan)):
         signals = [(light, index) for light, index in turns.get(pair, ()) if light in lights]
         if signals:
             light = lights[signals[0][0]]
-            yield Ahead(at, light.name, light.phases_serving({index for _, index in signals}))
+            yield LightAhead(at, light.name, light.phases_serving({index for _, index in signals}))
 
 
 def turns_of(mapping: Map) -> dict[LinkPair, Turns]:

@@ -49,10 +49,10 @@ class WhenAllEnded(Controller):
         """The next full minute."""
         return self.due
 
-    def act(self, clock: int, now: Block) -> None:
+    def act(self, clock: int, block: Block) -> None:
         """Looks whether all have ended."""
         self.due = clock + MINUTE
-        if all_ended(self.kernel, now):
+        if all_ended(self.kernel, block):
             self.kernel.until = clock
 
 
@@ -62,7 +62,7 @@ class Ending(Controller):
     def __init__(self, buses: Buses, timed: Timed, longest: int) -> None:
         """buses, timed: of the same run; longest: seconds of the longest cycle of a light that detectors drive."""
         self.buses, self.timed, self.longest = buses, timed, longest
-        self.ended = ""  # why the run ended, as it is told
+        self.end_reason = ""  # why the run ended, as it is told
         self.looks: list[int] = []  # clocks at which it looked, but for full minutes
         self.figures: tuple[int, ...] = ()  # of the last census that differed from the one before it
         self.since = 0  # its clock
@@ -75,7 +75,7 @@ class Ending(Controller):
 
     def next_clock(self) -> int:
         """The next full minute, or the end that the run has now."""
-        return min(self.due // MINUTE * MINUTE + MINUTE, self.kernel.until) if not self.ended else NEVER
+        return min(self.due // MINUTE * MINUTE + MINUTE, self.kernel.until) if not self.end_reason else NEVER
 
     @cached_property
     def cycle(self) -> int:
@@ -85,16 +85,16 @@ class Ending(Controller):
         signals = [json.loads(line.text) for line in lines if line.command["cmd"] == "signal"]
         return max((sum(duration for duration, _ in one["phases"]) for one in signals), default=0)
 
-    def act(self, clock: int, now: Block) -> None:
+    def act(self, clock: int, block: Block) -> None:
         """Ends the run where it is over, or puts its end off by an hour where that has come, as far as the clock
         goes."""
         kernel, longest = self.kernel, max(self.cycle, self.longest)
         self.due = clock
         if clock % MINUTE:
             self.looks.append(clock)
-        if all_ended(kernel, now):
+        if all_ended(kernel, block):
             self.end(clock, ALL_ARRIVED)
-        elif self.is_still(clock, now, longest):
+        elif self.is_still(clock, block, longest):
             still = f"no vehicle has changed its cell for {clock - self.stand_clock:,} s"
             self.end(clock, f"{still}, longer than the longest cycle, {longest:,} s")
         elif clock == kernel.until and clock + HOUR > limits.CLOCK:
@@ -120,4 +120,4 @@ class Ending(Controller):
 
     def end(self, clock: int, why: str) -> None:
         """Has the run end at a clock, and keeps why."""
-        self.kernel.until, self.ended = clock, f"ended at {clock:,} s: {why}"
+        self.kernel.until, self.end_reason = clock, f"ended at {clock:,} s: {why}"

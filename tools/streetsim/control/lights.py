@@ -34,7 +34,7 @@ class Lights(Controller):
             return NEVER
         return self.clock if self.driver.cells else max(self.clock, self.driver.next_clock())
 
-    def hear(self, clock: int, command: Command) -> list[Command]:
+    def commands_before_line(self, clock: int, command: Command) -> list[Command]:
         """Leaves a light alone that has a plan of the run's own."""
         if command["cmd"] == "signal":
             self.driver.stop(command["node"], clock)
@@ -72,14 +72,14 @@ class Sensors:
         """Takes each second. A detector counts who passed in the second, and who covers its cell at its end."""
         columns = zip((block.car, block.slot, block.cell), block.arrived, strict=True)
         car, slot, cell = (np.concatenate([one, more]) for one, more in columns)
-        on = cell >= 0
-        front = np.where(on, cell, LENGTH - 1)  # who has left is beyond all cells
+        is_on_cells = cell >= 0
+        front = np.where(is_on_cells, cell, LENGTH - 1)  # who has left is beyond all cells
         base = slot * np.int64(LENGTH)
         stayed = self.link[car] == slot // 2
         self.mark(stayed, base + self.cell[car], base + front, clock - 0.5)
         rear = np.maximum(0, cell - self.vehicles.size[car] + 1)
-        self.mark(on, base + rear, base + cell + 1, clock)
-        self.link[car], self.cell[car] = np.where(on, slot // 2, -1), cell
+        self.mark(is_on_cells, base + rear, base + cell + 1, clock)
+        self.link[car], self.cell[car] = np.where(is_on_cells, slot // 2, -1), cell
 
     def mark(self, rows: Array, begin: Array, end: Array, clock: float) -> None:
         """Marks the detectors from one key to another, by row, that one left out; few rows have any."""

@@ -43,11 +43,11 @@ class Merging(Controller):
         due = self.merges.next_clock()
         return NEVER if due is None else due
 
-    def hear(self, clock: int, command: Command) -> list[Command]:
+    def commands_before_line(self, clock: int, command: Command) -> list[Command]:
         """Notes a close or reopen of the run's own; gives the commands by which nothing of merging is in its way."""
-        ahead = self.merges.commands_before(command)
+        commands = self.merges.commands_before(command)
         self.merges.note_sent(clock, command)
-        return ahead
+        return commands
 
     def act(self, clock: int, _now: Block) -> None:
         """Looks at the links that are due, and sends what closes and opens cells so that vehicles take turns."""

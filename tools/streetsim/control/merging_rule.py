@@ -2,9 +2,9 @@
 
 Who stands at the head of a closed lane seldom finds the gap behind that the rule for lane changing wants. So where the
 same vehicle has stood first for PATIENCE seconds, the lane beside is held: it is closed beside those who stand in the
-last PLATOON cells before the works, and BEHIND cells further up. Who is there drives out. Once nobody is there, nor in
-the AHEAD cells after it, the lane is opened again, and in the next step all who stood change lane by the simulator's
-own rule.
+last PLATOON cells before the works, and GAP_BEHIND cells further up. Who is there drives out. Once nobody is there, nor
+in the GAP_AHEAD cells after it, the lane is opened again, and in the next step all who stood change lane by the
+simulator's own rule.
 
 `MergingRule` is of one link of two lanes. It is told what both have, and says what to close and to reopen before the
 next step. It draws nothing and has no clock of its own, so equal states give equal commands. The constants are the
@@ -15,7 +15,7 @@ from dataclasses import dataclass, field
 
 from streetsim.model.rows import Stretch, unbroken_stretches
 
-BEHIND, AHEAD = 6, 2  # cells: the least gaps on the other lane that the rule wants of one who stands
+GAP_BEHIND, GAP_AHEAD = 6, 2  # cells: the least gaps on the other lane that the rule wants of one who stands
 PATIENCE = 10  # seconds for which the same one stands first before the other lane is held
 PLATOON = 8  # cells
 NEAR = 2  # cells before the works in which one stands first
@@ -82,27 +82,29 @@ class MergeTurn:
 
     head: int | None = None  # who stands first
     since: int = 0  # clock
-    held: Stretch | None = None  # of the other lane
+    held_stretch: Stretch | None = None  # of the other lane
 
     def update_hold(self, clock: int, point: MergePoint, sides: Sequence[Side]) -> None:
         """Begins or ends the hold of the other lane at a point, by what stands on both lanes (sides) at a clock. A hold
         begins when the same one has stood first for PATIENCE seconds; it ends when nobody is on the held cells or the
-        AHEAD ones after them, when nobody stands first, or when the same one has for more than MOST_WAIT seconds."""
-        before = [vehicle for vehicle in sides[point.lane].vehicles if point.low <= vehicle.cell < point.works_cell]
-        front = before[0] if before else None
+        GAP_AHEAD ones after them, when nobody stands first, or when the same one has for more than MOST_WAIT
+        seconds."""
+        cells = range(point.low, point.works_cell)
+        approaching = [vehicle for vehicle in sides[point.lane].vehicles if vehicle.cell in cells]
+        front = approaching[0] if approaching else None
         head = front.car if front and front.speed == 0 and front.cell >= point.works_cell - NEAR else None
         if head != self.head:
             self.head, self.since = head, clock
         waited = clock - self.since
-        if self.held:
+        if self.held_stretch:
             beside = {cell for one in sides[1 - point.lane].vehicles for cell in range(one.rear, one.cell + 1)}
-            is_free = beside.isdisjoint(range(self.held[0], self.held[1] + AHEAD + 1))
+            is_free = beside.isdisjoint(range(self.held_stretch[0], self.held_stretch[1] + GAP_AHEAD + 1))
             if head is None or waited > MOST_WAIT or is_free:
-                self.held, self.since = None, clock
+                self.held_stretch, self.since = None, clock
         elif front and head is not None and waited >= PATIENCE:
-            rears = [vehicle.rear for vehicle in before if vehicle.speed == 0]
+            rears = [vehicle.rear for vehicle in approaching if vehicle.speed == 0]
             rear = min(rears[0], *(cell for cell in rears if cell >= point.works_cell - PLATOON))
-            self.held = max(point.low, rear - BEHIND), front.cell
+            self.held_stretch = max(point.low, rear - GAP_BEHIND), front.cell
 
 
 @dataclass(slots=True)
@@ -110,7 +112,7 @@ class MergingRule:
     """Merging on one link of two lanes."""
 
     cells: int  # of the link
-    held: Cells = field(default_factory=no_cells)  # what it has closed
+    held_cells: Cells = field(default_factory=no_cells)  # what it has closed
     turns: dict[tuple[int, int], MergeTurn] = field(default_factory=dict)  # by lane and first cell of the works
 
     def changes_by_turns(self, clock: int, sides: Sequence[Side]) -> list[Change]:
@@ -122,13 +124,13 @@ class MergingRule:
             turn = known.get((point.lane, point.works_cell)) or MergeTurn()
             self.turns[point.lane, point.works_cell] = turn
             turn.update_hold(clock, point, sides)
-            if turn.held:
-                cells[1 - point.lane].update(range(turn.held[0], turn.held[1] + 1))
+            if turn.held_stretch:
+                cells[1 - point.lane].update(range(turn.held_stretch[0], turn.held_stretch[1] + 1))
         return self.changes_to(cells)
 
     def seconds_to_next_look(self) -> int:
         """In how many seconds it must be told again: 1 while a lane is held, else EVERY."""
-        return 1 if any(turn.held for turn in self.turns.values()) else EVERY
+        return 1 if any(turn.held_stretch for turn in self.turns.values()) else EVERY
 
     def reopening_changes(self) -> list[Change]:
         """The reopens for the caller to send, after which nothing of its own is closed; they count as done, and who
@@ -139,7 +141,7 @@ class MergingRule:
     def merge_points(self, closed: Sequence[Iterable[Stretch]]) -> Iterator[MergePoint]:
         """The places where vehicles may merge, by lane and then rising; closed: all closed stretches by lane. Works are
         what is closed but for what it has closed itself."""
-        works = [all_cells(closed[lane]) - self.held[lane] for lane in (0, 1)]
+        works = [all_cells(closed[lane]) - self.held_cells[lane] for lane in (0, 1)]
         for lane in (0, 1):
             low = 0
             for first, last in unbroken_stretches(works[lane]):
@@ -151,10 +153,10 @@ class MergingRule:
     def changes_to(self, cells: Cells) -> list[Change]:
         """What to close and reopen so that of its own just these cells are closed; they count as done."""
         changes = []
-        for name, more, less in (("reopen", self.held, cells), ("close", cells, self.held)):
+        for name, more, less in (("reopen", self.held_cells, cells), ("close", cells, self.held_cells)):
             for lane in (0, 1):
                 changes += [Change(name, lane, *one) for one in unbroken_stretches(more[lane] - less[lane])]
-        self.held = cells
+        self.held_cells = cells
         return changes
 
 

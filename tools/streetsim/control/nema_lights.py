@@ -5,8 +5,10 @@ from dataclasses import dataclass
 from math import ceil
 from typing import Any
 
-from streetsim.control.actuated_kept import OFF, Cell, DetectorArea, Listed, NodeOf, node_of, number_of, phase_bounds
-from streetsim.control.actuated_logic import GO
+from streetsim.control.actuated_kept import (
+    OFF_VALUES, Cell, DetectorArea, Listed, NodeOf, node_of, number_of, phase_bounds,
+)
+from streetsim.control.actuated_logic import GREEN_LETTERS
 from streetsim.control.nema_logic import Nema
 from streetsim.control.nema_phases import RingPhase, Rings
 from streetsim.model.detectors import E2
@@ -15,8 +17,8 @@ from streetsim.model.mapping import Map
 LENGTH = 20.0  # metres of an area before the stop line
 STANDING = 1.0  # metres from the stop line to who waits first
 ALL = "1,2,3,4,5,6,7,8"  # the phases with a least recall, where none are named
-LEFT = "l"  # where a connection leads
-NEEDED = ("ring1", "ring2", "barrierPhases")
+LEFT_TURN = "l"  # where a connection leads
+NEEDED_PARAMETERS = ("ring1", "ring2", "barrierPhases")
 UNLIKE = ("coordinate-mode", "vTypes")  # parameters that change when SUMO's phases end, and are not driven
 CROSSING = "crossPhaseSwitching"  # how the names of further such parameters begin
 
@@ -38,7 +40,7 @@ class DrivenRings:
         first (G), or where there is none those in which it gives way (g)."""
         found = (
             frozenset(one.number for one in self.rings.phases if any(one.state[at] == letter for at in indexes))
-            for letter in GO
+            for letter in GREEN_LETTERS
         )
         return next(filter(None, found), frozenset())
 
@@ -46,7 +48,7 @@ class DrivenRings:
     def longest(self) -> float:
         """The seconds in which all phases, one after another, have been green for their greatest time, with yellow and
         red."""
-        return sum(one.most + one.change_seconds for one in self.rings.phases)
+        return sum(one.most_seconds + one.change_seconds for one in self.rings.phases)
 
     def new_logic(self) -> Nema:
         """A fresh logic of this light, for one run."""
@@ -81,9 +83,9 @@ def refuse_unlike(program: Mapping[str, Any]) -> None:
     if program["more"]:
         raise Listed(f"as {', '.join(program['more'])} of their programs is not driven here")
     for name, value in parameters.items():
-        if (name in UNLIKE or name.startswith(CROSSING)) and value not in OFF:
+        if (name in UNLIKE or name.startswith(CROSSING)) and value not in OFF_VALUES:
             raise Listed(f"as {name}={value} is not driven here")
-    if missing := [name for name in NEEDED if not parameters.get(name)]:
+    if missing := [name for name in NEEDED_PARAMETERS if not parameters.get(name)]:
         raise Listed(f"as they have no {missing[0]}, which SUMO asks for")
     if not second_barrier(parameters):
         raise Listed("as they have no barrier2Phases, which SUMO asks for")
@@ -132,13 +134,13 @@ def phases_with_areas(program: Mapping[str, Any], number: Mapping[str, int]) -> 
     recalls = {name: digits(parameters.get(name, usual)) for name, usual in (("minRecall", ALL), ("maxRecall", ""))}
     latching = digits(parameters.get("latchingDetectors", ""))
     for phase, (text, extension, yellow, red) in zip(program["phases"], program["timing"], strict=True):
-        name, state, (least, most) = digits(text), phase[1], phase_bounds(phase)
+        name, state, (least_seconds, most_seconds) = digits(text), phase[1], phase_bounds(phase)
         if len(name) != 1:
             raise Listed(f"as {text!r} is no name of a phase")
         lanes = dict.fromkeys(lane for index, lane, *_ in program["ways"] if state[index] == "G" and lane in number)
         areas = tuple(number[lane] for lane in lanes)
         own = name[0] in recalls["minRecall"], name[0] in recalls["maxRecall"], name[0] in latching
-        phases.append(RingPhase(name[0], state, least, most, extension, yellow, red, areas, *own))
+        phases.append(RingPhase(name[0], state, least_seconds, most_seconds, extension, yellow, red, areas, *own))
     return phases
 
 
@@ -160,7 +162,7 @@ def areas_of(program: Mapping[str, Any], mapping: Map) -> dict[str, DetectorArea
             ends = at.last == mapping.links[at.link].cells - 1
             areas[lane] = DetectorArea(at.link, at.lane, at.first, at.last, ends)
         elif place := mapping.place_of(lane):
-            key = "detector-length-leftTurnLane" if directions == [LEFT] else "detector-length"
+            key = "detector-length-leftTurnLane" if directions == [LEFT_TURN] else "detector-length"
             link = mapping.links[place[0]]
             reach = min((number_of(parameters.get(key, str(LENGTH))) - STANDING) / link.metres, 1.0) * link.cells
             areas[lane] = DetectorArea(*place, link.cells - max(1, ceil(reach)), link.cells - 1)

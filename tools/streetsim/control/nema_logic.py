@@ -15,7 +15,7 @@ from math import ceil
 from typing import NamedTuple
 
 from streetsim.control.actuated_logic import BY_BUS, BY_CALL, BY_GAP, BY_MOST, BY_OTHER, EndedPhase
-from streetsim.control.nema_phases import GREEN, RED, REST, TRANSFER, YELLOW, RingPhase, Rings, letters_together
+from streetsim.control.nema_phases import GREEN, RED, RESTING, TRANSFER, YELLOW, RingPhase, Rings, letters_together
 
 PresentAt = Callable[[int], bool]  # whether anybody is on an area, by its position
 
@@ -40,7 +40,7 @@ class RunningPhase:
     since: float = 0.0  # clock from which its green is counted
     end: float = 0.0  # clock at which its green ended
     lasts: float = 0.0  # seconds of its green as far as is known
-    most: float = 0.0  # greatest seconds of its green
+    most_seconds: float = 0.0  # greatest seconds of its green
     resting: float = 0.0  # seconds that it may rest from when another one is called
     ready: bool = False  # it may end
     called: bool = False  # it is latching, and somebody came since its last green
@@ -51,7 +51,7 @@ class RunningPhase:
 
     @property
     def is_green(self) -> bool:
-        """Whether it shows green: GREEN, TRANSFER (waits for the other ring) or REST."""
+        """Whether it shows green: GREEN, TRANSFER (waits for the other ring) or RESTING."""
         return self.stage >= GREEN
 
     def change_to(self, target: RunningPhase) -> PhaseChange:
@@ -66,7 +66,7 @@ class Nema:
     def __init__(self, rings: Rings) -> None:
         """rings: the program; the light begins with `begin_at`."""
         self.rings, self.clock, self.due, self.changes = rings, 0, 0, 0
-        self.ended: list[EndedPhase] = []
+        self.ended_phases: list[EndedPhase] = []
         recalls = any(phase.is_recalled for phase in rings.phases)
         orders = [rings.numbers_of(ring) for ring in range(2)]
         self.by_ring = [[self.new_running(number, ring, recalls) for number in orders[ring]] for ring in range(2)]
@@ -84,7 +84,7 @@ class Nema:
         alone = phase.is_recalled and not any(one.is_recalled for one in others)
         side = self.rings.orders[ring].index(number) // 2
         running = RunningPhase(phase, ring, side, self.rings.is_at_barrier(number), alone or not recalls)
-        running.most, running.lasts = phase.most, phase.least
+        running.most_seconds, running.lasts = phase.most_seconds, phase.least_seconds
         return running
 
     def changes_from(self, running: RunningPhase) -> list[PhaseChange]:
@@ -123,7 +123,7 @@ class Nema:
             for one in self.active
             if one.is_green and one.began < until
         ]
-        for row in (*self.ended, *under_way):
+        for row in (*self.ended_phases, *under_way):
             yield row, self.rings.phase(row.phase).state
 
     # The clock
@@ -138,7 +138,7 @@ class Nema:
     def moves_on(self, clock: int, present: PresentAt) -> bool:
         """Makes a second of both rings at `clock`; says whether what is green changed. Sets `due`, when to look
         again. present: whether anybody is on an area, by its position."""
-        self.clock, self.present, before, state = clock, present, self.green_by_ring(), self.state()
+        self.clock, self.present, earlier_greens, state = clock, present, self.green_by_ring(), self.state()
         for running in self.phases:
             if running.phase.latching and not running.called:
                 running.called = any(map(self.present, running.phase.areas))
@@ -152,7 +152,7 @@ class Nema:
             running.called = running.called and running.phase.latching and not running.is_green
         self.due = clock + max(1, min(map(self.wait, self.active)))
         self.changes += self.state() != state
-        return self.green_by_ring() != before
+        return self.green_by_ring() != earlier_greens
 
     def wait(self, running: RunningPhase) -> int:
         """The seconds in which nothing can happen in the ring of a phase that is shown, whatever the other ring does;
@@ -164,7 +164,9 @@ class Nema:
             changed = self.clock - running.end
             return ceil((phase.yellow if changed < phase.yellow else phase.change_seconds) - changed)
         # Who is on an area before that does not make the green longer.
-        return ceil(to_go) if running.lasts >= running.most else min(ceil(to_go), int(to_go - phase.extension) + 1)
+        if running.lasts >= running.most_seconds:
+            return ceil(to_go)
+        return min(ceil(to_go), int(to_go - phase.extension) + 1)
 
     def is_on(self, running: RunningPhase) -> bool:
         """Whether somebody is on the areas of a phase, or was since its last green where it is latching, or a bus calls
@@ -185,9 +187,9 @@ class Nema:
             running.ready = True
             return
         since, phase = self.clock - running.since, running.phase
-        if running.stage != TRANSFER and running.lasts < running.most and self.extends(running, since):
-            running.lasts = min(max(since + phase.extension, phase.least), running.most)
-        if running.stage == REST:
+        if running.stage != TRANSFER and running.lasts < running.most_seconds and self.extends(running, since):
+            running.lasts = min(max(since + phase.extension, phase.least_seconds), running.most_seconds)
+        if running.stage == RESTING:
             self.rest_in_green(running, since)
         if since >= running.lasts:
             running.ready = True
@@ -203,8 +205,8 @@ class Nema:
         """Has a green that is shown go on, or end, for the buses that call phases."""
         green = self.clock - running.began
         if running.is_green and running.phase.number in self.called:
-            running.ready = running.ready and green >= running.phase.most
-        elif running.is_green and green >= running.phase.least and self.is_in_the_way(running):
+            running.ready = running.ready and green >= running.phase.most_seconds
+        elif running.is_green and green >= running.phase.least_seconds and self.is_in_the_way(running):
             running.ready = True
 
     def is_in_the_way(self, running: RunningPhase) -> bool:
@@ -218,24 +220,24 @@ class Nema:
     def extends(self, running: RunningPhase, since: float) -> bool:
         """Whether a green is given its extension anew, by somebody on its areas or a bus: where that makes it longer,
         and always as it rests; since: seconds of green so far. Areas are not asked where it would not."""
-        longer = max(since + running.phase.extension, running.phase.least) > running.lasts
-        return (longer or running.stage == REST) and self.is_on(running)
+        longer = max(since + running.phase.extension, running.phase.least_seconds) > running.lasts
+        return (longer or running.stage == RESTING) and self.is_on(running)
 
     def rest_in_green(self, running: RunningPhase, since: float) -> None:
         """A second of resting in green. From when another phase is called it lasts its greatest time on, and then may
         end, and so may the other ring's phase if it waits or rests; since: seconds of green so far."""
-        most, least = running.phase.most, running.phase.least
+        most_seconds, least_seconds = running.phase.most_seconds, running.phase.least_seconds
         other_phase = self.shown_by_other_ring(running)
         shown = running.phase.number, other_phase.phase.number
         if any(self.is_called(each) for each in self.phases if each.phase.number not in shown):
             running.resting -= 1
-            if running.resting + 1 >= most:
-                running.most = least + most
+            if running.resting + 1 >= most_seconds:
+                running.most_seconds = least_seconds + most_seconds
         else:
-            running.resting = most
-            if since >= least:
-                running.since, running.most = self.clock - least, least + most
-                running.lasts = least + max(0.0, running.lasts - since)
+            running.resting = most_seconds
+            if since >= least_seconds:
+                running.since, running.most_seconds = self.clock - least_seconds, least_seconds + most_seconds
+                running.lasts = least_seconds + max(0.0, running.lasts - since)
         if running.resting < 1:
             running.ready = True
             if other_phase.stage > GREEN:
@@ -248,8 +250,8 @@ class Nema:
         running.since, running.began, running.ready = self.clock, self.clock, False
         running.chosen, running.stage = None, GREEN
         if running.rests:
-            running.stage, running.resting = REST, running.phase.most
-        running.lasts = running.most if running.phase.most_recall else running.phase.least
+            running.stage, running.resting = RESTING, running.phase.most_seconds
+        running.lasts = running.most_seconds if running.phase.most_recall else running.phase.least_seconds
         self.active[running.ring] = running
 
     def go_on(self) -> None:
@@ -264,7 +266,7 @@ class Nema:
 
     def leave(self, running: RunningPhase, following: Sequence[RunningPhase]) -> None:
         """Takes a phase that may end one second on towards its ring's one of `following`: yellow (its green is then in
-        `ended`), red, that one's green; or it stays green where that is itself."""
+        `ended_phases`), red, that one's green; or it stays green where that is itself."""
         if (target := following[running.ring]) is running:
             self.keep_green(running, following)
             return
@@ -272,7 +274,7 @@ class Nema:
         changed = self.clock - running.end
         if running.is_green:
             seconds = self.clock - running.began
-            self.ended.append(EndedPhase(running.phase.number, running.began, seconds, self.why(running)))
+            self.ended_phases.append(EndedPhase(running.phase.number, running.began, seconds, self.why(running)))
             running.end, running.stage, running.changing = self.clock, YELLOW, True
         elif changed >= running.phase.change_seconds:
             running.ready, running.changing, running.stage = False, False, RED
@@ -286,16 +288,16 @@ class Nema:
             return BY_OTHER if running.stage == TRANSFER else BY_CALL
         if self.called and self.clock - running.since < running.lasts:
             return BY_BUS
-        return BY_MOST if running.lasts >= running.most else BY_GAP
+        return BY_MOST if running.lasts >= running.most_seconds else BY_GAP
 
     def keep_green(self, running: RunningPhase, following: Sequence[RunningPhase]) -> None:
         """Keeps a phase green that could end: it rests where neither ring goes on, else it waits for the other ring."""
         other_phase, phase = self.shown_by_other_ring(running), running.phase
         running.ready = False
         both = following[other_phase.ring] is other_phase and other_phase.ready
-        if both or (other_phase.stage == REST and other_phase.resting >= other_phase.phase.most):
-            running.stage, running.since, running.lasts = REST, self.clock - phase.least, phase.least
-            running.resting = phase.most * running.rests
+        if both or (other_phase.stage == RESTING and other_phase.resting >= other_phase.phase.most_seconds):
+            running.stage, running.since, running.lasts = RESTING, self.clock - phase.least_seconds, phase.least_seconds
+            running.resting = phase.most_seconds * running.rests
         else:
             running.stage = TRANSFER
             if running.at_barrier:

@@ -3,9 +3,9 @@ together."""
 from collections.abc import Sequence
 from dataclasses import dataclass
 
-from streetsim.control.actuated_logic import GO
+from streetsim.control.actuated_logic import GREEN_LETTERS
 
-RED, YELLOW, GREEN, TRANSFER, REST = range(5)  # what a phase shows; from GREEN on it is green
+RED, YELLOW, GREEN, TRANSFER, RESTING = range(5)  # what a phase shows; from GREEN on it is green
 LETTERS = "GgyuOs"  # of two phases that show a signal that neither controls, the first of these is shown
 
 
@@ -15,8 +15,8 @@ class RingPhase:
 
     number: int  # 1 to 8
     state: str
-    least: float
-    most: float
+    least_seconds: float
+    most_seconds: float
     extension: float  # how long its green stays after somebody was last on an area
     yellow: float
     red: float  # of all its signals, after yellow
@@ -33,7 +33,7 @@ class RingPhase:
     @property
     def usual(self) -> float:
         """The seconds of green that it is thought to last as long as none of it has ended: the mean of its bounds."""
-        return (self.least + self.most) / 2
+        return (self.least_seconds + self.most_seconds) / 2
 
     @property
     def is_recalled(self) -> bool:
@@ -45,7 +45,9 @@ class RingPhase:
         g), at RED all red."""
         if stage >= GREEN:
             return self.state
-        return "".join("y" if one in GO else one for one in self.state) if stage == YELLOW else "r" * len(self.state)
+        if stage == YELLOW:
+            return "".join("y" if letter in GREEN_LETTERS else letter for letter in self.state)
+        return "r" * len(self.state)
 
 
 @dataclass(slots=True, frozen=True)

@@ -28,7 +28,7 @@ class ShownRings:
         cycle = [(phase.usual, phase.state) for phase in phases]
         self.nodes = [(map_node, lit_node(light.name, map_node, mapping, 0, cycle)) for map_node in light.nodes]
         self.means = {phase.number: min(phase.usual, float(limits.PHASE_STEPS)) for phase in phases}
-        self.known = 0  # ended phases that are in the means
+        self.learned_count = 0  # ended phases that are in the means
         self.cycles: dict[Lengths, list[str]] = {}
         self.greens: dict[tuple[int, Lengths], list[Green]] = {}
         self.letters: list[tuple[str, int]] = []  # of each signal what it shows, and since when
@@ -36,9 +36,9 @@ class ShownRings:
     def learn(self, logic: Nema) -> Lengths:
         """Takes the greens that ended since it last did into the means, and gives these in whole seconds, 1 to 600, in
         the order of the phases."""
-        for row in logic.ended[self.known :]:
+        for row in logic.ended_phases[self.learned_count :]:
             self.means[row.phase] += WEIGHT * (row.seconds - self.means[row.phase])
-        self.known = len(logic.ended)
+        self.learned_count = len(logic.ended_phases)
         return tuple(max(1, round(min(mean, limits.PHASE_STEPS))) for mean in self.means.values())
 
     def plans(self, logic: Nema, clock: int) -> Iterator[Command]:
@@ -61,30 +61,32 @@ class ShownRings:
         """The green turns of a node in each second from `clock` on (not from a cycle's begin), the last of
         which goes on, by the `letters` that `plans` notes; turns that the light does not control are always green.
         cycle, greens: the letters, and the green turns, in each second of a cycle."""
-        shown = {}
+        greens_by_turn = {}
         for link, lane, following, turn in node.turns:
             letter, since = self.letters[turn.index] if turn.light == node.light else ("", clock)
             key = link, lane, following
             if turn.light != node.light:
-                shown[key] = [True]
+                greens_by_turn[key] = [True]
             elif letter in LIT and letter:
                 own = "".join(state[turn.index] for state in cycle)
-                shown[key] = green_in_remaining_seconds(own, [key in green for green in greens], letter, clock - since)
-        count = max(map(len, shown.values()), default=1)
+                is_green = [key in green for green in greens]
+                greens_by_turn[key] = green_in_remaining_seconds(own, is_green, letter, clock - since)
+        count = max(map(len, greens_by_turn.values()), default=1)
         return [
-            frozenset(key for key, own in shown.items() if own[min(second, len(own) - 1)]) for second in range(count)
+            frozenset(key for key, own in greens_by_turn.items() if own[min(second, len(own) - 1)])
+            for second in range(count)
         ]
 
 
-def green_in_remaining_seconds(letters: str, shown: Sequence[bool], letter: str, seconds_over: int) -> list[bool]:
+def green_in_remaining_seconds(letters: str, is_green: Sequence[bool], letter: str, seconds_over: int) -> list[bool]:
     """Whether a signal is shown green in each second that remains of its longest run of a letter, of which so many
-    seconds are over, one at least; green for one second where no second has the letter. letters, shown: of each second
-    of a cycle."""
+    seconds are over, one at least; green for one second where no second has the letter. letters, is_green: of each
+    second of a cycle."""
     runs = spans_of(letters, letter)
     if not runs:
         return [True]
     start, length = max(runs, key=lambda run: run[1])
-    own = [shown[(start + second) % len(shown)] for second in range(length)]
+    own = [is_green[(start + second) % len(is_green)] for second in range(length)]
     return own[min(seconds_over, len(own) - 1) :]
 
 
@@ -93,16 +95,17 @@ def cycle_of(rings: Rings, seconds: dict[int, int]) -> list[str]:
     for longer where it waits at a barrier for the other ring."""
     states = []
     for side in (0, 1):
-        both = []
+        ring_times = []
         for order in rings.orders:
             numbers = [number for number in order[2 * side : 2 * side + 2] if number]
-            both.append([second for number in numbers for second in times_of(rings.phase(number), seconds[number])])
-        most = max(map(len, both))
-        for own in both:
+            phase_times = (times_of(rings.phase(number), seconds[number]) for number in numbers)
+            ring_times.append([second for times in phase_times for second in times])
+        most = max(map(len, ring_times))
+        for own in ring_times:
             if own:
                 waiting = next((at for at in reversed(range(len(own))) if own[at][1] == GREEN), 0)
                 own[waiting:waiting] = [own[waiting]] * (most - len(own))
-        states += [letters_together(pair) for pair in zip(*(own for own in both if own), strict=True)]
+        states += [letters_together(pair) for pair in zip(*(own for own in ring_times if own), strict=True)]
     return states
 
 

@@ -1,7 +1,7 @@
 """All controllers of a run, in their order."""
 from streetsim.base import limits
 from streetsim.control.actuated_driver import Driver, PhaseRow
-from streetsim.control.bus_fleet import Done
+from streetsim.control.bus_fleet import StopOutcome
 from streetsim.control.buses import Buses
 from streetsim.control.ending import Ending, WhenAllEnded
 from streetsim.control.lights import Lights
@@ -38,7 +38,7 @@ class Steering:
             TimesOfDay(self.driver),
         ]
 
-    def stops(self) -> list[Done]:
+    def stops(self) -> list[StopOutcome]:
         """What became of all stops of vehicles, those to come and those not made too."""
         return self.buses.fleet.stop_outcomes()
 

@@ -60,14 +60,14 @@ def works_of(text: str, mapping: Map) -> AskedWorks:
         raise Fault(f"--close {text!r}: expected LANE:METRES-METRES:S-S, whole numbers that rise")
     place = mapping.place_of(match[1])
     if place is None:
-        raise Fault(f"--close {text!r}: the map has no lane {match[1]!r}{meant(match[1], mapping)}")
+        raise Fault(f"--close {text!r}: the map has no lane {match[1]!r}{suggested_names(match[1], mapping)}")
     metres = mapping.links[place[0]].metres
     if int(match[3]) > math.ceil(metres):
         raise Fault(f"--close {text!r}: the lane ends at {metres:g} m")
     return AskedWorks(text, match[1], int(match[2]), int(match[3]), clocks[0], clocks[1])
 
 
-def meant(name: str, mapping: Map) -> str:
+def suggested_names(name: str, mapping: Map) -> str:
     """What may be meant by a name that is no lane's, as the end of a sentence: the lanes of an edge of this name, else
     the edges of a street of this name; empty where there are neither."""
     lanes = [mapping.lane_name(*place) for place in mapping.lanes(mapping.links_of.get(name, ()))]

@@ -19,7 +19,7 @@ class Period:
     begin: int
     end: int
 
-    def has(self, clock: int) -> bool:
+    def includes(self, clock: int) -> bool:
         """Whether a look at a clock belongs to the period, as the step before the look does."""
         return self.begin < clock <= self.end
 
@@ -50,10 +50,10 @@ def seen_in(watched: Watched, period: Period) -> tuple[object, ...]:
     """A row of works.csv for a period from its column vehicles on: how many passed, capacity (vehicles an hour), mean
     and greatest delay (s), lengths of the queue (m; 50 %, 95 %, greatest), longest standing (s). An empty text stands
     for a capacity or delay that is not known; a queue or standing that was not looked at counts as 0."""
-    delays = [one.delay for one in watched.passed if period.has(one.clock)]
-    queues = [one for one in watched.queues if period.has(one.clock)]
+    delays = [one.delay for one in watched.passings if period.includes(one.clock)]
+    queues = [one for one in watched.queues if period.includes(one.clock)]
     capacity = capacity_of(watched, period)
-    stood = max((one.seconds for one in watched.stands if period.has(one.clock)), default=0)
+    stood = max((one.seconds for one in watched.stands if period.includes(one.clock)), default=0)
     return (
         len(delays),
         "" if capacity is None else capacity,
@@ -68,7 +68,7 @@ def capacity_of(watched: Watched, period: Period) -> int | None:
     """Vehicles an hour in the worst 15 minutes that end in a period, whole minutes after its begin, and in which
     each look saw a queue before the works; they may begin before the period, but not before the works. None where there
     is no such time."""
-    clocks = [one.clock for one in watched.passed]
+    clocks = [one.clock for one in watched.passings]
     empty = [one.clock for one in watched.queues if not one.metres]
     counts = []
     for end in range(period.begin + MINUTE, period.end + 1, MINUTE):

@@ -21,19 +21,19 @@ def limits_of(works: Iterable[AskedWorks], mapping: Map, kmh: int) -> list[SlowS
     """The lower limit (kmh) along works, one for each edge. Fault where an edge has works on several stretches, another
     lower limit already, or works that are too short for one."""
     stretches: defaultdict[str, dict[tuple[int, int], None]] = defaultdict(dict)
-    known = {text.partition(":")[0] for text in mapping.options.get("slow", ())}
+    slowed_edges = {text.partition(":")[0] for text in mapping.options.get("slow", ())}
     for one in works:
         stretches[edge_of(one, mapping)][one.from_metres, one.to_metres] = None
     slow_stretches = []
     for edge, places in stretches.items():
-        where, (begin, end) = f"--works-limit {kmh}: edge {edge!r}", next(iter(places))
+        subject, (begin, end) = f"--works-limit {kmh}: edge {edge!r}", next(iter(places))
         limit_begin = max(begin, OPEN) + FIRST
         if len(places) > 1:
-            raise Fault(f"{where} has works on several stretches, and can have one limit on one of them")
-        if known & {edge, edge.rpartition(".")[0]}:
-            raise Fault(f"{where} has another lower limit since its import (--slow)")
+            raise Fault(f"{subject} has works on several stretches, and can have one limit on one of them")
+        if slowed_edges & {edge, edge.rpartition(".")[0]}:
+            raise Fault(f"{subject} has another lower limit since its import (--slow)")
         if end < limit_begin + FIRST:
-            raise Fault(f"{where}: works to {end} m are too short for a limit, which would begin at {limit_begin} m")
+            raise Fault(f"{subject}: works to {end} m are too short for a limit, which would begin at {limit_begin} m")
         slow_stretches.append(SlowStretch(edge, limit_begin, end, kmh))
     return slow_stretches
 

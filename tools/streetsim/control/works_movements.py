@@ -19,7 +19,7 @@ from streetsim.control.works_crowding import Times, coming
 from streetsim.model.mapping import Map, Place
 from streetsim.model.runs import Command, Line, Run
 
-BEHIND = 4  # cells behind works in which one can still come back to the lane
+CELLS_BEHIND = 4  # cells behind works in which one can still come back to the lane
 LOST = ("lead", "wait", "bar")  # what those do who lose their lane
 
 TurnKey = tuple[int, int, int]  # link, lane, next link
@@ -61,7 +61,7 @@ def closed_ends(closures: Iterable[Closure], mapping: Map) -> dict[Place, list[T
     the works; they rise, with open ones between. Lanes without any are left out."""
     by_lane: defaultdict[Place, list[Times]] = defaultdict(list)
     for closure in sorted(closures, key=lambda closure: closure.begin):
-        if mapping.links[closure.link].cells - 1 - closure.last_cell < BEHIND:
+        if mapping.links[closure.link].cells - 1 - closure.last_cell < CELLS_BEHIND:
             times = by_lane[closure.link, closure.lane]
             first, last = times.pop() if times and closure.begin <= times[-1][1] else (closure.begin, closure.end)
             times.append((first, max(last, closure.end)))

@@ -12,12 +12,12 @@ APART = 10  # cells: further up nobody belongs to the queue
 @dataclass(slots=True, frozen=True)
 class UpstreamStreets:
     """What lies upstream of each link, by its number. scale: metres of a cell; across: the least seconds in the
-    junction at its end; before: the links with a turn to it, each with the lanes from which the turn leads."""
+    junction at its end; feeders: the links with a turn to it, each with the lanes from which the turn leads."""
 
     cells: tuple[int, ...]
     scale: tuple[float, ...]
     across: tuple[int, ...]
-    before: Mapping[int, Mapping[int, frozenset[int]]]
+    feeders: Mapping[int, Mapping[int, frozenset[int]]]
 
 
 def streets_of(mapping: Map) -> UpstreamStreets:
@@ -25,12 +25,12 @@ def streets_of(mapping: Map) -> UpstreamStreets:
     lanes: defaultdict[tuple[int, int], set[int]] = defaultdict(set)
     for turn in mapping.turns:
         lanes[turn.next, turn.link].add(turn.lane)
-    before: defaultdict[int, dict[int, frozenset[int]]] = defaultdict(dict)
+    feeders: defaultdict[int, dict[int, frozenset[int]]] = defaultdict(dict)
     for (link, feeder), found in lanes.items():
-        before[link][feeder] = frozenset(found)
+        feeders[link][feeder] = frozenset(found)
     scale = tuple(link.metres / link.cells for link in mapping.links)
     across = tuple(mapping.nodes[link.end][3] for link in mapping.links)
-    return UpstreamStreets(tuple(link.cells for link in mapping.links), scale, across, before)
+    return UpstreamStreets(tuple(link.cells for link in mapping.links), scale, across, feeders)
 
 
 @dataclass(slots=True)
@@ -45,14 +45,14 @@ class Reach:
 @dataclass(slots=True, frozen=True)
 class Piece:
     """A link that the queue may reach, seen from a cell upstream of the works. end: the cell before which vehicles
-    count; last_cell: where the last one stands so far, on this link; behind: metres from its cell end to the
-    works; begin: the cell from which on vehicles count, above 0 where other works begin there."""
+    count; last_cell: where the last one stands so far, on this link; metres_to_works: from its cell end; begin: the
+    cell from which on vehicles count, above 0 where other works begin there."""
 
     link: int
     lanes: Collection[int]
     end: int
     last_cell: int
-    behind: float
+    metres_to_works: float
     begin: int = 0
 
 
@@ -62,7 +62,7 @@ def reach_of(
     """The queue before works that begin in first_cell of a link: all who stand, each at most APART cells behind the
     one before it, on lanes that lead to the works. lanes: replies on lanes of the link and upstream, those without one
     are empty; begin: the first cell of other works upstream on the link, whose queue begins there, else 0."""
-    reach, known = Reach(), {link}
+    reach, reached_links = Reach(), {link}
     pieces = [Piece(link, [lane for other, lane in lanes if other == link], first_cell, first_cell, 0.0, begin)]
     while pieces:
         piece = pieces.pop()
@@ -70,12 +70,12 @@ def reach_of(
         if last_cell > APART or piece.begin:
             continue
         reach.full.append(piece.link)
-        behind = piece.behind + piece.end * streets.scale[piece.link]
-        for feeder, leading in streets.before.get(piece.link, {}).items():
-            if feeder not in known:
-                known.add(feeder)
+        metres_to_works = piece.metres_to_works + piece.end * streets.scale[piece.link]
+        for feeder, leading in streets.feeders.get(piece.link, {}).items():
+            if feeder not in reached_links:
+                reached_links.add(feeder)
                 cells = streets.cells[feeder]
-                pieces.append(Piece(feeder, leading, cells, cells + last_cell, behind))
+                pieces.append(Piece(feeder, leading, cells, cells + last_cell, metres_to_works))
     return reach
 
 
@@ -90,7 +90,7 @@ def add_standing(piece: Piece, lanes: Mapping[Place, Lane], scale: float, reach:
             last_cell = cell
             reach.vehicles += 1
             rear = max(0, cell - size + 1)
-            reach.metres = max(reach.metres, piece.behind + (piece.end - rear) * scale)
+            reach.metres = max(reach.metres, piece.metres_to_works + (piece.end - rear) * scale)
     return last_cell
 
 

@@ -97,8 +97,8 @@ def with_closures(
     closures = closures_at(sites)
     lost = lost_movements(run, mapping, closures)
     timed = sorted([*run.timed, *works_lines(sites)], key=lambda pair: pair[0])
-    stay = () if how == "lead" else lost_times(closures, mapping)
-    made = round_works(replace(run, timed=timed), mapping, shut_links(sites, mapping), stay)
+    staying_movements = () if how == "lead" else lost_times(closures, mapping)
+    made = round_works(replace(run, timed=timed), mapping, shut_links(sites, mapping), staying_movements)
     told = list(told_of_lost(lost, mapping, how, searched))
     if how != "lead":
         made, mapping = without_led_turns(made, mapping, lost)
@@ -144,14 +144,14 @@ def shut_links(sites: Collection[Site], mapping: Map) -> Shut:
 def parallel_names(names: Iterable[str], mapping: Map) -> list[str]:
     """The names of edges and lanes to be joint, among some, whose edges are several links and that are not joint yet.
     Fault where the map has no such name, or the edge has one lane."""
-    parallel, known = [], mapping.options.get("joint", ())
+    parallel, joint_names = [], mapping.options.get("joint", ())
     for name in dict.fromkeys(names):
         if name not in mapping.links_of and mapping.place_of(name) is None:
             raise Fault(f"--joint: the map has no edge or lane {name!r}")
         links = mapping.links_of[next(iter(edges_of_names([name], mapping)))]
         if len(links) == 1 and len(mapping.links[links[0]].lanes) == 1:
             raise Fault(f"--joint: edge {mapping.links[links[0]].edge!r} has one lane, and none beside it")
-        if len(links) > 1 and name not in known:
+        if len(links) > 1 and name not in joint_names:
             parallel.append(name)
     return parallel
 
@@ -233,17 +233,17 @@ def edges_of_names(names: Iterable[str], mapping: Map) -> set[str]:
     return {name if name in mapping.links_of else name.rpartition("_")[0] for name in names}
 
 
-def round_works(run: Run, mapping: Map, shut: Shut, stay: Collection[Movement]) -> Run:
+def round_works(run: Run, mapping: Map, shut: Shut, staying_movements: Collection[Movement]) -> Run:
     """The run in which vehicles that may come to a shut link while it is shut take another link of its edge, where one
-    has their turns. stay: movements for which nobody changes to added turns."""
+    has their turns. staying_movements: those for which nobody changes to added turns."""
     turn_lanes: defaultdict[Pair, list[int]] = defaultdict(list)
     use: Counter[int] = Counter()
     enters = list(run.enters)
     for turn in mapping.turns:
-        if not turn.added or (mapping.links[turn.link].edge, mapping.links[turn.next].edge) not in stay:
+        if not turn.added or (mapping.links[turn.link].edge, mapping.links[turn.next].edge) not in staying_movements:
             turn_lanes[turn.link, turn.next].append(turn.lane)
     free_flow = FreeFlow(mapping, run.load.command.get("dawdle", 0) / 1000)
-    for at, line in enumerate(enters):
+    for enter_index, line in enumerate(enters):
         if shut.keys().isdisjoint(line.command["plan"]):
             continue
         plan = plan_round(line.command, mapping, shut, turn_lanes, use, free_flow)
@@ -251,7 +251,7 @@ def round_works(run: Run, mapping: Map, shut: Shut, stay: Collection[Movement]) 
             command: Command = {**line.command, "plan": plan}
             if plan[0] != line.command["plan"][0]:
                 command["lane"] = turn_lanes[plan[0], plan[1]][0] if len(plan) > 1 else 0
-            enters[at] = replace(line, command=command, text=json.dumps(command, separators=(",", ":")))
+            enters[enter_index] = replace(line, command=command, text=json.dumps(command, separators=(",", ":")))
     return replace(run, enters=enters)
 
 
@@ -262,21 +262,21 @@ def plan_round(
     are shut when it may come, where there are any. turns: those with a turn; use: how many were led over each
     link so far, to which it adds."""
     plan = list(command["plan"])
-    for at, link in enumerate(plan):
-        soonest = command["depart"] + free_flow(plan[:at])
-        latest = command["depart"] + 2 * free_flow(plan[: at + 1]) + LATE
+    for plan_index, link in enumerate(plan):
+        soonest = command["depart"] + free_flow(plan[:plan_index])
+        latest = command["depart"] + 2 * free_flow(plan[: plan_index + 1]) + LATE
         if not any(soonest < last and first <= latest for first, last in shut.get(link, ())):
             continue
         beside = [
             neighbour
             for neighbour in mapping.links_of[mapping.links[link].edge]
             if neighbour not in shut
-            and (at == 0 or (plan[at - 1], neighbour) in turns)
-            and (at + 1 == len(plan) or (neighbour, plan[at + 1]) in turns)
+            and (plan_index == 0 or (plan[plan_index - 1], neighbour) in turns)
+            and (plan_index + 1 == len(plan) or (neighbour, plan[plan_index + 1]) in turns)
         ]
         if beside:
-            plan[at] = min(beside, key=lambda neighbour: use[neighbour] / len(mapping.links[neighbour].lanes))
-            use[plan[at]] += 1
+            plan[plan_index] = min(beside, key=lambda neighbour: use[neighbour] / len(mapping.links[neighbour].lanes))
+            use[plan[plan_index]] += 1
     return plan
 
 

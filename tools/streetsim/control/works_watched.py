@@ -69,7 +69,7 @@ class Watched:
     rescued: dict[int, Coming] = field(default_factory=dict)  # by the car that it became, until that is seen
     beyond: set[int] | None = None  # cars on the link past the works' begin; None before the first look
     standing: dict[tuple[int, int, int], int] = field(default_factory=dict)  # car, lane, cell: since
-    passed: list[WorksPassing] = field(default_factory=list)
+    passings: list[WorksPassing] = field(default_factory=list)
     queues: list[WorksQueue] = field(default_factory=list)
     stands: list[Stand] = field(default_factory=list)
     long: set[int] = field(default_factory=set)  # cars that stood for longer than LONG
@@ -92,7 +92,7 @@ class Watched:
         the queue does not reach them, or MOST_LINKS are looked at."""
         known = {link for link, _ in lanes}
         reach = self.reach(clock, lanes)
-        feeders = [feeder for link in reach.full for feeder in self.streets.before.get(link, ())]
+        feeders = [feeder for link in reach.full for feeder in self.streets.feeders.get(link, ())]
         room = MOST_LINKS + 1 - len(known)
         return [one for one in dict.fromkeys(feeders) if one not in known][:room] if reach.vehicles else []
 
@@ -113,17 +113,17 @@ class Watched:
         """Notes who has passed the begin of the works since the look before, with its delay in seconds, and who is on
         the way to it. Who is gone from a link that is looked at counts as past it; who was never seen before it has a
         delay of 0."""
-        before, beyond = self.sights(lanes)
+        sights_before, beyond = self.sights(lanes)
         looked = {link for link, _ in lanes}
-        passed_cars = [car for car, one in self.coming.items() if car not in before and one.link in looked]
+        passed_cars = [car for car, one in self.coming.items() if car not in sights_before and one.link in looked]
         for car in passed_cars:
             one = self.coming.pop(car)
-            self.passed.append(WorksPassing(clock, max(0.0, clock - one.since - one.free)))
+            self.passings.append(WorksPassing(clock, max(0.0, clock - one.since - one.free)))
         if self.beyond is not None:  # who was never seen before them has come between two looks
-            self.passed += [WorksPassing(clock, 0.0) for _ in beyond - self.beyond - set(passed_cars)]
+            self.passings += [WorksPassing(clock, 0.0) for _ in beyond - self.beyond - set(passed_cars)]
         self.beyond = beyond
-        self.coming.update((car, self.rescued.pop(car)) for car in before.keys() & self.rescued.keys())
-        for car, sight in before.items():
+        self.coming.update((car, self.rescued.pop(car)) for car in sights_before.keys() & self.rescued.keys())
+        for car, sight in sights_before.items():
             if car in self.coming:
                 self.coming[car].link = sight.link
             elif sight.link == self.closure.link or bound(car, sight.link, self.closure.link):
@@ -132,23 +132,23 @@ class Watched:
     def sights(self, lanes: Mapping[Place, Lane]) -> tuple[dict[int, Sight], set[int]]:
         """(the vehicles before the works, by number in the program; those on the link past their begin)."""
         link, works_cell = self.closure.link, self.closure.first_cell
-        before: dict[int, Sight] = {}
+        sights_before: dict[int, Sight] = {}
         beyond: set[int] = set()
         behind = self.seconds_behind({other_link for other_link, _ in lanes})
         for (other_link, _), lane in lanes.items():
             cells, pace = self.streets.cells[other_link], self.pace[other_link]
             if other_link != link:
                 to_works, across = behind[other_link], self.streets.across[other_link]
-                before.update(
+                sights_before.update(
                     (car, Sight((cells - cell) * pace + across + to_works, other_link)) for car, cell, *_ in lane.cells
                 )
-                before.update((car, Sight(to_works, other_link)) for car, *_ in lane.buffer)
+                sights_before.update((car, Sight(to_works, other_link)) for car, *_ in lane.buffer)
                 continue
             on_the_way = ((car, works_cell - cell) for car, cell, *_ in lane.cells if cell < works_cell)
-            before.update((car, Sight(cells_to_go * pace, link)) for car, cells_to_go in on_the_way)
+            sights_before.update((car, Sight(cells_to_go * pace, link)) for car, cells_to_go in on_the_way)
             beyond.update(car for car, cell, *_ in lane.cells if cell >= works_cell)
             beyond.update(car for car, *_ in lane.buffer)
-        return before, beyond
+        return sights_before, beyond
 
     def seconds_behind(self, links: Collection[int]) -> dict[int, float]:
         """By link the seconds from the junction at its end to the works, alone, on the way of the fewest links; 0 on
@@ -159,7 +159,7 @@ class Watched:
             ahead = self.closure.first_cell * self.pace[link]
             if link != self.closure.link:
                 ahead = seconds[link] + self.streets.across[link] + self.streets.cells[link] * self.pace[link]
-            new = [one for one in self.streets.before.get(link, ()) if one in links and one not in seconds]
+            new = [one for one in self.streets.feeders.get(link, ()) if one in links and one not in seconds]
             seconds.update(dict.fromkeys(new, ahead))
             reached.extend(new)
         return seconds
@@ -183,7 +183,8 @@ class Watched:
         nothing leads."""
         seconds = clock - (self.closure.begin if self.last_look is None else self.last_look)
         self.queues.append(WorksQueue(clock, seconds, reach.metres))
-        if reach.vehicles and self.left_network is None and any(link not in self.streets.before for link in reach.full):
+        leaves = any(link not in self.streets.feeders for link in reach.full)
+        if reach.vehicles and self.left_network is None and leaves:
             self.left_network = clock
 
 

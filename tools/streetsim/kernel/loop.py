@@ -24,7 +24,7 @@ ROWS, NUMBERS = 200_000, 2_000_000
 NEVER = limits.CLOCK + 1  # a clock that never comes
 
 
-class Sent(NamedTuple):
+class SentLine(NamedTuple):
     """A line that was sent between two seconds."""
 
     clock: int
@@ -58,7 +58,7 @@ class Controller:
     def act(self, clock: int, now: Block) -> None:
         """Acts by `send`, `pass_on`, `enter` and `reenter` of the kernel. It is called at the last clock too."""
 
-    def hear(self, clock: int, command: Command) -> list[Command]:
+    def commands_before_line(self, clock: int, command: Command) -> list[Command]:
         """Hears of a line of the run's file that is to be sent; gives commands to send ahead of it."""
         return []
 
@@ -75,11 +75,11 @@ class Kernel:
         self.clock = self.start = self.until = run.start()
         self.vehicles = Vehicles()
         self.entered = 0  # vehicles of the file
-        self.sent: list[Sent] = []  # behind the load and the first lines of the run
+        self.sent_lines: list[SentLine] = []  # behind the load and the first lines of the run
         self.closed = ClosedCells()
         self.waiting: list[Blocks] = []  # what observers have not got yet
         self.size = 0  # bytes of it
-        self.most = max(1, min(LINES, NUMBERS // max(1, 2 * len(mapping.links))))  # seconds that are made at once
+        self.most_steps = max(1, min(LINES, NUMBERS // max(1, 2 * len(mapping.links))))  # seconds that are made at once
         self.seconds: Seconds | None = None  # that observers got last
         self.part: Blocks = NOBODY  # what was made last
         self.last_second = Block(NOBODY)
@@ -126,7 +126,7 @@ class Kernel:
         target = self.clock + 1
         if until > target:
             due = min((controller.next_clock() for controller in self.controllers), default=until)
-            target = max(target, min(until, self.clock + self.most, due))
+            target = max(target, min(until, self.clock + self.most_steps, due))
         self.enter_due(target)
         self.program.begin(target - self.clock)
         self.hand_over(ROWS)
@@ -152,7 +152,7 @@ class Kernel:
     def hand_over(self, rows: int) -> None:
         """Gives observers what waits, where it is so many rows, or seconds, at least."""
         last_clock = self.start if self.seconds is None else int(self.seconds.clocks[-1])
-        if self.waiting and (self.size >= rows * ROW or self.clock - last_clock >= self.most):
+        if self.waiting and (self.size >= rows * ROW or self.clock - last_clock >= self.most_steps):
             self.seconds = seconds_of(self.waiting, self.seconds, last_clock, self.vehicles)
             self.waiting, self.size = [], 0
             for observer in self.observers:
@@ -168,7 +168,7 @@ class Kernel:
         due: list[Line] = []
         for line in lines:
             for controller in self.controllers:
-                due += map(own_line, controller.hear(self.clock, line.command))
+                due += map(own_line, controller.commands_before_line(self.clock, line.command))
             due.append(line)
         self.send_now(due, True)
 
@@ -176,7 +176,7 @@ class Kernel:
         """Sends lines, and keeps them as Sent has them. Fault where one is refused."""
         self.send_lines(lines)
         for line in lines:
-            self.sent.append(Sent(self.clock, line, passed_on))
+            self.sent_lines.append(SentLine(self.clock, line, passed_on))
             self.closed.note(line.command)
 
     def send_lines(self, lines: Sequence[Line]) -> list[bytes]:

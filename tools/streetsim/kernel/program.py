@@ -37,7 +37,7 @@ class Program(Process):
         os.close(writing_end)
         self.pipes.append(open(self.record, "rb", buffering=0))
         self.lines, self.replies = self.input.fileno(), self.output.fileno()
-        self.unread, self.begun_steps, self.sent, self.recorded = b"", 0, 0, False
+        self.unread, self.begun_steps, self.sent_count, self.recorded = b"", 0, 0, False
 
     def exchange(self, lines: Sequence[bytes]) -> list[bytes]:
         """Sends lines, with their ends, none of them an advance; gives their replies, with refusals among them.
@@ -49,7 +49,7 @@ class Program(Process):
             while end < len(lines) and end - begin < LINES and (size + len(lines[end]) <= BYTES or end == begin):
                 size += len(lines[end])
                 end += 1
-            self.send(b"".join(lines[begin:end]))
+            self.write_bytes(b"".join(lines[begin:end]))
             replies += self.read_replies(end - begin)
             begin = end
         return replies
@@ -57,8 +57,8 @@ class Program(Process):
     def begin(self, steps: int) -> None:
         """Has the program make steps, LINES at most, and does not wait for them; `blocks` does."""
         lines = self.advance(steps)
-        self.send(b"".join(lines))
-        self.begun_steps, self.sent = steps, len(lines)
+        self.write_bytes(b"".join(lines))
+        self.begun_steps, self.sent_count = steps, len(lines)
 
     def advance(self, steps: int) -> list[bytes]:
         """The lines by which steps are made."""
@@ -67,21 +67,23 @@ class Program(Process):
     def blocks(self) -> Blocks:
         """The blocks of the steps that were begun. ProgramEnded where the program ends before; Fault where a step is
         refused, or the program answers and records nothing."""
-        data, position, begins = bytearray(self.unread), 0, [0]
+        record_bytes, position, begins = bytearray(self.unread), 0, [0]
         for _ in range(self.begun_steps):
-            while len(data) < position + HEAD.size or len(data) < position + HEAD.size + ROW * rows_at(data, position):
-                data += self.more_of_record()
-            position += HEAD.size + ROW * rows_at(data, position)
+            while len(record_bytes) < position + HEAD.size:
+                record_bytes += self.more_of_record()
+            position += HEAD.size + ROW * rows_at(record_bytes, position)
+            while len(record_bytes) < position:
+                record_bytes += self.more_of_record()
             begins.append(position)
-        self.unread = bytes(data[position:])
-        if bad_reply := next((reply for reply in self.read_replies(self.sent) if is_refusal(reply)), None):
+        self.unread = bytes(record_bytes[position:])
+        if bad_reply := next((reply for reply in self.read_replies(self.sent_count) if is_refusal(reply)), None):
             raise step_fault(bad_reply)
-        return begins, bytes(data[:position])
+        return begins, bytes(record_bytes[:position])
 
     def more_of_record(self) -> bytes:
         """The next bytes of the record. Fault where the reply to a line that makes all steps, or the very first reply,
         comes before them; ProgramEnded where the program ends."""
-        if self.sent == 1 or not self.recorded:
+        if self.sent_count == 1 or not self.recorded:
             readable, _, _ = select.select([self.record, self.replies], [], [])
             if self.record not in readable and not select.select([self.record], [], [], 0)[0]:
                 [reply] = self.read_replies(1)
@@ -95,7 +97,7 @@ class Program(Process):
         """What is raised where the program cannot write to the pipe of the record."""
         return Fault(f"{self.path} writes no record of its run: it takes streetsim itself, on this machine")
 
-    def send(self, data: bytes) -> None:
+    def write_bytes(self, data: bytes) -> None:
         """Writes bytes to the program; ProgramEnded where it has ended."""
         unsent = memoryview(data)
         try:

@@ -123,13 +123,13 @@ class Seconds:
         """By row whether it is of a second, not 0, that is wanted; is_wanted: by second."""
         return np.repeat(np.append(False, is_wanted[1:]), np.diff(self.first))
 
-    def joined_buffer(self, stay: Array) -> Array:
-        """The rows of those who passed their stop line in their second: who joins in a step may go on `stay` steps
-        (by slot) later."""
+    def joined_buffer(self, stay_steps: Array) -> Array:
+        """The rows of those who passed their stop line in their second: who joins in a step may go on stay_steps (by
+        slot) later."""
         begin = int(self.first[1])
         rows = np.flatnonzero(~self.on[begin:]) + begin
         clock = self.clocks[self.second[rows]]
-        return rows[(self.cell[rows] & READY) == clock - 1 + stay[self.slot[rows]]]
+        return rows[(self.cell[rows] & READY) == clock - 1 + stay_steps[self.slot[rows]]]
 
     def last_rows(self) -> slice:
         """The rows of the last second."""

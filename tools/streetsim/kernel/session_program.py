@@ -72,13 +72,14 @@ class SessionProgram(Program):
         """As Program has it."""
         if not (self.replay and self.replayed_steps):
             return super().blocks()
-        begins, data = self.replay.blocks()
+        begins, block_bytes = self.replay.blocks()
         if self.begun_steps:
             self.go_on()
             super().begin(self.begun_steps)
             later_begins, later_data = super().blocks()
-            begins, data = begins + [len(data) + begin for begin in later_begins[1:]], data + later_data
-        return begins, data
+            begins += [len(block_bytes) + begin for begin in later_begins[1:]]
+            block_bytes += later_data
+        return begins, block_bytes
 
     def count_replayed(self, lines: Sequence[bytes]) -> int:
         """How many of the lines, from the first on, change nothing or come next in the file, from which these are then

@@ -54,8 +54,8 @@ class Hand(Controller):
             return refused
         if name == "signal":
             for controller in kernel.controllers:
-                controller.hear(kernel.clock, command)
-            kernel.sent.append(loop.Sent(kernel.clock, own_line(command), True))
+                controller.commands_before_line(kernel.clock, command)
+            kernel.sent_lines.append(loop.SentLine(kernel.clock, own_line(command), True))
         elif name == "meter":
             self.detectors.append({**command, "number": read_reply(text)})
         else:

@@ -122,8 +122,8 @@ class World:
         last of each node alone."""
         kernel, is_first = self.kernel, self.lines_sent < 0
         sent = [(line, True) for line in kernel.run.first] if is_first else []
-        sent += [(line_sent.line, line_sent.passed_on) for line_sent in kernel.sent[max(0, self.lines_sent) :]]
-        self.lines_sent = len(kernel.sent)
+        sent += [(line_sent.line, line_sent.passed_on) for line_sent in kernel.sent_lines[max(0, self.lines_sent) :]]
+        self.lines_sent = len(kernel.sent_lines)
         plans: dict[int, Command] = {}
         shown_signals: dict[int, Command] = {}
         for line, is_plan in sent:

@@ -9,7 +9,7 @@ from collections.abc import Iterable
 
 from streetsim.base.arrays import Array, numpy as np
 from streetsim.base.report import first_few
-from streetsim.control.bus_fleet import Done, dwells
+from streetsim.control.bus_fleet import StopOutcome, dwells
 from streetsim.kernel.loop import Kernel
 from streetsim.kernel.seconds import Seconds
 from streetsim.model.names import Names
@@ -51,7 +51,7 @@ class Junctions(Passages):
 
     def keep_interval(self) -> None:
         """Sums up the interval under way, which is over."""
-        sent = self.kernel.sent[self.sent_count :]
+        sent = self.kernel.sent_lines[self.sent_count :]
         lines = ((following.clock, following.line.command) for following in sent)
         self.shown_plans.plans.add((clock, command) for clock, command in lines if command["cmd"] == "signal")
         self.sent_count += len(sent)
@@ -66,7 +66,7 @@ class Junctions(Passages):
         if self.begun_interval:
             self.keep_interval()
 
-    def write(self, folder: str, stops: Iterable[Done]) -> tuple[list[str], list[str]]:
+    def write(self, folder: str, stops: Iterable[StopOutcome]) -> tuple[list[str], list[str]]:
         """Writes movements.csv, approaches.csv and junctions.csv into the folder of a run; stops: what became of them.
         Gives (sentences for the terminal; doubts: why they are not to be trusted). Fault where one cannot be
         written."""

@@ -32,7 +32,7 @@ class ClosedLanes:
 
     def stretches_at(self, clock: int) -> Stretches:
         """By slot the stretches at a poll; clocks rise."""
-        sent, earlier_next = self.kernel.sent, self.next_sent
+        sent, earlier_next = self.kernel.sent_lines, self.next_sent
         while self.next_sent < len(sent):
             following = sent[self.next_sent]
             if (following.clock, following.passed_on) > (clock, False):

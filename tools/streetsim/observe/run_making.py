@@ -18,12 +18,12 @@ from streetsim.base.files import Json, whole_file
 from streetsim.base.program import proof_note
 from streetsim.base.report import COLUMNS, first_few
 from streetsim.control import works_figures
-from streetsim.control.bus_fleet import Done
+from streetsim.control.bus_fleet import StopOutcome
 from streetsim.control.settings import Settings
 from streetsim.control.steering import Steering
 from streetsim.control.works_crowding import crowded_works
 from streetsim.control.works_watched import doubts_of
-from streetsim.kernel.loop import Kernel, Observer, Sent
+from streetsim.kernel.loop import Kernel, Observer, SentLine
 from streetsim.kernel.progress import ProgressReports, ReportProgress
 from streetsim.kernel.serving import serving_program
 from streetsim.model import tables, trust
@@ -200,9 +200,9 @@ def figures_of(
         *doubts_of(run_tables.works.watched, mapping),
         *crowded_works(run, mapping, steering.closures),
     ]
-    given_run = with_lines(given_run, list(lit_lines(kernel.sent, mapping)))
+    given_run = with_lines(given_run, list(lit_lines(kernel.sent_lines, mapping)))
     write_setting(options, given_run, run_tables, yielding, doubts, folder, clock)
-    parts = driven.in_words(), f"{rescues:,} rescues", yielding.summary(), steering.ending.ended
+    parts = driven.in_words(), f"{rescues:,} rescues", yielding.summary(), steering.ending.end_reason
     return Figures(
         vehicles=driven.vehicles,
         arrived=len(driven.durations),
@@ -211,7 +211,7 @@ def figures_of(
         notes=notes,
         summary=", ".join(filter(None, parts)),
         doubts=doubts,
-        by_class=class_trips_line(trips, mapping) if settings.buses.visits or settings.buses.ahead else "",
+        by_class=class_trips_line(trips, mapping) if settings.buses.visits or settings.buses.lights_ahead else "",
     )
 
 
@@ -234,7 +234,7 @@ def class_trips_line(trips: Sequence[Entry], mapping: Map) -> str:
     return "; ".join(texts) if len(texts) > 1 else ""
 
 
-def lit_lines(sent: Iterable[Sent], mapping: Map) -> Iterator[tuple[int, Line]]:
+def lit_lines(sent: Iterable[SentLine], mapping: Map) -> Iterator[tuple[int, Line]]:
     """Of the lines that a run sent, as (clock, line), those with the signal plans that the tools made for nodes with a
     light; the setting tells them as signals of the run."""
     lit = {node for _, node in mapping.signals}
@@ -251,7 +251,7 @@ def run_notes(run_tables: RunTables, clock: int) -> Iterator[str]:
         yield f"{unsent:,} lines were not sent, as their clock is after --until"
 
 
-def stop_notes(stops: Sequence[Done], mapping: Map) -> Iterator[str]:
+def stop_notes(stops: Sequence[StopOutcome], mapping: Map) -> Iterator[str]:
     """Sentences on how many stops were made on the lane beside, or passed without one, and which; nothing where none
     were."""
     for state, text in ((OTHER_LANE, "were made on the lane beside"), (MISSED, "were passed: no lane had room")):

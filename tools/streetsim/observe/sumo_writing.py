@@ -6,7 +6,7 @@ from collections.abc import Callable, Iterable, Mapping, Sequence
 from typing import Any
 
 from streetsim.base.files import Fault, FilePath, TextFile, whole_file
-from streetsim.control.bus_fleet import Done, Dwell, dwells
+from streetsim.control.bus_fleet import StopOutcome, Dwell, dwells
 from streetsim.model.folder import Frame
 from streetsim.model.mapping import Map
 from streetsim.observe.sumo_formats import Fcd, QueueOutput, SummaryOutput, Tripinfo, XmlFile
@@ -72,7 +72,7 @@ class Outputs(contextlib.ExitStack):
             writer.add_second(second)
 
     def write_run(
-        self, trips: Sequence[Mapping[str, str | int]], frames: Iterable[Frame], stops: Iterable[Done] = ()
+        self, trips: Sequence[Mapping[str, str | int]], frames: Iterable[Frame], stops: Iterable[StopOutcome] = ()
     ) -> None:
         """Writes a whole run, of the rows of trips.csv in the order of the vehicles' numbers (all with SUMO's default
         type), what stood on the lanes in every second, and what became of stops; Fault where the looks skip one."""

@@ -3,7 +3,7 @@ from collections import Counter
 from collections.abc import Iterable, Iterator, Mapping
 
 from streetsim.base.arrays import numpy as np
-from streetsim.control.bus_fleet import Done, dwells
+from streetsim.control.bus_fleet import StopOutcome, dwells
 from streetsim.kernel.loop import Kernel, Observer
 from streetsim.kernel.seconds import Seconds
 from streetsim.model.mapping import Map
@@ -35,7 +35,7 @@ class TripsTable(Observer):
         states = np.where(last_second.cell >= 0, "cell", "buffer").tolist()
         self.states = dict(zip(owner[last_second.car].tolist(), states, strict=True))
 
-    def rows(self, rescues: Mapping[int, int], stops: Iterable[Done]) -> Iterator[Entry]:
+    def rows(self, rescues: Mapping[int, int], stops: Iterable[StopOutcome]) -> Iterator[Entry]:
         """The rows of trips.csv, as `trip_rows` gives them; rescues: by vehicle; stops: what became of them."""
         run, alone = self.kernel.run, self.kernel.plans.alone_on_trips().tolist()
         names, stood = vehicle_names(run, self.kernel.map), seconds_at_stops(stops)
@@ -64,12 +64,12 @@ def trip_rows(trips: Iterable[tuple[str, Line, End, tuple[float, int, int]]]) ->
         yield (name, depart, *trip, len(line.command["plan"]), rescues, state)
 
 
-def seconds_at_stops(stops: Iterable[Done]) -> Counter[int]:
+def seconds_at_stops(stops: Iterable[StopOutcome]) -> Counter[int]:
     """The seconds that vehicles stood at their stops, by their number in the file; stops not left do not count."""
     return Counter({vehicle: sum(stop.seconds for stop in stops_of) for vehicle, stops_of in dwells(stops).items()})
 
 
-def stop_rows(stops: Iterable[Done], run: Run, mapping: Map) -> Iterator[Entry]:
+def stop_rows(stops: Iterable[StopOutcome], run: Run, mapping: Map) -> Iterator[Entry]:
     """The rows of stops.csv, (vehicle, line, stop, edge, lane, arrived, left, seconds, until, seconds late, state):
     each stop of each vehicle, vehicle by vehicle; clocks and seconds are empty where they did not come about."""
     vehicles, lines = vehicle_names(run, mapping), bus_lines_of(mapping.kinds, len(run.enters))

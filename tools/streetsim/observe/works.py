@@ -78,7 +78,7 @@ class WorksTable(Observer):
             lanes_seen.update((lane_key, lanes.lane_at(lane_key)) for lane_key in self.kernel.map.lanes(sorted(links)))
             reach = watched.reach(clock, lanes_seen)
             known = {link for link, _ in lanes_seen}
-            links = {feeder for link in reach.full for feeder in watched.streets.before.get(link, ())} - known
+            links = {feeder for link in reach.full for feeder in watched.streets.feeders.get(link, ())} - known
         return reach
 
     def is_bound(self, car: int, link: int, ahead: int) -> bool:

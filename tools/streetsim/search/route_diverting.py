@@ -87,19 +87,19 @@ def path_for_share(path: str, share: float | None, many_shares: bool) -> str:
     return os.path.join(folder, f"{stem}-{share:g}{dot}{ending}")
 
 
-def give_ways_of_file(trips: Sequence[Trip], before: Trips, graph: Graph, where: str) -> None:
-    """Gives each trip the path of the trip of the same name in before, which was read from the file where. Fault where
-    there is none, it begins or ends on another edge than the trip, or two edges in a row have no connection."""
-    ways = {trip.name: trip for trip in before.trips}
+def give_ways_of_file(trips: Sequence[Trip], routed_trips: Trips, graph: Graph, path: str) -> None:
+    """Gives each trip the path of the trip of the same name in routed_trips, which were read from a file (path). Fault
+    where there is none, it begins or ends on another edge than the trip, or two edges in a row have no connection."""
+    ways = {trip.name: trip for trip in routed_trips.trips}
     for trip in trips:
         routed = ways.get(trip.name)
         if routed is None or not routed.path:
-            raise Fault(f"{where}: no route of {trip.name!r}")
+            raise Fault(f"{path}: no route of {trip.name!r}")
         if (routed.path[0], routed.path[-1]) != (trip.origin, trip.target):
-            raise Fault(f"{where}: the route of {trip.name!r} does not go from where it begins to where it ends")
+            raise Fault(f"{path}: the route of {trip.name!r} does not go from where it begins to where it ends")
         if not all(way in graph.movement_of for way in pairwise(routed.path)):
             why = "has two edges that follow each other and have no connection"
-            raise Fault(f"{where}: the route of {trip.name!r} {why}")
+            raise Fault(f"{path}: the route of {trip.name!r} {why}")
         trip.path = routed.path
 
 
@@ -122,13 +122,13 @@ def check_works(texts: Sequence[str], signs: Sequence[str], trips: Sequence[Trip
             raise Fault(f"trip {trip.name!r} {why_edge_stops((trip.origin,), 0, town.graph)}")
 
 
-def closing_of(shutting: Shutting, graph: Graph, before: RouteSearch, judged: JudgedRoutes) -> Closing:
-    """Works as a router sees them; before and judged are the search and the runs without works, from which free times
-    come. Fault where the map has no such works; KeyError where the graph has no edge of a sign."""
+def closing_of(shutting: Shutting, graph: Graph, search: RouteSearch, judged: JudgedRoutes) -> Closing:
+    """Works as a router sees them; search, judged: that and the runs without works, from which free times come. Fault
+    where the map has no such works; KeyError where the graph has no edge of a sign."""
     mapping = judged.loaded.mapping
     works = [works_of(text, mapping) for text in shutting.close]
     shut: dict[int | EdgePair, Sequence[Times]] = {}
-    shut.update(shut_edges(works, graph, mapping, before.town.dawdle).items())
+    shut.update(shut_edges(works, graph, mapping, search.town.dawdle).items())
     if shutting.lost == "bar":
         shut.update(barred_ways(works, graph, mapping).items())
     return Closing(shut, frozenset(graph.number[name] for name in shutting.sign), judged.loaded.free, shutting)
@@ -142,14 +142,13 @@ def town_with_works(town: RouteTown, shutting: Shutting) -> RouteTown:
 
 
 def search_by_share(
-    before: Diverted, closing: Closing, settings: RouteSettings, check: Sequence[int], shares: Sequence[float],
+    without_works: Diverted, closing: Closing, settings: RouteSettings, check: Sequence[int], shares: Sequence[float],
     on_iteration: Callable[[str, Iteration], bool],
 ) -> Iterator[Diverted]:  # fmt: skip
     """For each share (0 to 1) of drivers who know of the works, what a search of its own gives; each begins with the
-    ways before and is judged by the check seeds. on_iteration: gets a label and an iteration, and gives whether the
-    user asks for an end. The trips are copies of those before. Fault where a trip has no way round the works, or a run
-    fails."""
-    earlier = before.search
+    ways without_works and is judged by the check seeds. on_iteration: gets a label and an iteration, and gives whether
+    the user asks for an end. The trips are copies. Fault where a trip has no way round the works, or a run fails."""
+    earlier = without_works.search
     town = town_with_works(earlier.town, closing.shutting)
     for share in shares:
         trips = [
@@ -158,36 +157,40 @@ def search_by_share(
         ]
         on_labelled = partial(on_iteration, f"knowing {share:g}, ")
         search = RouteSearch(town, earlier.ground, trips, earlier.team, on_labelled, closing)
-        search.turn_off(before.judged.costs, strict=True)
+        search.turn_off(without_works.judged.costs, strict=True)
         search.improve(settings)
         yield Diverted(share, trips, search, search.judged(check))
 
 
-def why_within_gap(result: Diverted, before: Diverted) -> str | None:
+def why_within_gap(diverted: Diverted, without_works: Diverted) -> str | None:
     """A warning where the works change the mean trip, up or down, by less than what all could gain by other ways,
     without the works or with them, whichever is more; None otherwise."""
-    apart, cases = fmean(result.mean_trips()) - fmean(before.mean_trips()), (("without", before), ("with", result))
-    seconds = {where: case.judged.gap * fmean(case.mean_trips()) for where, case in cases}
-    where = max(seconds, key=lambda where: seconds[where])
-    if abs(apart) >= seconds[where]:
+    apart = fmean(diverted.mean_trips()) - fmean(without_works.mean_trips())
+    cases = ("without", without_works), ("with", diverted)
+    seconds = {case_name: case.judged.gap * fmean(case.mean_trips()) for case_name, case in cases}
+    case_name = max(seconds, key=lambda case_name: seconds[case_name])
+    if abs(apart) >= seconds[case_name]:
         return None
     return (
-        f"what the works add ({apart:+.1f} s) is less than what all could gain by other ways {where} them "
-        f"({seconds[where]:.1f} s), and says little: find ways with a smaller --gap"
+        f"what the works add ({apart:+.1f} s) is less than what all could gain by other ways {case_name} them "
+        f"({seconds[case_name]:.1f} s), and says little: find ways with a smaller --gap"
     )
 
 
-def share_rows(results: Sequence[Diverted]) -> Iterator[tuple]:
+def share_rows(all_diverted: Sequence[Diverted]) -> Iterator[tuple]:
     """The rows of knowing.csv, as SHARES has the columns: the ways without works first, then each share, with its mean
     difference (s) to the first by equal seeds and half the width of its 95 % interval. Those that know are counted of
     the trips that may change alone; arrived is of the run with the fewest, rescues are of all runs."""
-    before = results[0]
-    for result in results:
-        apart = [after_s - before_s for before_s, after_s in zip(before.mean_trips(), result.mean_trips(), strict=True)]
-        difference, half = (None, None) if result is before else mean_and_half_width(apart)
-        changed = sum(trip.path != old.path for trip, old in zip(result.trips, before.trips, strict=True))
-        knowing = ("", "") if result is before else (f"{result.share:g}", sum(trip.changes for trip in result.trips))
-        seconds = ("" if value is None else f"{value:.3f}" for value in (fmean(result.mean_trips()), difference, half))
-        runs = result.judged.outcomes
+    without_works = all_diverted[0]
+    for diverted in all_diverted:
+        mean_trips = zip(without_works.mean_trips(), diverted.mean_trips(), strict=True)
+        apart = [after_s - before_s for before_s, after_s in mean_trips]
+        difference, half = (None, None) if diverted is without_works else mean_and_half_width(apart)
+        changed = sum(trip.path != old.path for trip, old in zip(diverted.trips, without_works.trips, strict=True))
+        who_know = sum(trip.changes for trip in diverted.trips)
+        knowing = ("", "") if diverted is without_works else (f"{diverted.share:g}", who_know)
+        figures = fmean(diverted.mean_trips()), difference, half
+        seconds = ("" if figure is None else f"{figure:.3f}" for figure in figures)
+        runs = diverted.judged.outcomes
         ended = min(run.arrived for run in runs), sum(run.rescues for run in runs)
-        yield (*knowing, *seconds, f"{result.judged.gap:.5f}", *ended, changed)
+        yield (*knowing, *seconds, f"{diverted.judged.gap:.5f}", *ended, changed)

@@ -7,10 +7,12 @@ from streetsim.model.runs import Line
 from streetsim.observe.giving_way_gaps import gap_lines
 
 # By edge and lane, as SUMO names them: (second, next edge, the second at which it would have come to the line).
-Passed = dict[tuple[str, int], list[tuple[float, str, float]]]
+PassingsByName = dict[tuple[str, int], list[tuple[float, str, float]]]
 
 
-def passed_by_name(passings: Mapping[tuple[int, int], Sequence[tuple[float, int, float]]], mapping: Map) -> Passed:
+def passed_by_name(
+    passings: Mapping[tuple[int, int], Sequence[tuple[float, int, float]]], mapping: Map
+) -> PassingsByName:
     """When vehicles passed which stop line, with names in place of the map's numbers, as another import may number
     links otherwise. passings: as Passings found it."""
     links = mapping.links
@@ -20,7 +22,7 @@ def passed_by_name(passings: Mapping[tuple[int, int], Sequence[tuple[float, int,
     }
 
 
-def waiting_lines(passed: Passed, mapping: Map, start: int) -> list[tuple[int, Line]]:
+def waiting_lines(passings_by_name: PassingsByName, mapping: Map, start: int) -> list[tuple[int, Line]]:
     """The signal lines, (clock, line), by which vehicles without a light wait for those who go first, as these passed
     in another run. Passings by movements that this map does not have are left out; where their lane does not have the
     movement, they count on another one that has. start: the run's first clock."""
@@ -30,7 +32,7 @@ def waiting_lines(passed: Passed, mapping: Map, start: int) -> list[tuple[int, L
     for turn in mapping.turns:
         turns[links[turn.link].edge, links[turn.next].edge].append((turn.link, turn.lane, turn.next))
     passings_by_lane: defaultdict[tuple[int, int], list[tuple[float, int, float]]] = defaultdict(list)
-    for (edge, lane), passings in passed.items():
+    for (edge, lane), passings in passings_by_name.items():
         chosen = {}
         for following in dict.fromkeys(following for _, following, _ in passings):
             of_way, at_line = turns.get((edge, following), ()), lanes_by_name.get((edge, lane))

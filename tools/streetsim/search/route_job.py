@@ -22,15 +22,15 @@ from streetsim.search.route_team import Team
 from streetsim.search.route_watching import RunGround
 from streetsim.sumo.trips import Trips, write_routes
 
-AFTER = 7200  # seconds that a run may last after the last departure
+LONGEST_TRIP = 7200  # seconds that a run may last after the last departure
 
 @dataclass(frozen=True, slots=True)
 class RouteWorks(Shutting):
-    """Road works as they are asked for, with the shares (0 to 1) of drivers who know of them, one search each. before:
-    the path of a file of ways without the works; None: they are searched."""
+    """Road works as they are asked for, with the shares (0 to 1) of drivers who know of them, one search each.
+    before_path: of a file of ways without the works; None: they are searched."""
 
     knowing: Sequence[float] = (1.0,)
-    before: str | None = None
+    before_path: str | None = None
 
 
 @dataclass(frozen=True, slots=True)
@@ -56,7 +56,7 @@ class Job:
     check: Sequence[int]
     works: RouteWorks
     target: RouteFiles
-    words: dict[str, object]  # of the command, as its setting keeps them
+    setting_words: dict[str, object]  # of the command, as its setting keeps them
 
 
 def search_routes(job: Job, workers: Team, stopping: Stopping) -> list[Diverted]:
@@ -66,102 +66,106 @@ def search_routes(job: Job, workers: Team, stopping: Stopping) -> list[Diverted]
     standard error. Fault where a trip has no way, or none round the works, or a run fails."""
     works, count = job.works, len(job.trips.trips)
 
-    def told(label: str, iteration: Iteration) -> bool:
+    def print_iteration(label: str, iteration: Iteration) -> bool:
         """Prints an iteration on standard error, after the label of its search; gives whether the user has asked for an
         end."""
         print(f"{label}{iteration.line(count)}", file=sys.stderr, flush=True)
         return stopping.end_asked
 
     label = "before, " if works.close else ""
-    search = RouteSearch(job.town, job.ground, job.trips.trips, workers, partial(told, label))
+    search = RouteSearch(job.town, job.ground, job.trips.trips, workers, partial(print_iteration, label))
     have_ways = works.close and all(trip.path for trip in job.trips.trips)
     if not have_ways:
         search.give_first_ways(job.settings.seeds[0])
         search.improve(job.settings)
     judged = search.judged(job.check)
-    before = Diverted(None, job.trips.trips, search, judged)
+    without_works = Diverted(None, job.trips.trips, search, judged)
     if not works.close:
-        return [before]
+        return [without_works]
     for text in town_with_works(job.town, works).told_of_lost(job.trips.trips):
         print(f"warning: {text}", file=sys.stderr)
     closing = closing_of(works, job.town.graph, search, judged)
-    return [before, *search_by_share(before, closing, job.settings, job.check, works.knowing, told)]
+    seeds, shares = job.check, works.knowing
+    return [without_works, *search_by_share(without_works, closing, job.settings, seeds, shares, print_iteration)]
 
 
-def write_found(job: Job, results: Sequence[Diverted]) -> None:
+def write_found(job: Job, all_diverted: Sequence[Diverted]) -> None:
     """Writes the routes, the run with its map where they are asked for, and the folder of tables and pictures, one
-    after the other, each whole or not at all (Fault); several shares have routes, runs, tables and pictures
-    each. results: as search_routes gives it."""
-    target, many_shares, diverted = job.target, len(results) > 2, results[1:] or results
-    for result in diverted:
-        trips = Trips(list(result.trips), job.trips.types)
-        routes = path_for_share(target.routes, result.share, many_shares)
+    after the other, each whole or not at all (Fault); several shares have routes, runs, tables and pictures each.
+    all_diverted: as search_routes gives it."""
+    target, many_shares, written = job.target, len(all_diverted) > 2, all_diverted[1:] or all_diverted
+    for diverted in written:
+        trips = Trips(list(diverted.trips), job.trips.types)
+        routes = path_for_share(target.routes, diverted.share, many_shares)
         write_routes(routes, trips, job.town.graph)
         if target.run and target.map:
-            paths = (path_for_share(path, result.share, many_shares) for path in (target.run, target.map))
-            write_loaded(result.search.town.loaded(result.trips, doubted=True), result.search.town, routes, *paths)
+            paths = (path_for_share(path, diverted.share, many_shares) for path in (target.run, target.map))
+            town = diverted.search.town
+            write_loaded(town.loaded(diverted.trips, doubted=True), town, routes, *paths)
     with whole_folder(target.folder, NAME) as folder:
-        for result in diverted:
-            subfolder = f"{folder}/{result.label.replace(' ', '-')}" if many_shares else folder
+        for diverted in written:
+            subfolder = f"{folder}/{diverted.label.replace(' ', '-')}" if many_shares else folder
             os.makedirs(subfolder, exist_ok=True)
-            write_results(subfolder, result, setting_of(job, result, results[0]))
-            draw_search(subfolder, results[0], result)
+            write_results(subfolder, diverted, setting_of(job, diverted, all_diverted[0]))
+            draw_search(subfolder, all_diverted[0], diverted)
         if job.works.close:
             write_routes(f"{folder}/before.rou.xml", job.trips, job.town.graph)
-            write_table(f"{folder}/knowing.csv", SHARES, share_rows(results))
-            write_table(f"{folder}/flows.csv", FLOWS, flow_rows(job.town.graph, results))
+            write_table(f"{folder}/knowing.csv", SHARES, share_rows(all_diverted))
+            write_table(f"{folder}/flows.csv", FLOWS, flow_rows(job.town.graph, all_diverted))
         if many_shares:
-            write_setting(folder, setting_of(job, results[0], results[0]) | {"knowing": job.works.knowing})
+            write_setting(folder, setting_of(job, all_diverted[0], all_diverted[0]) | {"knowing": job.works.knowing})
 
 
-def setting_of(job: Job, result: Diverted, before: Diverted) -> Json:
+def setting_of(job: Job, diverted: Diverted, without_works: Diverted) -> Json:
     """What setting.json has beside `check_figures` of the check runs: what was asked for, what the search came to, and
-    why it is not to be trusted. before: the result without works."""
-    works, setting = job.works, job.words | {"import": asdict(job.town.options)}
+    why it is not to be trusted. without_works: the result without them."""
+    works, setting = job.works, job.setting_words | {"import": asdict(job.town.options)}
     setting |= proof_note(job.ground.program)
-    setting |= {"until": job.ground.until, "iteration": result.search.best.number, "not_trusted": list(result.doubts())}
+    setting |= {"until": job.ground.until, "iteration": diverted.search.best.number}
+    setting |= {"not_trusted": list(diverted.doubts())}
     if works.close:
-        setting |= {"close": works.close, "knowing": result.share, "sign": works.sign, "before": works.before}
-        setting |= {"lost": works.lost, "without_works": check_figures(before.judged)}
+        setting |= {"close": works.close, "knowing": diverted.share, "sign": works.sign, "before": works.before_path}
+        setting |= {"lost": works.lost, "without_works": check_figures(without_works.judged)}
     return setting
 
 
-def tell_found(job: Job, result: Diverted, before: Diverted) -> int:
+def tell_found(job: Job, diverted: Diverted, without_works: Diverted) -> int:
     """Prints what was found, and warnings to standard error; gives the exit status: 0 where the gap that was asked for
-    is reached, by the search without works too, else 1. before: the result without works, or this one itself."""
-    label = f"{result.label}: " * (result.share is not None)
-    if has_stalled(result.search) and result.judged.gap > job.settings.gap:
+    is reached, by the search without works too, else 1. without_works: the result without them, or diverted itself."""
+    label = f"{diverted.label}: " * (diverted.share is not None)
+    if has_stalled(diverted.search) and diverted.judged.gap > job.settings.gap:
         print(
             f"warning: {label}the ways get no better any more: the best were those of iteration "
-            f"{result.search.best.number}",
+            f"{diverted.search.best.number}",
             file=sys.stderr,
         )
-    if result is not before and (why := why_within_gap(result, before)):
+    if diverted is not without_works and (why := why_within_gap(diverted, without_works)):
         print(f"warning: {label}{why}", file=sys.stderr)
-    mean, runs, missed = fmean(result.mean_trips()), len(result.judged.outcomes), gap_missed(job, result, before)
+    mean, runs = fmean(diverted.mean_trips()), len(diverted.judged.outcomes)
+    added, missed = mean - fmean(without_works.mean_trips()), gap_missed(job, diverted, without_works)
     print(
-        f"{label}mean trip {mean:.1f} s{f' ({mean - fmean(before.mean_trips()):+.1f} s by the works)' * bool(label)}, "
-        f"gap {100 * result.judged.gap:.2f} % by {runs} seed{'s' * (runs > 1)} that the search did not see"
+        f"{label}mean trip {mean:.1f} s{f' ({added:+.1f} s by the works)' * bool(label)}, "
+        f"gap {100 * diverted.judged.gap:.2f} % by {runs} seed{'s' * (runs > 1)} that the search did not see"
         f"{f': the gap of {100 * job.settings.gap:g} % is not reached{missed}' if missed is not None else ''}; "
-        f"routes of iteration {result.search.best.number}"
+        f"routes of iteration {diverted.search.best.number}"
     )
     return 0 if missed is None else 1
 
 
-def tell_stops(job: Job, result: Diverted) -> None:
+def tell_stops(job: Job, diverted: Diverted) -> None:
     """Prints on standard error which stops are not made in the runs by which routes are judged, and which lights wait
     for whom."""
-    loaded = result.judged.loaded
+    loaded = diverted.judged.loaded
     for text in job.ground.settings(loaded.run, loaded.mapping).buses.notes():
-        print(f"{result.label}: {text}" if result.share is not None else text, file=sys.stderr)
+        print(f"{diverted.label}: {text}" if diverted.share is not None else text, file=sys.stderr)
 
 
-def gap_missed(job: Job, result: Diverted, before: Diverted) -> str | None:
+def gap_missed(job: Job, diverted: Diverted, without_works: Diverted) -> str | None:
     """The words that say where the gap that was asked for is not reached: empty where only the result itself misses
     it. None where it is reached. Ways without works that were given in a file are not judged."""
-    without = before.judged.gap if before.search.iterations and result is not before else 0.0
-    if max(result.judged.gap, without) <= job.settings.gap:
+    without = without_works.judged.gap if without_works.search.iterations and diverted is not without_works else 0.0
+    if max(diverted.judged.gap, without) <= job.settings.gap:
         return None
     if without <= job.settings.gap:
         return ""
-    return f"{', nor' * (result.judged.gap > job.settings.gap)} without works ({100 * without:.2f} %)"
+    return f"{', nor' * (diverted.judged.gap > job.settings.gap)} without works ({100 * without:.2f} %)"

@@ -25,14 +25,14 @@ FLOWS = ("edge", "case", "trips", "more_than_before")
 TRIPS = ("id", "depart", "edges", "may_change", "mean_trip_s", "way_s", "shortest_s")
 
 
-def write_results(folder: str, result: Diverted, setting: Json) -> None:
+def write_results(folder: str, diverted: Diverted, setting: Json) -> None:
     """Writes iterations.csv, check.csv, movements.csv, trips.csv and setting.json of a search into a folder. setting:
     what setting.json has beside `check_figures`. Fault where one cannot be written."""
-    write_table(f"{folder}/iterations.csv", ITERATIONS, iteration_rows(result.search.iterations))
-    write_table(f"{folder}/check.csv", CHECK, check_rows(result.judged))
-    write_table(f"{folder}/movements.csv", MOVEMENTS, movement_rows(result.search.ground, result.judged))
-    write_table(f"{folder}/trips.csv", TRIPS, trip_rows(result.trips, result.judged))
-    write_setting(folder, {**setting, **check_figures(result.judged)})
+    write_table(f"{folder}/iterations.csv", ITERATIONS, iteration_rows(diverted.search.iterations))
+    write_table(f"{folder}/check.csv", CHECK, check_rows(diverted.judged))
+    write_table(f"{folder}/movements.csv", MOVEMENTS, movement_rows(diverted.search.ground, diverted.judged))
+    write_table(f"{folder}/trips.csv", TRIPS, trip_rows(diverted.trips, diverted.judged))
+    write_setting(folder, {**setting, **check_figures(diverted.judged)})
 
 
 def write_setting(folder: str, setting: Json) -> None:

@@ -6,7 +6,7 @@ from statistics import fmean
 from streetsim.base import limits
 from streetsim.base.files import Fault
 from streetsim.search.route_closing import Closing, turn_off
-from streetsim.search.route_giving_way import Passed
+from streetsim.search.route_giving_way import PassingsByName
 from streetsim.search.route_loading import LoadedRun, RouteTown
 from streetsim.search.route_team import Team
 from streetsim.search.route_watching import RunGround, WatchedOutcome
@@ -39,14 +39,14 @@ class RouteSettings:
 
 @dataclass(frozen=True, slots=True)
 class SeenCosts:
-    """What runs of some ways showed, and the best ways by the costs that they showed. passed: for each seed, when those
-    who go first passed their stop lines."""
+    """What runs of some ways showed, and the best ways by the costs that they showed. passings_by_seed: when those who
+    go first passed their stop lines."""
 
     ways: list[tuple[Path, float]]  # of all trips, with their entries
     outcomes: list[WatchedOutcome]
     costs: Costs
     best_paths: list[FoundPath]
-    passed: list[Passed]
+    passings_by_seed: list[PassingsByName]
     gap: float
     lacking: int  # trips that did not arrive
 
@@ -84,7 +84,7 @@ class Best:
     gap: float = FAR
     number: int = 0
     ways: list[tuple[Path, float]] = field(default_factory=list)
-    passed: list[Passed] = field(default_factory=list)
+    passings_by_seed: list[PassingsByName] = field(default_factory=list)
 
     def is_below(self, lacking: int, gap: float, trust: float = 1.0) -> bool:
         """Whether it is better than an iteration in which lacking trips did not arrive, with the relative gap gap; its
@@ -126,7 +126,7 @@ class RouteSearch:
         self.team, self.on_iteration, self.closing = team, on_iteration, closing
         self.iterations: list[Iteration] = []
         self.best = Best()
-        self.passed: list[Passed] = []  # by seed, when those passed who go first, in the last run
+        self.passings_by_seed: list[PassingsByName] = []  # by seed, when those passed who go first, in the last run
 
     def give_first_ways(self, seed: int) -> None:
         """Gives first ways to the trips that have none; Fault where there is no way for one. seed: of the order in
@@ -146,24 +146,25 @@ class RouteSearch:
         share = settings.share
         trials: list[RouteTrial] = [RouteTrial(1.0, [])]
         for number in range(settings.iterations + 1):
-            shown, fraction = self.run_best_trial(settings.seeds, trials)
-            paths, share = shown.best_paths, share * fraction
-            back = self.best.is_below(shown.lacking, shown.gap, TRUST)
-            if not self.best.is_below(shown.lacking, shown.gap):
-                self.best = Best(shown.lacking, shown.gap, number, shown.ways, shown.passed)
+            seen_costs, fraction = self.run_best_trial(settings.seeds, trials)
+            paths, share = seen_costs.best_paths, share * fraction
+            taken_back = self.best.is_below(seen_costs.lacking, seen_costs.gap, TRUST)
+            if not self.best.is_below(seen_costs.lacking, seen_costs.gap):
+                passings = seen_costs.passings_by_seed
+                self.best = Best(seen_costs.lacking, seen_costs.gap, number, seen_costs.ways, passings)
             worth = any(seconds_gained(path) > LEAST_GAIN for path in paths)
-            near = shown.gap <= OWN_SEED * settings.gap and (number or not worth)
+            near = seen_costs.gap <= OWN_SEED * settings.gap and (number or not worth)
             is_last = number == settings.iterations or near
-            if back and not is_last:
+            if taken_back and not is_last:
                 give_ways(self.trips, self.best.ways)
-                self.passed = self.best.passed
-                paths = self.best_ways(shown.costs)
-            if number < settings.iterations and self.turn_off(shown.costs):
+                self.passings_by_seed = self.best.passings_by_seed
+                paths = self.best_ways(seen_costs.costs)
+            if number < settings.iterations and self.turn_off(seen_costs.costs):
                 is_last = False
-            share = max(LEAST_SHARE, share / 2 if back else share)
+            share = max(LEAST_SHARE, share / 2 if taken_back else share)
             trials = [] if is_last else trials_of(paths, share, settings.tried)
-            share = share if back else share * SLOWER
-            iteration = iteration_of(number, shown, paths, len(trials[0].trips) if trials else 0, back)
+            share = share if taken_back else share * SLOWER
+            iteration = iteration_of(number, seen_costs, paths, len(trials[0].trips) if trials else 0, taken_back)
             self.iterations.append(iteration)
             if self.on_iteration(iteration) or is_last:
                 break
@@ -176,17 +177,17 @@ class RouteSearch:
         which nobody waits."""
         paths_by_trial = [paths_after(self.trips, trial.trips) for trial in trials]
         loads = [self.loaded(paths) for paths in paths_by_trial]
-        if self.ground.rounds and loads[0].mapping.yields and not self.passed:
+        if self.ground.rounds and loads[0].mapping.yields and not self.passings_by_seed:
             [outcomes] = self.team.run_cases(loads[:1], seeds, [None] * len(seeds))
-            self.passed = [outcome.passed for outcome in outcomes]
-        passed: list[Passed | None] = [*self.passed] or [None] * len(seeds)
-        runs = self.team.run_cases(loads, seeds, passed)
+            self.passings_by_seed = [outcome.passings for outcome in outcomes]
+        passings_by_seed: list[PassingsByName | None] = [*self.passings_by_seed] or [None] * len(seeds)
+        runs = self.team.run_cases(loads, seeds, passings_by_seed)
         results = [self.give_and_see(*case) for case in zip(paths_by_trial, loads, runs, strict=True)]
         best = min(range(len(results)), key=lambda at: (results[at].lacking, results[at].gap))
-        shown = results[best]
-        self.passed = shown.passed if self.passed else []
-        give_ways(self.trips, shown.ways)
-        return shown, trials[best].fraction
+        seen_costs = results[best]
+        self.passings_by_seed = seen_costs.passings_by_seed if self.passings_by_seed else []
+        give_ways(self.trips, seen_costs.ways)
+        return seen_costs, trials[best].fraction
 
     def loaded(self, paths: Sequence[Path]) -> LoadedRun:
         """The run of the trips with some ways, one path for each trip."""
@@ -199,8 +200,8 @@ class RouteSearch:
         costs = self.costs_shown(loaded, outcomes)
         best, lacking = self.best_ways(costs), len(self.trips) - min(outcome.arrived for outcome in outcomes)
         ways = [(trip.path, trip.entry) for trip in self.trips]
-        passed = [outcome.passed for outcome in outcomes]
-        return SeenCosts(ways, outcomes, costs, best, passed, relative_gap(best), lacking)
+        passings_by_seed = [outcome.passings for outcome in outcomes]
+        return SeenCosts(ways, outcomes, costs, best, passings_by_seed, relative_gap(best), lacking)
 
     def note_entries(self, outcomes: Sequence[WatchedOutcome]) -> None:
         """Notes for each trip its mean entry, a clock, in some runs of the trips."""
@@ -288,14 +289,16 @@ def trials_of(paths: Sequence[FoundPath], share: float, tried: int) -> list[Rout
     return [trial for at, trial in enumerate(trials) if at == 0 or len(trial.trips) < len(trials[at - 1].trips)]
 
 
-def iteration_of(number: int, shown: SeenCosts, paths: Sequence[FoundPath], changed: int, back: bool) -> Iteration:
+def iteration_of(
+    number: int, seen_costs: SeenCosts, paths: Sequence[FoundPath], changed: int, taken_back: bool
+) -> Iteration:
     """What is kept of an iteration: of what its runs showed, of its searches, and how many trips change next (changed);
-    back: whether its routes were taken back."""
+    taken_back: whether its routes were."""
     return Iteration(
-        number=number, mean=fmean(outcome.mean for outcome in shown.outcomes),
-        arrived=min(outcome.arrived for outcome in shown.outcomes),
-        rescues=sum(outcome.rescues for outcome in shown.outcomes),
-        gap=shown.gap, cost=fmean(path.own_seconds for path in paths) if paths else 0.0, may_change=len(paths),
+        number=number, mean=fmean(outcome.mean for outcome in seen_costs.outcomes),
+        arrived=min(outcome.arrived for outcome in seen_costs.outcomes),
+        rescues=sum(outcome.rescues for outcome in seen_costs.outcomes),
+        gap=seen_costs.gap, cost=fmean(path.own_seconds for path in paths) if paths else 0.0, may_change=len(paths),
         changed=changed,
-        taken_back=back,
+        taken_back=taken_back,
     )  # fmt: skip

@@ -17,7 +17,7 @@ from streetsim.search.route_watching import RunGround
 from streetsim.sumo.converting import options_again
 from streetsim.sumo.trips import connected_trips, read_trips
 
-ASKED = RouteSettings(iterations=10, gap=0.02, share=0.2, seeds=range(1, 2))
+SEARCH_SETTINGS = RouteSettings(iterations=10, gap=0.02, share=0.2, seeds=range(1, 2))
 CHECK = range(101, 104)
 SLICE = 300
 
@@ -37,11 +37,13 @@ class Wished:
     lost: str = "lead"  # what those do who lose their only lane, of works_movements.LOST
 
 
-def run_on_found_ways(run: Run, mapping: Map, map_path: str, wished: Wished, where: str) -> tuple[Run, Map, list[str]]:
+def run_on_found_ways(
+    run: Run, mapping: Map, map_path: str, wished: Wished, variant_label: str
+) -> tuple[Run, Map, list[str]]:
     """The run, with the works of the variant if it has any, and its map, with ways that a search of ten iterations,
     printed on standard error, finds for the vehicles of its import; and the texts that speak against these ways.
-    map_path: of the map's file; where: the variant, named in what is told. Fault where a file of the import is gone or
-    has changed, a trip has no way, or a run fails."""
+    map_path: of the map's file; variant_label: in what is told. Fault where a file of the import is gone or has
+    changed, a trip has no way, or a run fails."""
     sources = sources_of(mapping.sources, map_path, run.path)
     options = options_again(mapping, joint=wished.joint)
     town = read_town(sources.net, sources.additional, options, Report())
@@ -50,21 +52,22 @@ def run_on_found_ways(run: Run, mapping: Map, map_path: str, wished: Wished, whe
     program, until = wished.program, wished.until
     ground = RunGround(program, program_digest(program), town.graph, SLICE, until, wished.rounds, wished.driven)
 
-    def told(label: str, iteration: Iteration) -> bool:
+    def print_iteration(label: str, iteration: Iteration) -> bool:
         """Prints an iteration on standard error; gives False, as nobody ends this search."""
-        print(f"{where}: {label}{iteration.line(len(trips.trips))}", file=sys.stderr, flush=True)
+        print(f"{variant_label}: {label}{iteration.line(len(trips.trips))}", file=sys.stderr, flush=True)
         return False
 
     with team(ground, CORES, None) as workers:
-        search = RouteSearch(town, ground, trips.trips, workers, lambda iteration: told("", iteration))
-        search.give_first_ways(ASKED.seeds[0])
+        search = RouteSearch(town, ground, trips.trips, workers, lambda iteration: print_iteration("", iteration))
+        search.give_first_ways(SEARCH_SETTINGS.seeds[0])
         if wished.close:
-            before = Diverted(None, trips.trips, search, search.judged(CHECK))
+            without_works = Diverted(None, trips.trips, search, search.judged(CHECK))
             shutting = Shutting(wished.close, (), wished.lost)
-            closing = closing_of(shutting, town.graph, search, before.judged)
-            search = next(search_by_share(before, closing, ASKED, CHECK, [wished.knowing], told)).search
+            closing = closing_of(shutting, town.graph, search, without_works.judged)
+            asked = without_works, closing, SEARCH_SETTINGS, CHECK, [wished.knowing]
+            search = next(search_by_share(*asked, print_iteration)).search
         else:
-            search.improve(ASKED)
+            search.improve(SEARCH_SETTINGS)
     loaded = search.town.loaded(search.trips, doubted=True)
     return replace(loaded.run, path=run.path), loaded.mapping, list(doubts(search, wished.seeds))
 
@@ -72,10 +75,10 @@ def run_on_found_ways(run: Run, mapping: Map, map_path: str, wished: Wished, whe
 def doubts(search: RouteSearch, seeds: Sequence[int]) -> Iterator[str]:
     """What speaks against ways that a search found, for runs with the seeds of a study, a text each: a gap above the
     one asked for, or seeds that the search used too."""
-    if search.best.gap > ASKED.gap:
+    if search.best.gap > SEARCH_SETTINGS.gap:
         yield (
-            f"its ways have a gap of {100 * search.best.gap:.1f} % by the search's own seed, of {100 * ASKED.gap:g} "
-            "% that are asked for"
+            f"its ways have a gap of {100 * search.best.gap:.1f} % by the search's own seed, of "
+            f"{100 * SEARCH_SETTINGS.gap:g} % that are asked for"
         )
-    if shared_seeds := sorted(set(seeds) & set(ASKED.seeds)):
+    if shared_seeds := sorted(set(seeds) & set(SEARCH_SETTINGS.seeds)):
         yield f"its ways were found by seed {shared_seeds[0]}, which is one of the study's: give others"

@@ -2,7 +2,7 @@
 import contextlib
 from collections.abc import Iterator, Sequence
 
-from streetsim.search.route_giving_way import Passed
+from streetsim.search.route_giving_way import PassingsByName
 from streetsim.search.route_loading import LoadedRun
 from streetsim.search.route_watching import RunGround, WatchedOutcome, check_outcome, trial_outcome
 from streetsim.search.run_machines import Machines, machines
@@ -27,15 +27,14 @@ class Team:
         return sorted((path for part in self.workers.ordered(tasks) for path in part), key=lambda path: path.trip)
 
     def run_cases(
-        self, cases: Sequence[LoadedRun], seeds: Sequence[int], passed: Sequence[Passed | None]
+        self, cases: Sequence[LoadedRun], seeds: Sequence[int], passings_by_seed: Sequence[PassingsByName | None]
     ) -> list[list[WatchedOutcome]]:
-        """What runs of some cases with each seed show, by case and then by seed. passed: for each seed, when those
-        who go first passed in the run before; None where nobody waits for them. Fault where a run fails or a worker is
-        lost."""
-        pairs = list(zip(seeds, passed, strict=True))
+        """What runs of some cases with each seed show, by case and then by seed. passings_by_seed: of those who go
+        first, in the run before; None where nobody waits for them. Fault where a run fails or a worker is lost."""
+        pairs = list(zip(seeds, passings_by_seed, strict=True))
         tasks = [
-            (f"the run with seed {seed}", trial_outcome, 0, loaded.run, loaded.mapping, seed, before)
-            for loaded in cases for seed, before in pairs
+            (f"the run with seed {seed}", trial_outcome, 0, loaded.run, loaded.mapping, seed, passings)
+            for loaded in cases for seed, passings in pairs
         ]  # fmt: skip
         outcomes = self.workers.ordered(tasks)
         return [[next(outcomes) for _ in seeds] for _ in cases]

@@ -24,17 +24,17 @@ class PlannedVehicle:
 
 @dataclass(slots=True)
 class Diversion:
-    """Another way of a vehicle on the road. ahead: the links that it drives first; rest: the links after them; due: the
-    clock before which it need not be looked at."""
+    """Another way of a vehicle on the road. links_ahead: those that it drives first; links_after: those after them;
+    due: the clock before which it need not be looked at."""
 
-    ahead: Path
-    rest: Path
+    links_ahead: Path
+    links_after: Path
     due: int
 
     def least_steps(self, links: Sequence[MapLink], link: int, cell: int | None) -> int:
         """The least steps, one at least, until a vehicle, at a cell of a link, is behind the links ahead. cell: None
         where it is at the link's end. ValueError where the link is none of these."""
-        links_left = self.ahead[self.ahead.index(link) :]
+        links_left = self.links_ahead[self.links_ahead.index(link) :]
         cells = sum(links[at].cells for at in links_left) - (links[link].cells if cell is None else cell + 1)
         return max(1, int(cells / max(links[at].limit for at in links_left)))
 

@@ -22,7 +22,7 @@ from streetsim.observe.link_passings import Passings
 from streetsim.observe.queues import Summary
 from streetsim.observe.trips import TripsTable
 from streetsim.observe.works import WorksTable
-from streetsim.search.route_giving_way import Passed, passed_by_name, waiting_lines
+from streetsim.search.route_giving_way import PassingsByName, passed_by_name, waiting_lines
 from streetsim.sumo.way_costs import Observed, nothing_observed
 from streetsim.sumo.way_graph import END, Graph
 
@@ -41,14 +41,14 @@ class RunGround:
     rounds: int = ROUNDS
     driven: bool = True
     priority: tuple[str, ...] = ()  # classes of vehicles or lines for which lights wait
-    seen: int | None = None  # seconds before a stop line at which lights see them; None: as usual
+    seen_seconds: int | None = None  # seconds before a stop line at which lights see them; None: as usual
 
     def settings(self, run: Run, mapping: Map) -> Settings:
         """What each run is asked for: to its last clock, with stops, rescues, merging, lights that detectors drive and
         vehicles with priority. Fault where nobody is of a class or line that has priority."""
         lights, buses = self.lights(run, mapping), planned(run, mapping)
         if self.priority:
-            lights, buses = prioritised(run, mapping, self.priority, self.seen, lights, buses)
+            lights, buses = prioritised(run, mapping, self.priority, self.seen_seconds, lights, buses)
         return Settings(self.until, 0, lights=lights, buses=buses)
 
     def lights(self, run: Run, mapping: Map) -> ActuatedLights:
@@ -71,7 +71,7 @@ class WatchedOutcome:
     arrivals: list[int | None]  # when each arrived
     mean: float  # seconds from the wished departure
     rescues: int
-    passed: Passed  # when those passed who go first
+    passings: PassingsByName  # when those passed who go first
     most_waiting: tuple[int, int]  # vehicles that waited to enter at the worst minute, and its clock
     at_works: tuple[str, ...] = ()  # what speaks against the run, by what was seen before its works
 
@@ -81,10 +81,12 @@ class WatchedOutcome:
         return sum(end is not None for end in self.arrivals)
 
 
-def trial_outcome(ground: RunGround, run: Run, mapping: Map, seed: int, passed: Passed | None) -> WatchedOutcome:
-    """Makes one run with a seed and gives what it showed; a task of a worker. passed: when those who go first passed in
-    the run before, None: nobody waits for them. Fault as of outcome_of_run."""
-    lines = waiting_lines(passed, mapping, run.start()) if passed else []
+def trial_outcome(
+    ground: RunGround, run: Run, mapping: Map, seed: int, passings_by_name: PassingsByName | None
+) -> WatchedOutcome:
+    """Makes one run with a seed and gives what it showed; a task of a worker. passings_by_name: of those who go first
+    in the run before, None: nobody waits for them. Fault as of outcome_of_run."""
+    lines = waiting_lines(passings_by_name, mapping, run.start()) if passings_by_name else []
     return outcome_of_run(ground, with_lines(with_load(run, seed=seed), lines), mapping, seed)
 
 
@@ -110,7 +112,7 @@ def outcome_of_run(ground: RunGround, run: Run, mapping: Map, seed: int) -> Watc
     entries = [float(clocks[0] if clocks else depart) for clocks, depart in zip(watched.clocks, departs, strict=True)]
     ends = (ground.until if end is None else end for end in watched.arrivals)
     mean = sum(end - depart for end, depart in zip(ends, departs, strict=True)) / len(departs)
-    ran = watched.rescues, passed_by_name(watched.passed, mapping), watched.most_waiting, watched.at_works
+    ran = watched.rescues, passed_by_name(watched.passings, mapping), watched.most_waiting, watched.at_works
     return WatchedOutcome(watched.observed, entries, watched.arrivals, mean, *ran)
 
 
@@ -118,15 +120,14 @@ def outcome_of_run(ground: RunGround, run: Run, mapping: Map, seed: int) -> Watc
 class SeenRun:
     """A run that was made. clocks: for each vehicle those at which it came to the links of its plan, as far as it did,
     the first of them a second sooner, when it departed; arrivals: the clocks, None where it did not arrive; observed:
-    the seconds of movements by the time of their begin, those of one that has not ended up to the run's end; passed:
-    when those passed who go first, empty where nobody gives way; most_waiting: how many vehicles waited to enter at the
-    worst minute, and its clock, the first of equal ones; at_works: what speaks against the run, by what was seen there.
-    """
+    the seconds of movements by the time of their begin, those of one that has not ended up to the run's end; passings:
+    of those who go first, empty where nobody gives way; most_waiting: how many vehicles waited to enter at the worst
+    minute, and its clock, the first of equal ones; at_works: what speaks against the run, by what was seen there. """
 
     clocks: list[list[int]]
     arrivals: list[int | None]
     observed: Observed
-    passed: StopLinePassings
+    passings: StopLinePassings
     rescues: int
     most_waiting: tuple[int, int]
     at_works: tuple[str, ...]
@@ -147,7 +148,7 @@ def seen_run(ground: RunGround, run: Run, mapping: Map, seed: int, giving: bool)
     worst = max(summary.censuses(), key=lambda census: census.waiting)
     return SeenRun(
         clocks=clocks, arrivals=arrivals, observed=observed_in(ground, run, mapping, clocks, arrivals),
-        passed=passings.stop_line_passings() if giving else {}, rescues=steering.rescue.count.total(),
+        passings=passings.stop_line_passings() if giving else {}, rescues=steering.rescue.count.total(),
         most_waiting=(worst.waiting, worst.clock), at_works=tuple(doubts_of(works.watched, mapping)),
     )  # fmt: skip
 

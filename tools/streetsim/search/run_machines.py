@@ -29,10 +29,10 @@ Cluster = Any  # such a client
 Function = Callable[..., Any]
 HOST = re.compile(r"(\w+://)?.+:\d+")
 LOST = (BrokenExecutor, CancelledError)
-HELD: list[Held] = []  # in a process of the pool: the sessions
+SESSIONS: list[HasProgram] = []  # in a process of the pool: the sessions
 
 
-class Held(Protocol):
+class HasProgram(Protocol):
     """What runs stand on: a session, or anything else with a program."""
 
     @property
@@ -60,13 +60,13 @@ class Workers:
 class Machines:
     """Runs functions of (session, ..) on some workers; a session is named by its index in a list."""
 
-    def __init__(self, executor: Executor, held: Sequence[Held | int]) -> None:
-        """held: by index what a worker is given for a session: itself, or its index where workers hold them."""
-        self.executor, self.held = executor, held
+    def __init__(self, executor: Executor, sessions: Sequence[HasProgram | int]) -> None:
+        """sessions: by index what a worker is given for a session: itself, or its index where workers hold them."""
+        self.executor, self.sessions = executor, sessions
 
     def submit(self, function: Function, index: int, *arguments: Any) -> Any:
         """Begins a task: a function of the session at an index and of further arguments; gives its future."""
-        return self.executor.submit(do_task, function, self.held[index], *arguments)
+        return self.executor.submit(do_task, function, self.sessions[index], *arguments)
 
     def ordered(self, tasks: Iterable[Sequence[Any]]) -> Iterator[Any]:
         """What tasks, each (name, function, index, ..), give, in their order, whatever the order in which they end.
@@ -83,7 +83,7 @@ class Machines:
 
 def do_task(function: Function, session: Any, *arguments: Any) -> Any:
     """Does one task; session: a session, or the index of one that this process holds."""
-    return function(HELD[session] if isinstance(session, int) else session, *arguments)
+    return function(SESSIONS[session] if isinstance(session, int) else session, *arguments)
 
 
 def result_of(future: Any, name: str) -> Any:
@@ -105,7 +105,7 @@ def exception_told(fault: BaseException) -> str:
 
 
 @contextlib.contextmanager
-def machines(jobs: int, cluster: str | None, sessions: Sequence[Held]) -> Iterator[Machines]:
+def machines(jobs: int, cluster: str | None, sessions: Sequence[HasProgram]) -> Iterator[Machines]:
     """The workers of a cluster (HOST:PORT), or without one (None) so many processes of this machine (jobs), until the
     block ends; both know the sessions. Fault as of cluster_of."""
     if cluster:
@@ -130,17 +130,17 @@ def end_pool(executor: Executor) -> None:
             calls._reader.close()
 
 
-def hold_sessions(sessions: Sequence[Held]) -> None:
-    """Runs first in each process of the pool: puts the sessions into its HELD. The process ignores Ctrl-C, which the
-    main process handles, and ends by SIGTERM and SIGHUP."""
-    HELD[:] = sessions
+def hold_sessions(sessions: Sequence[HasProgram]) -> None:
+    """Runs first in each process of the pool: puts the sessions into its SESSIONS. The process ignores Ctrl-C, which
+    the main process handles, and ends by SIGTERM and SIGHUP."""
+    SESSIONS[:] = sessions
     signal.signal(signal.SIGINT, signal.SIG_IGN)
     for number in (signal.SIGTERM, signal.SIGHUP):
         signal.signal(number, signal.SIG_DFL)
 
 
 @contextlib.contextmanager
-def cluster_of(address: str, sessions: Sequence[Held]) -> Iterator[Machines]:
+def cluster_of(address: str, sessions: Sequence[HasProgram]) -> Iterator[Machines]:
     """The workers of a dask scheduler at HOST:PORT, until the block ends; dask's log and warnings are silenced in this
     process for good. Fault where dask is not installed, no scheduler answers or has a worker in PATIENCE seconds, or a
     worker does not have the program or cannot be made ready."""
@@ -167,7 +167,7 @@ def cluster_of(address: str, sessions: Sequence[Held]) -> Iterator[Machines]:
         yield Machines(Workers(client), sessions)
 
 
-def prepare(client: Cluster, address: str, sessions: Sequence[Held]) -> None:
+def prepare(client: Cluster, address: str, sessions: Sequence[HasProgram]) -> None:
     """Sends this package to the workers of a cluster, and checks their programs; where one of them is lost meanwhile,
     again, TRIES times in all, and then a Fault. Fault at once where a program is another one."""
     for tries_left in reversed(range(TRIES)):
@@ -193,7 +193,7 @@ def send_package(client: Cluster) -> None:
         client.upload_file(path)
 
 
-def check_programs(client: Cluster, sessions: Sequence[Held]) -> None:
+def check_programs(client: Cluster, sessions: Sequence[HasProgram]) -> None:
     """Fault where a worker of a cluster has no program, or another one, at a session's path."""
     for program, digest in sorted({(session.program, session.digest) for session in sessions}):
         for worker, held in sorted(client.run(program_digest, program).items()):

@@ -52,5 +52,5 @@ def outcome_of(program: str, run: Run, mapping: Map, settings: Settings) -> Outc
     arrived, gone_at = sum(end is not None for end in ends), when_all_arrived(ends, run.start())
     worst = max(summary.censuses(), key=lambda census: census.waiting)
     at_works, waiting = tuple(doubts_of(works.watched, mapping)), (worst.waiting, worst.clock)
-    ended = steering.ending.ended
+    ended = steering.ending.end_reason
     return Outcome(digest, arrived, seconds, kernel.clock, *waiting, ended, all_arrived_at=gone_at, at_works=at_works)

@@ -61,7 +61,7 @@ class Outcome:
     end: int  # the last clock
     waiting: int  # vehicles that waited to enter, at the worst of the looks
     waiting_at: int  # its clock
-    ended: str = ""  # why a run without a last second ended
+    end_reason: str = ""  # why a run without a last second ended
     junctions: int = 0  # without a light, at which vehicles give way
     lines: int = 0  # signals by which they do
     all_arrived_at: int | None = None  # the clock at which all had arrived; None where some have not
@@ -101,15 +101,15 @@ def bytes_of(lines: Iterable[Line]) -> bytes:
     return "".join(line.text + "\n" for line in lines).encode()
 
 
-def advance_lines(clocks: Sequence[int], timed: Sequence[tuple[int, Line]], counted: bytes) -> bytes:
-    """The advance lines from clock to clock with the timed lines between, as bytes; counted: the line that follows at
-    each of the clocks but the first; timed: of before the last of them, those of before the first go at it."""
+def advance_lines(clocks: Sequence[int], timed: Sequence[tuple[int, Line]], count_line: bytes) -> bytes:
+    """The advance lines from clock to clock with the timed lines between, as bytes; count_line: what follows at each of
+    the clocks but the first; timed: of before the last of them, those of before the first go at it."""
     counts_at, clocks = set(clocks), sorted({*clocks, *(clock for clock, _ in timed if clocks[0] < clock < clocks[-1])})
     sent = {clock: b"" for clock in clocks}
     for clock, line in timed:
         sent[max(clock, clocks[0])] += line.text.encode() + b"\n"
     parts = (
-        sent[begin] + b'{"cmd":"advance","steps":%d}\n' % (end - begin) + (counted if end in counts_at else b"")
+        sent[begin] + b'{"cmd":"advance","steps":%d}\n' % (end - begin) + (count_line if end in counts_at else b"")
         for begin, end in pairwise(clocks)
     )
     return b"".join(parts)

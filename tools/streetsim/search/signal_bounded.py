@@ -35,7 +35,7 @@ class BoundsSettings:
 
     budget: int
     seeds: Sequence[int]
-    least: int | None
+    lowest_green: int | None
 
 
 @dataclass(frozen=True, slots=True)
@@ -98,7 +98,7 @@ def searched_bounds(
 
     def search_from_given(search: PlanSearch) -> None:
         """Searches from the given bounds."""
-        lowest = lowest_greens(ground.town.mapping, ground.given_bounds, settings.least)
+        lowest = lowest_greens(ground.town.mapping, ground.given_bounds, settings.lowest_green)
         search_bounds(search, ground.given_bounds, lowest)
 
     return ended_search(trips, settings.budget, len(seeds), search_from_given, key_of)
@@ -110,37 +110,40 @@ class FoundBounds:
     those found (after), and under the best plan of seconds (fixed). sumo: None where SUMO was not run."""
 
     search: PlanSearch
-    stopped: bool
-    before: list[Outcome]
-    after: list[Outcome]
+    ended_by_user: bool
+    outcomes_before: list[Outcome]
+    outcomes_after: list[Outcome]
     fixed: list[Outcome]
     sumo: Verified | None
 
     def before_after_rows(self, cars: int) -> list[BeforeAfter]:
         """The rows of before-after.csv: mean trips (s) as given and as found, under the best plan of seconds and as
         found, and those of SUMO where it was run; of two seeds or more. cars: vehicles that depart before the end."""
-        named = {"mean_trip_s": (self.before, self.after), "mean_trip_of_best_fixed_s": (self.fixed, self.after)}
+        named = {
+            "mean_trip_s": (self.outcomes_before, self.outcomes_after),
+            "mean_trip_of_best_fixed_s": (self.fixed, self.outcomes_after),
+        }
         pairs = {name: [[outcome.seconds / cars for outcome in runs] for runs in pair] for name, pair in named.items()}
         return [*(row_of(name, *pair) for name, pair in pairs.items()), *sumo_rows(self.sumo)]
 
     def doubts(self, ground: BoundsGround) -> Iterator[str]:
         """Why the bounds found are not to be trusted, a text each; nothing where they are."""
         town, lights = ground.town, ground.lights.listed_lights(ground.town.mapping)
-        yield from vehicle_doubts(town, self.before, self.after)
+        yield from vehicle_doubts(town, self.outcomes_before, self.outcomes_after)
         yield from trust.actuated_doubts(town.session.clocks[-1], town.run, town.mapping, lights)
 
 
-def write_found_bounds(output: str, out: str, ground: BoundsGround, result: FoundBounds) -> int:
+def write_found_bounds(output: str, out: str, ground: BoundsGround, found_bounds: FoundBounds) -> int:
     """Writes bounds (to the file output) and tables (into the folder out), and prints what was found. Gives the exit
     status: 0 where the bounds are shown to be better wherever they were run, else 1."""
-    best, doubts = result.search.best[1], [*result.doubts(ground)]
-    rows = result.before_after_rows(len(ground.town.session.departs))
+    best, doubts = found_bounds.search.best[1], [*found_bounds.doubts(ground)]
+    rows = found_bounds.before_after_rows(len(ground.town.session.departs))
     with whole_folder(out, LAST) as folder:
         write_table(f"{folder}/lights.csv", LIGHTS, bound_rows(ground.given_bounds, best))
-        write_search(folder, rows, result.search, doubts, ground.town.session.program)
+        write_search(folder, rows, found_bounds.search, doubts, ground.town.session.program)
         with whole_file(output) as file:
             file.write(bounds_text(ground.town.mapping, best))
-    return tell_bounds(result, rows, doubts)
+    return tell_bounds(found_bounds, rows, doubts)
 
 
 def bound_rows(before: Bounded, after: Bounded) -> Iterator[Entry]:
@@ -151,11 +154,12 @@ def bound_rows(before: Bounded, after: Bounded) -> Iterator[Entry]:
             yield name, phase, least, low, most, high, f"{bounds.gap_of(at):g}", f"{after[name].gap_of(at):g}"
 
 
-def tell_bounds(result: FoundBounds, rows: Sequence[BeforeAfter], doubts: Sequence[str]) -> int:
+def tell_bounds(found_bounds: FoundBounds, rows: Sequence[BeforeAfter], doubts: Sequence[str]) -> int:
     """Prints what was found, of the rows of before-after.csv; gives the exit status, as tell_verdict."""
     fixed = rows[1]
-    if result.stopped:
+    if found_bounds.ended_by_user:
         print("stopped: the best bounds found so far are written")
-    print(trips_told(rows[0], result.search))
-    print(f"the best plan of seconds: {fixed.before:.1f} s; detectors with the bounds found: {fixed.change_told()}")
-    return tell_verdict(rows[0], result.search, doubts, result.sumo)
+    print(trips_told(rows[0], found_bounds.search))
+    change = fixed.change_told()
+    print(f"the best plan of seconds: {fixed.mean_before:.1f} s; detectors with the bounds found: {change}")
+    return tell_verdict(rows[0], found_bounds.search, doubts, found_bounds.sumo)

@@ -35,22 +35,23 @@ class Bounds:
     greens: tuple[tuple[int, int, int], ...]  # phase, least, most
     gaps: tuple[float, ...]
 
-    def gap_of(self, at: int) -> float:
+    def gap_of(self, place: int) -> float:
         """The gap, seconds, that ends the green at a place of greens."""
-        return self.gaps[at if len(self.gaps) > 1 else 0]
+        return self.gaps[place if len(self.gaps) > 1 else 0]
 
-    def with_gap(self, at: int, gap: float) -> Bounds | None:
+    def with_gap(self, place: int, gap: float) -> Bounds | None:
         """These bounds with another gap, seconds, at a place of gaps; None where it is outside GAP_RANGE."""
-        gaps = (*self.gaps[:at], gap, *self.gaps[at + 1 :])
+        gaps = (*self.gaps[:place], gap, *self.gaps[place + 1 :])
         return replace(self, gaps=gaps) if GAP_RANGE[0] <= gap <= GAP_RANGE[1] else None
 
-    def with_green(self, at: int, least: int, most: int, lowest: int) -> Bounds | None:
+    def with_green(self, place: int, least_seconds: int, most_seconds: int, lowest: int) -> Bounds | None:
         """These bounds with another least and most, seconds, of the green at a place of greens. None where the least is
         not below the most, the most is above 600 s, or the least is below both lowest and what it is now."""
-        phase, before, _ = self.greens[at]
-        if not min(lowest, before) <= least < most <= limits.PHASE_STEPS:
+        phase, before, _ = self.greens[place]
+        if not min(lowest, before) <= least_seconds < most_seconds <= limits.PHASE_STEPS:
             return None
-        return replace(self, greens=(*self.greens[:at], (phase, least, most), *self.greens[at + 1 :]))
+        green = phase, least_seconds, most_seconds
+        return replace(self, greens=(*self.greens[:place], green, *self.greens[place + 1 :]))
 
 
 Bounded = dict[str, Bounds]  # by light
@@ -73,9 +74,9 @@ def actuated_bounds(light: Driven) -> Bounds:
     """The bounds of the greens of an actuated light that detectors extend, without those whose most is above 600 s; its
     one gap is the greatest of its detectors' gaps."""
     greens = tuple(
-        (at, phase.least, phase.most)
+        (at, phase.least_seconds, phase.most_seconds)
         for at, phase in enumerate(light.phases)
-        if phase.is_extended and phase.detectors and phase.most <= limits.PHASE_STEPS
+        if phase.is_extended and phase.detectors and phase.most_seconds <= limits.PHASE_STEPS
     )
     return Bounds(greens, (max(light.gaps),) if greens else ())
 
@@ -84,10 +85,9 @@ def ring_bounds(light: DrivenRings) -> Bounds:
     """The bounds of a NEMA light, in whole seconds, its extensions (vehext) as gaps; without greens that no area
     extends, as they have none or always last their most (maxRecall), whose most is above 600 s, or is their least."""
     extended = (phase for phase in light.rings.phases if phase.areas and not phase.most_recall)
-    phases = [phase for phase in extended if phase.least < phase.most <= limits.PHASE_STEPS]
-    return Bounds(
-        tuple((one.number, round(one.least), round(one.most)) for one in phases), tuple(one.extension for one in phases)
-    )
+    phases = [phase for phase in extended if phase.least_seconds < phase.most_seconds <= limits.PHASE_STEPS]
+    greens = tuple((phase.number, round(phase.least_seconds), round(phase.most_seconds)) for phase in phases)
+    return Bounds(greens, tuple(phase.extension for phase in phases))
 
 
 def kept_with(program: Json, bounds: Bounds) -> Json:
@@ -156,14 +156,14 @@ def search_bounds(search: PlanSearch, bounded: Bounded, lowest: Mapping[tuple[st
             if search.mean_trip(step, tried) < search.mean_trip("best", best):
                 best = tried
         search.climbed.append(search.simulations)
-        for gap, most, least in STEPS:
+        for gap_step, most_step, least_step in STEPS:
             for name in bounded:
                 for at in range(len(bounded[name].gaps)):
-                    best = climb(search, best, f"gap of {name}", change_of(name, gap_by(at, gap)))
+                    best = climb(search, best, f"gap of {name}", change_of(name, gap_by(at, gap_step)))
                 for at, (phase, _, _) in enumerate(bounded[name].greens):
                     floor = lowest[name, phase]
-                    best = climb(search, best, f"most of {name}", change_of(name, green_by(at, 0, most, floor)))
-                    best = climb(search, best, f"least of {name}", change_of(name, green_by(at, least, 0, floor)))
+                    best = climb(search, best, f"most of {name}", change_of(name, green_by(at, 0, most_step, floor)))
+                    best = climb(search, best, f"least of {name}", change_of(name, green_by(at, least_step, 0, floor)))
     except SearchEnded:
         pass
 
@@ -200,19 +200,19 @@ def change_of(name: str, change: Change) -> Callable[[Bounded, int], Bounded | N
     return changed
 
 
-def gap_by(at: int, seconds: float) -> Change:
+def gap_by(place: int, seconds: float) -> Change:
     """A change: the gap at a place of gaps longer (sign 1) or shorter (sign -1) by so much; None as of with_gap."""
-    return lambda bounds, sign: bounds.with_gap(at, bounds.gaps[at] + sign * seconds)
+    return lambda bounds, sign: bounds.with_gap(place, bounds.gaps[place] + sign * seconds)
 
 
-def green_by(at: int, least: int, most: int, lowest: int) -> Change:
+def green_by(place: int, least_seconds: int, most_seconds: int, lowest: int) -> Change:
     """A change: the least and the most of the green at a place of greens longer (sign 1) or shorter (sign -1) by so
-    many seconds (least, most); None, and lowest, as of Bounds.with_green."""
+    many seconds (least_seconds, most_seconds); None, and lowest, as of Bounds.with_green."""
 
     def change(bounds: Bounds, sign: int) -> Bounds | None:
         """The bounds with the green changed; None as of with_green."""
-        _, low, high = bounds.greens[at]
-        return bounds.with_green(at, low + sign * least, high + sign * most, lowest)
+        _, low, high = bounds.greens[place]
+        return bounds.with_green(place, low + sign * least_seconds, high + sign * most_seconds, lowest)
 
     return change
 
@@ -239,12 +239,13 @@ def program_elements(program: Json) -> Iterator[str]:
 
 
 def phase_words(
-    seconds: float, state: str, least: float | None, most: float | None, following: Sequence[int]
+    seconds: float, state: str, least_seconds: float | None, most_seconds: float | None, following: Sequence[int]
 ) -> list[str]:
-    """The attributes of a <phase> as texts (duration="30" state="GGrr", ..), of what a map keeps of it. least, most:
-    seconds, None where not written; following: places of the phases that may come next, empty: the next one."""
+    """The attributes of a <phase> as texts (duration="30" state="GGrr", ..), of what a map keeps of it. least_seconds,
+    most_seconds: None where not written; following: places of the phases that may come next, empty: the next one."""
     attributes = [f'duration="{seconds:g}" state="{state}"']
-    attributes += [f'{name}="{value:g}"' for name, value in (("minDur", least), ("maxDur", most)) if value is not None]
+    bounds = ("minDur", least_seconds), ("maxDur", most_seconds)
+    attributes += [f'{name}="{bound:g}"' for name, bound in bounds if bound is not None]
     return attributes + ([f'next="{" ".join(map(str, following))}"'] if following else [])
 
 

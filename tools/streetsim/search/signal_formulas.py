@@ -20,8 +20,8 @@ class Hop:
 
     parent: str
     seconds: float  # of travel from the parent; below 0 where the way goes to it
-    leave: int  # the parent's phase that lets the platoon go, or come
-    come: int  # the phase that lets it come, or go
+    parent_phase: int  # the parent's phase that lets the platoon go, or come
+    own_phase: int  # the phase that lets it come, or go
 
 
 @dataclass(frozen=True, slots=True)
@@ -30,7 +30,7 @@ class StreetFlows:
 
     order: list[str]  # lights, the heaviest flow first
     # For each light itself and those that hang behind it in the tree of the heaviest flows.
-    behind: dict[str, list[str]]
+    lights_behind: dict[str, list[str]]
     hops: dict[str, Hop]  # for each light that hangs behind another
     # For each light and phase the heaviest flow that is green in it, vehicles an hour and lane.
     loads: dict[str, list[float]]
@@ -123,9 +123,10 @@ def hop_of(
     at_parent, at_light = (first_turn, last_turn) if direction > 0 else (last_turn, first_turn)
     if not at_parent or not at_light or (at_parent.light, at_light.light) != (parent, light):
         return None
-    leave, come = green_phases(lights[parent], at_parent.index), green_phases(lights[light], at_light.index)
+    parent_phases = green_phases(lights[parent], at_parent.index)
+    own_phases = green_phases(lights[light], at_light.index)
     seconds = free_flow.crossing[way[0]] + free_flow(way[1:-1])
-    return Hop(parent, direction * seconds, leave[0], come[0]) if leave and come else None
+    return Hop(parent, direction * seconds, parent_phases[0], own_phases[0]) if parent_phases and own_phases else None
 
 
 def green_phases(light: PlannedLight, index: int) -> list[int]:
@@ -192,11 +193,12 @@ def waved(plan: Plan, streets: StreetFlows) -> Plan:
     theirs."""
     new_plan = dict(plan)
     for root in (light for light in streets.order if light not in streets.hops):
-        for light in streets.behind[root]:
+        for light in streets.lights_behind[root]:
             if hop := streets.hops.get(light):
-                start = new_plan[hop.parent].offset + sum(new_plan[hop.parent].durations[: hop.leave]) + hop.seconds
+                parent = new_plan[hop.parent]
+                start = parent.offset + sum(parent.durations[: hop.parent_phase]) + hop.seconds
                 timing = new_plan[light]
-                offset = round(start - sum(timing.durations[: hop.come])) % timing.cycle
+                offset = round(start - sum(timing.durations[: hop.own_phase])) % timing.cycle
                 new_plan[light] = PlannedTiming(offset, timing.durations)
     return new_plan
 

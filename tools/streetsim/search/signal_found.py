@@ -34,8 +34,8 @@ class BeforeAfter:
     difference with half the width of its 95 % interval."""
 
     figure: str
-    before: float
-    after: float
+    mean_before: float
+    mean_after: float
     difference: float
     half: float
     runs: int  # of each
@@ -46,7 +46,7 @@ class BeforeAfter:
 
 
 def before_after_rows(
-    town: SignalTown, before: Sequence[Outcome], after: Sequence[Outcome], sumo: Verified | None
+    town: SignalTown, outcomes_before: Sequence[Outcome], outcomes_after: Sequence[Outcome], sumo: Verified | None
 ) -> list[BeforeAfter]:
     """The rows of before-after.csv, of runs of the plan given and the plan found with equal seeds, two or more: mean
     trip and mean loss, in seconds, of all who depart before the end (one that has not arrived counts until then); how
@@ -58,7 +58,8 @@ def before_after_rows(
         "arrived": lambda outcome: outcome.arrived,
         "waited_to_enter": lambda outcome: outcome.waiting,
     }
-    pairs = {name: [[figure(run) for run in runs] for runs in (before, after)] for name, figure in figures.items()}
+    both = outcomes_before, outcomes_after
+    pairs = {name: [[figure(run) for run in runs] for runs in both] for name, figure in figures.items()}
     return [*(row_of(name, *pair) for name, pair in pairs.items()), *sumo_rows(sumo)]
 
 
@@ -71,7 +72,7 @@ def row_of(name: str, before: Sequence[float], after: Sequence[float]) -> Before
 
 def sumo_rows(sumo: Verified | None) -> list[BeforeAfter]:
     """The row of before-after.csv with SUMO's mean trips, in a list; an empty one where SUMO was not run (None)."""
-    return [row_of("sumo_mean_trip_s", sumo.before, sumo.after)] if sumo else []
+    return [row_of("sumo_mean_trip_s", sumo.means_before, sumo.means_after)] if sumo else []
 
 
 def free_trip(town: SignalTown) -> float:
@@ -112,12 +113,13 @@ def write_search(
 ) -> None:
     """Writes before-after.csv, of its rows, search.csv and what speaks against the result (doubts), and against its
     program, into a folder."""
+    figures = ((row.mean_before, row.mean_after, row.difference, row.half) for row in rows)
     cells = [
-        (row.figure, *(f"{value:.3f}" for value in (row.before, row.after, row.difference, row.half)), row.runs)
-        for row in rows
+        (row.figure, *(f"{number:.3f}" for number in numbers), row.runs)
+        for row, numbers in zip(rows, figures, strict=True)
     ]
     write_table(f"{folder}/{LAST}", BEFORE_AFTER, cells)
-    trials = [(trial.simulations, trial.step, f"{trial.value:.3f}", f"{trial.best:.3f}") for trial in search.trials]
+    trials = [(trial.simulations, trial.step, f"{trial.mean_trip:.3f}", f"{trial.best:.3f}") for trial in search.trials]
     write_table(f"{folder}/search.csv", TRIALS, trials)
     trust.write_doubts(folder, doubts, program)
 
@@ -143,14 +145,14 @@ def draw_plan(target: PlanFiles, corridor: Corridor, town: SignalTown, plan: Pla
 
 
 def tell_found(
-    town: SignalTown, search: PlanSearch, rows: Sequence[BeforeAfter], stopped: bool, doubts: Sequence[str],
+    town: SignalTown, search: PlanSearch, rows: Sequence[BeforeAfter], ended_by_user: bool, doubts: Sequence[str],
     sumo: Verified | None,
 ) -> int:
     """Prints what was found, of the rows of before-after.csv, and warnings on standard error; gives the exit status, as
-    tell_verdict. stopped: the user ended the search; doubts, sumo: as there."""
+    tell_verdict. ended_by_user: whether the user ended the search; doubts, sumo: as there."""
     for text in warnings_of(town, search.best[1]):
         print(f"warning: {text}", file=sys.stderr)
-    if stopped:
+    if ended_by_user:
         print("stopped: the best plan found so far is written")
     print(trips_told(rows[0], search))
     print(cycles_told(town.plan, search))
@@ -181,7 +183,7 @@ def trips_told(row: BeforeAfter, search: PlanSearch) -> str:
     """The line on mean trips as given and as found, of the first row of before-after.csv, and on what the search
     took."""
     return (
-        f"mean trip {row.before:.1f} s as given, {row.after:.1f} s as found: {row.change_told()} "
+        f"mean trip {row.mean_before:.1f} s as given, {row.mean_after:.1f} s as found: {row.change_told()} "
         f"(95 % interval of dawdling alone, {row.runs} seeds that the search did not see); "
         f"{search.simulations:,} simulations{budget_ended(search)}"
     )
@@ -192,7 +194,7 @@ def tell_verdict(row: BeforeAfter, search: PlanSearch, doubts: Sequence[str], su
     what was found is shown to be better wherever it was run, else 1. row: the first of before-after.csv; doubts: why
     the result is not to be trusted, empty where it is."""
     if sumo:
-        print(sumo.told())
+        print(sumo.summary())
     changes = {"here": (row.difference, row.half), **({"in SUMO": sumo.difference_and_half()} if sumo else {})}
     worse = [where for where, (mean, width) in changes.items() if mean + width >= 0]
     if text := "; ".join(filter(None, (verdict(changes, worse, search), trust.verdict(doubts) if doubts else ""))):
@@ -220,12 +222,12 @@ def verdict(changes: Mapping[str, tuple[float, float]], worse: Sequence[str], se
 
 
 def doubts_of(
-    town: SignalTown, before: Sequence[Outcome], after: Sequence[Outcome], sumo: Verified | None
+    town: SignalTown, outcomes_before: Sequence[Outcome], outcomes_after: Sequence[Outcome], sumo: Verified | None
 ) -> Iterator[str]:
     """Why a result is not to be trusted, of the runs of the plan given and the plan found; nothing where it is. sumo:
     None where SUMO was not run, so that greens in which turns find their gaps by formula are a doubt."""
     until = town.session.clocks[-1]
-    yield from vehicle_doubts(town, before, after)
+    yield from vehicle_doubts(town, outcomes_before, outcomes_after)
     yield from trust.length_doubts(until, town.run, town.mapping)
     yield from trust.actuated_doubts(
         until, town.run, town.mapping,
@@ -235,10 +237,12 @@ def doubts_of(
         yield f"without --verify-sumo, as {gaps}"
 
 
-def vehicle_doubts(town: SignalTown, before: Sequence[Outcome], after: Sequence[Outcome]) -> Iterator[str]:
+def vehicle_doubts(
+    town: SignalTown, outcomes_before: Sequence[Outcome], outcomes_after: Sequence[Outcome]
+) -> Iterator[str]:
     """Doubts where vehicles that had the time to arrive have not, or many waited to enter, in runs of what was given
     and of what was found; nothing where neither is so."""
-    named = {"as given": before, "as found": after}
+    named = {"as given": outcomes_before, "as found": outcomes_after}
     arrived = {name: fmean(outcome.arrived for outcome in runs) for name, runs in named.items()}
     due = bisect_right(trust.free_arrivals(town.run, town.mapping), town.session.clocks[-1])
     yield from trust.missing_doubts(arrived, due)

@@ -33,46 +33,46 @@ PROGRAM_ID = "streetsim-verified"  # of the lights: no program of the files give
 
 @dataclass(frozen=True, slots=True)
 class Verified:
-    """Mean trips in SUMO, seconds, of what was given (before) and what was found (after), one for each seed, and the
-    teleports of all runs of each."""
+    """Mean trips in SUMO, seconds, of what was given (means_before) and what was found (means_after), one for each
+    seed, and the teleports of all runs of each."""
 
-    before: list[float]
-    after: list[float]
+    means_before: list[float]
+    means_after: list[float]
     teleports: tuple[int, int]
 
     def difference_and_half(self) -> tuple[float, float]:
         """(mean difference, after less before; half the width of its 95 % interval), seconds; of two seeds or more."""
-        mean, half = paired(self.before, self.after)
+        mean, half = paired(self.means_before, self.means_after)
         assert half is not None
         return mean, half
 
-    def told(self) -> str:
+    def summary(self) -> str:
         """Both means and their difference, as one line for the user."""
         difference, half = self.difference_and_half()
         moved = f", {self.teleports[0]:,} and {self.teleports[1]:,} teleports" if any(self.teleports) else ""
         return (
-            f"in SUMO {fmean(self.before):.1f} s as given, {fmean(self.after):.1f} s as found: "
-            f"{difference:+.1f} s ± {half:.1f} (95 % interval, the same {len(self.before)} seeds{moved})"
+            f"in SUMO {fmean(self.means_before):.1f} s as given, {fmean(self.means_after):.1f} s as found: "
+            f"{difference:+.1f} s ± {half:.1f} (95 % interval, the same {len(self.means_before)} seeds{moved})"
         )
 
 
 @dataclass(frozen=True, slots=True)
 class InSumo:
-    """SUMO, and what its runs are given: the path of the program, the files of the import, further additional files
-    (more), and the first and last second."""
+    """SUMO, and what its runs are given: the path of the program, the files of the import, further additional files,
+    and the first and last second."""
 
     program: str
     sources: Sources
-    more: list[str]
+    further_files: list[str]
     start: int
     until: int
 
-    def words(self, plan: str, seed: int, trips: str, statistic: str) -> list[str]:
+    def command_words(self, plan: str, seed: int, trips: str, statistic: str) -> list[str]:
         """The words of the command of one run. plan: a file of signal programs that is read last; trips, statistic:
         files that SUMO writes."""
         files = self.sources
         return [
-            *(self.program, "-n", files.net, "-a", ",".join([*files.additional, *self.more, plan])),
+            *(self.program, "-n", files.net, "-a", ",".join([*files.additional, *self.further_files, plan])),
             *("-r", ",".join(files.routes), "--seed", str(seed), "--begin", str(self.start), "--end", str(self.until)),
             *("--tripinfo-output", trips, "--statistic-output", statistic, "--no-step-log", "--no-warnings"),
         ]
@@ -98,7 +98,7 @@ class InSumo:
         seconds, of those who arrived, and the number of teleports. Fault where SUMO fails."""
         with tempfile.TemporaryDirectory() as folder:
             trips, statistic = f"{folder}/trips.xml", f"{folder}/statistic.xml"
-            command = self.words(plan, seed, trips, statistic)
+            command = self.command_words(plan, seed, trips, statistic)
             sumo = subprocess.run(command, cwd=folder, env=environment(), capture_output=True, text=True, check=False)
             if sumo.returncode:
                 raise Fault(f"--verify-sumo: SUMO ended with status {sumo.returncode}: {first_error(sumo.stderr)}")

@@ -38,15 +38,15 @@ def refuse_budget(budget: int, seeds: Sequence[int]) -> None:
 
 def ended_search(
     trips: Callable[[Sequence[Any]], Iterator[float]], budget: int, seeds: int,
-    search_to_end: Callable[[PlanSearch], None], key: Callable[[Any], Any] = key_of, after: float = 0.0,
+    search_to_end: Callable[[PlanSearch], None], key: Callable[[Any], Any] = key_of, seconds_after: float = 0.0,
 ) -> tuple[PlanSearch, bool]:
     """Makes a search, and shows on the terminal how far it is; gives (search when it has ended, whether the user ended
     it by Ctrl-C). trips: of plans, gives the mean trip (s) of each with each seed, plan by plan; budget, seeds, key: as
-    PlanSearch has them (key_of); search_to_end: searches until the search has ended; after: seconds that what comes
-    after it takes."""
-    shown = SearchShown(budget, after)
+    PlanSearch has them (key_of); search_to_end: searches until the search has ended; seconds_after: those that what
+    comes after it takes."""
+    search_line = SearchShown(budget, seconds_after)
 
-    def values(plans: Sequence[Any]) -> Generator[float, None, None]:
+    def mean_trips(plans: Sequence[Any]) -> Generator[float, None, None]:
         """The mean trip, in seconds, of each plan over the seeds, in the plans' order."""
         trip_seconds = trips(plans)
         for _ in plans:
@@ -54,14 +54,14 @@ def ended_search(
 
     with Stopping() as stopping:
 
-        def told(search: PlanSearch) -> bool:
+        def show_progress(search: PlanSearch) -> bool:
             """Shows how far the search is; gives whether the user has asked for an end."""
-            shown.show(search)
+            search_line.show(search)
             return stopping.end_asked
 
-        search = PlanSearch(values, budget, seeds, told, key_of=key)
+        search = PlanSearch(mean_trips, budget, seeds, show_progress, key_of=key)
         search_to_end(search)
-        shown.line.end()
+        search_line.line.end()
         return search, stopping.end_asked
 
 
@@ -69,9 +69,9 @@ class SearchShown:
     """The line on a terminal that says how far a search is. Plans that formulas propose are run side by side, and those
     of climbs one after another: so the end goes by the first plan, which is alone, and by climbs."""
 
-    def __init__(self, budget: int, after: float) -> None:
-        """budget: simulations at most; after: as of ended_search."""
-        self.line, self.after = WorkProgress("simulations", budget), after
+    def __init__(self, budget: int, seconds_after: float) -> None:
+        """budget: simulations at most; seconds_after: as of ended_search."""
+        self.line, self.seconds_after = WorkProgress("simulations", budget), seconds_after
         # Seconds: of the first plan, at the last one, as climbs began.
         self.first_plan_s, self.last_s, self.climbs_begin_s = 0.0, 0.0, 0.0
 
@@ -88,11 +88,11 @@ class SearchShown:
         """The seconds until the end of a search and of what comes after it."""
         plans = 1.0 + (search.simulations - search.climbed[0]) / search.seeds if search.climbed else 1.0
         per_plan = (self.first_plan_s + (self.last_s - self.climbs_begin_s if self.climbs_begin_s else 0.0)) / plans
-        return per_plan * (search.expected() - search.simulations) / search.seeds + self.after
+        return per_plan * (search.expected() - search.simulations) / search.seeds + self.seconds_after
 
 
 def best_line(search: PlanSearch) -> str:
     """For the line of progress: the mean trip of the best plan so far and how much it is above or below that of the
     given one, the first that was tried; empty where that is 0, as nobody drives."""
-    best, given = search.best[0], search.trials[0].value
+    best, given = search.best[0], search.trials[0].mean_trip
     return f"best {best:.1f} s ({100 * (best / given - 1):+.1f} %)" if given else ""

@@ -16,7 +16,7 @@ from streetsim.sumo.net import STATIC, LightProgram
 
 Seconds = TypeVar("Seconds", int, float)
 PROGRAM = "streetsim"  # the programID of what is written
-LEAST = 5  # seconds of a green that may be stretched
+LEAST_GREEN = 5  # seconds of a green that may be stretched
 GREEN = "GgsOo"  # letters of a state under which somebody may go, or the light is off
 
 
@@ -67,13 +67,13 @@ class PlannedLight:
         proportion to shares, one for each phase (None: to their present seconds); the offset keeps its part of the
         cycle. None where the bounds do not allow it, or no phase may be stretched."""
         free = self.free
-        shares = [(shares or timing.durations)[at] for at in free]
-        greens = spread(shares, cycle - self.fixed_seconds(timing), [self.bounds[at] for at in free])
+        shares = [(shares or timing.durations)[place] for place in free]
+        greens = spread(shares, cycle - self.fixed_seconds(timing), [self.bounds[place] for place in free])
         if greens is None:
             return None
         durations = list(timing.durations)
-        for at, green in zip(free, greens, strict=True):
-            durations[at] = green
+        for place, green in zip(free, greens, strict=True):
+            durations[place] = green
         return PlannedTiming(round(timing.offset * cycle / timing.cycle) % cycle, tuple(durations))
 
     def with_green_moved(self, timing: PlannedTiming, source: int, target: int, seconds: int) -> PlannedTiming | None:
@@ -125,28 +125,28 @@ def clamped(value: Seconds, bound: tuple[int, int]) -> Seconds | int:
 
 
 def light_and_timing(
-    name: str, program: LightProgram, least: int = LEAST, constraints: Sequence[Constraint] | None = None
+    name: str, program: LightProgram, least_green: int = LEAST_GREEN, constraints: Sequence[Constraint] | None = None
 ) -> tuple[PlannedLight, PlannedTiming]:
-    """(light of a SUMO program, its timing in whole seconds); least: as of stretch_bounds; constraints: of each phase
-    (None: those that a program of seconds says, with a Fault where they contradict each other)."""
+    """(light of a SUMO program, its timing in whole seconds); least_green: as of stretch_bounds; constraints: of each
+    phase (None: those that a program of seconds says, with a Fault where they contradict each other)."""
     durations = rounded_durations(duration for duration, _ in program.phases)
     if constraints is None:
         constraints = constraints_of(name, program) if program.kind == STATIC else [Constraint()] * len(durations)
     phase_constraints = tuple(constraints)
     phases = zip(program.phases, durations, phase_constraints, strict=True)
-    bounds = tuple(stretch_bounds(state, length, constraint, least) for (_, state), length, constraint in phases)
+    bounds = tuple(stretch_bounds(state, length, constraint, least_green) for (_, state), length, constraint in phases)
     light = PlannedLight(name, tuple(state for _, state in program.phases), bounds, phase_constraints)
     return light, PlannedTiming(round(program.offset) % max(1, sum(durations)), durations)
 
 
-def stretch_bounds(state: str, seconds: int, constraint: Constraint, least: int) -> tuple[int, int]:
+def stretch_bounds(state: str, seconds: int, constraint: Constraint, least_green: int) -> tuple[int, int]:
     """The (least, most) seconds of a phase, within which are its given seconds, or the nearest that its constraint
-    allows. One with green and no yellow that lasts least seconds or more may be changed, from least to 600 s, as far as
+    allows. One with green and no yellow that lasts least_green or more may be changed, from that to 600 s, as far as
     the constraint allows; each other keeps its length."""
     seconds = constraint.clamp(seconds)
-    if not is_green(state) or seconds < least:
+    if not is_green(state) or seconds < least_green:
         return seconds, seconds
-    return min(seconds, max(least, constraint.low)), max(seconds, constraint.high)
+    return min(seconds, max(least_green, constraint.low)), max(seconds, constraint.high)
 
 
 def is_green(state: str) -> bool:

@@ -13,7 +13,7 @@ from streetsim.sumo.net import LightProgram
 MEND = "search all the same, from greens that keep it: --mend"
 
 
-class Asked(Protocol):
+class SearchWords(Protocol):
     """What is read of the words of a search."""
 
     @property
@@ -36,7 +36,7 @@ class Asked(Protocol):
 class Promises:
     """Gathers what the lights of a town must keep, and what their plans break of it."""
 
-    def __init__(self, reading: Asked, lights: Collection[str]) -> None:
+    def __init__(self, reading: SearchWords, lights: Collection[str]) -> None:
         """Reads the file of constraints, and the crossings of the network. Fault where one cannot be read, or the file
         names no light of some lights."""
         self.reading, self.broken = reading, list[str]()
@@ -45,7 +45,7 @@ class Promises:
             raise Fault(f"{reading.constraints}: the map has no light {unknown[0]!r}")
         self.crossings = read_crossings(reading.plans[0])
 
-    def of(self, light: str, program: LightProgram) -> Sequence[Constraint]:
+    def constraints_for(self, light: str, program: LightProgram) -> Sequence[Constraint]:
         """What the phases of a light's program must keep; notes what the program breaks. Fault where constraints
         contradict each other."""
         constraints = with_given(light, program, constraints_of(light, program), self.given_constraints.get(light, {}))
@@ -53,7 +53,7 @@ class Promises:
         self.broken += broken_in(light, program, constraints)
         return constraints
 
-    def tell(self) -> None:
+    def tell_broken(self) -> None:
         """Tells on standard error what the plans given break. Fault where they break anything and no word says to
         search all the same; the listed seconds of lights that detectors drive are mended without it."""
         if self.broken and not (self.reading.mend or self.reading.fixed):

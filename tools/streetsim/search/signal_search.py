@@ -17,10 +17,10 @@ from streetsim.search.signal_plans import Plan, PlannedLight
 Key = tuple[tuple[str, int, tuple[int, ...]], ...]  # of a plan: lights, offsets, durations
 Tried = TypeVar("Tried")  # a plan, or bounds of lights
 
-Values = Callable[[Sequence[Any]], Generator[float, None, None]]  # of plans, or of bounds: their values in order
+MeanTripsOf = Callable[[Sequence[Any]], Generator[float, None, None]]  # of plans, or of bounds: their values in order
 SHARES = (0.25, 0.12, 0.06, 0.03)  # of the cycle, by which offsets are moved
 SECONDS = (8, 4, 2, 1)  # of green that are moved between phases
-FEW = 5  # climbs that tell nothing of those to come
+FEW_CLIMBS = 5  # climbs that tell nothing of those to come
 
 
 class SearchEnded(Exception):
@@ -33,7 +33,7 @@ class PlanTrial:
 
     simulations: int  # so far
     step: str  # what was tried
-    value: float  # seconds of a mean trip
+    mean_trip: float  # seconds of a mean trip
     best: float  # so far
 
 
@@ -42,7 +42,7 @@ class PlanSearch:
     """The values of plans (or of bounds, with the key_of of signal_bounds), mean trips in seconds: each plan is run
     once, and its value kept; the best of them, and what was tried."""
 
-    value: Values
+    mean_trips_of: MeanTripsOf
     budget: int  # simulations
     seeds: int  # simulations that one plan takes
     # Hears of each trial; gives whether the user has asked for an end.
@@ -65,7 +65,7 @@ class PlanSearch:
         """How many simulations it will have made in the end, as far as can be told: each climb that is to come takes as
         many as those so far, or two plans; at most the budget."""
         climbs_done = max(0, len(self.climbed) - 1)
-        per_climb = (self.climbed[-1] - self.climbed[0]) / climbs_done if climbs_done > FEW else 2.0 * self.seeds
+        per_climb = (self.climbed[-1] - self.climbed[0]) / climbs_done if climbs_done > FEW_CLIMBS else 2.0 * self.seeds
         return min(self.budget, self.simulations + round(per_climb * (self.climbs - climbs_done)))
 
     def cycles_tried(self) -> dict[str, set[int]]:
@@ -86,7 +86,7 @@ class PlanSearch:
         room = (self.budget - self.simulations) // self.seeds
         tried = list(new_plans.items())[:room]
         self.spent = len(tried) < len(new_plans)
-        with contextlib.closing(self.value([plan for _, (_, plan) in tried])) as values:
+        with contextlib.closing(self.mean_trips_of([plan for _, (_, plan) in tried])) as values:
             for (key, (step, plan)), value in zip(tried, values):
                 self.note(key, step, plan, value)
                 if self.on_trial(self):
@@ -147,7 +147,7 @@ def climb_all(
 
 def count_climbs(lights: Mapping[str, PlannedLight], streets: StreetFlows, changed: Collection[str]) -> int:
     """How many climbs climb_all makes; arguments: as of it."""
-    groups = sum(len(streets.behind[light]) > 1 for light in streets.order)
+    groups = sum(len(streets.lights_behind[light]) > 1 for light in streets.order)
     pairs = sum(comb(len(lights[light].free), 2) for light in streets.order)
     passes = 2 * len(SHARES) - 1
     offsets = passes * len(streets.order) + (len(SHARES) - 1) * groups
@@ -159,8 +159,8 @@ def climb_offsets(search: PlanSearch, plan: Plan, streets: StreetFlows, share: f
     heaviest flow first; where with_groups, first of the light with all that hang behind it. Gives the best plan."""
     for light in streets.order:
         seconds = max(1, round(share * plan[light].cycle))
-        if with_groups and len(streets.behind[light]) > 1:
-            plan = climb(search, plan, f"offsets behind {light}", shift_of(streets.behind[light], seconds))
+        if with_groups and len(streets.lights_behind[light]) > 1:
+            plan = climb(search, plan, f"offsets behind {light}", shift_of(streets.lights_behind[light], seconds))
         plan = climb(search, plan, f"offset of {light}", shift_of([light], seconds))
     return plan
 

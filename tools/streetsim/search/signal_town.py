@@ -33,7 +33,7 @@ class Reading(NamedTuple):
     plans: Sequence[str]
     until: int  # last second
     program: str
-    least: int  # seconds of a green that may be stretched
+    least_green: int  # seconds of a green that may be stretched
     keep: Sequence[str]  # lights that are left as they are
     rounds: int = 0  # by which vehicles give way without a light
     reserve: int = 0  # of the search: of 1,000, by which its vehicles slow down more often
@@ -146,8 +146,9 @@ def searched_lights(reading: Reading, run: Run, mapping: Map, net: SumoNet) -> t
         if why := why_kept(name, program, fixed_lights, timed):
             reasons.setdefault(why, []).append(name)
         else:
-            lights[name], plan[name] = light_and_timing(name, program, reading.least, promises.of(name, program))
-    promises.tell()
+            constraints = promises.constraints_for(name, program)
+            lights[name], plan[name] = light_and_timing(name, program, reading.least_green, constraints)
+    promises.tell_broken()
     for why, kept_names in reasons.items():
         print(f"not changed, {why}: {first_few(kept_names)}", file=sys.stderr)
     if not lights:

@@ -36,28 +36,30 @@ class VariantDifference:
     mean_of_day: float | None = None  # the same of a day's mean trip
 
 
-def means_of(study: Study, results: Mapping[str, Sequence[Outcome]], name: str) -> list[float]:
+def means_of(study: Study, outcomes_by_variant: Mapping[str, Sequence[Outcome]], name: str) -> list[float]:
     """Of each run of a variant, in the order of the seeds, the mean trip, seconds, of the vehicles that depart before
     the end: from the wished departure to the arrival, or to the end of the run."""
     variant = study.variants[name]
-    return [outcome.seconds / max(1, variant.cars(at)) for at, outcome in enumerate(results[name])]
+    return [outcome.seconds / max(1, variant.cars(at)) for at, outcome in enumerate(outcomes_by_variant[name])]
 
 
-def run_rows(study: Study, results: Mapping[str, Sequence[Outcome]]) -> Iterator[Entry]:
+def run_rows(study: Study, outcomes_by_variant: Mapping[str, Sequence[Outcome]]) -> Iterator[Entry]:
     """The rows of runs.csv, as RUNS has the columns: one for each variant and seed."""
-    for name, outcomes in results.items():
-        for seed, run, mean in zip(study.seeds, outcomes, means_of(study, results, name), strict=True):
-            ends = run.seconds, run.end, run.ended.partition(": ")[2] or "until"
+    for name, outcomes in outcomes_by_variant.items():
+        for seed, run, mean in zip(study.seeds, outcomes, means_of(study, outcomes_by_variant, name), strict=True):
+            ends = run.seconds, run.end, run.end_reason.partition(": ")[2] or "until"
             yield name, seed, run.arrived, f"{mean:.3f}", *ends, run.waiting, run.junctions, run.lines, run.digest
 
 
-def differences(study: Study, results: Mapping[str, Sequence[Outcome]], precision: float) -> list[VariantDifference]:
+def differences(
+    study: Study, outcomes_by_variant: Mapping[str, Sequence[Outcome]], precision: float
+) -> list[VariantDifference]:
     """The row of each variant. precision: the half width that runs are to reach, in percent of the base's mean trip."""
-    base = means_of(study, results, study.base)
+    base = means_of(study, outcomes_by_variant, study.base)
     error = fmean(base) * precision / 100
     rows: list[VariantDifference] = []
     for name in study.variants:
-        means = means_of(study, results, name)
+        means = means_of(study, outcomes_by_variant, name)
         if name == study.base or len(means) < 2:
             difference = None if name == study.base else fmean(means) - fmean(base)
             day_half_width = mean_and_day(means)[1] if study.drawn else None

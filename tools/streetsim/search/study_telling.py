@@ -19,12 +19,12 @@ from streetsim.search.study_variants import Study
 def draw_differences(study: Study, rows: Sequence[VariantDifference], path: str) -> None:
     """Draws the differences to the base with their intervals to a picture at path; nothing without matplotlib (which is
     said) or with the base alone. Fault where it cannot be written."""
-    shown = [row for row in rows if row.variant != study.base]
+    compared_rows = [row for row in rows if row.variant != study.base]
     pyplot = pyplot_if_installed()
-    if pyplot is None or not shown:
+    if pyplot is None or not compared_rows:
         return
-    figure, axes = pyplot.subplots(figsize=(7, 1.2 + 0.4 * len(shown)))
-    for height, row in enumerate(reversed(shown)):
+    figure, axes = pyplot.subplots(figsize=(7, 1.2 + 0.4 * len(compared_rows)))
+    for height, row in enumerate(reversed(compared_rows)):
         for width, size, label in intervals_of(row):
             if width is not None and row.difference is not None:
                 ends = row.difference - width, row.difference + width
@@ -32,8 +32,8 @@ def draw_differences(study: Study, rows: Sequence[VariantDifference], path: str)
                 axes.plot(ends, (height, height), color=LINE, linewidth=size, label=named)
         axes.plot([row.difference], [height], marker="o", color="black", markersize=5)
     axes.axvline(0, color="black", linewidth=0.8)
-    axes.set_yticks(range(len(shown)), [row.variant for row in reversed(shown)])
-    axes.set(xlabel=f"mean trip less that of {study.base} (s)", ylim=(-0.6, len(shown) - 0.4))
+    axes.set_yticks(range(len(compared_rows)), [row.variant for row in reversed(compared_rows)])
+    axes.set(xlabel=f"mean trip less that of {study.base} (s)", ylim=(-0.6, len(compared_rows) - 0.4))
     axes.set_title(f"{len(study.seeds)} seeds, departures {'drawn' if study.drawn else 'as listed'}", fontsize=10)
     if len(study.seeds) > 1:
         axes.legend(frameon=False, fontsize=8)
@@ -57,7 +57,7 @@ def doubts(study: Study, name: str, outcomes: Sequence[Outcome]) -> Iterator[str
     vehicles = round(fmean(map(len, due)))
     yield from trust.waiting_doubts({"": [(outcome.waiting, outcome.waiting_at) for outcome in outcomes]}, vehicles)
     vehicle_counts = map(len, due)
-    early = [run for run, cars in zip(outcomes, vehicle_counts, strict=True) if run.ended and run.arrived < cars]
+    early = [run for run, cars in zip(outcomes, vehicle_counts, strict=True) if run.end_reason and run.arrived < cars]
     if early:
         yield f"{len(early):,} of {len(outcomes):,} runs ended before all had arrived, who count until then"
     yield from trust.works_doubts(variant.works, [(outcome.end, outcome.all_arrived_at) for outcome in outcomes])
@@ -65,18 +65,19 @@ def doubts(study: Study, name: str, outcomes: Sequence[Outcome]) -> Iterator[str
     yield from variant.doubts
 
 
-def tell_ends(study: Study, results: Mapping[str, Sequence[Outcome]]) -> None:
+def tell_ends(study: Study, outcomes_by_variant: Mapping[str, Sequence[Outcome]]) -> None:
     """Prints how runs without a last second ended: those that ended otherwise than by the arrival of all, or, without
     any such, from which clock to which all ended. Nothing where the study has a last second."""
     if study.until is not None:
         return
     clocks = []
     unfinished: dict[tuple[str, str], list[str]] = {}
-    for name, outcomes in results.items():
+    for name, outcomes in outcomes_by_variant.items():
         for seed, run in zip(study.seeds, outcomes, strict=True):
             clocks.append(run.end)
-            if not run.ended.endswith(ALL_ARRIVED):
-                unfinished.setdefault((name, run.ended.partition(": ")[2]), []).append(f"seed {seed} at {run.end:,} s")
+            if not run.end_reason.endswith(ALL_ARRIVED):
+                key = name, run.end_reason.partition(": ")[2]
+                unfinished.setdefault(key, []).append(f"seed {seed} at {run.end:,} s")
     for (name, why), seeds in unfinished.items():
         print(f"{name}: {why}: {', '.join(seeds)}")
     if not unfinished:
@@ -108,10 +109,10 @@ def tell_how_sure(study: Study) -> None:
         print(*error_lines(), sep="\n")
 
 
-def tell_giving_way(results: Mapping[str, Sequence[Outcome]]) -> None:
+def tell_giving_way(outcomes_by_variant: Mapping[str, Sequence[Outcome]]) -> None:
     """Prints at how many junctions vehicles give way without a light (in the run with the most), and by how many lines
     in the mean of the runs; nothing where no run has lines."""
-    outcomes = [outcome for of_variant in results.values() for outcome in of_variant]
+    outcomes = [outcome for of_variant in outcomes_by_variant.values() for outcome in of_variant]
     if any(outcome.lines for outcome in outcomes):
         junctions, lines = max(outcome.junctions for outcome in outcomes), fmean(outcome.lines for outcome in outcomes)
         print(f"{junctions:,} junctions without a light give way by some {lines:,.0f} signal lines in each run")

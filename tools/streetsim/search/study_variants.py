@@ -87,40 +87,40 @@ def read_study(path: str, simulator: str, rounds: int | None = None, departures:
         try:
             text = file.read(LONGEST + 1)
             refuse_large(text)
-            value = tomllib.loads(text)
+            study_table = tomllib.loads(text)
         except tomllib.TOMLDecodeError as fault:
             raise Fault(f"{path}: not TOML: {fault}") from None
-    refuse_unknown(path, value, KEYS)
+    refuse_unknown(path, study_table, KEYS)
     for key in ("run", "map", "seeds", "variant"):
-        if key not in value:
+        if key not in study_table:
             raise Fault(f"{path}: no {key!r} in it")
-    value["until"] = until = read_until(path, value.get("until"))
-    variants = value["variant"]
+    study_table["until"] = until = read_until(path, study_table.get("until"))
+    variants = study_table["variant"]
     if not isinstance(variants, dict) or not all(isinstance(item, dict) for item in variants.values()) or not variants:
         raise Fault(f"{path}: variants are tables [variant.NAME]")
     if len(variants) > MOST_VARIANTS:
         raise Fault(f"{path}: {len(variants):,} variants are more than {MOST_VARIANTS:,}")
-    base = value.get("base", next(iter(variants)))
+    base = study_table.get("base", next(iter(variants)))
     if base not in [*variants]:
         raise Fault(f"{path}: base = {base!r}: there is no variant of this name; there are {', '.join(variants)}")
-    named = value.get("rounds", ROUNDS)
+    named = study_table.get("rounds", ROUNDS)
     if type(named) is not int or not 0 <= named <= MOST_ROUNDS:
         raise Fault(f"{path}: rounds = {named!r} is not 0 to {MOST_ROUNDS}")
-    value["rounds"] = named if rounds is None else rounds
-    value["departures"] = departures or value.get("departures", DRAWN)
-    if value["departures"] not in DEPARTURES:
-        raise Fault(f"{path}: departures = {value['departures']!r} is neither {DRAWN!r} nor {LISTED!r}")
-    seeds = seeds_of(value["seeds"], f"{path}: seeds")
-    lanes = joint_lanes(path, value)
+    study_table["rounds"] = named if rounds is None else rounds
+    study_table["departures"] = departures or study_table.get("departures", DRAWN)
+    if study_table["departures"] not in DEPARTURES:
+        raise Fault(f"{path}: departures = {study_table['departures']!r} is neither {DRAWN!r} nor {LISTED!r}")
+    seeds = seeds_of(study_table["seeds"], f"{path}: seeds")
+    lanes = joint_lanes(path, study_table)
     variants_read = {}
     for name, table in variants.items():
         with naming(where := f"{path}: variant {name!r}"):
-            variants_read[name] = read_variant(where, path, value, table, lanes, simulator)
+            variants_read[name] = read_variant(where, path, study_table, table, lanes, simulator)
     for name, variant in variants_read.items():
         if name != base:
             growth = variant.cars(0) / max(1, variants_read[base].cars(0))
             variant.doubts += forecast_doubts(variant.loaded, variants_read[base].loaded, growth)
-    return Study(until, seeds, base, variants_read, value["departures"] == DRAWN)
+    return Study(until, seeds, base, variants_read, study_table["departures"] == DRAWN)
 
 
 def refuse_large(text: str) -> None:
@@ -177,13 +177,14 @@ def pair_of(study: Json, variant: Json) -> tuple[str, str]:
 
 
 def read_variant(
-    where: str, path: str, study: Json, variant: Json, joint: Mapping[tuple[str, str], Iterable[str]], simulator: str
+    variant_label: str, path: str, study: Json, variant: Json, joint: Mapping[tuple[str, str], Iterable[str]],
+    simulator: str,
 ) -> Variant:
     """A variant, read and made ready, its ways searched by runs where it has route = true; what it does is told on
-    standard error. where: for faults; path: of the study's file; study, variant: their tables, whose values check_types
-    has passed, study's `until` and `rounds` as read_study puts them there; joint: as joint_lanes gives it; simulator:
-    path of the program. Fault where a key is unknown, or a file that it names cannot be read or is wrong."""
-    refuse_unknown(where, variant, VARIANT)
+    standard error. variant_label: for faults; path: of the study's file; study, variant: their tables, whose values
+    check_types has passed, study's `until` and `rounds` as read_study puts them there; joint: as joint_lanes gives it;
+    simulator: path of the program. Fault where a key is unknown, or a file that it names cannot be read or is wrong."""
+    refuse_unknown(variant_label, variant, VARIANT)
     beside = partial(os.path.join, os.path.dirname(os.path.abspath(path)))
     run_path, map_path = map(beside, pair_of(study, variant))
     run, mapping = read_run_and_map(run_path, map_path, study["until"])
@@ -198,7 +199,7 @@ def read_variant(
         close, knowing = variant.get("close", ()), variant.get("knowing", 1.0)
         seeds = seeds_of(study["seeds"], f"{path}: seeds")
         wished = Wished(close, knowing, lanes, simulator, until, study["rounds"], seeds, drives, lost)
-        run, mapping, route_doubts = run_on_found_ways(run, mapping, map_path, wished, where)
+        run, mapping, route_doubts = run_on_found_ways(run, mapping, map_path, wished, variant_label)
     else:
         run, mapping, notes = with_works(
             run, mapping, map_path, works, WorksOptions(lanes, lost, variant.get("works_limit"))
@@ -207,7 +208,7 @@ def read_variant(
     merged = {**study, **variant}
     lights, buses = lights_and_buses(run, mapping, merged, drives)
     notes += [*lights.notes(), *buses.notes()]
-    print(*(f"{where}: {text}" for text in notes), sep="\n", end="\n" if notes else "", file=sys.stderr)
+    print(*(f"{variant_label}: {text}" for text in notes), sep="\n", end="\n" if notes else "", file=sys.stderr)
     nodes: frozenset[int] = frozenset()
     signals, sensing, full = b"", lights.listed_lights(mapping), None
     if "plans" in variant:
@@ -242,56 +243,58 @@ def replications(run: Run, mapping: Map, study: Json, path: str) -> Iterator[tup
         yield drawn_run, drawn_map
 
 
-def lights_and_buses(run: Run, mapping: Map, value: Json, drives: bool) -> tuple[ActuatedLights, Planned]:
-    """The lights of a variant's run that are driven, and the stops and the priority of its buses. value: the variant's
+def lights_and_buses(run: Run, mapping: Map, merged: Json, drives: bool) -> tuple[ActuatedLights, Planned]:
+    """The lights of a variant's run that are driven, and the stops and the priority of its buses. merged: the variant's
     keys over the study's; drives: whether detectors drive lights. Fault where no vehicle is of a class or line of
     priority, or detectors are not to drive the lights that would wait."""
     lights = driven_lights(run, mapping) if drives and mapping.actuated else NONE_DRIVEN
-    buses = planned(run, mapping) if value.get("stops") != "none" else NONE
-    names = names_in(value.get("priority", ""))
+    buses = planned(run, mapping) if merged.get("stops") != "none" else NONE
+    names = names_in(merged.get("priority", ""))
     if names and not drives and mapping.actuated:
         raise Fault("priority and listed: lights that wait for buses do not show their listed seconds")
-    return prioritised(run, mapping, names, value.get("seen"), lights, buses) if names else (lights, buses)
+    return prioritised(run, mapping, names, merged.get("seen"), lights, buses) if names else (lights, buses)
 
 
-def check_types(where: str, value: Json) -> None:
+def check_types(variant_label: str, merged: Json) -> None:
     """Fault where a value of a variant is not of the kind, or in the range, that its key needs, or a key needs another
-    one that is absent. value: the variant's keys over the study's."""
+    one that is absent. merged: the variant's keys over the study's."""
     for key in ("run", "map"):
-        if not isinstance(value[key], str):
-            raise Fault(f"{where}: {key} = {value[key]!r} is no path")
+        if not isinstance(merged[key], str):
+            raise Fault(f"{variant_label}: {key} = {merged[key]!r} is no path")
     for key in ("plans", "close"):
-        if not isinstance(value.get(key, []), list) or not all(isinstance(text, str) for text in value.get(key, ())):
-            raise Fault(f"{where}: {key} = {value[key]!r} is no list of texts")
-    if value.get("plans") == []:
-        raise Fault(f"{where}: plans = []: the network is the first of them")
+        if not isinstance(merged.get(key, []), list) or not all(isinstance(text, str) for text in merged.get(key, ())):
+            raise Fault(f"{variant_label}: {key} = {merged[key]!r} is no list of texts")
+    if merged.get("plans") == []:
+        raise Fault(f"{variant_label}: plans = []: the network is the first of them")
     for key, (allowed, unit) in RANGES.items():
-        if key in value and (type(value[key]) is not int or value[key] not in allowed):
-            raise Fault(f"{where}: {key} = {value[key]!r} is not {allowed[0]:,} to {allowed[-1]:,}{unit}")
-    if type(value.get("route", False)) is not bool:
-        raise Fault(f"{where}: route = {value['route']!r} is neither true nor false")
-    if type(value.get("knowing", 1)) not in (int, float) or not 0 <= value.get("knowing", 1) <= 1:
-        raise Fault(f"{where}: knowing = {value['knowing']!r} is not 0 to 1")
-    if value.get("lost", "lead") not in LOST:
-        raise Fault(f"{where}: lost = {value['lost']!r} is none of {', '.join(map(repr, LOST))}")
-    if "works_limit" in value and (value.get("route") or not value.get("close")):
-        raise Fault(f"{where}: works_limit is of works without a search for ways: close = [..] is needed, and no route")
+        if key in merged and (type(merged[key]) is not int or merged[key] not in allowed):
+            raise Fault(f"{variant_label}: {key} = {merged[key]!r} is not {allowed[0]:,} to {allowed[-1]:,}{unit}")
+    if type(merged.get("route", False)) is not bool:
+        raise Fault(f"{variant_label}: route = {merged['route']!r} is neither true nor false")
+    if type(merged.get("knowing", 1)) not in (int, float) or not 0 <= merged.get("knowing", 1) <= 1:
+        raise Fault(f"{variant_label}: knowing = {merged['knowing']!r} is not 0 to 1")
+    if merged.get("lost", "lead") not in LOST:
+        raise Fault(f"{variant_label}: lost = {merged['lost']!r} is none of {', '.join(map(repr, LOST))}")
+    if "works_limit" in merged and (merged.get("route") or not merged.get("close")):
+        why = "works_limit is of works without a search for ways: close = [..] is needed, and no route"
+        raise Fault(f"{variant_label}: {why}")
     for key, choices in EITHER.items():
-        if value.get(key, choices[0]) not in choices:
-            raise Fault(f"{where}: {key} = {value[key]!r} is neither {choices[0]!r} nor {choices[1]!r}")
-    check_priority(where, value)
-    if "knowing" in value and not (value.get("route") and value.get("close")):
-        raise Fault(f"{where}: knowing is of who goes round works: close = [..] and route = true are needed too")
+        if merged.get(key, choices[0]) not in choices:
+            raise Fault(f"{variant_label}: {key} = {merged[key]!r} is neither {choices[0]!r} nor {choices[1]!r}")
+    check_priority(variant_label, merged)
+    if "knowing" in merged and not (merged.get("route") and merged.get("close")):
+        why = "knowing is of who goes round works: close = [..] and route = true are needed too"
+        raise Fault(f"{variant_label}: {why}")
 
 
-def check_priority(where: str, value: Json) -> None:
-    """Fault where what a variant says of priority has no meaning. value: the variant's keys over the study's."""
-    if not isinstance(names := value.get("priority", ""), str):
-        raise Fault(f"{where}: priority = {names!r} is no text of classes or lines")
-    if "seen" in value and not names:
-        raise Fault(f"{where}: seen is of vehicles with priority")
-    if names and "plans" in value:
-        raise Fault(f"{where}: priority and plans: lights that wait for buses do not show plans")
+def check_priority(variant_label: str, merged: Json) -> None:
+    """Fault where what a variant says of priority has no meaning. merged: the variant's keys over the study's."""
+    if not isinstance(names := merged.get("priority", ""), str):
+        raise Fault(f"{variant_label}: priority = {names!r} is no text of classes or lines")
+    if "seen" in merged and not names:
+        raise Fault(f"{variant_label}: seen is of vehicles with priority")
+    if names and "plans" in merged:
+        raise Fault(f"{variant_label}: priority and plans: lights that wait for buses do not show plans")
 
 
 def signals_of(plan_files: Reading, run: Run, mapping: Map) -> tuple[bytes, list[str], list[FullLane]]:

@@ -15,7 +15,7 @@ class RunClient(Client):
     def __init__(self, program: Program) -> None:
         """program: which runs."""
         self.program, self.process = program, program.process
-        self.ended: tuple[int, str] | None = None
+        self.end_result: tuple[int, str] | None = None
         self.changes: list[bytes] = []
         self.later: list[bytes] = []  # what send_soon has taken and is still to be sent
 
@@ -30,20 +30,20 @@ class RunClient(Client):
         sent = list(lines)
         if any(line.startswith(ADVANCE) for line in sent):
             raise ValueError("the steps of a run are made by simulationStep")
-        ahead, self.later = self.later, []
+        earlier_lines, self.later = self.later, []
         self.changes += [line for line in sent if not line.startswith(QUESTION_PREFIXES)]
-        replies = Program.exchange(self.program, [*ahead, *sent])
-        for reply in replies[: len(ahead)]:
+        replies = Program.exchange(self.program, [*earlier_lines, *sent])
+        for reply in replies[: len(earlier_lines)]:
             if b'"error"' in reply or b'"starved"' in reply:
                 fault = read_reply(reply)
                 raise fault if isinstance(fault, Exception) else NoReply(reply.decode(errors="replace"))
-        return iter(replies[len(ahead) :])
+        return iter(replies[len(earlier_lines) :])
 
     def end(self) -> tuple[int, str]:
         """Ends the input and waits for the program; gives (its status, its standard error), later the same."""
-        if self.ended is None:
-            self.ended = self.program.end()
-        return self.ended
+        if self.end_result is None:
+            self.end_result = self.program.end()
+        return self.end_result
 
 
 class OwnProgram(Program):

@@ -4,7 +4,7 @@ from functools import wraps
 from typing import Concatenate, ParamSpec, TypeVar
 
 Arguments = ParamSpec("Arguments")
-Result = TypeVar("Result")
+Returned = TypeVar("Returned")
 NAMES: set[str] = set()  # of the methods that are deeds
 
 
@@ -33,13 +33,13 @@ DoerKind = TypeVar("DoerKind", bound=Doer)
 
 
 def deed(
-    method: Callable[Concatenate[DoerKind, Arguments], Result],
-) -> Callable[Concatenate[DoerKind, Arguments], Result]:
+    method: Callable[Concatenate[DoerKind, Arguments], Returned],
+) -> Callable[Concatenate[DoerKind, Arguments], Returned]:
     """A method by which a script changes a run: calls are noted that raise nothing and that no other deed makes."""
     NAMES.add(method.__name__)
 
     @wraps(method)
-    def noted(doer: DoerKind, *args: Arguments.args, **kwargs: Arguments.kwargs) -> Result:
+    def noted_call(doer: DoerKind, *args: Arguments.args, **kwargs: Arguments.kwargs) -> Returned:
         """Calls the method."""
         deeds, clock = doer.deeds, doer.clock
         if deeds.under_way:
@@ -52,4 +52,4 @@ def deed(
         deeds.entries.append((clock, doer.part, method.__name__, args))
         return result
 
-    return noted
+    return noted_call

@@ -37,7 +37,7 @@ class Detours(Controller):
         self.kernel.enter_due(NEVER)
         routes_round = WaysRound(simulation.map, simulation.dawdle)
         waiting, driving = self.waiting_and_driving()
-        seed, signals = simulation.source.load.command.get("seed", 0), simulation.shown.in_force()
+        seed, signals = simulation.source.load.command.get("seed", 0), simulation.signals_in_force.in_force()
         vehicles = [*waiting.values(), *driving.values()]
         plans = routes_round.new_plans(vehicles, signals, impassable, (simulation.clock, until), seed)
         for name, plan in plans.items():
@@ -45,7 +45,7 @@ class Detours(Controller):
             if number in driving:
                 self.turn_later(number, plan)
             else:
-                self.enter_anew(number, fleet.begun(number), plan, max(simulation.clock, fleet.departs[number]))
+                self.enter_anew(number, fleet.links_driven(number), plan, max(simulation.clock, fleet.departs[number]))
         return [name for name in fleet.names if name in plans]
 
     def plan_since_entry(self, number: int) -> tuple[int, ...]:
@@ -60,9 +60,10 @@ class Detours(Controller):
             plan = self.plan_since_entry(number)
             if number in positions:
                 diversion, link = self.turning.get(number), positions[number].link
-                plan = diversion.ahead + diversion.rest if diversion and link in diversion.ahead else plan
+                if diversion and link in diversion.links_ahead:
+                    plan = diversion.links_ahead + diversion.links_after
                 driving[number] = PlannedVehicle(name, clock, plan[plan.index(link) :])
-            elif not simulation.view.ended[number]:
+            elif not simulation.view.has_ended[number]:
                 waiting[number] = PlannedVehicle(name, max(clock, fleet.departs[number]), plan)
         return waiting, driving
 
@@ -84,15 +85,15 @@ class Detours(Controller):
         when to look again; those that have ended, or left the links ahead, are forgotten."""
         for number in [number for number, diversion in self.turning.items() if diversion.due <= clock]:
             diversion, position = self.turning[number], self.simulation.view.positions.get(number)
-            if position is None or position.link not in diversion.ahead:
+            if position is None or position.link not in diversion.links_ahead:
                 del self.turning[number]
-            elif position.cell is not None or position.link != diversion.ahead[-1]:
+            elif position.cell is not None or position.link != diversion.links_ahead[-1]:
                 diversion.due = clock + diversion.least_steps(self.simulation.map.links, position.link, position.cell)
             else:
                 del self.turning[number]
                 fleet = self.simulation.fleet
-                driven = fleet.plans[number].index(position.link, fleet.begun(number)) + 1
-                self.enter_anew(number, driven, diversion.rest, clock)
+                driven = fleet.plans[number].index(position.link, fleet.links_driven(number)) + 1
+                self.enter_anew(number, driven, diversion.links_after, clock)
 
     def enter_anew(self, number: int, driven: int, links: Sequence[int], depart: int) -> None:
         """Takes a vehicle out, and enters it on other links at the clock depart. driven: how many links of its

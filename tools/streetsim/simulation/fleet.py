@@ -63,6 +63,6 @@ class Fleet:
         """The cells of a vehicle."""
         return self.enters[number].get("size", 1)
 
-    def begun(self, number: int) -> int:
+    def links_driven(self, number: int) -> int:
         """How many links of its plan a vehicle had driven when it entered last."""
         return len(self.plans[number]) - len(self.enters[number]["plan"])

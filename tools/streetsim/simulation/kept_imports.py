@@ -17,9 +17,9 @@ from typing import NamedTuple
 from streetsim import VERSION
 from streetsim.base.unpacking import LIFT
 
-SWITCH, OFF = "STREETSIM_CACHE", "off"  # in the environment
+SWITCH, SWITCHED_OFF = "STREETSIM_CACHE", "off"  # in the environment
 MARK = b"streetsim import 1\n"  # with which an entry begins; its number is that of the form of entries
-MOST, MOST_BYTES = 32, 256 << 20  # entries; bytes of all of them
+MOST_ENTRIES, MOST_BYTES = 32, 256 << 20  # entries; bytes of all of them
 LARGEST = 64 << 20  # bytes of one
 SUM = 32  # bytes of a sum
 GROUP_OR_OTHERS = stat.S_IRWXG | stat.S_IRWXO
@@ -38,7 +38,7 @@ def kept_folder() -> Path | None:
     folder cannot be made, or is of somebody else, or others may write there."""
     home = os.environ.get("XDG_CACHE_HOME", "")
     base = Path(home) if os.path.isabs(home) else Path(os.path.expanduser("~/.cache"))
-    if os.environ.get(SWITCH, "") == OFF or not base.is_absolute():
+    if os.environ.get(SWITCH, "") == SWITCHED_OFF or not base.is_absolute():
         return None
     folder = base / "streetsim/imports"
     with suppress(OSError):
@@ -98,7 +98,7 @@ def read_kept(key: str) -> KeptImport | None:
 
 def write_kept(key: str, import_texts: KeptImport) -> None:
     """Keeps an import by its key, whole or not at all; then leaves out the entries that were taken longest ago, until
-    those that are left are within MOST and MOST_BYTES. Does nothing where that cannot be done."""
+    those that are left are within MOST_ENTRIES and MOST_BYTES. Does nothing where that cannot be done."""
     body = body_of(import_texts)
     if (folder := kept_folder()) is None or len(body) + len(MARK) + SUM > LARGEST:
         return
@@ -120,7 +120,7 @@ def leave_out(folder: Path) -> None:
     total = 0
     for index, (status, path) in enumerate(sorted(entries, key=lambda pair: -pair[0].st_mtime_ns)):
         total += status.st_size
-        if (index >= MOST or total > MOST_BYTES) and stat.S_ISREG(status.st_mode):
+        if (index >= MOST_ENTRIES or total > MOST_BYTES) and stat.S_ISREG(status.st_mode):
             os.unlink(path)
 
 

@@ -93,7 +93,8 @@ class Control(Controller, Doer):
         those that a script has set keep what it set."""
         while self.changes and self.changes[0][0] <= clock:
             _, name, program = self.changes.popleft()
-            if name in self.lights and self.simulation.shown.forgotten.isdisjoint(self.simulation.shown.nodes(name)):
+            in_force = self.simulation.signals_in_force
+            if name in self.lights and in_force.forgotten.isdisjoint(in_force.nodes(name)):
                 light = self.lights[name]
                 light.phases, light.names = light.programs[program]
                 light.program, light.begin = program, self.begins.get((name, program), 0.0)
@@ -125,7 +126,7 @@ class Control(Controller, Doer):
             self.show_program(name, program, phases, names, self.begins.get((name, program), 0.0))
             return
         self.leave_program(name)
-        self.simulation.shown.forget(name)
+        self.simulation.signals_in_force.forget(name)
         driver.release(name, self.simulation.clock)
         self.simulation.kernel.send(controller.resumes(self.simulation.clock))
         light.phases, light.program, light.names = phases, program, names

@@ -72,7 +72,7 @@ def is_time(value: str) -> bool:
 
 
 # By option: which values are taken, and what is said of others.
-VALUES: dict[str, tuple[Callable[[str], bool], str]] = {
+VALUE_CHECKS: dict[str, tuple[Callable[[str], bool], str]] = {
     "step-length": (is_one, "steps are of one second"),
     "end": (is_time, "is no time"),
     "rounds": (lambda value: value.isdecimal() and int(value) <= MOST_ROUNDS, f"is not 0 to {MOST_ROUNDS}"),
@@ -93,18 +93,18 @@ def read_options(arguments: list[str]) -> dict[str, str]:
     if arguments and not str(arguments[0]).startswith("-"):
         options["configuration-file"], index = str(arguments[0]), 1
     while index < len(arguments):
-        word, _, value = str(arguments[index]).partition("=")
+        word, _, option_text = str(arguments[index]).partition("=")
         index += 1
-        if not value and index < len(arguments) and is_value(str(arguments[index])):
-            value, index = str(arguments[index]), index + 1
-        options[long_name(word)] = value
+        if not option_text and index < len(arguments) and is_value(str(arguments[index])):
+            option_text, index = str(arguments[index]), index + 1
+        options[long_name(word)] = option_text
     if "configuration-file" in options:
         try:
             options = {**read_configuration(options["configuration-file"]), **options}
         except Fault as fault:
             raise FatalTraCIError(str(fault)) from None
-    for name, value in options.items():
-        check_option(name, value)
+    for name, option_text in options.items():
+        check_option(name, option_text)
     return options
 
 
@@ -126,17 +126,17 @@ def long_name(argument: str) -> str:
     return SYNONYMS.get(name, name)
 
 
-def check_option(name: str, value: str) -> None:
+def check_option(name: str, option_text: str) -> None:
     """FatalTraCIError for an option (long name, text of its value) that is unknown, has a wrong value, is one of
     REFUSED, or asks for an output that is not written here."""
-    is_on = value.lower() not in FALSE
-    if name in VALUES and not VALUES[name][0](value):
-        raise FatalTraCIError(f"--{name} {value}: {VALUES[name][1]}")
-    if name in REFUSED and is_on and not (name == "scale" and is_one(value)):
-        raise FatalTraCIError(f"--{name} {value}: streetsim has nothing for it; {REFUSED[name]}")
-    if OUTPUT.fullmatch(name) and name not in SERVED and value not in NO_FILE and is_on:
+    is_on = option_text.lower() not in FALSE
+    if name in VALUE_CHECKS and not VALUE_CHECKS[name][0](option_text):
+        raise FatalTraCIError(f"--{name} {option_text}: {VALUE_CHECKS[name][1]}")
+    if name in REFUSED and is_on and not (name == "scale" and is_one(option_text)):
+        raise FatalTraCIError(f"--{name} {option_text}: streetsim has nothing for it; {REFUSED[name]}")
+    if OUTPUT.fullmatch(name) and name not in SERVED and option_text not in NO_FILE and is_on:
         reason = f"not written here ({', '.join(f'--{served}' for served in SERVED)} are)"
-        raise FatalTraCIError(f"--{name} {value}: {reason}; leave it out, or give --{name} /dev/null")
+        raise FatalTraCIError(f"--{name} {option_text}: {reason}; leave it out, or give --{name} /dev/null")
     is_known = name in INPUTS or name in IMPORTED or name in REFUSED or name in LOGS
     if not (is_known or OUTPUT.fullmatch(name) or SILENT.fullmatch(name) or WITHOUT_EFFECT.fullmatch(name)):
         matches = get_close_matches(name, (*INPUTS, *IMPORTED, *REFUSED, *LOGS, *SERVED, *SHORT.values(), *CHANGES), 1)

@@ -145,7 +145,7 @@ class TraciSession(Simulation, Doer):
     def waiting_to_depart(self) -> list[int]:
         """The vehicles that should have departed before now, and found no room."""
         view, enters, vehicles = self.view, self.fleet.enters, np.fromiter(self.kernel.vehicles.car, int)
-        waiting = vehicles[~view.has_departed[vehicles] & ~view.ended[vehicles]].tolist()
+        waiting = vehicles[~view.has_departed[vehicles] & ~view.has_ended[vehicles]].tolist()
         return [number for number in waiting if enters[number]["depart"] < self.clock]
 
     # Stops of vehicles of the file
@@ -168,7 +168,7 @@ class TraciSession(Simulation, Doer):
 
     def has_ended(self, name: str) -> bool:
         """Whether a vehicle of a name has ended."""
-        return name in self.fleet.numbers and bool(self.view.ended[self.fleet.numbers[name]])
+        return name in self.fleet.numbers and bool(self.view.has_ended[self.fleet.numbers[name]])
 
     @deed
     def add(self, name: str, route: str, kind: str, depart: int) -> bool:
@@ -274,7 +274,7 @@ class TraciSession(Simulation, Doer):
             del self.pending[number]
             if links:
                 self.enter_anew(number, links, self.clock)
-                self.view.hold(number, 2 * position.link + position.lane)
+                self.view.note_reentry(number, 2 * position.link + position.lane)
             else:
                 self.take_out(number)
                 self.view.leaving.append(number)

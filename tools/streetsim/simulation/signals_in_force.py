@@ -14,7 +14,7 @@ from streetsim.sumo.signals import LitNode, TooLong, cycle_told, phase_lines, si
 
 NOTHING: Command = {}
 Cycle = Sequence[tuple[float, str]]  # phases: seconds, state
-Shown = str | tuple[tuple[float, str], ...]  # a state, or phases
+ShownProgram = str | tuple[tuple[float, str], ...]  # a state, or phases
 CONSTANT = 600  # seconds of a phase that is shown until the next is set
 
 
@@ -52,8 +52,8 @@ class SignalsInForce(Controller):
         self.turns_by_node: dict[int, list[MapTurn]] = {}  # what turns_at gave
         # By light and phases the commands that show them and warnings, where they fit in one plan; by light, what it
         # shows and offset the lines of these.
-        self.known_commands: dict[tuple[str, Shown], tuple[list[Command], tuple[str, ...]]] = {}
-        self.lines: dict[tuple[str, Shown, int], list[Line]] = {}
+        self.known_commands: dict[tuple[str, ShownProgram], tuple[list[Command], tuple[str, ...]]] = {}
+        self.lines: dict[tuple[str, ShownProgram, int], list[Line]] = {}
 
     def begin(self, kernel: Kernel) -> None:
         """Nothing is to be sent yet."""
@@ -65,8 +65,9 @@ class SignalsInForce(Controller):
 
     def in_force(self) -> Collection[Command]:
         """The signal commands in force."""
-        sent = (line_sent.line.command for line_sent in self.kernel.sent if line_sent.line.command["cmd"] == "signal")
-        return {**self.signals, **{command["node"]: command for command in sent}}.values()
+        sent = (sent_line.line.command for sent_line in self.kernel.sent_lines)
+        signals = {command["node"]: command for command in sent if command["cmd"] == "signal"}
+        return {**self.signals, **signals}.values()
 
     def nodes(self, light: str) -> list[int]:
         """The nodes of a light; empty for an unknown one."""
@@ -83,10 +84,10 @@ class SignalsInForce(Controller):
         to be sent for the light. offset: as in a tlLogic, seconds. Of permissive greens the usual share is
         shown, as flows are not known here. Fault, before anything is forgotten, where a state is shorter than the
         light's signals, or the cycle rounds to 0 s or is longer than 200,000 s."""
-        shown = tuple([(seconds, state) for seconds, state in phases])
-        if (commands_known := self.known_commands.get((light, shown))) is not None:
+        cycle = tuple([(seconds, state) for seconds, state in phases])
+        if (commands_known := self.known_commands.get((light, cycle))) is not None:
             self.forget(light)
-            return self.lines_with_offset(light, shown, offset), list(commands_known[1])
+            return self.lines_with_offset(light, cycle, offset), list(commands_known[1])
         report, commands, coming = Report(), [], {}
         for node in self.nodes(light):
             lit_node = self.lit_node(light, node, phases, offset, report)
@@ -101,16 +102,16 @@ class SignalsInForce(Controller):
         if not coming:
             if len(self.known_commands) >= MOST_PROGRAMS:
                 self.known_commands.clear()
-            self.known_commands[light, shown] = commands, tuple(report.warnings)
+            self.known_commands[light, cycle] = commands, tuple(report.warnings)
         return list(map(own_line, commands)), report.warnings
 
-    def lines_with_offset(self, light: str, shown: Shown, offset: float) -> list[Line]:
+    def lines_with_offset(self, light: str, shown: ShownProgram, offset: float) -> list[Line]:
         """The lines of a program of a light that was made before, with another offset, as in a tlLogic, seconds."""
         commands, _ = self.known_commands[light, shown]
         cycle = sum(duration for duration, _ in commands[0]["phases"]) if commands else 1
         return self.lines_known((light, shown, round(-offset) % cycle), lambda: commands)
 
-    def lines_known(self, key: tuple[str, Shown, int], make: Callable[[], list[Command]]) -> list[Line]:
+    def lines_known(self, key: tuple[str, ShownProgram, int], make: Callable[[], list[Command]]) -> list[Line]:
         """The lines of a light, what it shows and the offset (key); make: gives the commands, whatever their offset."""
         if (lines := self.lines.get(key)) is None:
             if len(self.lines) >= MOST_PROGRAMS:

@@ -8,7 +8,7 @@ from streetsim.base.program import find_program
 from streetsim.control.actuated_driver import Driver
 from streetsim.control.merging_links import Merges
 from streetsim.control.steering import Steering
-from streetsim.kernel.loop import NEVER, Controller, Kernel, Sent as KernelSent, own_line
+from streetsim.kernel.loop import NEVER, Controller, Kernel, SentLine as KernelSent, own_line
 from streetsim.kernel.seconds import Block
 from streetsim.kernel.serving import serving_program
 from streetsim.model.mapping import Map, Place
@@ -31,7 +31,7 @@ class ScriptKernel(Kernel):
     def send_soon(self, lines: Sequence[Line]) -> None:
         """Sends lines of a controller's own before the next step, or ahead of the next line that is sent."""
         self.program.client.send_soon(line.text.encode() + b"\n" for line in lines)
-        self.sent += [KernelSent(self.clock, line, False) for line in lines]
+        self.sent_lines += [KernelSent(self.clock, line, False) for line in lines]
 
     def refusal(self, line: Line, reply: bytes) -> Exception:
         """The reply itself as an exception."""
@@ -68,8 +68,8 @@ class Simulation:
         """Starts the program, and has the run begin."""
         mapping = self.map
         self.steering, self.merging = Steering(self.source, mapping, self.settings), self.settings.merging
-        self.shown = SignalsInForce(mapping, (line.command for line in self.source.first))
-        self.steering.timed.left_out = self.shown.forgotten
+        self.signals_in_force = SignalsInForce(mapping, (line.command for line in self.source.first))
+        self.steering.timed.left_out = self.signals_in_force.forgotten
         self.routes: dict[str, Sequence[int]] = {}  # those that a script adds: links
         self.view = View(mapping)
         self.program = OwnProgram(*self.program_and_workers)
@@ -78,7 +78,7 @@ class Simulation:
         controllers, index = self.steering.controllers, self.steering.controllers.index(self.steering.lights)
         self.before_script = [*controllers[:index], *self.controllers_before_script()]
         of_script = self.script_settings.controllers
-        self.after_script = [*self.controllers_after_script(), *controllers[index:], self.shown, *of_script]
+        self.after_script = [*self.controllers_after_script(), *controllers[index:], self.signals_in_force, *of_script]
         self.kernel.controllers = [*self.before_script, *self.after_script]
         self.kernel.observers = self.script_settings.observers
         self.second_observers = [*self.observers_before_view(), self.view]
@@ -166,14 +166,14 @@ class Simulation:
         """Shows a cycle of (seconds, state) at a light from the next step on; lines of the file for the light are no
         longer sent, and detectors drive it no more. offset: as in a tlLogic, seconds. Gives warnings. Fault as of
         SignalsInForce.program_lines, after which all is as before."""
-        lines, warnings = self.shown.program_lines(light, phases, offset, self.clock)
+        lines, warnings = self.signals_in_force.program_lines(light, phases, offset, self.clock)
         self.kernel.send_soon(lines)
         self.driver.release(light, self.clock)
         return warnings
 
     def show_constant(self, light: str, state: str, begin: float) -> None:
         """As show_program, but a state without permissive greens, from the clock begin on until another is shown."""
-        self.kernel.send_soon(self.shown.constant_lines(light, state, begin))
+        self.kernel.send_soon(self.signals_in_force.constant_lines(light, state, begin))
         self.driver.release(light, self.clock)
 
     # Vehicles

@@ -65,7 +65,7 @@ def doubts_of(session: TraciSession, waiting_by_minute: Sequence[WaitingCount]) 
     free, rows = FreeFlow(mapping, session.dawdle), []
     for number, name in enumerate(fleet.names):
         arrival, depart = int(view.arrival[number]), fleet.departs[number]
-        if arrival or not view.ended[number]:
+        if arrival or not view.has_ended[number]:
             arrival_and_seconds = (arrival, arrival - depart) if arrival else ("", "")
             rows.append((name, depart, *arrival_and_seconds, free(fleet.plans[number])))
     trips = trust.trips_at(session.clock, session.source.start(), rows)

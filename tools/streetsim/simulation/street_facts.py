@@ -37,8 +37,8 @@ class LaneFacts:
     speed: float  # metres a second
     metres: float
     width: float
-    allowed: tuple[str, ...]
-    disallowed: tuple[str, ...]
+    allowed_classes: tuple[str, ...]
+    disallowed_classes: tuple[str, ...]
     shape: tuple[Point, ...]
     links: list[ConnectionFacts] = field(default_factory=list)
 

@@ -41,8 +41,9 @@ class Tally(SecondObserver):
     def note_second(self, second: FleetSecond) -> None:
         """Takes the next second."""
         number, slot, speed = second.number, second.slot, second.speed
-        if self.view.held:
-            held = np.array([pair for pair in self.view.held.items() if pair[0] not in set(number.tolist())], int)
+        if self.view.reentry_lanes:
+            seen = set(number.tolist())
+            held = np.array([pair for pair in self.view.reentry_lanes.items() if pair[0] not in seen], int)
             held = held.reshape(-1, 2)
             number, slot = np.append(number, held[:, 0]), np.append(slot, held[:, 1])
             speed = np.append(speed, np.zeros(len(held), int))
@@ -178,7 +179,7 @@ class LoopTally(SecondObserver):
             if len(self.seconds) >= MOST_SECONDS:
                 self.sum_up()
 
-    def passed(self, name: str) -> list[int]:
+    def vehicles_on(self, name: str) -> list[int]:
         """The vehicles, by the fleet's numbers, that were on a loop in the last second."""
         self.sum_up()
         return self.passing.get(name, [])

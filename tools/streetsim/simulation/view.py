@@ -43,11 +43,11 @@ class View(SecondObserver):
         """mapping: of the run."""
         self.slots = 2 * len(mapping.links)
         self.keys = np.arange(2 * self.slots + 1)
-        self.has_departed, self.ended = (np.zeros(limits.VEHICLES, bool) for _ in range(2))
+        self.has_departed, self.has_ended = (np.zeros(limits.VEHICLES, bool) for _ in range(2))
         self.arrival = np.zeros(limits.VEHICLES, np.int64)  # clock; 0: it has not arrived
         self.departure = np.zeros(limits.VEHICLES, np.int64)  # clock at the begin of the second in which it departed
         self.count = 0  # of those who have ended
-        self.held: dict[int, int] = {}  # lanes, as twice the link and the lane, of those who enter anew
+        self.reentry_lanes: dict[int, int] = {}  # lanes, as twice the link and the lane, of those who enter anew
         self.departed: list[int] = []
         self.arrived: list[int] = []
         self.leaving: list[int] = []  # taken out at the end of their way: they arrive in the step to come
@@ -61,7 +61,7 @@ class View(SecondObserver):
     def note_second(self, second: FleetSecond) -> None:
         """Takes the next second."""
         if self.leaving or len(second.arrived):
-            self.arrival[second.arrived], self.ended[second.arrived] = second.clock, True
+            self.arrival[second.arrived], self.has_ended[second.arrived] = second.clock, True
             self.count += len(second.arrived)
             self.arrived += [*self.leaving, *second.arrived.tolist()]
             self.leaving = []
@@ -75,11 +75,12 @@ class View(SecondObserver):
     def set_recorded(self, number: Array, slot: Array, cell: Array, speed: Array) -> None:
         """Shows the rows of a second of the record, and those who enter anew and are not seen there."""
         columns, self.recorded = (number, slot, np.maximum(cell, IN_JUNCTION), speed), len(number)
-        if self.held:
+        if self.reentry_lanes:
             recorded_numbers = set(number.tolist())
-            self.held = {vehicle: lane for vehicle, lane in self.held.items() if vehicle not in recorded_numbers}
-            held_rows = [[vehicle, lane, IN_JUNCTION, 0] for vehicle, lane in self.held.items()]
-            columns = np.append(np.array(columns), np.array(held_rows, int).reshape(-1, 4).T, axis=1)
+            unseen = (pair for pair in self.reentry_lanes.items() if pair[0] not in recorded_numbers)
+            self.reentry_lanes = dict(unseen)
+            reentry_rows = [[vehicle, lane, IN_JUNCTION, 0] for vehicle, lane in self.reentry_lanes.items()]
+            columns = np.append(np.array(columns), np.array(reentry_rows, int).reshape(-1, 4).T, axis=1)
         self.set_rows(*columns)
 
     def set_rows(self, number: Array, slot: Array, cell: Array, speed: Array) -> None:
@@ -153,8 +154,8 @@ class View(SecondObserver):
 
     def remove(self, number: int) -> None:
         """Notes that a vehicle was taken out: it is on no lane and in no junction."""
-        self.ended[number], self.count = True, self.count + 1
-        self.held.pop(number, None)
+        self.has_ended[number], self.count = True, self.count + 1
+        self.reentry_lanes.pop(number, None)
         self.drop(number)
 
     def drop(self, number: int) -> None:
@@ -163,9 +164,9 @@ class View(SecondObserver):
         self.recorded = int(np.count_nonzero(keep[: self.recorded]))
         self.set_rows(*(column[keep] for column in (self.number, self.slot, self.cell, self.speed)))
 
-    def hold(self, number: int, slot: int) -> None:
+    def note_reentry(self, number: int, slot: int) -> None:
         """Notes that a vehicle in the junction behind a lane (slot) enters anew there."""
-        self.held[number] = slot
+        self.reentry_lanes[number] = slot
         self.drop(number)
         recorded = slice(self.recorded)
         self.set_recorded(*(column[recorded] for column in (self.number, self.slot, self.cell, self.speed)))

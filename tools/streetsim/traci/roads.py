@@ -144,11 +144,11 @@ class LaneDomain(LaneCalls[TraciSession], Stretches):
 
     def getAllowed(self, name: str) -> tuple[str, ...]:
         """The vehicle classes that may drive there by the network's file, closed or not; empty: all."""
-        return self.lane_facts(name).allowed
+        return self.lane_facts(name).allowed_classes
 
     def getDisallowed(self, name: str) -> tuple[str, ...]:
         """The vehicle classes that may not drive there by the network's file, closed or not."""
-        return self.lane_facts(name).disallowed
+        return self.lane_facts(name).disallowed_classes
 
     def getFriction(self, name: str) -> float:
         """1.0: all roads are dry."""
@@ -322,7 +322,7 @@ class InductionLoopDomain(DetectorDomain):
 
     def numbers(self, name: str) -> list[int]:
         """The numbers of the vehicles that stood on it or drove over it in the last step."""
-        return self.session().loops.passed(self.detector(name).name)
+        return self.session().loops.vehicles_on(self.detector(name).name)
 
     def getLastStepOccupancy(self, name: str) -> float:
         """The percentage of the last step in which a vehicle covered it: 100 where one stands there, else by the

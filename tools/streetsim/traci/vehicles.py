@@ -73,7 +73,7 @@ class VehicleDomain(VehicleCalls[TraciSession], LookDomain, Outlined):
 
     def subjects(self) -> Collection[str]:
         """The vehicles that have not ended, those that will depart among them."""
-        ended = self.session().view.ended
+        ended = self.session().view.has_ended
         return [name for name, number in self.session().fleet.numbers.items() if not ended[number]]
 
     def is_subject(self, name: str) -> bool:
@@ -100,7 +100,7 @@ class VehicleDomain(VehicleCalls[TraciSession], LookDomain, Outlined):
         session = self.session()
         number = session.fleet.numbers.get(name, -1)
         position = session.view.position_of(number)
-        if position is None and (number < 0 or session.view.ended[number]):
+        if position is None and (number < 0 or session.view.has_ended[number]):
             raise TraCIException(f"Vehicle '{name}' is not known.")
         return number, position
 
