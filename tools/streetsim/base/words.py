@@ -175,7 +175,7 @@ def share_of(text: str) -> float:
 
 def add_run(parser: argparse.ArgumentParser) -> None:
     """Adds to a parser the words that name what streetsim-import made: the run file (run) and its map (--map)."""
-    parser.add_argument("run", metavar="RUN", help="the run file that streetsim-import wrote (.jsonl)")
+    parser.add_argument("run", metavar="RUN", help="run file that streetsim-import wrote (.jsonl)")
     parser.add_argument("--map", help="map file with the names in a run (default: NAME.map.json beside NAME.jsonl)")
 
 
@@ -184,7 +184,7 @@ def add_names(parser: argparse.ArgumentParser) -> None:
     parser.add_argument(
         "--names",
         metavar="FILE",
-        help="a table of your own names (.csv with the columns id, of an edge, junction or light, and name), which go "
+        help="table of your own names (.csv with the columns id, of an edge, junction or light, and name), which go "
         "before those of the map",
     )
 

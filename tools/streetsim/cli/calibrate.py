@@ -61,9 +61,9 @@ def parser() -> Parser:
     add_days(tool_parser)
     add_fit(tool_parser)
     tool_parser.add_argument(
-        "-o", "--output", required=True, help="the output file: the drivers, as --drivers takes them"
+        "-o", "--output", required=True, help="output file: the drivers, as --drivers takes them"
     )
-    add_out(tool_parser, "the output folder (default: NET-drivers, here)")
+    add_out(tool_parser, "output folder (default: NET-drivers, here)")
     add_rounds(tool_parser)
     add_jobs(tool_parser)
     tool_parser.add_argument("--program", help=program.HELP)
@@ -82,7 +82,7 @@ def add_days(tool_parser: argparse.ArgumentParser) -> None:
     )
     tool_parser.add_argument(
         "--saturation", metavar="FILE",
-        help="a survey of saturation flows of through lanes: CSV with street,flow,vehicles_per_green,green,greens",
+        help="survey of saturation flows of through lanes: CSV with street,flow,vehicles_per_green,green,greens",
     )
     tool_parser.add_argument(
         "--queues", metavar="FILE", help="measured queues, which are judged: CSV with edge,mean_of_cycles,max"

@@ -34,9 +34,9 @@ def parser() -> Parser:
     add_inputs(tool_parser)
     add_fit(tool_parser)
     tool_parser.add_argument(
-        "-o", "--output", help="the output file: the vehicles (.rou.xml; default: NET.fitted.rou.xml, here)"
+        "-o", "--output", help="output file: the vehicles (.rou.xml; default: NET.fitted.rou.xml, here)"
     )
-    add_out(tool_parser, "the output folder (default: NET-fitted, here)")
+    add_out(tool_parser, "output folder (default: NET-fitted, here)")
     add_made_run(tool_parser, "vehicles")
     tool_parser.add_argument("--program", help=program.HELP)
     add_options(tool_parser)

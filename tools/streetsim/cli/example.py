@@ -22,7 +22,7 @@ def parser() -> Parser:
     )
     tool_parser.add_argument("name", metavar="NAME", nargs="?", help="name of the example, such as corridor")
     tool_parser.add_argument(
-        "--out", metavar="DIR", help="the output folder (default: of the example's name, here)"
+        "--out", metavar="DIR", help="output folder (default: of the example's name, here)"
     )
     return tool_parser
 

@@ -21,8 +21,8 @@ def parser() -> Parser:
         "v/c and queues by interval, in WGS84: GeoJSON, or a GeoPackage by GDAL's ogr2ogr. "
         "With --seeds means over the seeds.",
     )
-    tool_parser.add_argument("run", metavar="FOLDER", help="a folder that streetsim-run wrote, or one with seeds")
-    tool_parser.add_argument("-o", "--output", required=True, help="the output file (.geojson, .gpkg)")
+    tool_parser.add_argument("run", metavar="FOLDER", help="folder that streetsim-run wrote, or one with seeds")
+    tool_parser.add_argument("-o", "--output", required=True, help="output file (.geojson, .gpkg)")
     projection = "projection of a network that tells none: EPSG:25832, '+proj=utm +zone=32', .."
     tool_parser.add_argument("--projection", help=projection)
     add_names(tool_parser)

@@ -42,7 +42,7 @@ def parser() -> Parser:
         description="Makes load, signal and enter lines, and a map of the names, of a SUMO network and its routes.",
     )
     tool_parser.add_argument(
-        "net", nargs="?", metavar="NET", help="a SUMO network (.net.xml) or configuration (.sumocfg)"
+        "net", nargs="?", metavar="NET", help="SUMO network (.net.xml) or configuration (.sumocfg)"
     )
     tool_parser.add_argument(
         "-c", "--configuration", metavar="FILE",
@@ -60,17 +60,17 @@ def parser() -> Parser:
         "files of trips, and of flows with from and to: each gets the way that is shortest with the waits at "
         "signals and the volumes so far (better ways: streetsim-route)",
     )
-    help_text = "the output file: the run, as lines of JSON (.jsonl, .jsonl.gz; default: of NET's name, here)"
+    help_text = "output file: the run, as lines of JSON (.jsonl, .jsonl.gz; default: of NET's name, here)"
     tool_parser.add_argument("-o", "--output", help=help_text)
     tool_parser.add_argument(
         "--map", help="map file with the names in a run, to write (default: NAME.map.json beside NAME.jsonl)"
     )
     add_names(tool_parser)
-    tool_parser.add_argument("--warnings", metavar="FILE", help="a table of warnings and notes, with all names (.csv)")
+    tool_parser.add_argument("--warnings", metavar="FILE", help="table of warnings and notes, with all names (.csv)")
     tool_parser.add_argument("--strict", action="store_true", help="end with status 1 where vehicles were skipped")
     tool_parser.add_argument(
         "--slow", default="", metavar="EDGE:METRES-METRES:KMH",
-        help="a lower speed limit on a stretch of an edge; the edge becomes up to three that follow each other; "
+        help="lower speed limit on a stretch of an edge; the edge becomes up to three that follow each other; "
         "several with commas between",
     )
     add_options(tool_parser)
@@ -84,7 +84,7 @@ def add_options(tool_parser: argparse.ArgumentParser) -> None:
     add_numbers(tool_parser)
     tool_parser.add_argument(
         "--permissive", metavar="SHARE|EDGE=SHARE",
-        help="the share of each permissive green in which vehicles may go: its last part, of all or of surveyed "
+        help="share of each permissive green in which vehicles may go: its last part, of all or of surveyed "
         "approaches, with commas between (default: by the flows that it gives way to)",
     )
     add_drivers(tool_parser)

@@ -58,7 +58,7 @@ def parser() -> Parser:
     add_clock(tool_parser, "--begin", "start time of the run", default=None)
     add_clock(tool_parser, "--until", "end time of the run", least=1)
     tool_parser.add_argument(
-        "-o", "--output", metavar="PAGE", help="the output file: the page (default: NAME.html, here)"
+        "-o", "--output", metavar="PAGE", help="output file: the page (default: NAME.html, here)"
     )
     tool_parser.add_argument(
         "--live", action="store_true",

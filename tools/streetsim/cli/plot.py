@@ -45,10 +45,10 @@ def parser() -> Parser:
         kind_parser.renamed = OLD_WORDS.get(kind, {})
         often = "?" if kind == "fundamental" else None
         # argparse takes None too, which is its default.
-        wrote = "a folder that streetsim-run wrote"
+        wrote = "folder that streetsim-run wrote"
         kind_parser.add_argument("folder", nargs=often, metavar="FOLDER", help=wrote)  # type: ignore[arg-type]
         kind_parser.add_argument(
-            "-o", "--output", help="the output file: the picture (.png, .svg, .pdf; default: FOLDER.KIND.png, here)"
+            "-o", "--output", help="output file: the picture (.png, .svg, .pdf; default: FOLDER.KIND.png, here)"
         )
         add_words_of_kind(kind_parser, kind)
     return tool_parser
@@ -62,8 +62,8 @@ def add_words_of_kind(kind_parser: argparse.ArgumentParser, kind: str) -> None:
         )
     if kind == "corridor":
         kind_parser.add_argument("--both", action="store_true", help="draw the other direction too, below")
-        add_clock(kind_parser, "--first", "the first second shown", default=0)
-        add_clock(kind_parser, "--last", "the last second shown", default=600)
+        add_clock(kind_parser, "--first", "first second shown", default=0)
+        add_clock(kind_parser, "--last", "last second shown", default=600)
     if kind == "fundamental":
         add_diagram(kind_parser)
     if kind == "map":

@@ -51,11 +51,11 @@ def parser() -> Parser:
     )
     tool_parser.add_argument(
         "runs", nargs="+", metavar="FOLDER",
-        help="a folder that streetsim-run wrote; a second one is the plan after it"
+        help="folder that streetsim-run wrote; a second one is the plan after it"
     )
-    tool_parser.add_argument("-o", "--output", help="the output file: the page (default: FOLDER.report.html, here)")
+    tool_parser.add_argument("-o", "--output", help="output file: the page (default: FOLDER.report.html, here)")
     tool_parser.add_argument("--title", default="Junction report", help="title of the page (default: %(default)s)")
-    question = "the question that was asked, at the head of the page"
+    question = "question that was asked, at the head of the page"
     tool_parser.add_argument("--question", default="", metavar="TEXT", help=question)
     tool_parser.add_argument(
         "--plan-names", nargs="+", default=[], metavar="NAME", help="names of the plans (default: their folders)"
@@ -94,7 +94,7 @@ def add_appendix(tool_parser: argparse.ArgumentParser) -> None:
         "--corridor", default="", metavar="EDGES", help="edges of a path to draw, of a run with --every 1 to 5"
     )
     for name, default in PICTURE_SECONDS.items():
-        add_clock(tool_parser, f"--{name}", f"the {name} second shown, of the corridor's picture (default {default})")
+        add_clock(tool_parser, f"--{name}", f"{name} second shown, of the corridor's picture (default {default})")
 
 
 def main(arguments: list[str]) -> int:

@@ -54,10 +54,10 @@ def parser() -> Parser:
         "the routes of the configuration)",
     )
     tool_parser.add_argument(
-        "-o", "--output", help="the output file: the routes found (.rou.xml; default: NET.found.rou.xml, here)"
+        "-o", "--output", help="output file: the routes found (.rou.xml; default: NET.found.rou.xml, here)"
     )
     add_made_run(tool_parser, "routes")
-    add_out(tool_parser, "the output folder (default: NET-routes, here)")
+    add_out(tool_parser, "output folder (default: NET-routes, here)")
     add_search(tool_parser)
     add_works(tool_parser)
     add_machines(tool_parser)

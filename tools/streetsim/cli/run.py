@@ -65,7 +65,7 @@ def add_looks(tool_parser: argparse.ArgumentParser) -> None:
     add_rescue(tool_parser)
     tool_parser.add_argument(
         "--counted", choices=["all", "busiest"], default="all",
-        help="a word of earlier versions without effect: every lane is counted",
+        help="word of earlier versions without effect: every lane is counted",
     )
 
 
@@ -100,7 +100,7 @@ def add_lanes(tool_parser: argparse.ArgumentParser) -> None:
     add_lost(tool_parser)
     tool_parser.add_argument(
         "--works-limit", type=integer_within(limits.KMH[0], limits.KMH[-1]), metavar="KMH",
-        help="the speed limit along the works of --close, for the whole run; their edges are imported anew in parts",
+        help="speed limit along the works of --close, for the whole run; their edges are imported anew in parts",
     )
     tool_parser.add_argument(
         "--joint", default="", metavar="NAMES",
@@ -152,7 +152,7 @@ def add_outputs(tool_parser: argparse.ArgumentParser) -> None:
         help="also write travel times along a route of these edges, with spaces or commas between, from the stop line "
         f"of the first to that of the last, {ROUTES_FILE}; several routes by the word again",
     )
-    add_out(tool_parser, "the output folder (default: NAME-run of NAME.jsonl; with --seeds NAME-seeds)")
+    add_out(tool_parser, "output folder (default: NAME-run of NAME.jsonl; with --seeds NAME-seeds)")
     tool_parser.add_argument(
         "--keep", metavar="FILE",
         help="keep the session in this file; the same words go on there after the machine has ended",

@@ -70,12 +70,12 @@ def parser() -> Parser:
     tool_parser.add_argument(
         "--edges", default="", help="edges to look at, with spaces or commas between: the ways along them are drawn"
     )
-    add_clock(tool_parser, "--first", "the first second shown (default: a third of the run)")
-    add_clock(tool_parser, "--last", f"the last second shown (default: {DRAWN} s later)")
+    add_clock(tool_parser, "--first", "first second shown (default: a third of the run)")
+    add_clock(tool_parser, "--last", f"last second shown (default: {DRAWN} s later)")
     tool_parser.add_argument(
-        "-o", "--output", help="the output file: the plan found (default: RUN.found.add.xml, here)"
+        "-o", "--output", help="output file: the plan found (default: RUN.found.add.xml, here)"
     )
-    add_out(tool_parser, "the output folder (default: RUN-signals, here)")
+    add_out(tool_parser, "output folder (default: RUN-signals, here)")
     return tool_parser
 
 
@@ -99,7 +99,7 @@ def add_search(tool_parser: argparse.ArgumentParser) -> None:
     )
     tool_parser.add_argument(
         "--constraints", metavar="FILE",
-        help="a table of limits that phases must keep, beside their minDur and maxDur: "
+        help="table of limits that phases must keep, beside their minDur and maxDur: "
         "light,phase,least,most,pedestrians (.csv)",
     )
     tool_parser.add_argument(

@@ -42,7 +42,7 @@ def parser() -> Parser:
         description="Runs each variant of a study with each seed, and writes the differences of their mean trips with "
         "95 % intervals, and how many runs a precision needs.",
     )
-    tool_parser.add_argument("study", help="the file of the study (.toml)")
+    tool_parser.add_argument("study", help="file of the study (.toml)")
     add_machines(tool_parser)
     add_rounds(tool_parser, None, f"default: rounds of the study, else {ROUNDS}")
     add_departures(tool_parser, f"default: departures of the study, else {DRAWN}")
@@ -51,7 +51,7 @@ def parser() -> Parser:
         help="half the width that confidence intervals are to have, in percent of the base's mean trip "
         "(default %(default)s)",
     )
-    add_out(tool_parser, "the output folder (default: NAME-answer of NAME.toml, here)")
+    add_out(tool_parser, "output folder (default: NAME-answer of NAME.toml, here)")
     return tool_parser
 
 

@@ -34,7 +34,7 @@ def add_clock(
 
 def add_network(parser: argparse.ArgumentParser) -> None:
     """Adds the words without a name that are files of SUMO: a network (net) and additional ones."""
-    parser.add_argument("net", metavar="NET", help="a SUMO network (.net.xml) or configuration (.sumocfg)")
+    parser.add_argument("net", metavar="NET", help="SUMO network (.net.xml) or configuration (.sumocfg)")
     parser.add_argument(
         "additional", metavar="ADDITIONAL", nargs="*", default=[],
         help="SUMO's additional files: signal programs and vehicle types"
@@ -43,7 +43,7 @@ def add_network(parser: argparse.ArgumentParser) -> None:
 
 def add_made_run(parser: argparse.ArgumentParser, of: str) -> None:
     """Adds --run and --map, files that are written; of: what runs in them."""
-    run = f"the run file to write, of these {of}, as in streetsim-import (.jsonl); with --map"
+    run = f"run file to write, of these {of}, as in streetsim-import (.jsonl); with --map"
     parser.add_argument("--run", help=run)
     parser.add_argument("--map", help="map file with the names in a run, to write (.json)")
 
@@ -58,7 +58,7 @@ def add_attribute(parser: argparse.ArgumentParser) -> None:
     """Adds --attribute, the name of what is the count in SUMO's files; None where it is not given."""
     parser.add_argument(
         "--attribute", metavar="NAME",
-        help="the attribute that is the count in SUMO's files (default: left, entered or count)",
+        help="attribute that is the count in SUMO's files (default: left, entered or count)",
     )
 
 
