@@ -14,7 +14,7 @@ PAGE = TOOLS.parent / "CONTRIBUTING.md"
 TITLE = "## Words of the commands"
 SECTION = re.compile(rf"(?<={TITLE}\n\n)(.*?)(```.*?)(?=\n## |\Z)", re.DOTALL)
 SUMO = "sumo"  # whose words are those of SUMO's command line, and mean what they mean there
-AS_OF = "as of streetsim-"  # which means what the other command says
+AS_OF = "as in streetsim-"  # which means what the other command says
 PARTS = re.compile(r" \(|; |: |, ")
 
 

@@ -16,8 +16,8 @@ UNPROVED = "unproved/street_sim"  # where `./build --unproved` does
 MARK = b"\nstreetsim: NOT PROVED\n"  # the last bytes of a program without proofs, wherever it was copied to
 UNPROVED_NOTE = "NOT PROVED: made by a program without proofs (./build --unproved)"  # of what such a program made
 HELP = (
-    f"the simulator (default: ${VARIABLE}, else the one that is installed with the tools, or the one that was built in "
-    "the repository)"
+    f"simulator's program (default: ${VARIABLE}, else the one that is installed with the tools, or the one that "
+    "was built in the repository)"
 )
 BUILDS = f"`./build` in streetsim's repository makes {BUILT}, in half an hour, and `./build --unproved` one without"
 

@@ -176,8 +176,8 @@ def share_of(text: str) -> float:
 
 def add_run(parser: argparse.ArgumentParser) -> None:
     """Adds to a parser the words that name what streetsim-import made: the run file (run) and its map (--map)."""
-    parser.add_argument("run", metavar="RUN", help="the run that streetsim-import wrote (.jsonl)")
-    parser.add_argument("--map", help="the map of names, of RUN (default: NAME.map.json beside NAME.jsonl)")
+    parser.add_argument("run", metavar="RUN", help="run file that streetsim-import wrote (.jsonl)")
+    parser.add_argument("--map", help="map file with the names in a run (default: NAME.map.json beside NAME.jsonl)")
 
 
 def add_names(parser: argparse.ArgumentParser) -> None:
@@ -185,14 +185,14 @@ def add_names(parser: argparse.ArgumentParser) -> None:
     parser.add_argument(
         "--names",
         metavar="FILE",
-        help="names of one's own (.csv with the columns id, of an edge, junction or light, and name), which go before "
-        "those of the map",
+        help="table of your own names (.csv with the columns id, of an edge, junction or light, and name), which go "
+        "before those of the map",
     )
 
 
 def add_jobs(parser: argparse.ArgumentParser) -> None:
     """Adds --jobs to a parser: how many runs go side by side, 1 to 1,024; by default one for each core."""
-    help_text = "runs side by side (default: one for each core)"
+    help_text = "number of runs at a time (default: one for each core)"
     parser.add_argument("--jobs", type=integer_within(1, 1024), default=CORES, help=help_text)
 
 
@@ -202,8 +202,8 @@ def add_lost(parser: argparse.ArgumentParser) -> None:
     parser.add_argument(
         "--lost",
         choices=["lead", "wait", "bar"],
-        help="those whose only lane for a turn is closed are led from the lane beside it; or wait until the works end; "
-        "or the turn is barred, and streetsim-route finds their ways (default lead)",
+        help="what vehicles do whose only lane for a turn is closed: turn from the lane beside it (lead), or wait "
+        "until the works end (wait); or the turn is barred, and streetsim-route finds their ways (bar; default lead)",
     )
 
 
@@ -217,7 +217,7 @@ def add_rounds(
         type=integer_within(0, MOST_ROUNDS),
         default=default,
         metavar="N",
-        help=f"runs before the one that counts, by which those who give way without a light find gaps ({usual}; "
+        help=f"runs made before the final run, by which those who give way without a light find gaps ({usual}; "
         "0: nobody gives way)",
     )
 
@@ -228,8 +228,8 @@ def add_lights(parser: argparse.ArgumentParser) -> None:
         "--lights",
         choices=["actuated", "listed"],
         default="actuated",
-        help="actuated: detectors drive the lights of SUMO's types actuated and NEMA, as there; listed: they show the "
-        "seconds that their programs list (default %(default)s)",
+        help="what drives SUMO's actuated and NEMA lights: detectors, as there (actuated), or the seconds that their "
+        "programs list (listed; default %(default)s)",
     )
 
 

@@ -61,9 +61,9 @@ def parser() -> Parser:
     add_days(tool_parser)
     add_fit(tool_parser)
     tool_parser.add_argument(
-        "-o", "--output", required=True, help="the file to write: the drivers, as --drivers takes them"
+        "-o", "--output", required=True, help="output file: the drivers, as --drivers takes them"
     )
-    add_out(tool_parser, "the folder to write to (default: NET-drivers, here)")
+    add_out(tool_parser, "output folder (default: NET-drivers, here)")
     add_rounds(tool_parser)
     add_jobs(tool_parser)
     tool_parser.add_argument("--program", help=program.HELP)
@@ -82,27 +82,29 @@ def add_days(tool_parser: argparse.ArgumentParser) -> None:
     )
     tool_parser.add_argument(
         "--saturation", metavar="FILE",
-        help="a survey of full through lanes: CSV with street,flow,vehicles_per_green,green,greens",
+        help="survey of saturation flows of through lanes: CSV with street,flow,vehicles_per_green,green,greens",
     )
     tool_parser.add_argument(
-        "--queues", metavar="FILE", help="queues, which are judged: CSV with edge,mean_of_cycles,max"
+        "--queues", metavar="FILE", help="measured queues, which are judged: CSV with edge,mean_of_cycles,max"
     )
-    routes = "vehicles, flows and routes of the fitted day, in place of one made of its counts"
+    routes = "route files: vehicles, flows and routes of the fitted day, in place of a demand made of its counts"
     add_files(tool_parser, "--routes", routes)
     tool_parser.add_argument(
-        "--validate", nargs="+", default=[], metavar="FILE", help="of another day: its counts, times, and maybe queues"
+        "--validate", nargs="+", default=[], metavar="FILE",
+        help="files of a validation day: counts, times, maybe queues",
     )
 
 
 def add_fit(tool_parser: argparse.ArgumentParser) -> None:
     """Adds the words that say what is fitted, by how many runs and by which seeds."""
-    tool_parser.add_argument("--free", default=",".join(FREE_VALUES), help="what may be fitted (default %(default)s)")
+    free = "driver values to fit (default %(default)s)"
+    tool_parser.add_argument("--free", default=",".join(FREE_VALUES), help=free)
     tool_parser.add_argument(
         "--runs", type=integer_within(2, 10_000), default=60, metavar="N",
-        help="at most so many runs (default %(default)s)",
+        help="maximum runs of the fit (default %(default)s)",
     )
     tool_parser.add_argument(
-        "--seeds", default="1-2", metavar="SEEDS", help="seeds (1-5, or 1,4,7-9) of the fit (default %(default)s)"
+        "--seeds", default="1-2", metavar="SEEDS", help="seeds of the runs (1,4,7-9) of the fit (default %(default)s)"
     )
     add_check(tool_parser, "101-105", "those of the other day")
 

@@ -44,10 +44,10 @@ def parser() -> Parser:
         "numbers are the simulation's, not that the street will do so. Status 1 where one is not, 2 where it could not "
         "be checked.",
     )
-    tool_parser.add_argument("target", metavar="PAGE|DIR", help="the page (.html), or the folder")
+    tool_parser.add_argument("target", metavar="PAGE|DIR", help="what to check: a page (.html), or a folder")
     add_simulator(tool_parser)
     add_jobs(tool_parser)
-    tool_parser.add_argument("--study", metavar="FILE", help="of a study's folder: the study that it was made of")
+    tool_parser.add_argument("--study", metavar="FILE", help="file of the study that a folder was made of")
     return tool_parser
 
 

@@ -31,15 +31,15 @@ def parser() -> argparse.ArgumentParser:
         ),
         description="Compares a run with SUMO's tripinfo and, if given, edgeData of the same periods; or with counts.",
     )
-    tool_parser.add_argument("folder", metavar="FOLDER", help="what streetsim-run wrote")
+    tool_parser.add_argument("folder", metavar="FOLDER", help="folder that streetsim-run wrote")
     files = "tripinfo.xml, and edgedata.xml made with freq=900 (or the run's period)"
-    add_files(tool_parser, "--sumo", f"what SUMO wrote of the same demand: {files}")
-    counts = "counts of edges and turns, as of streetsim-demand; a column group names screen lines"
+    add_files(tool_parser, "--sumo", f"SUMO's output of the same demand: {files}")
+    counts = "counts of edges and turns, as in streetsim-demand; a column group names screen lines"
     add_files(tool_parser, "--counts", counts)
-    times = "travel times of segments and routes, as of streetsim-calibrate; SUMO's tripinfo or edgeData"
+    times = "travel times of segments and routes, as in streetsim-calibrate; SUMO's tripinfo or edgeData"
     add_files(tool_parser, "--times", times)
     add_attribute(tool_parser)
-    add_out(tool_parser, "the folder to write to, of tables and pictures of --counts", is_required=False)
+    add_out(tool_parser, "output folder, of tables and pictures of --counts", is_required=False)
     return tool_parser
 
 

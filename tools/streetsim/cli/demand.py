@@ -34,9 +34,9 @@ def parser() -> Parser:
     add_inputs(tool_parser)
     add_fit(tool_parser)
     tool_parser.add_argument(
-        "-o", "--output", help="the file to write: the vehicles (.rou.xml; default: NET.fitted.rou.xml, here)"
+        "-o", "--output", help="output file: the vehicles (.rou.xml; default: NET.fitted.rou.xml, here)"
     )
-    add_out(tool_parser, "the folder to write to (default: NET-fitted, here)")
+    add_out(tool_parser, "output folder (default: NET-fitted, here)")
     add_made_run(tool_parser, "vehicles")
     tool_parser.add_argument("--program", help=program.HELP)
     add_options(tool_parser)
@@ -47,9 +47,9 @@ def add_inputs(tool_parser: argparse.ArgumentParser) -> None:
     """Adds the words that name what a demand is made of: files, and where trips may begin and end."""
     for name, help_text in (
         ("counts", "counts of edges and turns: CSV (begin,end,from,to,vehicles; an edge has no to), or SUMO's"),
-        ("zones", "zones of edges: CSV (zone,edges), or SUMO's TAZ"),
-        ("matrix", "vehicles between zones: CSV (from,to,vehicles; begin,end), SUMO's O or V format, or tazRelations"),
-        ("flows", "flows with from and without to, which go on by --ratios"),
+        ("zones", "zones and their edges: CSV (zone,edges), or SUMO's TAZ"),
+        ("matrix", "O-D matrices of zones: CSV (from,to,vehicles; begin,end), SUMO's O or V format, or tazRelations"),
+        ("flows", "flows that have the attribute from and no to, which go on by --ratios"),
         ("ratios", "turn ratios, as SUMO's jtrrouter takes them"),
         ("candidates", "files of routes that vehicles may take"),
     ):
@@ -57,31 +57,32 @@ def add_inputs(tool_parser: argparse.ArgumentParser) -> None:
     add_attribute(tool_parser)
     tool_parser.add_argument(
         "--ends", choices=["fringe", "all"], default="fringe",
-        help="without zones: fringe: trips begin and end where the network does, if it does; all: on any edge "
-        "(default %(default)s)",
+        help="where trips without zones begin and end: where the network does, if it does (fringe), or on any edge "
+        "(all; default %(default)s)",
     )
 
 
 def add_fit(tool_parser: argparse.ArgumentParser) -> None:
     """Adds the words that say how the fit is done: ways, error, runs, rounds."""
     tool_parser.add_argument(
-        "--ways", type=integer_within(0, 20), metavar="N", help="at most, of each pair (default 3; with --candidates 0)"
+        "--ways", type=integer_within(0, 20), metavar="N", help="maximum ways per O-D pair (default 3; --candidates: 0)"
     )
     tool_parser.add_argument(
         "--most", type=integer_within(1, 1_000_000), default=60_000, metavar="N",
-        help="ways at most, about; of more pairs some are drawn (default %(default)s)",
+        help="maximum ways of all O-D pairs, about; of more pairs some are drawn (default %(default)s)",
     )
     tool_parser.add_argument(
-        "--error", type=share_of, default=ERROR, metavar="SHARE", help="by which counts are wrong (default %(default)s)"
+        "--error", type=share_of, default=ERROR, metavar="SHARE",
+        help="share by which counts may be wrong (default %(default)s)",
     )
     tool_parser.add_argument(
         "--runs", type=integer_within(0, 100), default=0, metavar="N",
-        help="at most so many runs, after each of which the fit is corrected by what passed (default %(default)s)",
+        help="maximum runs of the fit, after each of which it is corrected by what passed (default %(default)s)",
     )
     add_rounds(tool_parser)
     tool_parser.add_argument(
         "--close", action="extend", nargs="+", default=[], metavar="LANE:METRES-METRES:S-S",
-        help="road works, as of streetsim-run, in the runs and in the one that is written; nobody goes round them",
+        help="road works that close a lane, as in streetsim-run, in the runs and in --run; nobody goes round them",
     )
     add_lost(tool_parser)
 

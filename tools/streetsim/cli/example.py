@@ -20,9 +20,9 @@ def parser() -> Parser:
         ),
         description="Puts the files of an example into a folder; without a name, says which examples there are.",
     )
-    tool_parser.add_argument("name", metavar="NAME", nargs="?", help="the example, such as corridor")
+    tool_parser.add_argument("name", metavar="NAME", nargs="?", help="name of the example, such as corridor")
     tool_parser.add_argument(
-        "--out", metavar="DIR", help="the folder to write to (default: of the example's name, here)"
+        "--out", metavar="DIR", help="output folder (default: of the example's name, here)"
     )
     return tool_parser
 

@@ -21,9 +21,10 @@ def parser() -> Parser:
         "v/c and queues by interval, in WGS84: GeoJSON, or a GeoPackage by GDAL's ogr2ogr. "
         "With --seeds means over the seeds.",
     )
-    tool_parser.add_argument("run", metavar="FOLDER", help="what streetsim-run wrote, or one with seeds")
-    tool_parser.add_argument("-o", "--output", required=True, help="the file to write (.geojson, .gpkg)")
-    tool_parser.add_argument("--projection", help="of a network that tells none: EPSG:25832, '+proj=utm +zone=32', ..")
+    tool_parser.add_argument("run", metavar="FOLDER", help="folder that streetsim-run wrote, or one with seeds")
+    tool_parser.add_argument("-o", "--output", required=True, help="output file (.geojson, .gpkg)")
+    projection = "projection of a network that tells none: EPSG:25832, '+proj=utm +zone=32', .."
+    tool_parser.add_argument("--projection", help=projection)
     add_names(tool_parser)
     return tool_parser
 

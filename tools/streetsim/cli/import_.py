@@ -22,12 +22,12 @@ from streetsim.sumo.types import CLASSES
 
 # Numbers of the model: least, most, what each is.
 NUMBERS = {
-    "dawdle": (0, 1000, "chance of slowing down, of 1,000"),
-    "change": (0, 1000, "chance of changing lane, of 1,000"),
-    "zone": (0, 1000, "turn zone in cells"),
-    "seed": (0, 2**64 - 1, "of all draws"),
-    "residence": (1, limits.RESIDENCE, "steps in a buffer at signals and real junctions"),
-    "buffer": (1, limits.BUFFER, "vehicles in a buffer"),
+    "dawdle": (0, 1000, "chance to slow down at random, of 1,000"),
+    "change": (0, 1000, "chance to change lane, of 1,000"),
+    "zone": (0, 1000, "length of the turn zone, in cells"),
+    "seed": (0, 2**64 - 1, "seed of all random draws"),
+    "residence": (1, limits.RESIDENCE, "minimum steps in a buffer at signals and real junctions"),
+    "buffer": (1, limits.BUFFER, "maximum vehicles in the buffer of a lane"),
 }
 
 
@@ -42,36 +42,36 @@ def parser() -> Parser:
         description="Makes load, signal and enter lines, and a map of the names, of a SUMO network and its routes.",
     )
     tool_parser.add_argument(
-        "net", nargs="?", metavar="NET", help="the network (.net.xml), or SUMO's configuration (.sumocfg)"
+        "net", nargs="?", metavar="NET", help="SUMO network (.net.xml) or configuration (.sumocfg)"
     )
     tool_parser.add_argument(
         "-c", "--configuration", metavar="FILE",
-        help="the same as a configuration in the place of NET: its network, files, begin, end and seed, where no words "
-        "give others",
+        help="SUMO's configuration in place of NET: its network, files, begin, end and seed, where no words give "
+        "others",
     )
     tool_parser.add_argument(
         "additional", nargs="*",
-        help="additional files with signal programs, of which the last of a light counts, vehicle types, "
-        "detectors, and demand",
+        help="SUMO's additional files: signal programs (of which the last of a light counts), vehicle types, detectors "
+        "and demand",
     )
-    add_files(tool_parser, "--routes", "vehicles, flows and routes (.rou.xml)")
+    add_files(tool_parser, "--routes", "route files: vehicles, flows and routes (.rou.xml)")
     add_files(
         tool_parser, "--trips",
-        "trips, and flows with from and to: each gets the way that is shortest with the waits at signals and the "
-        "volumes so far (better ways: streetsim-route)",
+        "files of trips, and of flows with from and to: each gets the way that is shortest with the waits at "
+        "signals and the volumes so far (better ways: streetsim-route)",
     )
-    help_text = "the file to write: the run, as lines of JSON (.jsonl, .jsonl.gz; default: of NET's name, here)"
+    help_text = "output file: the run, as lines of JSON (.jsonl, .jsonl.gz; default: of NET's name, here)"
     tool_parser.add_argument("-o", "--output", help=help_text)
     tool_parser.add_argument(
-        "--map", help="the map of names, which is written (default: NAME.map.json beside NAME.jsonl)"
+        "--map", help="map file with the names in a run, to write (default: NAME.map.json beside NAME.jsonl)"
     )
     add_names(tool_parser)
-    tool_parser.add_argument("--warnings", metavar="FILE", help="a table of all that is said, with all names (.csv)")
+    tool_parser.add_argument("--warnings", metavar="FILE", help="table of warnings and notes, with all names (.csv)")
     tool_parser.add_argument("--strict", action="store_true", help="end with status 1 where vehicles were skipped")
     tool_parser.add_argument(
         "--slow", default="", metavar="EDGE:METRES-METRES:KMH",
-        help="a lower limit on a stretch of an edge, which becomes up to three that follow each other; several with "
-        "commas between",
+        help="lower speed limit on a stretch of an edge; the edge becomes up to three that follow each other; "
+        "several with commas between",
     )
     add_options(tool_parser)
     return tool_parser
@@ -84,8 +84,8 @@ def add_options(tool_parser: argparse.ArgumentParser) -> None:
     add_numbers(tool_parser)
     tool_parser.add_argument(
         "--permissive", metavar="SHARE|EDGE=SHARE",
-        help="the last share of each permissive green that is shown, of all or of surveyed approaches, with commas "
-        "between (default: by the flows that it gives way to)",
+        help="share of each permissive green in which vehicles may go: its last part, of all or of surveyed "
+        "approaches, with commas between (default: by the flows that it gives way to)",
     )
     add_drivers(tool_parser)
 
@@ -94,14 +94,16 @@ def add_drivers(tool_parser: argparse.ArgumentParser) -> None:
     """Adds the words of drivers that were measured."""
     tool_parser.add_argument(
         "--speed-factor", metavar="FACTOR|KMH=FACTOR",
-        help="of free speeds, of all streets or of those with a limit in km/h, with commas between (default 1)",
+        help="factor of free speeds, of all streets or of those with a limit in km/h, with commas between (default 1)",
     )
     tool_parser.add_argument(
-        "--cut", metavar="S", help="seconds cut from the begin of greens; below 0: yellow that is driven at (default 0)"
+        "--cut", metavar="S",
+        help="seconds cut from the begin of each green; below 0: yellow that is driven at (default 0)",
     )
     tool_parser.add_argument(
         "--drivers", metavar="FILE",
-        help="of streetsim-calibrate (drivers.json): dawdle, speed factors, cut and shares, where no words give others",
+        help="drivers that streetsim-calibrate fitted (drivers.json): dawdle, speed factors, cut and shares, if no "
+        "words give others",
     )
 
 
@@ -112,22 +114,22 @@ def add_lanes(tool_parser: argparse.ArgumentParser) -> None:
     )
     tool_parser.add_argument(
         "--turns", choices=["both", "strict"], default="both",
-        help="both: each lane of two leads to each next link; strict: SUMO's connections alone",
+        help="turns from a lane of a two-lane link: to each next link (both), or SUMO's connections alone (strict)",
     )
     tool_parser.add_argument(
         "--sizes", choices=["on", "off"], default="on",
-        help="on: vehicles take as many cells, 1 to 4, as their type is long with its gap; off: one cell each",
+        help="how many cells a vehicle takes: 1 to 4, as its type is long with its gap (on), or one (off)",
     )
     tool_parser.add_argument(
         "--joint", default="", metavar="NAMES",
-        help="edges or lanes, with commas between, whose links are made joint: of two lanes also where these lead to "
+        help="edges or lanes that become joint links of two lanes, with commas between, also where these lead to "
         "different edges, so that vehicles change between them; for lanes that a program closes later",
     )
 
 
 def add_vehicles(tool_parser: argparse.ArgumentParser) -> None:
     """Adds the words that say which vehicles there are."""
-    add_clock(tool_parser, "--begin", "the clock at the start; vehicles before it are skipped", default=0)
+    add_clock(tool_parser, "--begin", "start time of the run; vehicles before it are skipped", default=0)
     add_clock(tool_parser, "--end", "leave out vehicles that depart at this time or later")
     tool_parser.add_argument(
         "--ignore-route-errors", action="store_true",

@@ -44,23 +44,25 @@ def parser() -> Parser:
     )
     tool_parser.add_argument(
         "target", metavar="NET|CFG|RUN|FOLDER",
-        help="a network (.net.xml), a configuration of SUMO's (.sumocfg), a run (.jsonl), a folder that streetsim-run "
-        "wrote, or one with a configuration or a network",
+        help="what to open: a SUMO network (.net.xml) or configuration (.sumocfg), a run (.jsonl), a folder that "
+        "streetsim-run wrote, or one with a configuration or a network",
     )
     tool_parser.add_argument(
-        "routes", metavar="ROUTES", nargs="*", help="of a network: vehicles, flows or trips, and additional files"
+        "routes", metavar="ROUTES", nargs="*",
+        help="route files of a network: vehicles, flows or trips, and additional files",
     )
     tool_parser.add_argument(
         "--vehicles", type=integer_within(1, MOST_INVENTED), metavar="N",
-        help="of a network without routes: so many an hour from border to border, invented",
+        help="invented vehicles an hour from border to border, for a network without routes",
     )
-    add_clock(tool_parser, "--begin", "the clock at the start", default=None)
-    add_clock(tool_parser, "--until", "the clock at the end", least=1)
+    add_clock(tool_parser, "--begin", "start time of the run", default=None)
+    add_clock(tool_parser, "--until", "end time of the run", least=1)
     tool_parser.add_argument(
-        "-o", "--output", metavar="PAGE", help="the file to write: the page (default: NAME.html, here)"
+        "-o", "--output", metavar="PAGE", help="output file: the page (default: NAME.html, here)"
     )
     tool_parser.add_argument(
-        "--live", action="store_true", help="serve the page that runs the simulation instead, until Ctrl-C"
+        "--live", action="store_true",
+        help="serve a page that runs the simulation in place of writing one, until Ctrl-C",
     )
     tool_parser.add_argument("--no-open", action="store_true", help="start no browser")
     tool_parser.add_argument("--program", help=program.HELP)

@@ -24,11 +24,12 @@ def parser() -> Parser:
         "page.html#300,75,0.",
     )
     tool_parser.add_argument(
-        "folders", nargs="+", metavar="FOLDER", help="what streetsim-run wrote; with --every 1 vehicles move smoothly"
+        "folders", nargs="+", metavar="FOLDER",
+        help="folder that streetsim-run wrote; with --every 1 vehicles move smoothly",
     )
-    tool_parser.add_argument("-o", "--output", help="the file to write: the page (default: FOLDER.play.html, here)")
-    add_clock(tool_parser, "--first", "the first second shown", default=0)
-    add_clock(tool_parser, "--last", "the last second shown", default=limits.CLOCK)
+    tool_parser.add_argument("-o", "--output", help="output file: the page (default: FOLDER.play.html, here)")
+    add_clock(tool_parser, "--first", "first second shown", default=0)
+    add_clock(tool_parser, "--last", "last second shown", default=limits.CLOCK)
     return tool_parser
 
 

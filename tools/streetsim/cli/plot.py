@@ -45,10 +45,10 @@ def parser() -> Parser:
         kind_parser.renamed = OLD_WORDS.get(kind, {})
         often = "?" if kind == "fundamental" else None
         # argparse takes None too, which is its default.
-        wrote = "what streetsim-run wrote"
+        wrote = "folder that streetsim-run wrote"
         kind_parser.add_argument("folder", nargs=often, metavar="FOLDER", help=wrote)  # type: ignore[arg-type]
         kind_parser.add_argument(
-            "-o", "--output", help="the file to write: the picture (.png, .svg, .pdf; default: FOLDER.KIND.png, here)"
+            "-o", "--output", help="output file: the picture (.png, .svg, .pdf; default: FOLDER.KIND.png, here)"
         )
         add_words_of_kind(kind_parser, kind)
     return tool_parser
@@ -58,38 +58,41 @@ def add_words_of_kind(kind_parser: argparse.ArgumentParser, kind: str) -> None:
     """Adds the words that one kind of picture alone takes."""
     if kind in ("corridor", "fundamental"):
         kind_parser.add_argument(
-            "--edges", required=kind == "corridor", default="", help="edges, with spaces or commas between"
+            "--edges", required=kind == "corridor", default="", help="edges to look at, with spaces or commas between"
         )
     if kind == "corridor":
-        kind_parser.add_argument("--both", action="store_true", help="the other direction too, below")
-        add_clock(kind_parser, "--first", "the first second shown", default=0)
-        add_clock(kind_parser, "--last", "the last second shown", default=600)
+        kind_parser.add_argument("--both", action="store_true", help="draw the other direction too, below")
+        add_clock(kind_parser, "--first", "first second shown", default=0)
+        add_clock(kind_parser, "--last", "last second shown", default=600)
     if kind == "fundamental":
         add_diagram(kind_parser)
     if kind == "map":
         kind_parser.add_argument(
-            "--what", choices=picture_maps.MEASURE_NAMES, default="density", help="(default: %(default)s)"
+            "--what", choices=picture_maps.MEASURE_NAMES, default="density",
+            help="what the map shows (default: %(default)s)",
         )
-        add_clock(kind_parser, "--interval", "the interval shown, by its begin (default: the busiest; of density all)")
+        interval = "begin of the interval that is shown (default: the busiest; of density all)"
+        add_clock(kind_parser, "--interval", interval)
     if kind == "greens":
         kind_parser.add_argument(
-            "--shown", default="", help="lights shown, with spaces or commas between (default: the first six)"
+            "--shown", default="", help="lights in the picture, with spaces or commas between (default: the first six)"
         )
     if kind == "arrivals":
-        sumo = "what SUMO wrote of the same demand: its trips, drawn beside"
+        sumo = "SUMO's output of the same demand: its trips, drawn beside"
         kind_parser.add_argument("--sumo", metavar="TRIPINFO", help=sumo)
 
 
 def add_diagram(tool_parser: argparse.ArgumentParser) -> None:
     """Adds the words that say of what flow is drawn over density."""
-    tool_parser.add_argument("--stop-lines", action="store_true", help="at the stop lines, by counts.csv")
+    stop_lines = "draw flow and density at the stop lines, by counts.csv"
+    tool_parser.add_argument("--stop-lines", action="store_true", help=stop_lines)
     tool_parser.add_argument(
         "--ring", type=dawdles, metavar="DAWDLES",
-        help="measure a ring for these chances of dawdling, of 1,000, with commas between",
+        help="measure a ring of one lane with these chances to slow down, of 1,000, with commas between",
     )
     tool_parser.add_argument(
         "--limit", type=integer_within(1, limits.LIMIT), default=limits.LIMIT,
-        help="of the ring, cells a step (default %(default)s)",
+        help="speed limit of the ring, cells a step (default %(default)s)",
     )
     tool_parser.add_argument("--program", help=f"{program.HELP}, for the ring")
 

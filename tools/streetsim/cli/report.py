@@ -51,22 +51,25 @@ def parser() -> Parser:
     )
     tool_parser.add_argument(
         "runs", nargs="+", metavar="FOLDER",
-        help="what streetsim-run wrote; a second one is the plan after it"
+        help="folder that streetsim-run wrote; a second one is the plan after it"
     )
-    tool_parser.add_argument("-o", "--output", help="the file to write: the page (default: FOLDER.report.html, here)")
-    tool_parser.add_argument("--title", default="Junction report", help="(default: %(default)s)")
-    tool_parser.add_argument("--question", default="", metavar="TEXT", help="what was asked, at the head of the page")
+    tool_parser.add_argument("-o", "--output", help="output file: the page (default: FOLDER.report.html, here)")
+    tool_parser.add_argument("--title", default="Junction report", help="title of the page (default: %(default)s)")
+    question = "question that was asked, at the head of the page"
+    tool_parser.add_argument("--question", default="", metavar="TEXT", help=question)
     tool_parser.add_argument(
-        "--plan-names", nargs="+", default=[], metavar="NAME", help="what each plan is called (default: its folder)"
+        "--plan-names", nargs="+", default=[], metavar="NAME", help="names of the plans (default: their folders)"
     )
-    tool_parser.add_argument("--short", action="store_true", help="the first page alone, without the appendix")
+    tool_parser.add_argument("--short", action="store_true", help="write the first page alone, without the appendix")
     tool_parser.add_argument(
         "--detail", type=integer_within(0, 10_000), metavar="N",
-        help=f"junctions told with all movements, first those that change or are worse than D (default {DETAIL})",
+        help=f"number of junctions shown with all movements, first those that change or are worse than D "
+        f"(default {DETAIL})",
     )
     tool_parser.add_argument(
         "--sealed", action="store_true",
-        help="put into the page what made it, so that streetsim-check can run it again and compare each number",
+        help="put into the page all that it was made of, so that streetsim-check can run it again and compare each "
+        "number",
     )
     add_appendix(tool_parser)
     return tool_parser
@@ -76,22 +79,22 @@ def add_appendix(tool_parser: argparse.ArgumentParser) -> None:
     """Adds the words that say what the appendix shows, and when."""
     tool_parser.add_argument(
         "--sheets", nargs="?", const=ALL_LIGHTS, default="", metavar="LIGHTS",
-        help="a signal timing sheet for each of these lights, with commas between (default: all that plans change, or "
-        "all of one plan)",
+        help="add a signal timing sheet for each of these lights, with commas between (default: all that plans change, "
+        "or all of one plan)",
     )
-    add_files(tool_parser, "--counts", "counts of edges and turns, beside the first plan, as of streetsim-compare")
+    add_files(tool_parser, "--counts", "counts of edges and turns, beside the first plan, as in streetsim-compare")
     add_attribute(tool_parser)
     tool_parser.add_argument(
-        "--csv", metavar="FILE", help="also write all junctions and movements, before and after (.csv)"
+        "--csv", metavar="FILE", help="also write a table of all junctions and movements, before and after (.csv)"
     )
-    interval = "the interval shown, by its begin (default: the busiest; of works, while they last)"
+    interval = "begin of the interval that is shown (default: the busiest; of works, while they last)"
     add_clock(tool_parser, "--interval", interval)
     add_names(tool_parser)
     tool_parser.add_argument(
-        "--corridor", default="", metavar="EDGES", help="a path to draw, of a run with --every 1 (to 5)"
+        "--corridor", default="", metavar="EDGES", help="edges of a path to draw, of a run with --every 1 to 5"
     )
     for name, default in PICTURE_SECONDS.items():
-        add_clock(tool_parser, f"--{name}", f"the {name} second shown, of the corridor's picture (default {default})")
+        add_clock(tool_parser, f"--{name}", f"{name} second shown, of the corridor's picture (default {default})")
 
 
 def main(arguments: list[str]) -> int:

@@ -50,14 +50,14 @@ def parser() -> Parser:
     add_network(tool_parser)
     tool_parser.add_argument(
         "--trips", nargs="+", metavar="FILE",
-        help="trips, flows with from and to, and vehicles, whose routes are first ways (default: the routes of the "
-        "configuration)",
+        help="files of trips, and of flows with from and to, and of vehicles, whose routes are first ways (default: "
+        "the routes of the configuration)",
     )
     tool_parser.add_argument(
-        "-o", "--output", help="the file to write: the routes found (.rou.xml; default: NET.found.rou.xml, here)"
+        "-o", "--output", help="output file: the routes found (.rou.xml; default: NET.found.rou.xml, here)"
     )
     add_made_run(tool_parser, "routes")
-    add_out(tool_parser, "the folder to write to (default: NET-routes, here)")
+    add_out(tool_parser, "output folder (default: NET-routes, here)")
     add_search(tool_parser)
     add_works(tool_parser)
     add_machines(tool_parser)
@@ -68,31 +68,35 @@ def parser() -> Parser:
 def add_search(tool_parser: argparse.ArgumentParser) -> None:
     """Adds the words that say how routes are searched and judged."""
     tool_parser.add_argument("--anew", action="store_true", help="forget the routes that vehicles have")
-    until = f"the clock at the end (default: {LONGEST_TRIP:,} s after the last departure)"
+    until = f"end time of the run (default: {LONGEST_TRIP:,} s after the last departure)"
     add_clock(tool_parser, "--until", until, least=1)
     tool_parser.add_argument(
         "--slice", type=time_within(60, 86_400), default=300, metavar="S",
-        help="seconds over which costs are means (default %(default)s)",
+        help="seconds over which costs are averaged (default %(default)s)",
     )
     tool_parser.add_argument(
-        "--iterations", type=integer_within(0, 1000), default=15, metavar="N", help="at most (default %(default)s)"
+        "--iterations", type=integer_within(0, 1000), default=15, metavar="N",
+        help="maximum iterations of the search (default %(default)s)",
     )
     tool_parser.add_argument(
         "--gap", type=share_of, default=0.02,
-        help="what all could gain by other ways, of the seconds of the shortest ways (default %(default)s)",
+        help="relative gap that the search is to reach: what all could gain by other ways, of the seconds of the "
+        "shortest ways (default %(default)s)",
     )
     tool_parser.add_argument(
-        "--share", type=share_of, default=0.2, help="of the trips, that change their way at first (default %(default)s)"
+        "--share", type=share_of, default=0.2,
+        help="share of the trips that change their way at first (default %(default)s)",
     )
     tool_parser.add_argument(
         "--tried", type=integer_within(1, 8), default=1, metavar="N",
-        help="shares tried side by side in an iteration: the share, half of it, a quarter, .. (default %(default)s)",
+        help="number of shares tried side by side in an iteration: the share, half of it, a quarter, .. "
+        "(default %(default)s)",
     )
     add_rounds(tool_parser)
     add_lights(tool_parser)
     add_priority(tool_parser)
     tool_parser.add_argument(
-        "--seeds", default="1", metavar="SEEDS", help="seeds (1-5, or 1,4,7-9) of the search (default %(default)s)"
+        "--seeds", default="1", metavar="SEEDS", help="seeds of the runs (1,4,7-9) of the search (default %(default)s)"
     )
     add_check(tool_parser, "101-103", "those of the routes")
 
@@ -101,21 +105,21 @@ def add_works(tool_parser: argparse.ArgumentParser) -> None:
     """Adds the words that say what is closed, and who knows of it."""
     tool_parser.add_argument(
         "--close", action="extend", nargs="+", default=[], metavar="LANE:METRES-METRES:S-S",
-        help="road works, as of streetsim-run; where all lanes of an edge are closed, those who know of it take "
-        "another way from their begin on, and the others turn off before it",
+        help="road works that close a lane, as in streetsim-run; where all lanes of an edge are closed, those who know "
+        "of it take another way from their begin on, and the others turn off before it",
     )
     tool_parser.add_argument(
         "--knowing", type=shares_of, metavar="SHARES",
-        help="of drivers who know of the works, with commas between: each is tried (default 1)",
+        help="shares of drivers who know of the works, with commas between: each is tried (default 1)",
     )
     tool_parser.add_argument(
         "--sign", nargs="+", default=[], metavar="EDGE",
-        help="edges on which the others are told (default: the last before the works)",
+        help="edges where a sign tells the other drivers of the works (default: the last before them)",
     )
     add_lost(tool_parser)
     tool_parser.add_argument(
         "--before", metavar="FILE",
-        help="routes without the works (.rou.xml; default: those of --trips, or else they are searched first)",
+        help="routes without the road works (.rou.xml; default: those of --trips, or else they are searched first)",
     )
 
 

@@ -34,7 +34,7 @@ def parser() -> argparse.ArgumentParser:
     add_looks(tool_parser)
     tool_parser.add_argument(
         "--seeds", metavar="SEEDS",
-        help="seeds (1-5, or 1,4,7-9), each of which is run, side by side, into a folder of its own",
+        help="seeds of the runs (1-5, or 1,4,7-9), which are made side by side, each into a folder of its own",
     )
     add_departures(tool_parser, "default: drawn with --seeds, else listed")
     add_jobs(tool_parser)
@@ -50,21 +50,22 @@ def add_looks(tool_parser: argparse.ArgumentParser) -> None:
     """Adds the words that say when a run ends, what is polled and counted on the way, and who is rescued."""
     add_clock(
         tool_parser, "--until",
-        "the clock at the end (default: that of SUMO's configuration, else when all have arrived, or no vehicle has "
+        "end time of the run (default: that of SUMO's configuration, else when all have arrived, or no vehicle has "
         "changed its cell for longer than the longest cycle)", least=1,
     )
     add_clock(tool_parser, "--every", "seconds between polls of the lanes; 0: never (default: 10)")
     tool_parser.add_argument(
         "--period", type=time_within(1, limits.PERIOD), default=900, metavar="S",
-        help="seconds of a count (default %(default)s)",
+        help="seconds of each counting period (default %(default)s)",
     )
     tool_parser.add_argument(
-        "--edges", default="", help="edges, with spaces or commas between, whose lanes are polled (default: all)"
+        "--edges", default="",
+        help="edges to look at, with spaces or commas between: their lanes are polled (default: all)",
     )
     add_rescue(tool_parser)
     tool_parser.add_argument(
         "--counted", choices=["all", "busiest"], default="all",
-        help="of earlier versions, and without effect: every lane is counted",
+        help="word of earlier versions without effect: every lane is counted",
     )
 
 
@@ -72,7 +73,8 @@ def add_rescue(tool_parser: argparse.ArgumentParser) -> None:
     """Adds the word that says after how many seconds at a stop line vehicles are rescued."""
     add_clock(
         tool_parser, "--rescue",
-        "take out who stood so long at a stop line and enter it on the next link; 0: never (default %(default)s)",
+        "take out a vehicle that stood this long at a stop line and enter it on the next link; 0: never "
+        "(default %(default)s)",
         default=300,
     )
 
@@ -81,8 +83,8 @@ def add_merge(tool_parser: argparse.ArgumentParser) -> None:
     """Adds the word that says how vehicles merge before road works."""
     tool_parser.add_argument(
         "--merge", choices=["turns", "none"], default="turns",
-        help="before road works on one lane of a joint link the lanes take turns; none: who stands there waits for a "
-        "gap (default %(default)s)",
+        help="how vehicles merge where road works close one of the two lanes of a joint link: by turns, or (none) who "
+        "stands there waits for a gap (default %(default)s)",
     )
 
 
@@ -91,18 +93,19 @@ def add_lanes(tool_parser: argparse.ArgumentParser) -> None:
     those do who lose their only lane, and which limit holds along the works."""
     tool_parser.add_argument(
         "--close", action="append", default=[], metavar="LANE:METRES-METRES:S-S",
-        help="road works: close a lane (edge_index) between two places (metres from the begin of the lane, as in "
+        help="road works that close a lane: edge_index between two places (metres from the begin of the lane, as in "
         "SUMO), from one time to another (S or HH:MM(:SS)); several with commas between, or by the word again",
     )
     add_merge(tool_parser)
     add_lost(tool_parser)
     tool_parser.add_argument(
         "--works-limit", type=integer_within(limits.KMH[0], limits.KMH[-1]), metavar="KMH",
-        help="the limit along the works of --close, for the whole run; their edges are imported anew in parts",
+        help="speed limit along the works of --close, for the whole run; their edges are imported anew in parts",
     )
     tool_parser.add_argument(
         "--joint", default="", metavar="NAMES",
-        help="edges or lanes, with commas between, whose links are made joint as by road works, to compare with",
+        help="edges or lanes that become joint links of two lanes, with commas between, as by road works, to compare "
+        "with",
     )
 
 
@@ -110,7 +113,8 @@ def add_buses(tool_parser: argparse.ArgumentParser) -> None:
     """Adds the words that say whether buses stop, and which lights wait for them."""
     tool_parser.add_argument(
         "--stops", choices=["made", "none"], default="made",
-        help="made: vehicles stop where and as long as SUMO's files say; none: they drive by (default %(default)s)",
+        help="whether vehicles make the stops that SUMO's files list: made, or none: they drive by "
+        "(default %(default)s)",
     )
     add_priority(tool_parser)
 
@@ -119,11 +123,13 @@ def add_priority(tool_parser: argparse.ArgumentParser) -> None:
     """Adds the words that say which lights wait for whom."""
     tool_parser.add_argument(
         "--priority", default="", metavar="NAMES",
-        help="classes of vehicles or lines, with commas between, for which lights keep or fetch a green within bounds",
+        help="vehicle classes or lines with priority at lights, with commas between: lights keep or fetch greens for "
+        "them within bounds",
     )
     tool_parser.add_argument(
         "--seen", type=integer_within(1, MOST_SEEN), metavar="S",
-        help=f"seconds before the stop line from which on such a vehicle is seen (default {SEEN_SECONDS})",
+        help="seconds before the stop line at which vehicles of --priority are first seen "
+        f"(default {SEEN_SECONDS})",
     )
 
 
@@ -131,23 +137,23 @@ def add_outputs(tool_parser: argparse.ArgumentParser) -> None:
     """Adds the words that say what is written and where, and how many rounds find who gives way."""
     tool_parser.add_argument(
         "--sumo-output", type=kinds_of, default=(), metavar="KINDS",
-        help=f"also write SUMO's own output files into DIR/sumo: of {','.join(KINDS)}",
+        help=f"also write output files in SUMO's formats into DIR/sumo: of {','.join(KINDS)}",
     )
     add_rounds(tool_parser)
     tool_parser.add_argument(
         "--junctions", nargs="?", type=integer_within(60, limits.CLOCK), const=0, metavar="S",
-        help="also write delay, level of service, queues and v/c of movements, approaches and junctions, "
-        "by intervals of so many seconds (default: --period)",
+        help="also write tables of junctions: delay, level of service, queues and v/c of movements, approaches and "
+        "junctions, by intervals of so many seconds (default: --period)",
     )
     tool_parser.add_argument(
-        "--polls", action="store_true", help=f"also write what stands on the lanes at polls as text, {POLLS}"
+        "--polls", action="store_true", help=f"also write the vehicles on the lanes at each poll, as text, {POLLS}"
     )
     tool_parser.add_argument(
         "--along", action="append", default=[], metavar="EDGES",
-        help="also write seconds along a route of these edges, with blanks or commas between, from the stop line of "
-        f"the first to that of the last, {ROUTES_FILE}; several routes by the word again",
+        help="also write travel times along a route of these edges, with spaces or commas between, from the stop line "
+        f"of the first to that of the last, {ROUTES_FILE}; several routes by the word again",
     )
-    add_out(tool_parser, "the folder to write to (default: NAME-run of NAME.jsonl; with --seeds NAME-seeds)")
+    add_out(tool_parser, "output folder (default: NAME-run of NAME.jsonl; with --seeds NAME-seeds)")
     tool_parser.add_argument(
         "--keep", metavar="FILE",
         help="keep the session in this file; the same words go on there after the machine has ended",

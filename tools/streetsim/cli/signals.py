@@ -53,11 +53,11 @@ def parser() -> Parser:
     add_run(tool_parser)
     tool_parser.add_argument(
         "--plans", required=True, nargs="+", metavar="FILE",
-        help="the network (.net.xml), or SUMO's configuration, and additional files with programs, of which the last "
-        "of a light counts",
+        help="files with the signal plans: the network (.net.xml), or SUMO's configuration, and additional files, of "
+        "which the last program of a light counts",
     )
     add_clock(
-        tool_parser, "--until", "the clock at the end (default: that of SUMO's configuration, else two hours after "
+        tool_parser, "--until", "end time of the run (default: that of SUMO's configuration, else two hours after "
         "the last departure)", least=1,
     )  # fmt: skip
     add_search(tool_parser)
@@ -65,61 +65,64 @@ def parser() -> Parser:
     add_machines(tool_parser)
     tool_parser.add_argument(
         "--verify-sumo", action="store_true",
-        help="run SUMO too with the plan given and the one found, by the seeds of --check-seeds; both must say better",
+        help="also run SUMO with the plan given and the one found, by the seeds of --check-seeds; both must say better",
     )
     tool_parser.add_argument(
-        "--edges", default="", help="edges, with spaces or commas between: the ways along them are drawn"
+        "--edges", default="", help="edges to look at, with spaces or commas between: the ways along them are drawn"
     )
-    add_clock(tool_parser, "--first", "the first second shown (default: a third of the run)")
-    add_clock(tool_parser, "--last", f"the last second shown (default: {DRAWN} s later)")
+    add_clock(tool_parser, "--first", "first second shown (default: a third of the run)")
+    add_clock(tool_parser, "--last", f"last second shown (default: {DRAWN} s later)")
     tool_parser.add_argument(
-        "-o", "--output", help="the file to write: the plan found (default: RUN.found.add.xml, here)"
+        "-o", "--output", help="output file: the plan found (default: RUN.found.add.xml, here)"
     )
-    add_out(tool_parser, "the folder to write to (default: RUN-signals, here)")
+    add_out(tool_parser, "output folder (default: RUN-signals, here)")
     return tool_parser
 
 
 def add_search(tool_parser: argparse.ArgumentParser) -> None:
     """Adds the words that say what is searched, how long and with which seeds."""
     tool_parser.add_argument(
-        "--vary", default=",".join(CHANGES), help="what may be changed, with commas between (default %(default)s)"
+        "--vary", default=",".join(CHANGES),
+        help="parts of the plan that may be changed, with commas between (default %(default)s)",
     )
     tool_parser.add_argument(
         "--bounds", action="store_true",
-        help="find least, most and max-gap (vehext) of actuated and NEMA lights, which detectors then drive, in place "
-        "of plans of seconds; the best of those is found too, with the other words, and said beside it",
+        help="find bounds of actuated and NEMA lights in place of fixed plans: least, most and max-gap (vehext), "
+        "within which detectors drive them; the best fixed plan is found too, with the other words, and said "
+        "beside it",
     )
-    tool_parser.add_argument("--cycle", metavar="S-S", help=f"cycles to try (default {CYCLES})")
+    tool_parser.add_argument("--cycle", metavar="S-S", help=f"cycle lengths to try (default {CYCLES})")
     tool_parser.add_argument(
         "--least", type=integer_within(1, limits.PHASE_STEPS), metavar="S",
-        help=f"the least green (default {LEAST_GREEN}); a phase's minDur and maxDur bound it too, but with --bounds: "
-        "there minDur is brought down to it, and without this word never below what is given",
+        help=f"minimum green in seconds (default {LEAST_GREEN}); a phase's minDur and maxDur bound it too, but with "
+        "--bounds: there minDur is brought down to it, and without this word never below what is given",
     )
     tool_parser.add_argument(
         "--constraints", metavar="FILE",
-        help="what phases must keep, beside their minDur and maxDur: a table light,phase,least,most,pedestrians (.csv)",
+        help="table of limits that phases must keep, beside their minDur and maxDur: "
+        "light,phase,least,most,pedestrians (.csv)",
     )
     tool_parser.add_argument(
         "--mend", action="store_true",
-        help="search also from a plan that breaks what its phases must keep; its greens are mended first",
+        help="mend the greens of a given plan that breaks limits of its phases, and search from it",
     )
     tool_parser.add_argument(
         "--fixed", default="", metavar='"LIGHT .."', help="lights that stay as they are, with spaces or commas between"
     )
     tool_parser.add_argument(
         "--seeds", metavar="SEEDS",
-        help="seeds (1-5, or 1,4,7-9) of the search (default: one, or more where runs of the given plan differ much)",
+        help="seeds of the runs (1-5, or 1,4,7-9) of the search (default: one, or more where runs of the given plan "
+        "differ much)",
     )
     add_check(tool_parser, "101-110", "those of the report")
     tool_parser.add_argument(
         "--reserve", type=integer_within(0, 1000), default=RESERVE, metavar="N",
-        help="of 1,000, by which vehicles slow down more often in the search than in the report, "
-        "so that what it finds has room (default %(default)s: a green lets some 10 %% fewer pass; 0: as many). "
-        "Offsets alone are searched without",
+        help="added chance to slow down in the runs of the search, of 1,000, so that what it finds has room "
+        "(default %(default)s: a green lets some 10 %% fewer pass; 0: as many). Offsets alone are searched without",
     )
     tool_parser.add_argument(
         "--budget", type=integer_within(0, limits.VEHICLES), default=1000, metavar="N",
-        help="simulations of the search (default %(default)s)",
+        help="maximum simulations of the search (default %(default)s)",
     )
 
 

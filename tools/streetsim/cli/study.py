@@ -42,15 +42,16 @@ def parser() -> Parser:
         description="Runs each variant of a study with each seed, and writes the differences of their mean trips with "
         "95 % intervals, and how many runs a precision needs.",
     )
-    tool_parser.add_argument("study", help="the study (.toml)")
+    tool_parser.add_argument("study", help="file of the study (.toml)")
     add_machines(tool_parser)
     add_rounds(tool_parser, None, f"default: rounds of the study, else {ROUNDS}")
     add_departures(tool_parser, f"default: departures of the study, else {DRAWN}")
     tool_parser.add_argument(
         "--precision", type=percent, default=1.0, metavar="PERCENT",
-        help="half the width that intervals are to have, of the base's mean trip (default %(default)s)",
+        help="half the width that confidence intervals are to have, in percent of the base's mean trip "
+        "(default %(default)s)",
     )
-    add_out(tool_parser, "the folder to write to (default: NAME-answer of NAME.toml, here)")
+    add_out(tool_parser, "output folder (default: NAME-answer of NAME.toml, here)")
     return tool_parser
 
 

@@ -11,12 +11,12 @@ from streetsim.model.replications import DRAWN, LISTED
 
 def add_out(parser: argparse.ArgumentParser, help_text: str, is_required: bool = False) -> None:
     """Adds --out, the folder that a command writes, with its help (told), and --force."""
-    help_text += ": a new one, or one of such a run"
+    help_text += ": a new one, or one that the tools wrote"
     parser.add_argument("--out", required=is_required, metavar="DIR", help=help_text)
     parser.add_argument(
         "--force", action="store_true",
-        help="write to --out whatever is there; of its files only those are replaced or removed that are called as the "
-        "tools' are",
+        help="write to the folder of --out whatever is in it; only files with names of the tools' own files are "
+        "replaced or removed",
     )
 
 
@@ -34,17 +34,18 @@ def add_clock(
 
 def add_network(parser: argparse.ArgumentParser) -> None:
     """Adds the words without a name that are files of SUMO: a network (net) and additional ones."""
-    parser.add_argument("net", metavar="NET", help="the network (.net.xml), or SUMO's configuration (.sumocfg)")
+    parser.add_argument("net", metavar="NET", help="SUMO network (.net.xml) or configuration (.sumocfg)")
     parser.add_argument(
         "additional", metavar="ADDITIONAL", nargs="*", default=[],
-        help="additional files with signal programs, and vehicle types"
+        help="SUMO's additional files: signal programs and vehicle types"
     )
 
 
 def add_made_run(parser: argparse.ArgumentParser, of: str) -> None:
     """Adds --run and --map, files that are written; of: what runs in them."""
-    parser.add_argument("--run", help=f"the run to write, of these {of}, as of streetsim-import (.jsonl); with --map")
-    parser.add_argument("--map", help="the map of names, of the run that is written (.json)")
+    run = f"run file to write, of these {of}, as in streetsim-import (.jsonl); with --map"
+    parser.add_argument("--run", help=run)
+    parser.add_argument("--map", help="map file with the names in a run, to write (.json)")
 
 
 def refuse_half_run(args: argparse.Namespace) -> None:
@@ -57,7 +58,7 @@ def add_attribute(parser: argparse.ArgumentParser) -> None:
     """Adds --attribute, the name of what is the count in SUMO's files; None where it is not given."""
     parser.add_argument(
         "--attribute", metavar="NAME",
-        help="of SUMO's files of counts, that is the count (default: left, entered or count)",
+        help="attribute that is the count in SUMO's files (default: left, entered or count)",
     )
 
 
@@ -65,8 +66,8 @@ def add_departures(parser: argparse.ArgumentParser, usual: str) -> None:
     """Adds --departures, drawn or listed; None where it is not given; usual: what stands for it then."""
     parser.add_argument(
         "--departures", choices=[DRAWN, LISTED],
-        help="drawn: each way has a Poisson number of vehicles a quarter hour around the file's, at any second of it, "
-        f"by the seed; listed: those of the file ({usual})",
+        help="whether departures are drawn by the seed or listed in the file: drawn, each way has a Poisson number a "
+        f"quarter hour around the file's, at any second of it ({usual})",
     )
 
 
@@ -74,7 +75,7 @@ def add_simulator(parser: argparse.ArgumentParser) -> None:
     """Adds the words of the program that runs: its path (--program) and how many workers it has."""
     parser.add_argument("--program", help=program.HELP)
     parser.add_argument(
-        "--workers", type=integer_within(1, 64), default=1, help="of the simulator (default %(default)s)"
+        "--workers", type=integer_within(1, 64), default=1, help="threads of the simulator (default %(default)s)"
     )
 
 
@@ -82,14 +83,14 @@ def add_machines(parser: argparse.ArgumentParser) -> None:
     """Adds the words that say where runs are parser: --jobs, --cluster, --program."""
     add_jobs(parser)
     parser.add_argument(
-        "--cluster", metavar="HOST:PORT", help="do the runs on the workers of this scheduler of dask.distributed"
+        "--cluster", metavar="HOST:PORT", help="make the runs on the workers of this dask.distributed scheduler"
     )
     parser.add_argument("--program", help=program.HELP)
 
 
 def add_check(parser: argparse.ArgumentParser, default: str, help_text: str) -> None:
     """Adds --check-seeds, the seeds by which what a search found is judged; help_text: which they are."""
-    judged = f"seeds by which what is found is judged, which the search does not see: {help_text}"
+    judged = f"seeds of the runs that judge the result, which the search does not see: {help_text}"
     parser.add_argument("--check-seeds", default=default, metavar="SEEDS", help=f"{judged} (default %(default)s)")
 
 

@@ -30,7 +30,7 @@ OPTION_HELP = (
     ("-a, --additional-files FILES", "additional files, with commas between"),
     ("-b, --begin TIME", "the time at which the run begins"),
     ("-e, --end TIME", "the time at which it ends; without effect under a client, as in SUMO"),
-    ("--seed NUMBER", "of all draws; equal seeds give equal runs"),
+    ("--seed NUMBER", "seed of all random draws; equal seeds give equal runs"),
     ("--remote-port PORT", "serves TraCI's protocol at a port of the loopback address"),
     ("--num-clients NUMBER", "waits for so many clients, which tell their places by setOrder (1)"),
     ("--tripinfo-output FILE", "a row for each vehicle that arrived"),
@@ -43,10 +43,10 @@ OPTION_HELP = (
     ("-W, --no-warnings", "tells no warnings"),
     ("-l, --log FILE", "the file for warnings"),
     ("--ignore-route-errors", "leaves vehicles out whose route cannot be driven"),
-    ("--rescue SECONDS", "rescues who stands so long, in place of --time-to-teleport"),
-    ("--rounds NUMBER", "of runs before, by which vehicles give way without a light (2)"),
-    *((f"--{name} ..", "as of streetsim-import") for name in sorted(IMPORTED - {"seed", "begin"})),
-    *((f"--{name} ..", "as of streetsim-run") for name in RUN_OPTIONS),
+    ("--rescue SECONDS", "takes out a vehicle that stood this long, in place of --time-to-teleport"),
+    ("--rounds NUMBER", "runs made before the final run, by which vehicles give way without a light (2)"),
+    *((f"--{name} ..", "as in streetsim-import") for name in sorted(IMPORTED - {"seed", "begin"})),
+    *((f"--{name} ..", "as in streetsim-run") for name in RUN_OPTIONS),
     ("--check SCRIPT.py", "reads a script for TraCI, and says which of its calls are here"),
 )
 
