@@ -185,7 +185,7 @@ def add_names(parser: argparse.ArgumentParser) -> None:
     parser.add_argument(
         "--names",
         metavar="FILE",
-        help="table of your own names (.csv with the columns id, of an edge, junction or light, and name), which go "
+        help="table of names that you give to streets, junctions and lights (.csv with the columns id, of an edge, junction or light, and name), which go "
         "before those of the map",
     )
 
@@ -202,7 +202,7 @@ def add_lost(parser: argparse.ArgumentParser) -> None:
     parser.add_argument(
         "--lost",
         choices=["lead", "wait", "bar"],
-        help="what vehicles do whose only lane for a turn is closed: turn from the lane beside it (lead), or wait "
+        help="what a vehicle does if its only lane for a turn is closed: turn from the lane beside it (lead), or wait "
         "until the works end (wait); or the turn is barred, and streetsim-route finds their ways (bar; default lead)",
     )
 

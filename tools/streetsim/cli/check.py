@@ -47,7 +47,7 @@ def parser() -> Parser:
     tool_parser.add_argument("target", metavar="PAGE|DIR", help="what to check: a page (.html), or a folder")
     add_simulator(tool_parser)
     add_jobs(tool_parser)
-    tool_parser.add_argument("--study", metavar="FILE", help="file of the study that a folder was made of")
+    tool_parser.add_argument("--study", metavar="FILE", help="study file from which a folder was made")
     return tool_parser
 
 

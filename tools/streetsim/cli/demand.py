@@ -49,7 +49,7 @@ def add_inputs(tool_parser: argparse.ArgumentParser) -> None:
         ("counts", "counts of edges and turns: CSV (begin,end,from,to,vehicles; an edge has no to), or SUMO's"),
         ("zones", "zones and their edges: CSV (zone,edges), or SUMO's TAZ"),
         ("matrix", "O-D matrices of zones: CSV (from,to,vehicles; begin,end), SUMO's O or V format, or tazRelations"),
-        ("flows", "flows that have the attribute from and no to, which go on by --ratios"),
+        ("flows", "flows that have a first edge and no last edge, which go on by --ratios"),
         ("ratios", "turn ratios, as SUMO's jtrrouter takes them"),
         ("candidates", "files of routes that vehicles may take"),
     ):
@@ -69,7 +69,7 @@ def add_fit(tool_parser: argparse.ArgumentParser) -> None:
     )
     tool_parser.add_argument(
         "--most", type=integer_within(1, 1_000_000), default=60_000, metavar="N",
-        help="maximum ways of all O-D pairs, about; of more pairs some are drawn (default %(default)s)",
+        help="maximum number of ways of all O-D pairs together, about; of more pairs some are drawn (default %(default)s)",
     )
     tool_parser.add_argument(
         "--error", type=share_of, default=ERROR, metavar="SHARE",

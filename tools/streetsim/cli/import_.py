@@ -26,7 +26,7 @@ NUMBERS = {
     "change": (0, 1000, "chance to change lane, of 1,000"),
     "zone": (0, 1000, "length of the turn zone, in cells"),
     "seed": (0, 2**64 - 1, "seed of all random draws"),
-    "residence": (1, limits.RESIDENCE, "minimum steps in a buffer at signals and real junctions"),
+    "residence": (1, limits.RESIDENCE, "minimum steps in a buffer at lights and where streets meet"),
     "buffer": (1, limits.BUFFER, "maximum vehicles in the buffer of a lane"),
 }
 
@@ -114,7 +114,7 @@ def add_lanes(tool_parser: argparse.ArgumentParser) -> None:
     )
     tool_parser.add_argument(
         "--turns", choices=["both", "strict"], default="both",
-        help="turns from a lane of a two-lane link: to each next link (both), or SUMO's connections alone (strict)",
+        help="which turns lead from each lane of a two-lane link: to each next link (both), or SUMO's connections alone (strict)",
     )
     tool_parser.add_argument(
         "--sizes", choices=["on", "off"], default="on",

@@ -53,7 +53,7 @@ def parser() -> Parser:
     )
     tool_parser.add_argument(
         "--vehicles", type=integer_within(1, MOST_INVENTED), metavar="N",
-        help="invented vehicles an hour from border to border, for a network without routes",
+        help="number of invented vehicles per hour that drive from border to border, for a network without routes",
     )
     add_clock(tool_parser, "--begin", "start time of the run", default=None)
     add_clock(tool_parser, "--until", "end time of the run", least=1)
@@ -62,7 +62,7 @@ def parser() -> Parser:
     )
     tool_parser.add_argument(
         "--live", action="store_true",
-        help="serve a page that runs the simulation in place of writing one, until Ctrl-C",
+        help="serve a page that runs the simulation and write no page, until Ctrl-C",
     )
     tool_parser.add_argument("--no-open", action="store_true", help="start no browser")
     tool_parser.add_argument("--program", help=program.HELP)

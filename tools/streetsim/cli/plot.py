@@ -88,11 +88,11 @@ def add_diagram(tool_parser: argparse.ArgumentParser) -> None:
     tool_parser.add_argument("--stop-lines", action="store_true", help=stop_lines)
     tool_parser.add_argument(
         "--ring", type=dawdles, metavar="DAWDLES",
-        help="measure a ring of one lane with these chances to slow down, of 1,000, with commas between",
+        help="measure traffic on a circular street of one lane at these chances to slow down, of 1,000, with commas between",
     )
     tool_parser.add_argument(
         "--limit", type=integer_within(1, limits.LIMIT), default=limits.LIMIT,
-        help="speed limit of the ring, cells a step (default %(default)s)",
+        help="speed limit on the circular street of --ring, cells a step (default %(default)s)",
     )
     tool_parser.add_argument("--program", help=f"{program.HELP}, for the ring")
 

@@ -85,11 +85,11 @@ def add_search(tool_parser: argparse.ArgumentParser) -> None:
     )
     tool_parser.add_argument(
         "--share", type=share_of, default=0.2,
-        help="share of the trips that change their way at first (default %(default)s)",
+        help="share of the trips that change their way in the first iteration (default %(default)s)",
     )
     tool_parser.add_argument(
         "--tried", type=integer_within(1, 8), default=1, metavar="N",
-        help="number of shares tried side by side in an iteration: the share, half of it, a quarter, .. "
+        help="number of shares of trips that an iteration tries side by side: the share, half of it, a quarter, .. "
         "(default %(default)s)",
     )
     add_rounds(tool_parser)
@@ -114,7 +114,7 @@ def add_works(tool_parser: argparse.ArgumentParser) -> None:
     )
     tool_parser.add_argument(
         "--sign", nargs="+", default=[], metavar="EDGE",
-        help="edges where a sign tells the other drivers of the works (default: the last before them)",
+        help="edges where a sign tells of the works to drivers who did not know of them (default: the last before them)",
     )
     add_lost(tool_parser)
     tool_parser.add_argument(

@@ -65,7 +65,7 @@ def add_looks(tool_parser: argparse.ArgumentParser) -> None:
     add_rescue(tool_parser)
     tool_parser.add_argument(
         "--counted", choices=["all", "busiest"], default="all",
-        help="word of earlier versions without effect: every lane is counted",
+        help="option of earlier versions that has no effect now: every lane is counted",
     )
 
 

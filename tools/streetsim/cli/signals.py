@@ -87,7 +87,7 @@ def add_search(tool_parser: argparse.ArgumentParser) -> None:
     )
     tool_parser.add_argument(
         "--bounds", action="store_true",
-        help="find bounds of actuated and NEMA lights in place of fixed plans: least, most and max-gap (vehext), "
+        help="find bounds of the greens of actuated and NEMA lights in place of fixed plans: least, most and max-gap (vehext), "
         "within which detectors drive them; the best fixed plan is found too, with the other words, and said "
         "beside it",
     )
