@@ -185,7 +185,8 @@ def add_names(parser: argparse.ArgumentParser) -> None:
     parser.add_argument(
         "--names",
         metavar="FILE",
-        help="table of names that you give to streets, junctions and lights (.csv with the columns id, of an edge, junction or light, and name), which go "
+        help="table of names that you give to streets, junctions and lights (.csv with the columns id, of an edge, "
+        "junction or light, and name), which go "
         "before those of the map",
     )
 

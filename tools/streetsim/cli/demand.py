@@ -69,7 +69,8 @@ def add_fit(tool_parser: argparse.ArgumentParser) -> None:
     )
     tool_parser.add_argument(
         "--most", type=integer_within(1, 1_000_000), default=60_000, metavar="N",
-        help="maximum number of ways of all O-D pairs together, about; of more pairs some are drawn (default %(default)s)",
+        help="maximum number of ways of all O-D pairs together, about; of more pairs some are drawn (default "
+        "%(default)s)",
     )
     tool_parser.add_argument(
         "--error", type=share_of, default=ERROR, metavar="SHARE",

@@ -114,7 +114,8 @@ def add_lanes(tool_parser: argparse.ArgumentParser) -> None:
     )
     tool_parser.add_argument(
         "--turns", choices=["both", "strict"], default="both",
-        help="which turns lead from each lane of a two-lane link: to each next link (both), or SUMO's connections alone (strict)",
+        help="which turns lead from each lane of a two-lane link: to each next link (both), or SUMO's connections "
+        "alone (strict)",
     )
     tool_parser.add_argument(
         "--sizes", choices=["on", "off"], default="on",
@@ -122,7 +123,8 @@ def add_lanes(tool_parser: argparse.ArgumentParser) -> None:
     )
     tool_parser.add_argument(
         "--joint", default="", metavar="NAMES",
-        help="edges or lanes that become joint links of two lanes, with commas between, also where these lead to "
+        help="edges or lanes that become joint links of two lanes between which vehicles change, with commas between, "
+        "also where these lead to "
         "different edges, so that vehicles change between them; for lanes that a program closes later",
     )
 

@@ -42,7 +42,8 @@ def parser() -> Parser:
     add_run(tool_parser)
     tool_parser.add_argument(
         "--joint", default="", metavar="NAMES",
-        help="edges or lanes that become joint links of two lanes, with commas between, so that they can be closed",
+        help="edges or lanes that become joint links of two lanes between which vehicles change, with commas between, "
+        "so that they can be closed",
     )
     tool_parser.add_argument(
         "--port", type=integer_within(0, 65_535), default=0, help="port of the address (default: one that is free)"

@@ -62,7 +62,7 @@ def parser() -> Parser:
     )
     tool_parser.add_argument(
         "--live", action="store_true",
-        help="serve a page that runs the simulation and write no page, until Ctrl-C",
+        help="write no page but serve one that runs the simulation, until Ctrl-C",
     )
     tool_parser.add_argument("--no-open", action="store_true", help="start no browser")
     tool_parser.add_argument("--program", help=program.HELP)

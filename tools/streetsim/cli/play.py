@@ -28,7 +28,7 @@ def parser() -> Parser:
         help="folder that streetsim-run wrote; with --every 1 vehicles move smoothly",
     )
     tool_parser.add_argument("-o", "--output", help="output file: the page (default: FOLDER.play.html, here)")
-    add_clock(tool_parser, "--first", "first second shown", default=0)
+    add_clock(tool_parser, "--first", "the first second that is shown", default=0)
     add_clock(tool_parser, "--last", "last second shown", default=limits.CLOCK)
     return tool_parser
 

@@ -62,7 +62,7 @@ def add_words_of_kind(kind_parser: argparse.ArgumentParser, kind: str) -> None:
         )
     if kind == "corridor":
         kind_parser.add_argument("--both", action="store_true", help="draw the other direction too, below")
-        add_clock(kind_parser, "--first", "first second shown", default=0)
+        add_clock(kind_parser, "--first", "the first second that is shown", default=0)
         add_clock(kind_parser, "--last", "last second shown", default=600)
     if kind == "fundamental":
         add_diagram(kind_parser)
@@ -88,7 +88,8 @@ def add_diagram(tool_parser: argparse.ArgumentParser) -> None:
     tool_parser.add_argument("--stop-lines", action="store_true", help=stop_lines)
     tool_parser.add_argument(
         "--ring", type=dawdles, metavar="DAWDLES",
-        help="measure traffic on a circular street of one lane at these chances to slow down, of 1,000, with commas between",
+        help="measure traffic on a circular street of one lane at these chances to slow down, of 1,000, with commas "
+        "between",
     )
     tool_parser.add_argument(
         "--limit", type=integer_within(1, limits.LIMIT), default=limits.LIMIT,

@@ -55,7 +55,7 @@ def parser() -> Parser:
     )
     tool_parser.add_argument("-o", "--output", help="output file: the page (default: FOLDER.report.html, here)")
     tool_parser.add_argument("--title", default="Junction report", help="title of the page (default: %(default)s)")
-    question = "question that was asked, at the head of the page"
+    question = "question that the page answers, at the head of the page"
     tool_parser.add_argument("--question", default="", metavar="TEXT", help=question)
     tool_parser.add_argument(
         "--plan-names", nargs="+", default=[], metavar="NAME", help="names of the plans (default: their folders)"

@@ -89,7 +89,8 @@ def add_search(tool_parser: argparse.ArgumentParser) -> None:
     )
     tool_parser.add_argument(
         "--tried", type=integer_within(1, 8), default=1, metavar="N",
-        help="number of shares of trips that an iteration tries side by side: the share, half of it, a quarter, .. "
+        help="number of values that an iteration tries side by side for the share of the trips: the share, half of it, "
+        "a quarter, .. "
         "(default %(default)s)",
     )
     add_rounds(tool_parser)
@@ -114,7 +115,8 @@ def add_works(tool_parser: argparse.ArgumentParser) -> None:
     )
     tool_parser.add_argument(
         "--sign", nargs="+", default=[], metavar="EDGE",
-        help="edges where a sign tells of the works to drivers who did not know of them (default: the last before them)",
+        help="edges where a sign tells of the works to drivers who did not know of them (default: the last before "
+        "them)",
     )
     add_lost(tool_parser)
     tool_parser.add_argument(

@@ -104,7 +104,8 @@ def add_lanes(tool_parser: argparse.ArgumentParser) -> None:
     )
     tool_parser.add_argument(
         "--joint", default="", metavar="NAMES",
-        help="edges or lanes that become joint links of two lanes, with commas between, as by road works, to compare "
+        help="edges or lanes that become joint links of two lanes between which vehicles change, with commas between, "
+        "as by road works, to compare "
         "with",
     )
 

@@ -70,7 +70,7 @@ def parser() -> Parser:
     tool_parser.add_argument(
         "--edges", default="", help="edges to look at, with spaces or commas between: the ways along them are drawn"
     )
-    add_clock(tool_parser, "--first", "first second shown (default: a third of the run)")
+    add_clock(tool_parser, "--first", "the first second that is shown (default: a third of the run)")
     add_clock(tool_parser, "--last", f"last second shown (default: {DRAWN} s later)")
     tool_parser.add_argument(
         "-o", "--output", help="output file: the plan found (default: RUN.found.add.xml, here)"
@@ -87,7 +87,8 @@ def add_search(tool_parser: argparse.ArgumentParser) -> None:
     )
     tool_parser.add_argument(
         "--bounds", action="store_true",
-        help="find bounds of the greens of actuated and NEMA lights in place of fixed plans: least, most and max-gap (vehext), "
+        help="find bounds of the greens of actuated and NEMA lights in place of fixed plans: least, most and max-gap "
+        "(vehext), "
         "within which detectors drive them; the best fixed plan is found too, with the other words, and said "
         "beside it",
     )

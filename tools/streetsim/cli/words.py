@@ -15,7 +15,8 @@ def add_out(parser: argparse.ArgumentParser, help_text: str, is_required: bool =
     parser.add_argument("--out", required=is_required, metavar="DIR", help=help_text)
     parser.add_argument(
         "--force", action="store_true",
-        help="write to the folder of --out even where it has other files; only files with names of the tools' own files are "
+        help="write to the folder of --out even where it has other files; only files with names of the tools' own "
+        "files are "
         "replaced or removed",
     )
 

@@ -104,7 +104,7 @@ def basis_of(town: RouteTown, inputs: DemandInputs, report_stage: ReportStage) -
     add_types(kinds, town.types)
     report_stage("finding ways")
     if inputs.flows:
-        pairs, ways, departs = ways_by_ratios(town, inputs, free)
+        pairs, ways, departs = candidates_by_ratios(town, inputs, free)
         thinned = len(pairs), len(pairs)
     else:
         pairs, ways, thinned = ways_of_pairs(town, inputs, Times(free, driven), zones, cells)
@@ -229,11 +229,12 @@ def given_routes(town: RouteTown, inputs: DemandInputs) -> list[tuple[str, ...]]
     return [edges for edges in routes if len(edges) > 1 and edges not in broken]
 
 
-def ways_by_ratios(
+def candidates_by_ratios(
     town: RouteTown, inputs: DemandInputs, free: Sequence[float]
 ) -> tuple[list[Pair], list[Way], list[tuple[float, int]]]:
-    """(pairs that turn ratios give, their ways, (departure in seconds, index of its way among these) of each vehicle).
-    free: seconds of each movement. Fault for a file that is wrong, and where the ratios lead to no end."""
+    """The candidate ways of a demand by turn ratios, by the files that the inputs name: (pairs, their ways, (departure
+    in seconds, index of its way among these) of each vehicle). free: seconds of each movement. Fault for a file that is
+    wrong, and where the ratios lead to no end."""
     turn_ratios, sinks = ratios.read_ratios(inputs.ratios)
     inflows = ratios.read_inflows(inputs.flows, inputs.seed, town.types.report)
     turns = walking.Turns(turn_ratios, sinks, town.net, town.graph)

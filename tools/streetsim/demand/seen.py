@@ -111,7 +111,8 @@ class Visits:
 def passed_by_rows(folder: Folder, counts: Sequence[Count]) -> Iterator[int]:
     """The vehicles that passed in each count's period, by the run's rows of each second. Fault where it has none, or
     those of some edges alone, or they cannot be read. counts: one at least."""
-    if not os.path.exists(f"{folder.path}/{ROWS}") or any(word.startswith("--edges") for word in words_of(folder)):
+    words = words_of_counted_run(folder)
+    if not os.path.exists(f"{folder.path}/{ROWS}") or any(word.startswith("--edges") for word in words):
         raise Fault(
             f"{counts[0].location}: {folder.path} has neither this place and period in its tables nor {ROWS} of all "
             f"edges: run it with --junctions {counts[0].end - counts[0].begin}, or without --edges and --every 0"
@@ -127,8 +128,8 @@ def passed_by_rows(folder: Folder, counts: Sequence[Count]) -> Iterator[int]:
         yield int((inside & (kinds[vehicles] == count.kind) if count.kind else inside).sum())
 
 
-def words_of(folder: Folder) -> Sequence[str]:
-    """The words by which a run was made, as far as its setting has them."""
+def words_of_counted_run(folder: Folder) -> Sequence[str]:
+    """The words by which a run was made whose passages are counted, as far as its setting has them."""
     arguments = folder.setting.get("words", ())
     return [str(word) for word in arguments] if isinstance(arguments, list) else ()
 

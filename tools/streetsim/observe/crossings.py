@@ -35,14 +35,14 @@ class Movements:
         self.stopping = movements_that_stop(mapping)
         self.losses: dict[int, tuple[float, float]] = {}
 
-    def name(self, movement: int) -> Movement:
-        """The edges of a movement."""
+    def edge_pair(self, movement: int) -> Movement:
+        """The edge from which a movement comes, and the next one."""
         return self.edges[movement // len(self.edges)], self.edges[movement % len(self.edges)]
 
     def losses_of(self, movement: int) -> tuple[float, float]:
         """What those lose beyond what is seen who stop, and those who have to, which one alone loses too."""
         if movement not in self.losses:
-            pair = edge, target = self.name(movement)
+            pair = edge, target = self.edge_pair(movement)
             self.losses[movement] = stop_loss(self.approaches[edge], target), AT_SIGN * (pair in self.stopping)
         return self.losses[movement]
 
@@ -153,7 +153,7 @@ class Crossed:
         lost: dict[Movement, Losses] = {}
         lanes: dict[Movement, dict[Place, int]] = {}
         movements, *columns = (column.tolist() for column in self.lost.get(number, [np.zeros(0, np.int32)] * 8))
-        names = {movement: self.movements.name(movement) for movement in movements}
+        names = {movement: self.movements.edge_pair(movement) for movement in movements}
         for movement, count, delay, stood, stops in zip(movements, *columns[:4], strict=True):
             lost[names[movement]] = Losses(count, max(stood / count, delay), stood / count, stops / count)
             lanes[names[movement]] = {}

@@ -35,13 +35,13 @@ class SumoFiles(Observer):
         for second, car in sorted(zip(seconds.arrivals.second.tolist(), owners, strict=True)):
             arrived[second].append(car)
         for second in range(1, len(seconds.clocks)):
-            lanes = lanes_of(seconds, second)
+            lanes = lanes_for_outputs(seconds, second)
             self.outputs.add_second(int(seconds.clocks[second]), lanes, arrived.get(second, ()))
 
 
-def lanes_of(seconds: Seconds, second: int) -> Iterator[list[Any]]:
-    """What stands on lanes in a second: [link, lane, cells, buffer, []] of each lane where anybody is, as in a folder's
-    polls."""
+def lanes_for_outputs(seconds: Seconds, second: int) -> Iterator[list[Any]]:
+    """What stands on lanes in a second, as SUMO's output files take it: [link, lane, cells, buffer, []] of each lane
+    where anybody is."""
     rows = slice(*seconds.first[second : second + 2])
     slot, car, cell = seconds.slot[rows], seconds.owner[rows], seconds.cell[rows]
     begins, _ = groups_of(slot)

@@ -175,7 +175,7 @@ def other_ways(plans: Sequence[Runs], interval: tuple[int, int]) -> str:
     """A table, as HTML, of the edges that win or lose 20 vehicles an hour or more with the second of two plans, by a
     change that stands out or, with one seed, by any, those that win most first; where they are more than twelve, the
     first and the last six, these in the other order. A sentence where there are none."""
-    names, changes = plans[1].names, flow_changes(plans, interval)
+    names, changes = plans[1].names, street_flow_changes(plans, interval)
     ranked = sorted(
         (difference.change, edge)
         for edge, difference in changes.items()
@@ -195,9 +195,10 @@ def other_ways(plans: Sequence[Runs], interval: tuple[int, int]) -> str:
     return table(head, rows, names=2)
 
 
-def flow_changes(plans: Sequence[Runs], interval: tuple[int, int]) -> dict[str, PlanDifference]:
-    """By edge the change of vehicles an hour from the first of two plans to the second, in the interval (begin, end)
-    that is shown, paired by seed; edges that one plan has no counts of are left out."""
+def street_flow_changes(plans: Sequence[Runs], interval: tuple[int, int]) -> dict[str, PlanDifference]:
+    """The streets that get or lose traffic by works: by edge the change of vehicles an hour from the first of two plans
+    to the second, in the interval (begin, end) that is shown, paired by seed; edges that one plan has no counts of are
+    left out."""
     sides = []
     for runs in plans:
         flows: defaultdict[str, dict[int, float]] = defaultdict(dict)
