@@ -29,7 +29,7 @@ def parser() -> Parser:
     )
     tool_parser.add_argument("-o", "--output", help="output file: the page (default: FOLDER.play.html, here)")
     add_clock(tool_parser, "--first", "the first second that is shown", default=0)
-    add_clock(tool_parser, "--last", "last second shown", default=limits.CLOCK)
+    add_clock(tool_parser, "--last", "the last second that is shown", default=limits.CLOCK)
     return tool_parser
 
 

@@ -63,7 +63,7 @@ def add_words_of_kind(kind_parser: argparse.ArgumentParser, kind: str) -> None:
     if kind == "corridor":
         kind_parser.add_argument("--both", action="store_true", help="draw the other direction too, below")
         add_clock(kind_parser, "--first", "the first second that is shown", default=0)
-        add_clock(kind_parser, "--last", "last second shown", default=600)
+        add_clock(kind_parser, "--last", "the last second that is shown", default=600)
     if kind == "fundamental":
         add_diagram(kind_parser)
     if kind == "map":

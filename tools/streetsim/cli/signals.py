@@ -71,7 +71,7 @@ def parser() -> Parser:
         "--edges", default="", help="edges to look at, with spaces or commas between: the ways along them are drawn"
     )
     add_clock(tool_parser, "--first", "the first second that is shown (default: a third of the run)")
-    add_clock(tool_parser, "--last", f"last second shown (default: {DRAWN} s later)")
+    add_clock(tool_parser, "--last", f"the last second that is shown (default: {DRAWN} s later)")
     tool_parser.add_argument(
         "-o", "--output", help="output file: the plan found (default: RUN.found.add.xml, here)"
     )
