@@ -94,7 +94,8 @@ def add_appendix(tool_parser: argparse.ArgumentParser) -> None:
         "--corridor", default="", metavar="EDGES", help="edges of a path to draw, of a run with --every 1 to 5"
     )
     for name, default in PICTURE_SECONDS.items():
-        add_clock(tool_parser, f"--{name}", f"the {name} second that is shown, of the corridor's picture (default {default})")
+        text = f"the {name} second that is shown, of the corridor's picture (default {default})"
+        add_clock(tool_parser, f"--{name}", text)
 
 
 def main(arguments: list[str]) -> int:
