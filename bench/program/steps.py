@@ -452,7 +452,7 @@ def check_record(record: Path, replies: list[bytes], seconds: int) -> None:
         for last in RecordReader(file, record):
             blocks += 1
     there = int((last.spot != ARRIVED).sum()) if last else 0
-    found = blocks, there, last and last.arrived, last and last.taken
+    found = blocks, there, last and last.arrived, last and last.taken_out
     if found != (seconds, count["cells"] + count["buffers"], count["arrived"], count["taken"]):
         sys.exit(f"{record}: {found} are not of {seconds} seconds with {count}")
 

@@ -16,7 +16,7 @@ from streetsim.control.merging_rule import SeenVehicle
 from streetsim.control.works_closures import Closure
 from streetsim.model.folder import read_folder
 from streetsim.model.runs import run_of_texts
-from streetsim.model.stops import MADE, MISSED, OTHER_LANE, STANDING, Visit
+from streetsim.model.stops import MISSED, OTHER_LANE, OWN_LANE, STANDING, Visit
 from streetsim.observe.trips import stop_rows
 from streetsim.sumo.converting import run_and_map
 from streetsim.sumo.import_files import convert
@@ -257,7 +257,7 @@ class OneStop(unittest.TestCase):
         self.assertEqual((one.state, one.arrived, one.leaves, one.closed), (STANDING, 102, 122, {(0, 20)}))
         self.assertEqual(one.decide_closed(122, bus(19, 0), {0: [bus(19, 0)]}), 5)
         one.decide_closed(127, bus(19, 0), {})
-        self.assertEqual((one.state, one.closed), (MADE, set()))
+        self.assertEqual((one.state, one.closed), (OWN_LANE, set()))
 
     def test_until(self):
         one = self.stopping(until=300)

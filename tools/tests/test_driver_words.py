@@ -8,7 +8,7 @@ from pathlib import Path
 from support import DATA, FORK, PROGRAM, Case, needs_simulator
 from streetsim.demand.calibration_field import TRIP
 from streetsim.demand.compared_times import ComparedTime, are_close, lines_of_times
-from streetsim.model.fullness import LEFT, STRAIGHT, FullLane
+from streetsim.model.fullness import LEFT_TURN, STRAIGHT, FullLane
 from streetsim.model.loaded_lanes import LOADED, forecast_doubts, loaded_lanes
 from streetsim.model.mapping import read_map
 from streetsim.search.study_variants import read_study
@@ -111,7 +111,7 @@ class Doubts(unittest.TestCase):
         return list(forecast_doubts(own, base, growth))
 
     def test_lefts_that_a_variant_loads(self):
-        loaded, free = self.lane("a_0", LEFT, 0.9), self.lane("a_0", LEFT, 0.82)
+        loaded, free = self.lane("a_0", LEFT_TURN, 0.9), self.lane("a_0", LEFT_TURN, 0.82)
         self.assertIn("lefts that give way, which no survey told", self.told(loaded, {})[0])
         self.assertEqual(len(self.told(loaded, free)), 1)
         self.assertEqual(self.told(loaded, loaded), [])

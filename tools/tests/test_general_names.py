@@ -6,14 +6,37 @@ from support import TOOLS, Case
 
 TOP = TOOLS.parent
 FOLDERS = ("tools/streetsim", "dev")
-# Methods by which users' own observers and controllers are called, as PYTHON.md tells.
-PROTOCOL = {"see", "hear"}
+# Methods by which users' own observers are called, as PYTHON.md tells.
+PROTOCOL = {"see"}
+MAP_KEY = "a key of the map's file"
+REPLY_KEY = "a key of the program's replies, which become this class"
 # Those that stay, and the reason.
 STAY = {
+    "tools/streetsim/base/client.py: Census.taken": REPLY_KEY,
+    "tools/streetsim/base/client.py: Gone": "the program's name of this refusal",
+    "tools/streetsim/base/client.py: Refused.__init__.at": REPLY_KEY,
+    "tools/streetsim/base/client.py: Rows.now": REPLY_KEY,
+    "tools/streetsim/demand/demanding.py: DemandInputs.most": "a key of setting.json, as --most",
     "tools/streetsim/env.py: SignalEnv.__init__.least": "users' programs give it by this name, as PYTHON.md tells",
     "tools/streetsim/env.py: SignalEnv.__init__.words": "words of a command, as the glossary calls them",
+    "tools/streetsim/kernel/loop.py: Kernel.go": "users' programs call it, as PYTHON.md tells",
     "tools/streetsim/kernel/loop.py: Kernel.send": "users' own controllers call it, as PYTHON.md tells",
+    "tools/streetsim/kernel/seconds.py: Seconds.on": "users' own observers read it, as PYTHON.md tells",
+    "tools/streetsim/model/fullness.py: Fullness.of": MAP_KEY,
+    "tools/streetsim/model/mapping.py: MapTurn.next": MAP_KEY,
+    "tools/streetsim/model/reserved.py: ReservedLanes.of": MAP_KEY,
+    "tools/streetsim/model/starting.py: SlowStarts.of": MAP_KEY,
+    "tools/streetsim/model/stops.py: Visit.at": MAP_KEY,
+    "tools/streetsim/model/waiting.py: Foe.next": MAP_KEY,
+    "tools/streetsim/model/waiting.py: Gap.after": MAP_KEY,
+    "tools/streetsim/model/waiting.py: Gap.least": MAP_KEY,
+    "tools/streetsim/model/waiting.py: Gap.others": MAP_KEY,
+    "tools/streetsim/model/waiting.py: Pace.more": MAP_KEY,
+    "tools/streetsim/model/waiting.py: Pace.shown": MAP_KEY,
+    "tools/streetsim/observe/sumo_intervals.py: EdgeSums.left": "SUMO's, an attribute of edgedata",
     "tools/streetsim/scenario.py: ScenarioWishes.seen": "users' programs give it by this name, as --seen",
+    "tools/streetsim/simulation/lights.py: Control.hold": "saved states have the names of deeds",
+    "tools/streetsim/simulation/script_settings.py: ScriptSettings.seen": "users' word, as of ScenarioWishes",
     "tools/streetsim/traci/trafficlights.py: Phase.next": "TraCI's",
 }
 SAMPLE = """

@@ -13,7 +13,7 @@ from support import TOOLS, Case, needs_package
 from package import asking, manuals
 from streetsim import VERSION
 from streetsim.base.files import Fault
-from streetsim.base.helping import GROUPS, HELP, OTHER, in_groups, nearest
+from streetsim.base.helping import GROUPS, HELP, OTHER_WORDS, in_groups, nearest
 from streetsim.base.words import Parser
 from streetsim.cli import commands
 
@@ -67,7 +67,8 @@ class Help(Case):
             for title, own in in_groups(made._actions):
                 with self.subTest(name, title=title):
                     self.assertLessEqual(len(own), 12)
-                    self.assertLessEqual(len(own) * (title == OTHER), 4, "put its words into GROUPS of base/helping.py")
+                    count = len(own) * (title == OTHER_WORDS)
+                    self.assertLessEqual(count, 4, "put its words into GROUPS of base/helping.py")
 
     @needs_package("help2man", shutil.which("help2man"))
     def test_a_manual_page_has_the_words_and_the_examples(self):

@@ -8,7 +8,7 @@ from support import FORK, PROGRAM, SCENARIOS, SHARED, Case, lane, needs_simulato
 from streetsim.base.client import Client
 from streetsim.base.files import Fault
 from streetsim.base.report import Report
-from streetsim.model.fullness import LEFT, RIGHT, STRAIGHT, TURNAROUND
+from streetsim.model.fullness import LEFT_TURN, RIGHT_TURN, STRAIGHT, TURNAROUND
 from streetsim.model.mapping import read_map
 from streetsim.sumo.converting import refuse_over_limits
 from streetsim.sumo.full import ways_of
@@ -34,7 +34,7 @@ class Parts(unittest.TestCase):
     def test_directions(self):
         """As SUMO writes them: l and L (partly left), r and R, t (back), s, and what else there is is straight on."""
         pairs = [SimpleNamespace(source="a", target=direction, direction=direction) for direction in "lLrRts"]
-        told = {"l": LEFT, "L": LEFT, "r": RIGHT, "R": RIGHT, "t": TURNAROUND, "s": STRAIGHT}
+        told = {"l": LEFT_TURN, "L": LEFT_TURN, "r": RIGHT_TURN, "R": RIGHT_TURN, "t": TURNAROUND, "s": STRAIGHT}
         self.assertEqual(ways_of(SumoNet(connections=pairs)), {("a", name): way for name, way in told.items()})
 
 

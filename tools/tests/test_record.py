@@ -38,7 +38,7 @@ def reader(data):
 
 def told(found):
     """A block as it was put together."""
-    return (found.clock, len(found.rows), found.arrived, found.taken), [tuple(row) for row in found.rows.tolist()]
+    return (found.clock, len(found.rows), found.arrived, found.taken_out), [tuple(row) for row in found.rows.tolist()]
 
 
 def read_until_torn(made):

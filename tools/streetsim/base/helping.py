@@ -20,7 +20,7 @@ GROUPS = {  # the words of all commands by what they are of, as their options ar
     "Model": "dawdle change zone seed residence buffer permissive classes turns sizes ignore-route-errors",
     "Program and machine": "program workers jobs cluster keep remote-port num-clients large-files",
 }
-OTHER, HELP = "Other words", "Help"
+OTHER_WORDS, HELP = "Other words", "Help"
 GROUP_OF = {word: title for title, words in GROUPS.items() for word in words.split()}
 
 
@@ -33,12 +33,12 @@ def group_of(action: argparse.Action) -> str:
     """The title of the group that a word is told in; words without a name are input."""
     if action.dest == "help" or isinstance(action, argparse._VersionAction):
         return HELP
-    return GROUP_OF.get(name_of(action), OTHER) if action.option_strings else "Input"
+    return GROUP_OF.get(name_of(action), OTHER_WORDS) if action.option_strings else "Input"
 
 
 def in_groups(actions: Iterable[argparse.Action]) -> list[tuple[str, list[argparse.Action]]]:
     """The words of a command by groups, (title, words), in the order of GROUPS; without empty groups."""
-    by_title: dict[str, list[argparse.Action]] = {title: [] for title in (*GROUPS, OTHER, HELP)}
+    by_title: dict[str, list[argparse.Action]] = {title: [] for title in (*GROUPS, OTHER_WORDS, HELP)}
     for action in actions:
         by_title[group_of(action)].append(action)
     return [(title, members) for title, members in by_title.items() if members]

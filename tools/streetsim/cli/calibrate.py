@@ -26,8 +26,8 @@ from streetsim.demand.calibration_field import (
 from streetsim.demand.calibration_fit import Fit, FitResult, classes_of, lines_of, start_of, values_of
 from streetsim.demand.calibration_model import FittedDrivers, MeasuredRun, StreetRuns, ways_of
 from streetsim.demand.calibration_page import (
-    AFTER, BEFORE, FITTED, LAST_FILE, OTHER, Calibration, JudgedDay, criteria_lines, sum_of_input, write_calibration,
-    write_drivers,
+    CALIBRATED, FITTED_DAY, LAST_FILE, OTHER_DAY, UNCALIBRATED, Calibration, JudgedDay, criteria_lines, sum_of_input,
+    write_calibration, write_drivers,
 )
 from streetsim.model.sources import Sources, program_digest
 from streetsim.sumo.driver_words import street_class
@@ -41,7 +41,7 @@ OWN_WORDS = {
     "check_seeds", "output", "out", "force", "jobs", "rounds", "program",
 }
 # All files of its folder.
-WRITTEN_FILES = {LAST_FILE, "segments.csv", "runs.csv", "report.html", f"{FITTED}.rou.xml", f"{OTHER}.rou.xml"}
+WRITTEN_FILES = {LAST_FILE, "segments.csv", "runs.csv", "report.html", f"{FITTED_DAY}.rou.xml", f"{OTHER_DAY}.rou.xml"}
 
 
 def parser() -> Parser:
@@ -119,7 +119,7 @@ def main(arguments: list[str]) -> int:
     with tempfile.TemporaryDirectory() as folder:
         calibration = calibrate_street(args, given_words(tool_parser, args, OWN_WORDS), folder)
         with whole_folder(args.out, LAST_FILE, WRITTEN_FILES) as out:
-            for name in {FITTED, OTHER} & {day.name for day in calibration.days}:
+            for name in {FITTED_DAY, OTHER_DAY} & {day.name for day in calibration.days}:
                 if os.path.exists(path := f"{folder}/{name}.rou.xml"):
                     shutil.copy(path, out)
             write_calibration(out, calibration)
@@ -159,7 +159,7 @@ def calibrate_street(args: argparse.Namespace, options: list[str], folder: str) 
     with Slow(f"reading {args.net}"):
         net = read_net(args.net, options_of(args).classes, Report())
     day = field_day(args, net, folder, notes)
-    routes = args.routes or [demand_of(args, options, day.counts, folder, FITTED)]
+    routes = args.routes or [demand_of(args, options, day.counts, folder, FITTED_DAY)]
     street = street_runs(args, day, routes)
     seeds, check = seeds_of(args.seeds, "--seeds"), seeds_of(args.check_seeds, "--check-seeds")
     meanwhile = WorkProgress("runs", args.runs)
@@ -175,13 +175,13 @@ def calibrate_street(args: argparse.Namespace, options: list[str], folder: str) 
     solution = fit.solve(values_of(day, classes, names_in(args.free)))
     meanwhile.end()
     usual = FittedDrivers(dawdle=options_of(args).dawdle / 1000)
-    named_drivers = {BEFORE: usual, AFTER: solution.drivers}
-    days = [judged_day(args, FITTED, day, street, named_drivers, seeds)]
+    named_drivers = {UNCALIBRATED: usual, CALIBRATED: solution.drivers}
+    days = [judged_day(args, FITTED_DAY, day, street, named_drivers, seeds)]
     if args.validate:
         validation_day = other_day(args, net, folder, notes, day)
-        other_demand = demand_of(args, options, validation_day.counts, folder, OTHER)
+        other_demand = demand_of(args, options, validation_day.counts, folder, OTHER_DAY)
         other_street = street_runs(args, validation_day, [other_demand])
-        days.append(judged_day(args, OTHER, validation_day, other_street, named_drivers, check))
+        days.append(judged_day(args, OTHER_DAY, validation_day, other_street, named_drivers, check))
     sums = {path: sum_of_input(path) for path in inputs_of(args)}
     digest = program_digest(args.program) or "unknown"
     shares = options_of(args).shares
@@ -190,8 +190,8 @@ def calibrate_street(args: argparse.Namespace, options: list[str], folder: str) 
 
 def field_day(args: argparse.Namespace, net: SumoNet, folder: str, notes: list[str]) -> FieldDay:
     """The day that is fitted; Fault where a file is wrong or names an edge that the network does not have."""
-    os.mkdir(f"{folder}/{FITTED}")
-    day = FieldDay(counts_as_demand(args.counts, f"{folder}/{FITTED}", notes), read_times(args.times, notes))
+    os.mkdir(f"{folder}/{FITTED_DAY}")
+    day = FieldDay(counts_as_demand(args.counts, f"{folder}/{FITTED_DAY}", notes), read_times(args.times, notes))
     dawdle = options_of(args).dawdle / 1000
     numbers = {name: 0 for edge in net.edges.values() for name in (edge.begin, edge.end)}
     limits = {name: link_of(edge, edge.lanes, numbers, dawdle, False).limit for name, edge in net.edges.items()}
@@ -203,9 +203,9 @@ def field_day(args: argparse.Namespace, net: SumoNet, folder: str, notes: list[s
 
 def other_day(args: argparse.Namespace, net: SumoNet, folder: str, notes: list[str], fitted: FieldDay) -> FieldDay:
     """The day of --validate, with the survey of the fitted one; Fault as of field_day."""
-    os.mkdir(f"{folder}/{OTHER}")
+    os.mkdir(f"{folder}/{OTHER_DAY}")
     counts, times, *queues = args.validate
-    day = FieldDay(counts_as_demand([counts], f"{folder}/{OTHER}", notes), read_times([times], notes), fitted.lanes)
+    day = FieldDay(counts_as_demand([counts], f"{folder}/{OTHER_DAY}", notes), read_times([times], notes), fitted.lanes)
     day.queues = read_queues(queues[0]) if queues else []
     refuse_unknown(day, net.edges, "--validate")
     return day

@@ -14,7 +14,7 @@ from streetsim.control.merging_rule import SeenVehicle
 from streetsim.control.works_closures import closures_of
 from streetsim.model.mapping import Map, Place
 from streetsim.model.runs import Command, Run
-from streetsim.model.stops import AHEAD, MISSED, STANDING, UNMADE, Visit
+from streetsim.model.stops import MISSED, STANDING, UNMADE, UNREACHED, Visit
 
 Ask = Callable[[Iterable[int]], list[Vehicle]]  # of vehicles of the run's file
 Look = Callable[[Iterable[Place]], dict[Place, Lane]]  # gives the lanes on which anything is
@@ -279,7 +279,7 @@ class BusFleet:
         """What became of all stops of vehicles in the run, those to come and those not made too; asked at its end."""
         outcomes_to_come = []
         for bus in self.buses.values():
-            ahead = [StopOutcome(visit, AHEAD) for visit in bus.visits]
+            ahead = [StopOutcome(visit, UNREACHED) for visit in bus.visits]
             if (stopping := bus.stopping) and stopping.state == STANDING:
                 ahead[0] = StopOutcome(stopping.visit, STANDING, stopping.lane, stopping.arrived)
             outcomes_to_come += ahead

@@ -12,7 +12,7 @@ from collections.abc import Mapping, Sequence
 from dataclasses import dataclass, field
 
 from streetsim.control.merging_rule import MergingRule, SeenVehicle, Side
-from streetsim.model.stops import AHEAD, MADE, MISSED, OTHER_LANE, STANDING, Visit
+from streetsim.model.stops import MISSED, OTHER_LANE, OWN_LANE, STANDING, UNREACHED, Visit
 
 APPROACH = 40  # cells before the stop, from which a bus is brought to its lane
 GAP_BEHIND = 5  # cells: the rule for lane changing wants a gap behind of more
@@ -44,7 +44,7 @@ class BusAtStop:
     visit: Visit
     road: Road
     lane: int
-    state: str = AHEAD
+    state: str = UNREACHED
     arrived: int | None = None  # clock at which it has come to stand, as SUMO's would
     leaves: int = 0  # clock at which its doors close
     let_go_clock: int | None = None  # clock at which it is let go, as far as it is known
@@ -57,7 +57,7 @@ class BusAtStop:
     @property
     def is_over(self) -> bool:
         """Whether the stop is made, made on the other lane, or missed."""
-        return self.state in (MADE, OTHER_LANE, MISSED)
+        return self.state in (OWN_LANE, OTHER_LANE, MISSED)
 
     @property
     def lane_beside(self) -> int:
@@ -119,7 +119,7 @@ class BusAtStop:
             behind = sum(one.cell < bus.cell and one.speed == 0 for one in lanes.get(self.lane, ()))
             self.let_go_clock = clock + max(0, round(self.visit.starting - QUEUED * behind))
         if self.let_go_clock is not None and clock >= self.let_go_clock:
-            self.state = MADE if self.lane == self.visit.lane else OTHER_LANE
+            self.state = OWN_LANE if self.lane == self.visit.lane else OTHER_LANE
             return 1
         self.closed = {(self.lane, bus.cell + 1)}
         if self.road.lanes == 1:

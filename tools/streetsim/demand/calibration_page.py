@@ -25,8 +25,8 @@ SEGMENTS = (
     *("calibrated_half_width_95", "off_percent"),
 )
 RUNS = ("runs", "dawdle", "cut_s", "speed_factors", "cost")
-FITTED, OTHER = "fitted", "other"
-BEFORE, AFTER = "uncalibrated", "calibrated"
+FITTED_DAY, OTHER_DAY = "fitted", "other"
+UNCALIBRATED, CALIBRATED = "uncalibrated", "calibrated"
 LAST_FILE = "criteria.csv"
 NOT_TOLD = (
     "Lefts that give way on an approach that a plan or a treatment makes the bottleneck: nothing in a base tells how "
@@ -67,7 +67,7 @@ class Calibration:
     def is_valid(self) -> bool:
         """Whether there is another day, and all criteria hold there."""
         last = self.last_day()
-        return last.name == OTHER and all(criterion.is_met for criterion in last.criteria[AFTER])
+        return last.name == OTHER_DAY and all(criterion.is_met for criterion in last.criteria[CALIBRATED])
 
     def drivers(self) -> Json:
         """What the file of --drivers gets."""
@@ -123,7 +123,7 @@ def segment_rows(days: Iterable[JudgedDay]) -> Iterator[Entry]:
     for day in days:
         for key, (mean, deviation, count) in sorted(pooled(day.day.times).items()):
             if count >= LEAST_SEEN:
-                before, after = (seed_means(day.runs[drivers], key) for drivers in (BEFORE, AFTER))
+                before, after = (seed_means(day.runs[drivers], key) for drivers in (UNCALIBRATED, CALIBRATED))
                 half = f"{1.96 * deviation / sqrt(count):.1f}" if deviation else ""
                 cells = [way_name(key), day.name, count, f"{mean:.1f}", half, mean_or_none(before), *interval(after)]
                 off = f"{100 * (fmean(after) / mean - 1):+.1f}" if after else ""
@@ -162,16 +162,16 @@ def page_of(calibration: Calibration) -> str:
 def why_not_valid(calibration: Calibration) -> str:
     """Why a base is not validated, as a sentence."""
     last_day = calibration.last_day()
-    if last_day.name != OTHER:
+    if last_day.name != OTHER_DAY:
         return "The base is fitted, and not validated: no other day was given."
-    criteria = (criterion for criterion in last_day.criteria[AFTER] if not criterion.is_met)
+    criteria = (criterion for criterion in last_day.criteria[CALIBRATED] if not criterion.is_met)
     missed = [f"{criterion.name} ({criterion.share_text()})" for criterion in criteria]
     return f"The base is not validated: on the other day it does not meet {', '.join(missed)}."
 
 
 def criteria_table(days: Sequence[JudgedDay]) -> str:
     """The criteria of both days, without and with calibration, as HTML."""
-    columns = [(day, drivers) for day in days for drivers in (BEFORE, AFTER)]
+    columns = [(day, drivers) for day in days for drivers in (UNCALIBRATED, CALIBRATED)]
     by_name: dict[str, dict[tuple[str, str], Criterion]] = {}
     for day, drivers in columns:
         for criterion in day.criteria[drivers]:
@@ -228,7 +228,7 @@ def value_name(name: str, street: str) -> str:
 def run_facts(calibration: Calibration) -> Iterator[tuple[str, str]]:
     """What was run, of which files, as HTML."""
     yield "runs of the fit", f"{calibration.fit_result.runs:,}, seeds {escape(calibration.seeds)}"
-    if calibration.last_day().name == OTHER:
+    if calibration.last_day().name == OTHER_DAY:
         yield "runs of the other day", f"seeds {escape(calibration.check)}"
     yield "departures", "as counted on each day"
     yield "program", escape(calibration.program)
@@ -241,7 +241,7 @@ def run_facts(calibration: Calibration) -> Iterator[tuple[str, str]]:
 def criteria_lines(calibration: Calibration) -> Iterator[str]:
     """How the criteria are met, a line each, for the terminal; the last says whether the base is validated."""
     for day in calibration.days:
-        for before, after in zip(day.criteria[BEFORE], day.criteria[AFTER], strict=True):
+        for before, after in zip(day.criteria[UNCALIBRATED], day.criteria[CALIBRATED], strict=True):
             held = "held" if after.is_met else "not held"
             uncalibrated = f"uncalibrated {100 * before.share:.0f} %"
             yield f"{day.name} day: {after.name}: {after.share_text()}, {held} ({uncalibrated})"

@@ -5,7 +5,7 @@ from typing import Any
 
 from streetsim.model.named import one_of
 
-LEFT, RIGHT, STRAIGHT, TURNAROUND = "left", "right", "straight on", "back"
+LEFT_TURN, RIGHT_TURN, STRAIGHT, TURNAROUND = "left", "right", "straight on", "back"
 MERGING = "where lanes become one"
 OVERFULL = 1.1  # share of what can pass, from which on a queue grows all the time
 
@@ -16,7 +16,7 @@ class FullLane:
 
     junction: str
     lane: str  # SUMO's id; where lanes become one, the edge
-    way: str  # of most of its vehicles: LEFT, .. or MERGING
+    way: str  # of most of its vehicles: LEFT_TURN, .. or MERGING
     source: str  # the edges from which and to which these go
     target: str
     demand: float  # in the worst quarter of an hour, as a share of what can pass here

@@ -5,7 +5,7 @@ from __future__ import annotations
 from collections.abc import Iterator, Mapping, Sequence
 
 from streetsim.base.report import first_few
-from streetsim.model.fullness import LEFT, MERGING, FullLane
+from streetsim.model.fullness import LEFT_TURN, MERGING, FullLane
 from streetsim.model.mapping import Map
 
 LOADED = 0.85  # of what a lane passes whose lefts give way, above which they want a survey
@@ -29,7 +29,7 @@ def forecast_doubts(
     and the base does not, and growth (times the vehicles of the base) where lanes are above NEARLY_FULL."""
     lefts = [
         full_lane for lane, full_lane in variant_lanes.items()
-        if full_lane.way == LEFT and full_lane.demand > LOADED
+        if full_lane.way == LEFT_TURN and full_lane.demand > LOADED
         and (lane not in base_lanes or base_lanes[lane].demand <= LOADED)
     ]
     if lefts:

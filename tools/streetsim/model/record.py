@@ -41,7 +41,7 @@ class RecordedStep:
 
     clock: int  # after the step
     arrived: int  # vehicles, in all
-    taken: int  # vehicles that were taken out, in all
+    taken_out: int  # vehicles that were taken out, in all
     rows: Array  # of 4 columns, 32 bits without sign, lane by lane
 
     @property

@@ -20,7 +20,7 @@ HEAD = struct.Struct("<6I")
 # its lane (twice the link, and the lane), the cell of its front (in the buffer behind the lane -1 for its front, -2 for
 # the next, and so on) and its speed in cells a second; and by stretch its clock, lane, first and last cell: from a
 # clock that stands there on, these are the closed stretches of the lane, none where its last cell is below its first.
-STAYS, ROWS, CLOSED = ("<u4",) * 4, ("<u2", "<i4", "u1"), ("<u4",) * 4
+STAY_COLUMNS, ROW_COLUMNS, CLOSED_COLUMNS = ("<u4",) * 4, ("<u2", "<i4", "u1"), ("<u4",) * 4
 MOST_ENTRIES = 2_000_000  # seconds, stays, rows or stretches in a part: more than a run writes at once
 Stretch = tuple[int, int]  # the first and the last cell
 Stretches = dict[int, list[list[int]]]  # closed ones, by lane
@@ -56,7 +56,7 @@ class RowsPart:
 
 def packed(clock: int, seconds: int, stays: Sequence[Array], rows: Sequence[Array], closed: Sequence[Array]) -> bytes:
     """The bytes of a part of so many seconds, whose first ends at a clock. stays, rows, closed: their columns."""
-    kinds = (*STAYS, *ROWS, *CLOSED)
+    kinds = (*STAY_COLUMNS, *ROW_COLUMNS, *CLOSED_COLUMNS)
     columns = [one.astype(kind).tobytes() for one, kind in zip((*stays, *rows, *closed), kinds, strict=True)]
     data = zlib.compress(b"".join(columns), 1)
     return HEAD.pack(len(data), clock, seconds, len(stays[0]), len(rows[0]), len(closed[0])) + data
@@ -74,7 +74,7 @@ def parts_of(file: IO[bytes], path: FilePath, every: int = 1) -> Iterator[RowsPa
                 raise ValueError("cut off")
             data = inflate(packed_data, 16 * (stay_count + closed) + 7 * rows)
             at, columns = 0, []
-            for kinds, count in ((STAYS, stay_count), (ROWS, rows), (CLOSED, closed)):
+            for kinds, count in ((STAY_COLUMNS, stay_count), (ROW_COLUMNS, rows), (CLOSED_COLUMNS, closed)):
                 for kind in kinds:
                     columns.append(np.frombuffer(data, kind, count, at))
                     at += columns[-1].nbytes

@@ -6,8 +6,8 @@ from dataclasses import dataclass
 
 from streetsim.base.files import Json
 
-MADE, OTHER_LANE = "made", "other lane"  # how a stop ended: made on its lane, or on the lane beside
-STANDING, MISSED, AHEAD = "standing", "missed", "not reached"  # at the end of the run; passed; still to come
+OWN_LANE, OTHER_LANE = "made", "other lane"  # how a stop ended: made on its lane, or on the lane beside
+STANDING, MISSED, UNREACHED = "standing", "missed", "not reached"  # at the end of the run; passed; still to come
 UNMADE = "not made"  # as the run has another way for the vehicle than its map
 
 

@@ -18,7 +18,7 @@ class SignalMovement:
     """From an edge to the next one at a light; indexes: in the light's states, of its lanes, rising."""
 
     edge: str
-    to: str
+    next_edge: str
     indexes: tuple[int, ...]
 
 
@@ -73,7 +73,7 @@ class Timing:
         return {
             "light": self.light, "junction": self.junction, "offset": self.offset,
             "phases": [[*phase] for phase in self.phases],
-            "kind": self.kind, "movements": [[one.edge, one.to, list(one.indexes)] for one in self.movements],
+            "kind": self.kind, "movements": [[one.edge, one.next_edge, list(one.indexes)] for one in self.movements],
             "conflicts": sorted(sorted(pair) for pair in self.conflicts),
             **({"kept": [[*one] for one in self.phase_limits]} if self.phase_limits else {}),
         }

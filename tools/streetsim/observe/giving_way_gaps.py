@@ -20,7 +20,7 @@ Times = Mapping[TurnKey, Sequence[float]]  # when vehicles pass, by turn
 Signals = tuple[bytearray, bytearray, bytearray]
 Stands = Mapping[tuple[TurnKey, float], float]  # {(turn, second): how long the one that passes then stood at the line}
 AROUND_S = 300  # seconds before and after, in which those that go first are counted
-SHOWN, HIDDEN = 3, 2  # seconds in turn, where those that use a gap follow each other slowly
+SHOWN_S, HIDDEN_S = 3, 2  # seconds in turn, where those that use a gap follow each other slowly
 # Seconds between two of them that may use one gap, and before and after them for what differs from run to run.
 CLOSE_S = 15
 PATIENCE_S = 150  # seconds without a gap; then one goes
@@ -278,12 +278,12 @@ def followings(seconds: Sequence[float]) -> Iterator[tuple[float, float]]:
 
 
 def slow_down(red: bytearray, begin: int, end: int) -> None:
-    """Makes some seconds of red red in each gap between the seconds first and last from its begin: HIDDEN after every
-    SHOWN, so that no more vehicles use the gap than can. Those of a gap that goes on may lie after last."""
+    """Makes some seconds of red red in each gap between the seconds first and last from its begin: HIDDEN_S after every
+    SHOWN_S, so that no more vehicles use the gap than can. Those of a gap that goes on may lie after last."""
     at = red.find(0, max(0, begin), max(0, end))
     while at >= 0:
-        mark(red, at + SHOWN, at + SHOWN + HIDDEN)
-        at = red.find(0, at + SHOWN + HIDDEN, end)
+        mark(red, at + SHOWN_S, at + SHOWN_S + HIDDEN_S)
+        at = red.find(0, at + SHOWN_S + HIDDEN_S, end)
 
 
 def be_patient(red: bytearray) -> None:

@@ -11,7 +11,7 @@ from streetsim.model.mapping import Map, Place, Shape
 from streetsim.model.runs import TimedCommand
 from streetsim.model.service import PRIORITY, ROUNDABOUT, SIGNALS
 
-STRAIGHT, BACK = 45, 150  # degrees: less is straight on, more is a turn back
+STRAIGHT_DEGREES, TURNAROUND_DEGREES = 45, 150  # degrees: less is straight on, more is a turn back
 
 
 @dataclass(slots=True)
@@ -121,11 +121,11 @@ def approaches_cut_short(mapping: Map, approaches: Mapping[str, Approach]) -> li
 
 def turn_name(source: Shape, target: Shape) -> str:
     """L (left), T (through), R (right) or U (back), by the lines, of two points at least, before and after a
-    junction: T below STRAIGHT degrees, U above BACK."""
+    junction: T below STRAIGHT_DEGREES, U above TURNAROUND_DEGREES."""
     turned = (heading(*target[:2]) - heading(*source[-2:]) + 180) % 360 - 180
-    if abs(turned) < STRAIGHT:
+    if abs(turned) < STRAIGHT_DEGREES:
         return "T"
-    return "U" if abs(turned) > BACK else "R" if turned > 0 else "L"
+    return "U" if abs(turned) > TURNAROUND_DEGREES else "R" if turned > 0 else "L"
 
 
 def heading(begin: Sequence[float], end: Sequence[float]) -> float:

@@ -9,7 +9,7 @@ from streetsim.base.files import TextFile
 from streetsim.kernel.loop import ClosedCells, Kernel, Observer
 from streetsim.kernel.seconds import SLOTS, Seconds, groups_of
 from streetsim.model.mapping import Place
-from streetsim.model.rows import CLOSED, packed
+from streetsim.model.rows import CLOSED_COLUMNS, packed
 from streetsim.observe.queues import find_polled_slots
 
 Stretches = dict[int, list[tuple[int, int]]]  # closed ones, by slot
@@ -69,7 +69,7 @@ class RowsWriter(Observer):
         stays = owner[begins], seconds.size[rows[begins]], second[begins] - 1, lengths
         columns = seconds.slot[rows], cells_of_rows(seconds)[rows], seconds.speed[rows]
         changes = [change for clock in seconds.clocks[1:].tolist() for change in self.changes(clock)]
-        closed = np.array(changes, np.int64).reshape(-1, len(CLOSED)).T
+        closed = np.array(changes, np.int64).reshape(-1, len(CLOSED_COLUMNS)).T
         clock, count = int(seconds.clocks[1]), len(seconds.clocks) - 1
         self.file.write(packed(clock, count, stays, columns, tuple(closed)))
 

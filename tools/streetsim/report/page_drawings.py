@@ -2,7 +2,7 @@
 from collections.abc import Collection, Mapping, Sequence
 from html import escape
 
-from streetsim.base.colours import LESS, MORE, STREET
+from streetsim.base.colours import DECREASE, INCREASE, STREET
 from streetsim.model.mapping import Map, Shape
 from streetsim.model.service import COLOURS, WHITE_LETTERS, fills
 from streetsim.report.page_choice import NOTICED_SECONDS
@@ -69,7 +69,7 @@ def difference_stroke(difference: float | None, greatest: float, text: str) -> S
     it says when pointed at."""
     if difference is None:
         return Stroke(STREET, 1.5, text)
-    colour = "#777" if abs(difference) < 0.5 else MORE if difference > 0 else LESS
+    colour = "#777" if abs(difference) < 0.5 else INCREASE if difference > 0 else DECREASE
     return Stroke(colour, 2 + 6 * abs(difference) / greatest, text, gaps=difference <= -0.5)
 
 

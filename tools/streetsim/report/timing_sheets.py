@@ -84,7 +84,7 @@ def clash_told(movement: SignalMovement, other_movement: SignalMovement, seconds
 
 def movement_name(movement: SignalMovement, names: Names) -> str:
     """What a movement is called: by streets, else by directions."""
-    return names.movement(movement.edge, movement.to)
+    return names.movement(movement.edge, movement.next_edge)
 
 
 def bars(timing: Timing, names: Names) -> str:
@@ -148,19 +148,19 @@ def greens_table(timing: Timing, names: Names, timing_before: Timing | None) -> 
     and of red, which is all else that is not off. timing_before: of the program before, whose greens
     stand beside, or None."""
     before_movements = timing_before.movements if timing_before else ()
-    rows, movement_before = [], {(movement.edge, movement.to): movement for movement in before_movements}
+    rows, movement_before = [], {(movement.edge, movement.next_edge): movement for movement in before_movements}
     for movement in timing.movements:
         signs = timing.signs(movement)
         cycle = len(signs)
         greens = spans_of(signs, MAIN + PERMISSIVE)
         green_cells = [greens_told(signs)]
         if timing_before:
-            other = movement_before.get((movement.edge, movement.to))
+            other = movement_before.get((movement.edge, movement.next_edge))
             green_cells.insert(0, greens_told(timing_before.signs(other)) if other else "")
         gives_way = sum(sign == PERMISSIVE for sign in signs)
         numbers = [sum(seconds for _, seconds in greens), gives_way, sum(sign in YELLOW for sign in signs)]
         red = cycle - numbers[0] - numbers[2] - sum(sign in OFF_LETTERS for sign in signs)
-        ids = f'<span class="ids">{escape(f"{movement.edge} to {movement.to}")}</span>'
+        ids = f'<span class="ids">{escape(f"{movement.edge} to {movement.next_edge}")}</span>'
         rows.append([escape(movement_name(movement, names)), ids, *green_cells, *map(str, (*numbers, red))])
     heads = ["before: green", "after: green"] if timing_before else ["green in the cycle"]
     heads += ["green, s", "gives way, s", "yellow, s", "red, s"]

@@ -6,7 +6,7 @@ from dataclasses import replace
 from itertools import chain, groupby, pairwise
 from typing import Protocol
 
-from streetsim.model.fullness import LEFT, MERGING, RIGHT, STRAIGHT, TURNAROUND, FullLane, Fullness
+from streetsim.model.fullness import LEFT_TURN, MERGING, RIGHT_TURN, STRAIGHT, TURNAROUND, FullLane, Fullness
 from streetsim.sumo.crossing import CrossingMovement, EdgePair, Flows, hourly_flows
 from streetsim.sumo.demand import DemandVehicle
 from streetsim.sumo.gaps import until_first
@@ -20,7 +20,7 @@ PART_SECONDS, LEAST_PART = 900, 1 / 8  # that are looked at alone; share of the 
 LEAST_FLOW = 30.0  # vehicles an hour of a lane
 # Shares of what can pass, from which on a lane at a light is nearly full: where some wait for gaps, and where none do.
 FULL, FULL_IN_TURN = 0.8, 1.0
-WAYS = {"l": LEFT, "r": RIGHT, "t": TURNAROUND}  # by SUMO's directions; others are STRAIGHT
+WAYS = {"l": LEFT_TURN, "r": RIGHT_TURN, "t": TURNAROUND}  # by SUMO's directions; others are STRAIGHT
 Movements = Mapping[str, Mapping[int, CrossingMovement]]  # by junction and request, as `movements` gives them
 LaneAndPairs = tuple[FullLane, Collection[EdgePair]]  # and the edge pairs of those who pass it
 

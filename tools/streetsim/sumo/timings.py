@@ -80,6 +80,6 @@ def warn_of_clashes(net: SumoNet, report: Report) -> None:
 
 def movement_named(net: SumoNet, movement: SignalMovement) -> str:
     """How a movement is named to the user: by its streets, and where these have names by its edges too."""
-    streets = [net.edges[edge].street or edge for edge in (movement.edge, movement.to)]
-    ids = f" ({movement.edge} to {movement.to})"
-    return f"{streets[0]} into {streets[1]}{ids if streets != [movement.edge, movement.to] else ''}"
+    streets = [net.edges[edge].street or edge for edge in (movement.edge, movement.next_edge)]
+    ids = f" ({movement.edge} to {movement.next_edge})"
+    return f"{streets[0]} into {streets[1]}{ids if streets != [movement.edge, movement.next_edge] else ''}"
