@@ -19,7 +19,7 @@ from typing import ClassVar
 
 import shared
 from networks.streets import generate, random_trips, write_town
-from networks.unseen import Made
+from networks.unseen import MadeNetwork
 from shared import CORRIDOR, SAMPLES, SHIPPED, TOOLS, TOP, digest_of_commands, numbers
 from shared import run, spread, teleports_of
 from streetsim.model.folder import read_folder
@@ -61,7 +61,7 @@ def trips_here(folder: Path) -> dict[str, tuple[float, float]]:
     return trip_times_of(read_folder(str(folder / "out")))
 
 
-def in_sumo(network: Made, seed: int) -> Side:
+def in_sumo(network: MadeNetwork, seed: int) -> Side:
     """Delays are seconds on an edge beyond those at its speed, movement by movement."""
     folder, name = network.folder, f"sumo-{seed}"
     trips, ways, statistics = (folder / f"{name}.{kind}.xml" for kind in ("trips", "ways", "statistics"))
@@ -73,7 +73,7 @@ def in_sumo(network: Made, seed: int) -> Side:
     return Side(found, delays_of(ways, speeds_of(network.net)), teleports_of(statistics))
 
 
-def in_sumo_until_locked(network: Made, seeds: Sequence[int]) -> list[Side]:
+def in_sumo_until_locked(network: MadeNetwork, seeds: Sequence[int]) -> list[Side]:
     """SUMO's runs, in order; none behind the first that is locked."""
     found: list[Side] = []
     for seed in seeds:
@@ -101,7 +101,7 @@ def delays_of(path: Path, free: dict[str, float]) -> dict[Way, tuple[float, floa
     return {way: (len(values), fmean(values)) for way, values in delays.items()}
 
 
-def sides_here(network: Made, seeds: Sequence[int], program: str, tools: Path) -> list[Side]:
+def sides_here(network: MadeNetwork, seeds: Sequence[int], program: str, tools: Path) -> list[Side]:
     """Our runs, one after another from one import; what other tools found is kept apart."""
     state = digest_of_commands(("import", "run"), tools.parent)
     kept = [network.folder / f"here-{state}-{seed}.json" for seed in seeds]
@@ -111,7 +111,7 @@ def sides_here(network: Made, seeds: Sequence[int], program: str, tools: Path) -
     return [side_of(path.read_text(encoding="utf-8")) for path in kept]
 
 
-def run_here(network: Made, seeds: Sequence[int], program: str, tools: Path) -> list[Side]:
+def run_here(network: MadeNetwork, seeds: Sequence[int], program: str, tools: Path) -> list[Side]:
     last = network.seconds + EXTRA_SECONDS
     files = [network.net, *network.additional, "--routes", *network.routes, *network.words]
     words = ["--until", last, "--junctions", last, "--seeds", f"{seeds[0]}-{seeds[-1]}", "--departures", "listed"]
@@ -256,13 +256,13 @@ def side_by_side(jobs: int, act: Callable, some: Sequence) -> Iterator:
         yield from pool.map(act, some)
 
 
-def both_sides(network: Made, runs: Sequence[int], program: str, tools: Path) -> tuple[list[Side], list[Side]]:
+def both_sides(network: MadeNetwork, runs: Sequence[int], program: str, tools: Path) -> tuple[list[Side], list[Side]]:
     """SUMO's runs and ours; where SUMO is locked, those up to the first that is."""
     theirs = in_sumo_until_locked(network, runs)
     return theirs, sides_here(network, runs[: len(theirs)], program, tools)
 
 
-def row_of(name: str, network: Made, theirs: Sequence[Side], ours: Sequence[Side]) -> Row:
+def row_of(name: str, network: MadeNetwork, theirs: Sequence[Side], ours: Sequence[Side]) -> Row:
     counts = {way: min(side.delays[way][0] for side in theirs) for way in common_ways([*theirs, *ours])}
     compared = [way for way, count in counts.items() if count >= LEAST_VEHICLES]
     delays = {way: (mean_delay(theirs, {way}), mean_delay(ours, {way})) for way in compared}
@@ -274,7 +274,7 @@ def row_of(name: str, network: Made, theirs: Sequence[Side], ours: Sequence[Side
     return Row(name, network.level, network.vehicles, sumo, jams, own, movement, *lost, ours[0].doubt)
 
 
-def warm_up(network: Made) -> int:
+def warm_up(network: MadeNetwork) -> int:
     """The second from which on trips count."""
     return network.seconds // 3 if network.seconds == HALF else 0
 

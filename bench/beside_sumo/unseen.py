@@ -15,7 +15,7 @@ from statistics import StatisticsError, correlation, fmean
 import shared
 from beside_sumo import rows
 from beside_sumo.rows import LEAST_VEHICLES, NEAR, Row, Side, Tally, Way, common_ways, mean_delay, side_by_side
-from networks.unseen import KINDS, USUAL, Made, make
+from networks.unseen import KINDS, USUAL, MadeNetwork, make
 from shared import SUMO_HOME, TOP, run
 from streetsim.base.files import Fault
 from streetsim.model.mapping import read_map
@@ -57,7 +57,7 @@ class Outcome:
     text: str
 
 
-def outcome(name: str, network: Made, theirs: list[Side], ours: list[Side]) -> Outcome:
+def outcome(name: str, network: MadeNetwork, theirs: list[Side], ours: list[Side]) -> Outcome:
     row, common = rows.row_of(name, network, theirs, ours), common_ways([*theirs, *ours])
     minor = common & minor_ways(network.folder / "run.map.json")
     at_minor = f"{mean_delay(theirs, minor):.1f} / {mean_delay(ours, minor):.1f}" if minor else ""
@@ -267,7 +267,7 @@ def take_departures(command: Path) -> None:
     command.chmod(0o755)
 
 
-def pair_of(network: Made, old: Path, args: argparse.Namespace) -> Pair:
+def pair_of(network: MadeNetwork, old: Path, args: argparse.Namespace) -> Pair:
     both = (rows.both_sides(network, args.runs, args.program, tools) for tools in (old, args.tools))
     return Pair(*(rows.row_of(network.name, network, *sides) for sides in both))
 
@@ -369,7 +369,7 @@ def drawn_rows_of(one: Network, args: argparse.Namespace) -> list[DrawnRow]:
     return [DrawnRow(made.drawn, row) for row in parts_of(made, *sides)]
 
 
-def parts_of(network: Made, theirs: Sequence[Side], ours: Sequence[Side]) -> Iterator[Row]:
+def parts_of(network: MadeNetwork, theirs: Sequence[Side], ours: Sequence[Side]) -> Iterator[Row]:
     for begin in PARTS_OF.get(network.kind, ("",)):
         name = f"{network.name}, {begin}" if begin else network.name
         yield rows.row_of(name, network, part_of(theirs, begin), part_of(ours, begin))

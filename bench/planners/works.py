@@ -15,7 +15,7 @@ from statistics import fmean
 import shared
 from beside_sumo.rows import sumo_trips
 from networks.streets import Plain
-from networks.unseen import Made, make, read_net, ways_of
+from networks.unseen import MadeNetwork, make, read_net, ways_of
 from shared import SAMPLES, SHIPPED, TOP, numbers, run, teleports_of
 
 PASSES = 1600  # vehicles an hour of an open lane
@@ -190,7 +190,7 @@ LEAST, FEW = (150, 100), (200, 100, 50)
 class Drawn:
     """Works on a made network, and the share of what the open lanes pass that comes to them."""
 
-    made: Made
+    made: MadeNetwork
     works: Stretch
     lanes: int
     share: float
@@ -234,7 +234,7 @@ def edges_for(net, through: Counter, least: int, few: int) -> list:
     return [edge for edge in able if through[edge.getID()] >= few]
 
 
-def ways(made: Made) -> list[list[str]]:
+def ways(made: MadeNetwork) -> list[list[str]]:
     return ways_of(made.folder / "demand.rou.xml")
 
 
