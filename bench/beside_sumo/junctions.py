@@ -340,7 +340,7 @@ def main_lone_trips(argv: list[str]) -> int | None:
     parser.add_argument("--seed", type=int, default=1, help="of departures, and of SUMO")
     shared.add_some(parser, "--kinds", KINDS)
     parser.add_argument("--ways", action="store_true", help="a row for each way")
-    parser.add_argument("--tools", default=shared.TOOLS, type=shared.whole, help="other tools than these")
+    parser.add_argument("--tools", default=shared.TOOLS, type=shared.whole_path, help="other tools than these")
     args = parser.parse_args(argv)
     folder = shared.work_of(args)
     shared.print_heads(f"SUMO, s, and here more | {' | '.join(f'{level:.0%} of the flows' for level in LEVELS)}")
@@ -414,7 +414,7 @@ def main_light_waits(argv: list[str]) -> int | None:
     --work.
     """
     parser = shared.parser_of(main_light_waits, work=True)
-    parser.add_argument("--tools", default=shared.TOOLS, type=shared.whole, help="other tools than these")
+    parser.add_argument("--tools", default=shared.TOOLS, type=shared.whole_path, help="other tools than these")
     args = parser.parse_args(argv)
     folder, every = shared.work_of(args), waiting_junctions()
     routes = folder / "demand-1.rou.xml"

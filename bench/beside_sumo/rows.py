@@ -228,7 +228,7 @@ def tally(every: Sequence[Row]) -> Tally:
 def add_words(parser: argparse.ArgumentParser) -> None:
     """The words of all measurements that keep rows."""
     parser.add_argument("--jobs", default=1, type=int, help="networks, or runs, side by side")
-    parser.add_argument("--tools", default=TOOLS, type=shared.whole, help="other tools than these")
+    parser.add_argument("--tools", default=TOOLS, type=shared.whole_path, help="other tools than these")
     parser.add_argument("--rows", help="keep the rows in bench/beside_sumo, by this name")
 
 

@@ -329,7 +329,7 @@ def main_tables(argv: list[str]) -> int | None:
     """
     parser = shared.parser_of(main_tables, program=False)
     parser.add_argument("program", metavar="PROGRAM", nargs="?", type=shared.found_program)
-    parser.add_argument("--work", type=shared.whole, help="a folder for what is made")
+    parser.add_argument("--work", type=shared.whole_path, help="a folder for what is made")
     parser.add_argument("--only", help="names of tables, with commas between")
     parser.add_argument("--list", action="store_true", help="run nothing")
     parser.add_argument("--put", action="store_true", help="write rows into the pages, and digests into tables.json")
