@@ -85,17 +85,17 @@ def parser_of(command: Callable, program: bool = True, work: bool = False) -> ar
     """A parser whose help is the text of a measurement's function. program: the first word; work: whether it needs a
     folder."""
     name, path = command.__name__.removeprefix("main_").replace("_", "-"), Path(inspect.getfile(command)).resolve()
-    made = Parser(
+    parser = Parser(
         prog=f"bench/run {name}",
         description=inspect.getdoc(command),
         epilog=f"It is in {path.relative_to(TOP)}.",
         formatter_class=argparse.RawTextHelpFormatter,
     )
     if program:
-        made.add_argument("program", metavar="PROGRAM", type=found_program, help="the built program")
+        parser.add_argument("program", metavar="PROGRAM", type=found_program, help="the built program")
     if work:
-        made.add_argument("--work", required=True, type=whole, help="a folder for what is made")
-    return made
+        parser.add_argument("--work", required=True, type=whole_path, help="a folder for what is made")
+    return parser
 
 
 def add_some(parser: argparse.ArgumentParser, word: str, known: Iterable[str], usual: Iterable[str] = ()) -> None:
@@ -115,10 +115,10 @@ def found_program(text: str) -> str:
     """The whole path of a program."""
     if not (found := shutil.which(text)):
         raise argparse.ArgumentTypeError(f"no program is at {text}")
-    return str(whole(found))
+    return str(whole_path(found))
 
 
-def whole(text: str) -> Path:
+def whole_path(text: str) -> Path:
     return Path(text).resolve()
 
 
@@ -266,22 +266,22 @@ def dumped(tree: ast.Module) -> str:
 def parts_for(command: Command, top: Path) -> dict[str, ast.Module]:
     """What a measurement comes to of the modules of bench/ and of the tests' helpers: functions, classes, values, and
     each import from elsewhere. What moves from one of these modules to another stays what it is."""
-    known = {name: path for name, path in modules(top).items() if not is_tool(name)}
-    found: dict[str, dict[str, ast.stmt]] = {}
-    left, seen = [(command.module, command.function)], set()
-    while left:
-        module, used = place = left.pop()
+    paths = {name: path for name, path in modules(top).items() if not is_tool(name)}
+    statements: dict[str, dict[str, ast.stmt]] = {}
+    to_visit, seen = [(command.module, command.function)], set()
+    while to_visit:
+        module, used = place = to_visit.pop()
         if place not in seen:
             seen.add(place)
-            bound, have = bound_in(tree_of(known[module])), found.setdefault(module, {})
+            bound, have = bound_in(tree_of(paths[module])), statements.setdefault(module, {})
             for node in (*bound.get(used.partition(".")[0], ()), *bound.get("", ())):
-                part, led = led_to(node, used, known)
+                part, led = led_to(node, used, paths)
                 if led:
-                    left.append(led)
+                    to_visit.append(led)
                 else:
                     have[ast.dump(part)] = part
-                    left += [(module, name) for name in names_used(part)]
-    return {module: ast.Module([*have.values()], []) for module, have in found.items()}
+                    to_visit += [(module, name) for name in names_used(part)]
+    return {module: ast.Module([*have.values()], []) for module, have in statements.items()}
 
 
 @cache
@@ -294,17 +294,19 @@ def bound_in(tree: ast.Module) -> dict[str, list[ast.stmt]]:
     return found
 
 
-def led_to(node: ast.stmt, used: str, known: Iterable[str]) -> tuple[ast.stmt, tuple[str, str] | None]:
-    """A statement, of an import what gives a name alone; and the module and name that it leads to, if it is known."""
+def led_to(node: ast.stmt, used: str, known_modules: Iterable[str]) -> tuple[ast.stmt, tuple[str, str] | None]:
+    """A statement, of an import what gives a name alone; and the module and name that it leads to, if it is
+    one of known_modules."""
     if not isinstance(node, (ast.Import, ast.ImportFrom)):
         return node, None
     name, _, attribute = used.partition(".")
     one = next(one for one in node.names if name in (one.asname, one.name.partition(".")[0]))
     if isinstance(node, ast.Import):
-        return ast.Import([one]), (one.name, attribute) if one.name in known else None
-    if f"{node.module}.{one.name}" in known:
+        return ast.Import([one]), (one.name, attribute) if one.name in known_modules else None
+    if f"{node.module}.{one.name}" in known_modules:
         return node, (f"{node.module}.{one.name}", attribute)
-    return ast.ImportFrom(node.module, [one], node.level), (node.module, one.name) if node.module in known else None
+    led = (node.module, one.name) if node.module in known_modules else None
+    return ast.ImportFrom(node.module, [one], node.level), led
 
 
 class Definitions(ast.NodeTransformer):
@@ -312,30 +314,30 @@ class Definitions(ast.NodeTransformer):
     names, so that neither names nor places of functions and modules count."""
 
     def __init__(self, top: Path) -> None:
-        self.known = {name: path for name, path in modules(top).items() if not is_tool(name)}
-        self.made: dict[tuple[str, str], str] = {}
+        self.paths = {name: path for name, path in modules(top).items() if not is_tool(name)}
+        self.digests: dict[tuple[str, str], str] = {}
         self.within: list[tuple[str, set[str]]] = []  # module of a definition that is looked at, names that it uses
 
     def digest(self, module: str, used: str) -> str:
         """The digest of what a name means in a module, NAME or of another module MODULE.NAME."""
         name = used.partition(".")[0]
-        if (module, used) not in self.made:
-            self.made[module, used], texts = "itself", []
-            for node in bound_in(tree_of(self.known[module])).get(name, ()):
-                part, led = led_to(node, used, self.known)
+        if (module, used) not in self.digests:
+            self.digests[module, used], texts = "itself", []
+            for node in bound_in(tree_of(self.paths[module])).get(name, ()):
+                part, led = led_to(node, used, self.paths)
                 texts.append(self.digest(*led) if led else digest([self.text(module, name, part)]))
-            self.made[module, used] = texts[0] if len(texts) == 1 else digest(texts)
-        return self.made[module, used]
+            self.digests[module, used] = texts[0] if len(texts) == 1 else digest(texts)
+        return self.digests[module, used]
 
     def text(self, module: str, name: str, node: ast.stmt) -> str:
         """A definition with digests for names. Of a statement that binds several names the place of one counts."""
-        at = [*names_bound(node)].index(name) if not isinstance(node, (ast.Import, ast.ImportFrom)) else 0
+        position = [*names_bound(node)].index(name) if not isinstance(node, (ast.Import, ast.ImportFrom)) else 0
         self.within.append((module, names_used(node)))
         made = self.visit(copy.deepcopy(node))
         self.within.pop()
         if isinstance(made, (ast.FunctionDef, ast.ClassDef)):
             made.name = ""
-        return f"{at} {ast.dump(made)}"
+        return f"{position} {ast.dump(made)}"
 
     def visit_inner(self, node: ast.expr) -> ast.expr:
         """A comprehension, or a lambda: its own names mean nothing of the module."""
@@ -352,7 +354,7 @@ class Definitions(ast.NodeTransformer):
 
     def visit_Name(self, node: ast.Name) -> ast.Name:
         module, used = self.within[-1]
-        bound = bound_in(tree_of(self.known[module]))
+        bound = bound_in(tree_of(self.paths[module]))
         if isinstance(node.ctx, ast.Store):
             return ast.Name("", node.ctx) if node.id in bound and node.id in used else node
         return ast.Name(self.digest(module, node.id)) if node.id in bound and node.id in used else node
@@ -360,8 +362,8 @@ class Definitions(ast.NodeTransformer):
     def visit_Attribute(self, node: ast.Attribute) -> ast.expr:
         module, used = self.within[-1]
         taken = f"{node.value.id}.{node.attr}" if isinstance(node.value, ast.Name) else ""
-        bound = bound_in(tree_of(self.known[module])).get(taken.partition(".")[0], ()) if taken in used else ()
-        if any((led_to(one, taken, self.known)[1] or ("", ""))[1] == node.attr for one in bound):
+        bound = bound_in(tree_of(self.paths[module])).get(taken.partition(".")[0], ()) if taken in used else ()
+        if any((led_to(one, taken, self.paths)[1] or ("", ""))[1] == node.attr for one in bound):
             return ast.Name(self.digest(module, taken))
         return self.generic_visit(node)
 
@@ -370,13 +372,15 @@ def names_used(node: ast.stmt) -> set[str]:
     """The names of the module that a statement may use, and what it takes of them (NAME.ATTRIBUTE): in a function not
     those that it gives to values of its own, but for those of comprehensions, behind which a name means what it meant
     before."""
-    every = [one for one in ast.walk(node) if isinstance(one, ast.Name)]
-    inner = [one for part in ast.walk(node) if isinstance(part, ast.comprehension) for one in ast.walk(part.target)]
-    own = {one.id for one in {*every} - {*inner} if isinstance(one.ctx, ast.Store)}
-    own |= {one.arg for one in ast.walk(node.args) if isinstance(one, ast.arg)} if hasattr(node, "args") else set()
-    taken = [one for one in ast.walk(node) if isinstance(one, ast.Attribute) and isinstance(one.value, ast.Name)]
-    names = {one.id for one in every} - (own if isinstance(node, ast.FunctionDef) else set())
-    return names | {f"{one.value.id}.{one.attr}" for one in taken if one.value.id in names}
+    every = [child for child in ast.walk(node) if isinstance(child, ast.Name)]
+    inner = [child for part in ast.walk(node) if isinstance(part, ast.comprehension) for child in ast.walk(part.target)]
+    own = {child.id for child in {*every} - {*inner} if isinstance(child.ctx, ast.Store)}
+    if hasattr(node, "args"):
+        own |= {child.arg for child in ast.walk(node.args) if isinstance(child, ast.arg)}
+    attributes = [child for child in ast.walk(node) if isinstance(child, ast.Attribute)]
+    taken = [child for child in attributes if isinstance(child.value, ast.Name)]
+    names = {child.id for child in every} - (own if isinstance(node, ast.FunctionDef) else set())
+    return names | {f"{child.value.id}.{child.attr}" for child in taken if child.value.id in names}
 
 
 def names_bound(node: ast.stmt) -> Iterator[str]:
@@ -410,17 +414,17 @@ def loaded_by(command: Command, top: Path) -> dict[str, ast.Module]:
 
 def loaded_from(begin: Iterable[tuple[str, ast.Module]], top: Path) -> dict[str, ast.Module]:
     """The modules that some modules and their commands load, and these, by name."""
-    known, left = modules(top), [*begin]
-    have, found = {name for name, _ in left}, {}
-    while left:
-        name, tree = left.pop()
-        package = name if name in known and known[name].name == "__init__.py" else name.rpartition(".")[0]
+    paths, to_visit = modules(top), [*begin]
+    have, loaded = {name for name, _ in to_visit}, {}
+    while to_visit:
+        name, tree = to_visit.pop()
+        package = name if name in paths and paths[name].name == "__init__.py" else name.rpartition(".")[0]
         wanted = needed_by(tree, package, not is_tool(name))
-        new = {other: tree_of(known[other]) for other in wanted if other in known and other not in have}
+        new = {other: tree_of(paths[other]) for other in wanted if other in paths and other not in have}
         have.update(new)
-        found.update(new)
-        left += new.items()
-    return found
+        loaded.update(new)
+        to_visit += new.items()
+    return loaded
 
 
 @cache
@@ -433,13 +437,13 @@ def imported(tree: ast.Module, package: str) -> Iterator[str]:
     """The names that may be modules of what is imported, at the top or in functions, with the packages above each."""
     for node in ast.walk(tree):
         if isinstance(node, ast.Import):
-            for one in node.names:
-                yield from above(one.name)
+            for alias in node.names:
+                yield from above(alias.name)
         elif isinstance(node, ast.ImportFrom):
             parents = package.split(".")[: len(package.split(".")) + 1 - node.level] if node.level else []
             begin = ".".join([*parents, *filter(None, [node.module])])
             yield from above(begin)
-            yield from (f"{begin}.{one.name}" for one in node.names)
+            yield from (f"{begin}.{alias.name}" for alias in node.names)
 
 
 def above(name: str) -> Iterator[str]:

@@ -16,7 +16,7 @@ import shared
 from beside_sumo.rows import run_files, sumo_trips, trips_here
 from crosses import FIRST, FULL, LAST, a_green, cases, demand
 from networks.streets import Plain
-from networks.unseen import KINDS as MADE, make
+from networks.unseen import KINDS as NETWORKS, make
 from shared import SAMPLES, TOP, run
 from streetsim.model.folder import read_folder
 from streetsim.report.beside_sumo import edge_counts_of, geh, read_edgedata, read_tripinfo, trip_times_of
@@ -26,7 +26,7 @@ def in_sumo(net, routes, folder):
     return a_green(read_tripinfo(str(sumo_trips(folder / f"{routes.stem}.trips.xml", words))))
 
 
-def here(net, routes, folder, args):
+def run_here(net, routes, folder, args):
     words = ["--until", LAST, "--every", 900, "--rescue", 0]
     run_files(folder, [net, "--routes", routes, *shlex.split(args.words)], words, args.program)
     return a_green(trips_here(folder))
@@ -52,7 +52,7 @@ def main_cross(argv: list[str]) -> int | None:
         for seed in shared.numbers(args.seeds):
             routes = folder / f"{re.sub('[^a-z0-9]+', '-', name)}-{seed}.xml"
             routes.write_text(demand(flows, seed), encoding="utf-8")
-            pairs.append((in_sumo(net, routes, folder), here(net, routes, folder, args)))
+            pairs.append((in_sumo(net, routes, folder), run_here(net, routes, folder, args)))
         for way in sorted({way for arm, way in flows if arm == "w"}, reverse=True):
             there, ours = (fmean(case[side].get(way, 0.0) for case in pairs) for side in (0, 1))
             print(f"| {name}: {way} | {there:.1f} | {ours:.1f} ({(ours / there - 1) * 100:+.0f} %) |", flush=True)
@@ -79,7 +79,7 @@ def greens_file(greens, folder):
     return path
 
 
-def passed(trips, cycle):
+def vehicles_per_green(trips, cycle):
     """Vehicles a green from the west."""
     own = [name for name, (_, arrival) in trips.items() if name[0] == "w" and FIRST <= arrival < LAST]
     return len(own) * cycle / (LAST - FIRST)
@@ -94,7 +94,7 @@ def greens_of_both(greens, flows, seed, folder, program):
     theirs = read_tripinfo(str(sumo_trips(folder / "trips.xml", words)))
     words = ["--until", LAST, "--every", 900, "--rescue", 0]
     run_files(folder, [CROSS, added, "--routes", "demand.rou.xml"], words, program)
-    return passed(theirs, cycle), passed(trips_here(folder), cycle)
+    return vehicles_per_green(theirs, cycle), vehicles_per_green(trips_here(folder), cycle)
 
 
 def main_shared_lanes(argv: list[str]) -> int | None:
@@ -111,21 +111,22 @@ def main_shared_lanes(argv: list[str]) -> int | None:
     args = parser.parse_args(argv)
     work = shared.work_of(args)
     shared.print_heads("Greens, and who comes against | cases | difference, mean | absolute, mean | largest")
-    for name, (plans, shares, against, left, right) in ROWS.items():
-        found = []
+    for name, (plans, shares, against, left_share, right_share) in ROWS.items():
+        differences = []
         for greens, share, hourly in product(plans, shares, against):
             flows = {("w", "straight"): FULL * (100 - share) / 100, ("w", "left"): FULL * share / 100}
-            flows |= {("e", "straight"): hourly * (100 - left - right) / 100}
-            flows |= {("e", "left"): hourly * left / 100, ("e", "right"): hourly * right / 100}
-            folder = work / f"{greens}-{share}-{hourly}-{left}-{right}"
+            flows |= {("e", "straight"): hourly * (100 - left_share - right_share) / 100}
+            flows |= {("e", "left"): hourly * left_share / 100, ("e", "right"): hourly * right_share / 100}
+            folder = work / f"{greens}-{share}-{hourly}-{left_share}-{right_share}"
             seeds = shared.numbers(args.seeds)
             pairs = [greens_of_both(greens, flows, seed, folder / str(seed), args.program) for seed in seeds]
             there, ours = (fmean(pair[side] for pair in pairs) for side in (0, 1))
-            found.append((ours / there - 1) * 100)
+            differences.append((ours / there - 1) * 100)
             if args.all:
-                print(f"    {greens}, {share} % left against {hourly}: {there:.1f}, {ours:.1f} ({found[-1]:+.0f} %)")
-        mean, absolute, most = fmean(found), fmean(map(abs, found)), max(map(abs, found))
-        print(f"| {name} | {len(found)} | {mean:+.1f} % | {absolute:.1f} % | {most:.1f} % |", flush=True)
+                cells = f"{there:.1f}, {ours:.1f} ({differences[-1]:+.0f} %)"
+                print(f"    {greens}, {share} % left against {hourly}: {cells}")
+        mean, absolute, most = fmean(differences), fmean(map(abs, differences)), max(map(abs, differences))
+        print(f"| {name} | {len(differences)} | {mean:+.1f} % | {absolute:.1f} % | {most:.1f} % |", flush=True)
 
 
 PLAIN, LIT = "priority", "traffic_light"
@@ -231,7 +232,7 @@ def main_long_vehicles(argv: list[str]) -> int | None:
 
 
 NET, ROUTES = (SAMPLES / f"grid.{kind}.xml.gz" for kind in ("net", "rou"))
-PERIOD, COUNTED, UNTIL, AREA = 900, 3600, 4500, 100
+PERIOD, COUNT_END, UNTIL, AREA = 900, 3600, 4500, 100
 KMH = 3.6
 
 
@@ -309,7 +310,7 @@ def pairs_of(figure, here, there):
     pairs = {}
     for key, row in here[figure.table].items():
         other = there[figure.table].get(key) if key[1].startswith(figure.sort) else None
-        if other and key[0] < COUNTED and row[figure.column] != "" and float(other[figure.attribute]) >= 0:
+        if other and key[0] < COUNT_END and row[figure.column] != "" and float(other[figure.attribute]) >= 0:
             weight = float(row[figure.weight]) if figure.weight else 1.0
             pairs[key] = float(other[figure.attribute]) * figure.factor, float(row[figure.column]), weight
     return pairs
@@ -362,24 +363,24 @@ def main_detectors(argv: list[str]) -> int | None:
 
 DRIVEN = ("actuated-grid", "actuated-arterial", "actuated-town", "actuated-turn-lanes", "nema-cross", "nema-arterial")
 HOUR = 3600
-ENDED = 4 * HOUR  # second by which a run of SUMO ends that is locked
+SUMO_END = 4 * HOUR  # second by which a run of SUMO ends that is locked
 NEAR = 1.0  # seconds of green
 
 
 def driven_in_sumo(network, net, folder):
     """The mean trip of those who arrived, how many did, and the greens by (light, state)."""
     programs = list(ElementTree.parse(net).getroot().iter("tlLogic"))
-    lights = {one.get("id") for one in programs}
+    lights = {program.get("id") for program in programs}
     rings = {
-        one.get("id"): [phase.get("state") for phase in one.iter("phase")]
-        for one in programs
-        if one.get("type") == "NEMA"
+        program.get("id"): [phase.get("state") for phase in program.iter("phase")]
+        for program in programs
+        if program.get("type") == "NEMA"
     }
     events, states, trips = folder / "events.add.xml", folder / "states.xml", folder / "trips.xml"
-    wanted = "".join(f'<timedEvent type="SaveTLSStates" source="{one}" dest="{states}"/>' for one in sorted(lights))
+    wanted = "".join(f'<timedEvent type="SaveTLSStates" source="{light}" dest="{states}"/>' for light in sorted(lights))
     events.write_text(f"<additional>{wanted}</additional>", encoding="utf-8")
     routes = ",".join(map(str, network.routes))
-    words = ["sumo", "-n", net, "-r", routes, "-a", events, "--tripinfo-output", trips, "--end", ENDED]
+    words = ["sumo", "-n", net, "-r", routes, "-a", events, "--tripinfo-output", trips, "--end", SUMO_END]
     shared.run([*words, "--no-step-log", "--no-warnings", "--time-to-teleport", 300], folder)
     seconds = shared.trips_from_wish(trips).values()
     return fmean(seconds), len(seconds), greens_in(states, rings)
@@ -389,9 +390,9 @@ def greens_in(path, rings):
     """{(light, state): how long each lasted} of a file of SUMO's states, of the first hour; rings: the states of the
     phases of NEMA lights, of which two are shown at once."""
     durations, since_by_green = defaultdict(list), {}
-    for _, one in ElementTree.iterparse(path):
-        if one.tag == "tlsState":
-            light, state, time = one.get("id"), one.get("state"), float(one.get("time"))
+    for _, element in ElementTree.iterparse(path):
+        if element.tag == "tlsState":
+            light, state, time = element.get("id"), element.get("state"), float(element.get("time"))
             own = [phase for phase in rings[light] if is_green(phase, state)] if light in rings else [state]
             for key in [key for key in since_by_green if key[0] == light and key[1] not in own]:
                 since = since_by_green.pop(key)
@@ -399,7 +400,7 @@ def greens_in(path, rings):
                     durations[key].append(time - since)
             for phase in own:
                 since_by_green.setdefault((light, phase), time)
-            one.clear()
+            element.clear()
     return durations
 
 
@@ -464,7 +465,7 @@ def main_actuated(argv: list[str]) -> int | None:
     """
     parser = shared.parser_of(main_actuated, work=True)
     parser.add_argument("--seed", type=int, required=True)
-    shared.add_some(parser, "--kinds", MADE, DRIVEN)
+    shared.add_some(parser, "--kinds", NETWORKS, DRIVEN)
     parser.add_argument("--levels", default="0.5,0.7", help="of the busiest approach's capacity (default %(default)s)")
     args = parser.parse_args(argv)
     work = shared.work_of(args)

@@ -30,11 +30,11 @@ from streetsim.sumo.net import read_net
 
 ACOSTA = SHIPPED / "acosta"
 ENTRY = 8.0  # metres: just ahead of a car that departs with its rear at the lane's begin
-LEAST = 20  # vehicles of an approach in all seeds, from which on it is judged
+LEAST_VEHICLES = 20  # vehicles of an approach in all seeds, from which on it is judged
 THIN = 0.1  # of the vehicles drive alone
 LONE = "lone"  # the run of those, in place of a seed
 NINE = "--grid --grid.number 3 --no-turnarounds true"
-MADE = {  # by netgenerate: its words, seconds between two vehicles and until when they depart
+GENERATED = {  # by netgenerate: its words, seconds between two vehicles and until when they depart
     "nine": (f"{NINE} --grid.length 220 --grid.attach-length 220 -L 2 -j traffic_light --tls.cycle.time 90", 1.2, 3600),
     "nine-priority": (f"{NINE} --grid.length 250 --grid.attach-length 250 -L 1 -j priority", 1.5, 1800),
 }
@@ -46,7 +46,7 @@ class Case:
     net: Path
     routes: Path
     additional: tuple = ()
-    counted: int = 3600
+    count_end: int = 3600
     by_edges: bool = False  # delays by edgeData, as SUMO 1.15 ends at an assertion of its e3
 
 
@@ -56,15 +56,18 @@ CASES = (
     Case("acosta", ACOSTA / "acosta_buslanes.net.xml", ACOSTA / "acosta.rou.xml",
          (ACOSTA / "acosta_vtypes.add.xml", ACOSTA / "acosta_tls.add.xml"), 5400),
     Case("town", SAMPLES / "town.net.xml.gz", SAMPLES / "town.rou.xml.gz", by_edges=True),
-    *(Case(name, Path("net.net.xml"), Path("trips.rou.xml"), counted=last) for name, (_, _, last) in MADE.items()),
+    *(
+        Case(name, Path("net.net.xml"), Path("trips.rou.xml"), count_end=last)
+        for name, (_, _, last) in GENERATED.items()
+    ),
 )
 
 
 def prepared(case, folder):
     """The case, with its network and its demand made where they are to be."""
-    if case.name not in MADE:
+    if case.name not in GENERATED:
         return case
-    words, often, last = MADE[case.name]
+    words, often, last = GENERATED[case.name]
     net, routes = folder / case.net, folder / case.routes
     if not routes.exists():
         generate(net, f"{words} --seed 1")
@@ -94,7 +97,7 @@ def cycles(mapping, folder):
 def write_detectors(case, mapping, folder, seed, cycle, queues=True):
     """An additional file with an e3 for each approach (or one edgeData) and an e2 for each of its lanes."""
     net = read_net(str(case.net), ("passenger",), Report())
-    lost = f'<edgeData id="lost" freq="{case.counted}" file="lost-{seed}.xml" withInternal="true"/>'
+    lost = f'<edgeData id="lost" freq="{case.count_end}" file="lost-{seed}.xml" withInternal="true"/>'
     rows = [lost] if case.by_edges else []
     for edge in approaches_of(mapping):
         lanes = net.edges[edge].lanes
@@ -117,7 +120,7 @@ def e3(case, net, edge, targets, name, seed):
     lanes = net.edges[edge].lanes
     entry = min(ENTRY, lanes[0].metres / 2)
     return [
-        f'<e3Detector id="{name}" freq="{case.counted}" file="e3-{seed}.xml" openEntry="true">',
+        f'<e3Detector id="{name}" freq="{case.count_end}" file="e3-{seed}.xml" openEntry="true">',
         *(f'<detEntry lane="{edge}_{lane.index}" pos="{entry}"/>' for lane in lanes),
         *(
             f'<detExit lane="{target}_{lane.index}" pos="{min(ENTRY, lane.metres / 2)}"/>'
@@ -155,7 +158,7 @@ def run_sumo(case, routes, folder, seed):
     if not (folder / f"done-{seed}").exists():
         lights = (folder / "green.add.xml",) if seed == LONE else ()
         more = ",".join(map(str, (*case.additional, *lights, folder / f"detectors-{seed}.add.xml")))
-        words = ["sumo", "-n", case.net, "-r", routes, "-a", more, "--end", case.counted]
+        words = ["sumo", "-n", case.net, "-r", routes, "-a", more, "--end", case.count_end]
         drawn = ("--scale", THIN) if seed == LONE else ("--seed", seed)
         run([*words, *drawn, "--no-step-log", "--no-warnings"], folder)
         (folder / f"done-{seed}").touch()
@@ -190,13 +193,13 @@ def alone(case, mapping, routes, folder, cycle):
 
 def run_here(case, folder, seeds, program):
     more = ["--seeds", seeds, "--departures", "listed"]
-    more += ["--jobs", 1, "--junctions", case.counted, "--period", case.counted]
+    more += ["--jobs", 1, "--junctions", case.count_end, "--period", case.count_end]
     simulate(case, folder, program, "--every", 60, *more)
 
 
 def simulate(case, folder, program, *words):
     """Runs the case here, with the words that say what is written."""
-    usual = ["run.jsonl", "--map", "run.map.json", "--until", case.counted, "--out", "here", "--program", program]
+    usual = ["run.jsonl", "--map", "run.map.json", "--until", case.count_end, "--out", "here", "--program", program]
     run([TOP / "tools/streetsim-run", *usual, *words], folder)
 
 
@@ -213,7 +216,7 @@ def rows_of(folder, seed):
 
 
 @dataclass
-class Both:
+class ComparedApproach:
     """An approach in SUMO and here: vehicles and delays over all seeds, mean 95 % queues."""
 
     edge: str
@@ -221,7 +224,7 @@ class Both:
     vehicles: tuple
     delays: tuple
     queues: tuple
-    counted: float  # the delay as SUMO counts it, with what a vehicle alone loses
+    counted_delay: float  # the delay as SUMO counts it, with what a vehicle alone loses
 
     def letters(self):
         return tuple(LETTERS.index(level(delay, self.control)) for delay in self.delays)
@@ -241,30 +244,30 @@ def judged(case, folder, seeds, mapping, free):
         ours = [(int(row["vehicles"]), float(row["control_delay_s"])) for row in own_rows]
         theirs = [delays[edge] for delays, _ in sumo_runs if edge in delays]
         counts = tuple(sum(count for count, _ in side) for side in (theirs, ours))
-        if min(counts) < LEAST:
+        if min(counts) < LEAST_VEHICLES:
             continue
         lanes = [name for name in sumo_runs[0][1] if name.rsplit("_", 1)[0] == edge]
         jams = fmean(max(percentile(jams[lane], 0.95) for lane in lanes) for _, jams in sumo_runs)
         queue = fmean(float(row["queue_95_m"]) for row in own_rows)
         counted = mean_delay(theirs)
         delays = max(0.0, counted - free[edge]), mean_delay(ours)
-        yield Both(edge, approach.control, counts, delays, (jams, queue), counted)
+        yield ComparedApproach(edge, approach.control, counts, delays, (jams, queue), counted)
 
 
-def told(name, control, approaches):
+def row_text(name, control, approaches):
     """A row of the table."""
     means = [mean_delay([(one.vehicles[side], one.delays[side]) for one in approaches]) for side in (0, 1)]
-    counted_delay = mean_delay([(one.vehicles[0], one.counted) for one in approaches])
+    counted_delay = mean_delay([(one.vehicles[0], one.counted_delay) for one in approaches])
     r = correlation([one.delays[0] for one in approaches], [one.delays[1] for one in approaches])
     apart = [abs(one.letters()[0] - one.letters()[1]) for one in approaches]
     queues = [fmean(one.queues[side] for one in approaches) for side in (0, 1)]
-    more = (means[1] / means[0] - 1) * 100, (queues[1] / queues[0] - 1) * 100 if queues[0] else 0.0
+    excess = (means[1] / means[0] - 1) * 100, (queues[1] / queues[0] - 1) * 100 if queues[0] else 0.0
     count = len(approaches)
     return (
-        f"| {name}, {control} | {count} | {counted_delay:.1f} | {means[0]:.1f} | {means[1]:.1f} ({more[0]:+.0f} %) | "
+        f"| {name}, {control} | {count} | {counted_delay:.1f} | {means[0]:.1f} | {means[1]:.1f} ({excess[0]:+.0f} %) | "
         f"{r or 0:.2f} | "
         f"{apart.count(0) / count * 100:.0f} %, {sum(gap <= 1 for gap in apart) / count * 100:.0f} % | "
-        f"{queues[0]:.0f} | {queues[1]:.0f} ({more[1]:+.0f} %) |"
+        f"{queues[0]:.0f} | {queues[1]:.0f} ({excess[1]:+.0f} %) |"
     )
 
 
@@ -284,10 +287,10 @@ def compare(case, args, seeds):
     controls = (SIGNALS, "priority")
     groups = [(control, [approach for approach in found if approach.control == control]) for control in controls]
     if all(those for _, those in groups):
-        print(told(case.name, "all", found))
+        print(row_text(case.name, "all", found))
     for control, those in groups:
         if those:
-            print(told(case.name, control, those), flush=True)
+            print(row_text(case.name, control, those), flush=True)
         for approach in those:
             if abs(approach.letters()[0] - approach.letters()[1]) > 1 or args.all:
                 print(described(approach), flush=True)

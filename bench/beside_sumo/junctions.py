@@ -21,7 +21,8 @@ from streetsim.report.beside_sumo import read_tripinfo
 from streetsim.report.picture_files import load_pyplot, save_picture
 
 FIRST, LAST = 600, 3900  # seconds of the count
-ARM, OUT, SPEED = 500, 200, 13.89  # metres of an arm that leads to the junction, and of one from it; metres a second
+# Metres of an arm that leads to the junction, and of one from it; metres a second.
+ARM, EXIT_ARM, SPEED = 500, 200, 13.89
 RADIUS = 18  # of a roundabout, metres
 APART = 2500  # metres from junction to junction
 PLACES = {"w": (-1, 0), "e": (1, 0), "n": (0, 1), "s": (0, -1)}
@@ -43,10 +44,10 @@ class Junction:
     arms: str = "wens"
     kind: str = "priority"  # or a word of TYPES, roundabout, or a type of SUMO's
     looked_at: tuple[Stream, ...] = ()
-    others: tuple[Stream, ...] = ()
+    major: tuple[Stream, ...] = ()
     lanes: int = 1  # of the main street
     arm: int = ARM
-    out: int = OUT
+    exit_arm: int = EXIT_ARM
     speed: float = SPEED
     radius: int = RADIUS
 
@@ -71,7 +72,7 @@ def draw_junction(plain: Plain, junction: Junction, x: float) -> None:
 def draw_ends(plain: Plain, junction: Junction, arm: str, x: float, radius: float) -> None:
     """The far ends of an arm."""
     right, up = PLACES[arm]
-    for side, length in (("in", junction.arm), ("out", junction.out)):
+    for side, length in (("in", junction.arm), ("out", junction.exit_arm)):
         plain.node(f"{junction.name}{arm}{side}", x + right * (radius + length), up * (radius + length), "")
 
 
@@ -106,7 +107,7 @@ def demand(junctions: Sequence[Junction], seed: int) -> str:
     """The routes: vehicles at random, whose names tell the junction, whether they are looked at, and where they go."""
     draws, vehicles = random.Random(seed), []
     for junction in junctions:
-        streams = [("minor", stream) for stream in junction.looked_at] + [("major", other) for other in junction.others]
+        streams = [("minor", stream) for stream in junction.looked_at] + [("major", other) for other in junction.major]
         for kind, stream in streams:
             clock = 0.0
             while stream.hourly and (clock := clock + draws.expovariate(stream.hourly / 3600)) < LAST:
@@ -120,14 +121,14 @@ def demand(junctions: Sequence[Junction], seed: int) -> str:
     return f"<routes>{''.join(lines)}</routes>"
 
 
-def prepare(junctions: Sequence[Junction], folder: Path, seed: int, more: str = "") -> tuple[Path, Path]:
+def prepare(junctions: Sequence[Junction], folder: Path, seed: int, netconvert_words: str = "") -> tuple[Path, Path]:
     """The network and the routes."""
     net, routes = folder / "net.net.xml", folder / f"demand-{seed}.rou.xml"
     if not net.exists():
         plain = Plain()
         for at, junction in enumerate(junctions):
             draw_junction(plain, junction, at * APART)
-        plain.make(net, "--roundabouts.guess", "true", "--no-turnarounds", "true", *more.split())
+        plain.make(net, "--roundabouts.guess", "true", "--no-turnarounds", "true", *netconvert_words.split())
     if not routes.exists():
         routes.write_text(demand(junctions, seed), encoding="utf-8")
     return net, routes
@@ -138,7 +139,7 @@ def in_sumo(net: Path, routes: Path, folder: Path, seed: int, last: int = LAST) 
     return read_tripinfo(str(sumo_trips(folder / f"trips-{seed}.xml", words)))
 
 
-def here(net: Path, routes: Path, folder: Path, program: str, tools: Path = TOOLS, last: int = LAST) -> Trips:
+def run_here(net: Path, routes: Path, folder: Path, program: str, tools: Path = TOOLS, last: int = LAST) -> Trips:
     words = ["--until", last, "--every", 0, "--rescue", 0]
     run_files(folder, [net, "--routes", routes], words, program, tools)
     return trips_here(folder)
@@ -160,7 +161,7 @@ class Case:
     kind: str
     arms: str
     minor: str  # from, to
-    others: str  # from, to of the streams that go first, with blanks between
+    major: str  # from, to of the streams that go first, with blanks between
 
 
 @dataclass(frozen=True)
@@ -173,12 +174,12 @@ class Cases:
         return [(case, flow, self.junction(at, case, flow)) for at, case in enumerate(self.all) for flow in self.flows]
 
     def junction(self, at: int, case: Case, flow: int) -> Junction:
-        others = tuple(Stream(ends, flow) for ends in case.others.split())
+        major = tuple(Stream(ends, flow) for ends in case.major.split())
         minor = tuple(Stream(ends, self.full(flow)) for ends in case.minor.split())
-        return Junction(f"j{at}_{flow}", case.arms, case.kind, minor, others)
+        return Junction(f"j{at}_{flow}", case.arms, case.kind, minor, major)
 
 
-ONE = (
+ONE_STREAM = (
     Case("T, right turn (joining)", "priority", "wes", "se", "we"),
     Case("T, left turn (crossing)", "priority", "wes", "sw", "we"),
     Case("T, left turn (joining)", "priority", "wes", "sw", "ew"),
@@ -206,7 +207,7 @@ ALL_WAY = (
     Case("right turn, one across", "allway", "wens", "se", "we"),
 )
 CASES = {
-    "one": Cases((0, 100, 200, 400, 600, 800, 1000, 1200), ONE, lambda flow: 1500 if flow <= 200 else 1000),
+    "one": Cases((0, 100, 200, 400, 600, 800, 1000, 1200), ONE_STREAM, lambda flow: 1500 if flow <= 200 else 1000),
     "stops": Cases((0, 100, 200, 400, 600, 800, 1000), STOPS, lambda _: 700),
     "all-way": Cases((0, 50, 100, 200, 300, 400, 600), ALL_WAY, lambda _: 700),
 }
@@ -257,7 +258,7 @@ def main_junctions(argv: list[str]) -> int | None:
     folder.mkdir(exist_ok=True)
     net, routes = prepare([junction for *_, junction in cases.junctions()], folder, args.seed)
     theirs = capacities(in_sumo(net, routes, folder, args.seed))
-    ours = capacities(here(net, routes, folder, args.program))
+    ours = capacities(run_here(net, routes, folder, args.program))
     print(*table(cases, theirs, ours), sep="\n")
     if args.picture:
         draw(cases, theirs, ours, args.picture)
@@ -269,9 +270,10 @@ KINDS = {
     **{"mains": "priority", "stops": "stop", "all-way": "allway", "equal": "equal", "roundabouts": "roundabout"},
     **{"light": "traffic_light", "right-on-red": "traffic_light_right_on_red"},
 }
-MOST = {"mains": 260, "stops": 200, "all-way": 250, "equal": 250, "roundabouts": 300}  # vehicles an hour of a minor arm
-STRAIGHT, LEFT, RIGHT = (dict(zip("wens", to, strict=True)) for to in ("ewsn", "nsew", "snwe"))
-TURNS = {"straight": STRAIGHT, "left": LEFT, "right": RIGHT}
+# Vehicles an hour of a minor arm.
+MOST_HOURLY = {"mains": 260, "stops": 200, "all-way": 250, "equal": 250, "roundabouts": 300}
+STRAIGHT, LEFT_TURN, RIGHT_TURN = (dict(zip("wens", to, strict=True)) for to in ("ewsn", "nsew", "snwe"))
+TURNS = {"straight": STRAIGHT, "left": LEFT_TURN, "right": RIGHT_TURN}
 
 
 def drawn(kind: str, seed: int, count: int) -> list[Junction]:
@@ -284,18 +286,18 @@ def drawn(kind: str, seed: int, count: int) -> list[Junction]:
         for level in LEVELS:
             streams = tuple(Stream(ends, flow * level) for ends, flow in flows.items())
             name = f"j{number}_{round(100 * level)}"
-            junctions.append(Junction(name, arms, KINDS[kind], streams, arm=arm, out=arm, radius=radius))
+            junctions.append(Junction(name, arms, KINDS[kind], streams, arm=arm, exit_arm=arm, radius=radius))
     return junctions
 
 
 def flows_of(kind: str, arms: str, draws: random.Random) -> dict[str, float]:
     """Vehicles an hour of one junction, by from and to."""
-    most = MOST.get(kind, 300)
+    most = MOST_HOURLY.get(kind, 300)
     flows = {arm: draws.uniform(0.3 * most, most) * (1.8 if is_main(kind, arm) else 1.0) for arm in arms}
     shares = {arm: (draws.uniform(0.05, 0.35), draws.uniform(0.05, 0.35)) for arm in arms}
     found: dict[str, float] = {}
     for arm, (left, right) in shares.items():
-        for share, to in ((1 - left - right, STRAIGHT), (left, LEFT), (right, RIGHT)):
+        for share, to in ((1 - left - right, STRAIGHT), (left, LEFT_TURN), (right, RIGHT_TURN)):
             if to[arm] in arms:
                 found[arm + to[arm]] = flows[arm] * share
     return found
@@ -338,7 +340,7 @@ def main_lone_trips(argv: list[str]) -> int | None:
     parser.add_argument("--seed", type=int, default=1, help="of departures, and of SUMO")
     shared.add_some(parser, "--kinds", KINDS)
     parser.add_argument("--ways", action="store_true", help="a row for each way")
-    parser.add_argument("--tools", default=shared.TOOLS, type=shared.whole, help="other tools than these")
+    parser.add_argument("--tools", default=shared.TOOLS, type=shared.whole_path, help="other tools than these")
     args = parser.parse_args(argv)
     folder = shared.work_of(args)
     shared.print_heads(f"SUMO, s, and here more | {' | '.join(f'{level:.0%} of the flows' for level in LEVELS)}")
@@ -348,7 +350,7 @@ def main_lone_trips(argv: list[str]) -> int | None:
         junctions = drawn(kind, args.draw, args.count)
         net, routes = prepare(junctions, own, args.seed, " ".join(LIT))
         theirs = means(kind, in_sumo(net, routes, own, args.seed))
-        ours = means(kind, here(net, routes, own, args.program, args.tools))
+        ours = means(kind, run_here(net, routes, own, args.program, args.tools))
         for way in sorted({way for _, way in theirs}) if args.ways else [""]:
             pairs = [(theirs.get((round(100 * level), way)), ours.get((round(100 * level), way))) for level in LEVELS]
             cells = (f"{fmean(a):.1f} {fmean(b) - fmean(a):+.2f}" if a and b else "" for a, b in pairs)
@@ -363,15 +365,15 @@ WAITS = {  # kind, arms, from and to of the minor street and of those that go fi
     "right before left, straight on": ("equal", "wens", "sn", "ew"),
     "right before left, left turn (joining)": ("equal", "wens", "sw", "ew"),
 }
-OTHERS, MINOR = (0, 100, 200, 400), (40, 160)  # vehicles an hour
+MAJOR, MINOR = (0, 100, 200, 400), (40, 160)  # vehicles an hour
 UNTIL = 14400  # seconds
 Key = tuple[str, int, int]  # case, vehicles an hour of the minor street and of the others
 
 
 def waiting_junctions() -> dict[Key, Junction]:
     return {
-        (title, minor, first): Junction(f"j{at}_{minor}_{first}", arms, kind, arm=200, out=150)
-        for at, (title, (kind, arms, *_)) in enumerate(WAITS.items()) for minor in MINOR for first in OTHERS
+        (title, minor, first): Junction(f"j{at}_{minor}_{first}", arms, kind, arm=200, exit_arm=150)
+        for at, (title, (kind, arms, *_)) in enumerate(WAITS.items()) for minor in MINOR for first in MAJOR
     }  # fmt: skip
 
 
@@ -412,15 +414,15 @@ def main_light_waits(argv: list[str]) -> int | None:
     --work.
     """
     parser = shared.parser_of(main_light_waits, work=True)
-    parser.add_argument("--tools", default=shared.TOOLS, type=shared.whole, help="other tools than these")
+    parser.add_argument("--tools", default=shared.TOOLS, type=shared.whole_path, help="other tools than these")
     args = parser.parse_args(argv)
     folder, every = shared.work_of(args), waiting_junctions()
     routes = folder / "demand-1.rou.xml"
     routes.write_text(waiting_demand(every), encoding="utf-8")
     net, _ = prepare(list(every.values()), folder, 1)
     theirs = lost_by(in_sumo(net, routes, folder, 1, UNTIL), every)
-    ours = lost_by(here(net, routes, folder, args.program, args.tools, UNTIL), every)
-    columns = [(minor, first) for minor in MINOR for first in OTHERS if first]
+    ours = lost_by(run_here(net, routes, folder, args.program, args.tools, UNTIL), every)
+    columns = [(minor, first) for minor in MINOR for first in MAJOR if first]
     shared.print_heads(f"SUMO / here, s | {' | '.join(f'{minor} against {first}' for minor, first in columns)}")
     for title in WAITS:
         keys = [(title, *column) for column in columns]

@@ -19,14 +19,14 @@ from typing import ClassVar
 
 import shared
 from networks.streets import generate, random_trips, write_town
-from networks.unseen import Made
+from networks.unseen import MadeNetwork
 from shared import CORRIDOR, SAMPLES, SHIPPED, TOOLS, TOP, digest_of_commands, numbers
 from shared import run, spread, teleports_of
 from streetsim.model.folder import read_folder
 from streetsim.model.tables import MOVEMENTS, read_table
 from streetsim.report.beside_sumo import edge_counts_of, geh, read_edgedata, read_tripinfo, trip_times_of
 
-MORE = 1800  # seconds behind the last departure, at which both sides end
+EXTRA_SECONDS = 1800  # seconds behind the last departure, at which both sides end
 LOCKED = 0.02  # share of the vehicles that SUMO teleports, above which it is locked
 Way = tuple[str, str]  # edge, next edge
 
@@ -61,23 +61,24 @@ def trips_here(folder: Path) -> dict[str, tuple[float, float]]:
     return trip_times_of(read_folder(str(folder / "out")))
 
 
-def in_sumo(made: Made, seed: int) -> Side:
+def in_sumo(network: MadeNetwork, seed: int) -> Side:
     """Delays are seconds on an edge beyond those at its speed, movement by movement."""
-    folder, name = made.folder, f"sumo-{seed}"
+    folder, name = network.folder, f"sumo-{seed}"
     trips, ways, statistics = (folder / f"{name}.{kind}.xml" for kind in ("trips", "ways", "statistics"))
-    words = ["-n", made.net, "-r", ",".join(map(str, made.routes)), "--seed", seed, "--end", made.seconds + MORE]
-    words += ["-a", ",".join(map(str, made.additional))] if made.additional else []
+    end = network.seconds + EXTRA_SECONDS
+    words = ["-n", network.net, "-r", ",".join(map(str, network.routes)), "--seed", seed, "--end", end]
+    words += ["-a", ",".join(map(str, network.additional))] if network.additional else []
     words += ["--statistic-output", statistics, "--vehroute-output", ways, "--vehroute-output.exit-times"]
     found = read_tripinfo(str(sumo_trips(trips, words)))
-    return Side(found, delays_of(ways, speeds_of(made.net)), teleports_of(statistics))
+    return Side(found, delays_of(ways, speeds_of(network.net)), teleports_of(statistics))
 
 
-def in_sumo_until_locked(made: Made, seeds: Sequence[int]) -> list[Side]:
+def in_sumo_until_locked(network: MadeNetwork, seeds: Sequence[int]) -> list[Side]:
     """SUMO's runs, in order; none behind the first that is locked."""
     found: list[Side] = []
     for seed in seeds:
-        found.append(in_sumo(made, seed))
-        if found[-1].teleports > LOCKED * made.vehicles:
+        found.append(in_sumo(network, seed))
+        if found[-1].teleports > LOCKED * network.vehicles:
             break
     return found
 
@@ -100,35 +101,36 @@ def delays_of(path: Path, free: dict[str, float]) -> dict[Way, tuple[float, floa
     return {way: (len(values), fmean(values)) for way, values in delays.items()}
 
 
-def here(made: Made, seeds: Sequence[int], program: str, tools: Path) -> list[Side]:
+def sides_here(network: MadeNetwork, seeds: Sequence[int], program: str, tools: Path) -> list[Side]:
     """Our runs, one after another from one import; what other tools found is kept apart."""
     state = digest_of_commands(("import", "run"), tools.parent)
-    kept = [made.folder / f"here-{state}-{seed}.json" for seed in seeds]
+    kept = [network.folder / f"here-{state}-{seed}.json" for seed in seeds]
     if not all(path.exists() for path in kept):
-        for path, side in zip(kept, run_here(made, seeds, program, tools), strict=True):
+        for path, side in zip(kept, run_here(network, seeds, program, tools), strict=True):
             path.write_text(text_of(side), encoding="utf-8")
     return [side_of(path.read_text(encoding="utf-8")) for path in kept]
 
 
-def run_here(made: Made, seeds: Sequence[int], program: str, tools: Path) -> list[Side]:
-    last, files = made.seconds + MORE, [made.net, *made.additional, "--routes", *made.routes, *made.words]
+def run_here(network: MadeNetwork, seeds: Sequence[int], program: str, tools: Path) -> list[Side]:
+    last = network.seconds + EXTRA_SECONDS
+    files = [network.net, *network.additional, "--routes", *network.routes, *network.words]
     words = ["--until", last, "--junctions", last, "--seeds", f"{seeds[0]}-{seeds[-1]}", "--departures", "listed"]
-    said = run_files(made.folder, files, [*words, "--jobs", 1], program, tools)
-    return [read_side(made.folder / "out" / f"seed-{seed}", said, seed) for seed in seeds]
+    printed = run_files(network.folder, files, [*words, "--jobs", 1], program, tools)
+    return [read_side(network.folder / "out" / f"seed-{seed}", printed, seed) for seed in seeds]
 
 
-def read_side(out: Path, said: str, seed: int) -> Side:
+def read_side(folder: Path, printed: str, seed: int) -> Side:
     """A run by its folder and by what was said of it."""
     delays = {
         (row["approach"], row["to"]): (float(row["vehicles"]), float(row["control_delay_s"]))
-        for row in read_table(str(out / "movements.csv"), MOVEMENTS)
+        for row in read_table(str(folder / "movements.csv"), MOVEMENTS)
     }
-    return Side(trip_times_of(read_folder(str(out))), delays, doubt=doubt_of(said, seed))
+    return Side(trip_times_of(read_folder(str(folder))), delays, doubt=doubt_of(printed, seed))
 
 
-def doubt_of(said: str, seed: int) -> str:
+def doubt_of(printed: str, seed: int) -> str:
     """What streetsim-run says of a seed's run against itself; nothing where it does not."""
-    return " ".join(re.findall(rf"^seed {seed}: not to be trusted: (.*)$", said, re.MULTILINE))
+    return " ".join(re.findall(rf"^seed {seed}: not to be trusted: (.*)$", printed, re.MULTILINE))
 
 
 def text_of(side: Side) -> str:
@@ -167,7 +169,7 @@ def mean_delay(sides: Sequence[Side], ways: set[Way]) -> float:
 
 FOLDER = TOP / "bench/beside_sumo"
 NEAR = 0.05  # share of SUMO's mean trip within which ours is near it
-LEAST = 30  # vehicles of a movement that is compared
+LEAST_VEHICLES = 30  # vehicles of a movement that is compared
 HALF = 1800  # seconds of a demand that is short, of which the first third is to warm up
 
 
@@ -187,7 +189,7 @@ class Row:
     doubt: str  # of the first run's last line
 
     @property
-    def more(self) -> float:
+    def excess(self) -> float:
         """Our mean trip over SUMO's, less 1."""
         return self.here / self.sumo - 1
 
@@ -197,7 +199,7 @@ class Row:
 
     @property
     def is_near(self) -> bool:
-        return abs(self.more) <= NEAR
+        return abs(self.excess) <= NEAR
 
 
 @dataclass(frozen=True)
@@ -226,7 +228,7 @@ def tally(every: Sequence[Row]) -> Tally:
 def add_words(parser: argparse.ArgumentParser) -> None:
     """The words of all measurements that keep rows."""
     parser.add_argument("--jobs", default=1, type=int, help="networks, or runs, side by side")
-    parser.add_argument("--tools", default=TOOLS, type=shared.whole, help="other tools than these")
+    parser.add_argument("--tools", default=TOOLS, type=shared.whole_path, help="other tools than these")
     parser.add_argument("--rows", help="keep the rows in bench/beside_sumo, by this name")
 
 
@@ -254,25 +256,27 @@ def side_by_side(jobs: int, act: Callable, some: Sequence) -> Iterator:
         yield from pool.map(act, some)
 
 
-def both_sides(made: Made, runs: Sequence[int], program: str, tools: Path) -> tuple[list[Side], list[Side]]:
+def both_sides(network: MadeNetwork, runs: Sequence[int], program: str, tools: Path) -> tuple[list[Side], list[Side]]:
     """SUMO's runs and ours; where SUMO is locked, those up to the first that is."""
-    theirs = in_sumo_until_locked(made, runs)
-    return theirs, here(made, runs[: len(theirs)], program, tools)
+    theirs = in_sumo_until_locked(network, runs)
+    return theirs, sides_here(network, runs[: len(theirs)], program, tools)
 
 
-def row_of(name: str, made: Made, theirs: Sequence[Side], ours: Sequence[Side]) -> Row:
+def row_of(name: str, network: MadeNetwork, theirs: Sequence[Side], ours: Sequence[Side]) -> Row:
     counts = {way: min(side.delays[way][0] for side in theirs) for way in common_ways([*theirs, *ours])}
-    delays = {way: (mean_delay(theirs, {way}), mean_delay(ours, {way})) for way in counts if counts[way] >= LEAST}
+    compared = [way for way, count in counts.items() if count >= LEAST_VEHICLES]
+    delays = {way: (mean_delay(theirs, {way}), mean_delay(ours, {way})) for way in compared}
     worst = max(delays, key=lambda way: abs(delays[way][1] - delays[way][0]), default=())
-    sumo, own = (round(seconds, 1) for seconds in mean_trips(theirs, ours, warm_up(made)))
+    sumo, own = (round(seconds, 1) for seconds in mean_trips(theirs, ours, warm_up(network)))
     jams = sum(side.teleports for side in theirs) / len(theirs)
     lost = [round(seconds, 1) for seconds in delays.get(worst, (0.0, 0.0))]
-    return Row(name, made.level, made.vehicles, sumo, round(jams, 1), own, " to ".join(worst), *lost, ours[0].doubt)
+    jams, movement = round(jams, 1), " to ".join(worst)
+    return Row(name, network.level, network.vehicles, sumo, jams, own, movement, *lost, ours[0].doubt)
 
 
-def warm_up(made: Made) -> int:
+def warm_up(network: MadeNetwork) -> int:
     """The second from which on trips count."""
-    return made.seconds // 3 if made.seconds == HALF else 0
+    return network.seconds // 3 if network.seconds == HALF else 0
 
 
 def reason(doubt: str) -> str:
@@ -334,7 +338,7 @@ def by_reason(every: Sequence[Row]) -> Iterator[str]:
 
 def of_reason(name: str, own: Sequence[Row]) -> str:
     free = [row for row in own if not row.is_locked]
-    off = [abs(row.more) for row in free]
+    off = [abs(row.excess) for row in free]
     near = sum(row.is_near for row in free)
     sizes = f"{median(off):.1%} | {max(off):.1%}" if off else " | "
     return f"| {name} | {len(own)} | {len(own) - len(free)} | {near} | {len(free) - near} | {sizes} |"
@@ -356,7 +360,7 @@ def main_doubts(argv: list[str]) -> int | None:
 
 
 PERIOD = 900
-MADE = {  # by netgenerate: its words
+GENERATED = {  # by netgenerate: its words
     "spider": "--spider --spider.arm-number 7 --spider.circle-number 5 --spider.space-radius 200 -L 1 --seed 5 "
     "--default-junction-type traffic_light",
     "random": "--rand --rand.iterations 80 -L 2 --seed 17 --default-junction-type traffic_light",
@@ -381,7 +385,7 @@ PERIODS = {  # seconds between vehicles
     **{"spider": 0.8, "random": 0.8, "mixed-42": 1.1, "priority-grid": 1.5, "equal-grid": 2.4},
     **{"two-lane-grid": 1.0, "priority-town": 1.8, "equal-town": 3.0, **dict.fromkeys(ROUNDABOUTS, 1.8)},
 }
-TOLD = {  # in the words of the page, where a name alone says too little
+PAGE_NAMES = {  # in the words of the page, where a name alone says too little
     **{"grid": "grid, 36 signals, two lanes", "town": "town, 78 signals, one lane, near capacity"},
     **{"corridor": "corridor, offsets 0", "corridor wave": "corridor, green wave", "acosta": "Bologna, Acosta"},
     **{"joined": "Bologna, joined, `--classes passenger,bus`", "rilsa1": "RiLSA 1, one junction"},
@@ -396,9 +400,9 @@ class Case:
     net: Path
     routes: Path
     additional: tuple = ()
-    words: str = ""  # for the import
+    import_words: str = ""  # for the import
     period: float = 0.0  # seconds between vehicles, of a demand that is made
-    counted: int = 3600  # counts until then
+    count_end: int = 3600  # counts until then
     until: int = 9000
 
 
@@ -414,7 +418,7 @@ def cases():
         types, lights = folder / f"{name}_vtypes.add.xml", folder / f"{name}_tls.add.xml"
         words = "--classes passenger,bus" if name == "joined" else ""
         network = folder / f"{name}_buslanes.net.xml"
-        yield Case(name, network, folder / f"{name}.rou.xml", (types, lights), words, counted=5400)
+        yield Case(name, network, folder / f"{name}.rou.xml", (types, lights), words, count_end=5400)
     for number in (1, 2, 3, 4):
         folder = SHIPPED / f"RiLSA_example{number}"
         more = folder / "vtypes.add.xml", folder / f"rilsa{number}_tls.add.xml"
@@ -433,37 +437,37 @@ def prepare(case, folder):
             words = write_town(folder, *ROUNDABOUTS[case.name])
             run([*words, "--no-turnarounds", "true", "-o", net], folder)
         else:
-            generate(net, f"{MADE[case.name]} --no-turnarounds true")
+            generate(net, f"{GENERATED[case.name]} --no-turnarounds true")
         random_trips(net, routes, case.period, "--seed 7 --min-distance 300 --fringe-factor 2")
     return net, routes
 
 
 def run_named_in_sumo(case, net, routes, folder, seed):
     """SUMO's trips, counts and teleports with a seed."""
-    trips, counts, told = (folder / f"{name}-{seed}.xml" for name in ("trips", "counts", "statistic"))
-    if not told.exists():
+    trips, counts, statistic = (folder / f"{name}-{seed}.xml" for name in ("trips", "counts", "statistic"))
+    if not statistic.exists():
         wanted = folder / f"wanted-{seed}.add.xml"
         wanted.write_text(
-            f'<additional><edgeData id="counts" freq="{PERIOD}" end="{case.counted}" file="{counts}"/></additional>'
+            f'<additional><edgeData id="counts" freq="{PERIOD}" end="{case.count_end}" file="{counts}"/></additional>'
         )
         more = ",".join(map(str, (*case.additional, wanted)))
         words = ["sumo", "-n", net, "-r", routes, "-a", more, "--seed", seed, "--end", case.until]
         half = folder / "half.xml"
         run([*words, "--tripinfo-output", trips, "--statistic-output", half, "--no-step-log", "--no-warnings"], folder)
-        os.replace(half, told)
-    return read_tripinfo(str(trips)), read_edgedata(str(counts)), shared.teleports_of(told)
+        os.replace(half, statistic)
+    return read_tripinfo(str(trips)), read_edgedata(str(counts)), shared.teleports_of(statistic)
 
 
 def run_named(case, net, routes, folder, args):
     """The folders that streetsim-run wrote, one for each seed, and what it says against the first run."""
-    out = folder / "here"
-    words = [net, *case.additional, "--routes", routes, *shlex.split(f"{case.words} {args.words}")]
+    out_folder = folder / "here"
+    words = [net, *case.additional, "--routes", routes, *shlex.split(f"{case.import_words} {args.words}")]
     run([args.tools / "streetsim-import", *words, "-o", "run.jsonl", "--map", "run.map.json"], folder)
     words = ["run.jsonl", "--map", "run.map.json", "--until", case.until, "--every", 600, "--period", PERIOD]
     words += ["--seeds", args.seeds, "--departures", "listed"]
-    words += ["--jobs", args.jobs, "--out", out, "--program", args.program]
+    words += ["--jobs", args.jobs, "--out", out_folder, "--program", args.program]
     said = run([args.tools / "streetsim-run", *words], folder)
-    runs = [read_folder(str(out / f"seed-{seed}")) for seed in numbers(args.seeds)]
+    runs = [read_folder(str(out_folder / f"seed-{seed}")) for seed in numbers(args.seeds)]
     return runs, doubt_of(said, numbers(args.seeds)[0])
 
 
@@ -480,29 +484,29 @@ def closeness_row(case, folder, args):
     and how good the counts are; and its row for bench/beside_sumo."""
     net, routes = prepare(case, folder)
     sumo = [run_named_in_sumo(case, net, routes, folder, seed) for seed in numbers(args.seeds)]
-    theirs, ours, shares, gone = [], [], [], []
+    theirs, ours, shares, tallies = [], [], [], []
     runs, doubt = run_named(case, net, routes, folder, args)
-    for (trips, counts, _), one in zip(sumo, runs, strict=True):
-        own = trip_times_of(one)
-        both = own.keys() & trips.keys()
+    for (trips, counts, _), run_folder in zip(sumo, runs, strict=True):
+        trip_times = trip_times_of(run_folder)
+        both = trip_times.keys() & trips.keys()
         theirs.append(fmean(trips[name][1] - trips[name][0] for name in both))
-        ours.append(fmean(own[name][1] - own[name][0] for name in both))
-        share, number = good_counts(edge_counts_of(one), counts, case.counted)
+        ours.append(fmean(trip_times[name][1] - trip_times[name][0] for name in both))
+        share, number = good_counts(edge_counts_of(run_folder), counts, case.count_end)
         shares.append(share)
-        rescues = sum(int(trip["rescues"]) for trip in one.trips())
-        gone.append((len(own), len(trips), len(one.mapping.cars), rescues))
+        rescues = sum(int(trip["rescues"]) for trip in run_folder.trips())
+        tallies.append((len(trip_times), len(trips), len(run_folder.mapping.cars), rescues))
     means = round(fmean(theirs), 1), fmean(tele for *_, tele in sumo), round(fmean(ours), 1)
-    kept = Row(case.name, 0.0, gone[0][2], *means, "", 0.0, 0.0, doubt)
+    row = Row(case.name, 0.0, tallies[0][2], *means, "", 0.0, 0.0, doubt)
     return [
-        f"{TOLD.get(case.name, case.name)} ({gone[0][2]:,})",
+        f"{PAGE_NAMES.get(case.name, case.name)} ({tallies[0][2]:,})",
         f"{spread(theirs)}",
-        f"{kept.jams:,.0f}",
-        f"{spread(ours)} ({100 * kept.more:+.1f} %)",
+        f"{row.jams:,.0f}",
+        f"{spread(ours)} ({100 * row.excess:+.1f} %)",
         f"{fmean(shares) * 100:.0f} % of {number:,}",
-        f"{fmean(one[0] for one in gone):,.0f}, {fmean(one[1] for one in gone):,.0f}",
-        f"{fmean(one[3] for one in gone):,.0f}",
+        f"{fmean(tally_row[0] for tally_row in tallies):,.0f}, {fmean(tally_row[1] for tally_row in tallies):,.0f}",
+        f"{fmean(tally_row[3] for tally_row in tallies):,.0f}",
         reason(doubt),
-    ], kept
+    ], row
 
 
 def main_closeness(argv: list[str]) -> int | None:

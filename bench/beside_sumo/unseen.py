@@ -14,8 +14,8 @@ from statistics import StatisticsError, correlation, fmean
 
 import shared
 from beside_sumo import rows
-from beside_sumo.rows import LEAST, NEAR, Row, Side, Tally, Way, common_ways, mean_delay, side_by_side
-from networks.unseen import KINDS, USUAL, Made, make
+from beside_sumo.rows import LEAST_VEHICLES, NEAR, Row, Side, Tally, Way, common_ways, mean_delay, side_by_side
+from networks.unseen import KINDS, USUAL, MadeNetwork, make
 from shared import SUMO_HOME, TOP, run
 from streetsim.base.files import Fault
 from streetsim.model.mapping import read_map
@@ -23,13 +23,13 @@ from streetsim.report.beside_sumo import geh
 from streetsim.report.picture_files import load_pyplot, save_picture
 from streetsim.sumo.configuration import files_named, read_configuration
 
-TOLD = {  # the kinds in the words of the page
+PAGE_NAMES = {  # the kinds in the words of the page
     **{"town": "town with lights", "radial": "star-shaped town with lights", "shared-legs": "turns that share legs"},
     **{"right-on-red": "right on red", "roundabouts": "town of roundabouts with rings of one lane"},
     **{"priority": "town without lights, main streets", "equal": "town without lights, right before left"},
     **{"stops": "town with stop signs", "all-way": "town with all-way stops", "slow": "streets of 30 km/h"},
 }
-TEN = [*TOLD]
+TEN = [*PAGE_NAMES]
 LEVEL = 0.5  # the busiest lane's share of what it can pass, by plain reckoning
 
 
@@ -46,7 +46,7 @@ def approaches(sides: list[Side], common: set[Way]) -> dict[str, float]:
     for way in common:
         ways[way[0]].add(way)
     counts = {edge: sum(sides[0].delays[way][0] for way in those) for edge, those in ways.items()}
-    return {edge: mean_delay(sides, those) for edge, those in ways.items() if counts[edge] >= LEAST}
+    return {edge: mean_delay(sides, those) for edge, those in ways.items() if counts[edge] >= LEAST_VEHICLES}
 
 
 @dataclass(frozen=True)
@@ -57,9 +57,9 @@ class Outcome:
     text: str
 
 
-def outcome(name: str, made: Made, theirs: list[Side], ours: list[Side]) -> Outcome:
-    row, common = rows.row_of(name, made, theirs, ours), common_ways([*theirs, *ours])
-    minor = common & minor_ways(made.folder / "run.map.json")
+def outcome(name: str, network: MadeNetwork, theirs: list[Side], ours: list[Side]) -> Outcome:
+    row, common = rows.row_of(name, network, theirs, ours), common_ways([*theirs, *ours])
+    minor = common & minor_ways(network.folder / "run.map.json")
     at_minor = f"{mean_delay(theirs, minor):.1f} / {mean_delay(ours, minor):.1f}" if minor else ""
     first, second = approaches(theirs, common), approaches(ours, common)
     every = [edge for edge in first if edge in second]
@@ -68,15 +68,16 @@ def outcome(name: str, made: Made, theirs: list[Side], ours: list[Side]) -> Outc
     except StatisticsError:
         r = ""
     at_all = f"{fmean(first[e] for e in every):.1f} / {fmean(second[e] for e in every):.1f}{r}" if every else ""
-    trip = f"{row.sumo:.1f} | {row.jams:.0f} | {row.here:.1f} ({row.more:+.1%})"
-    return Outcome(row, f"| {name} ({made.vehicles:,}) | {trip} | {at_minor} | {at_all} | {rows.reason(row.doubt)} |")
+    trip = f"{row.sumo:.1f} | {row.jams:.0f} | {row.here:.1f} ({row.excess:+.1%})"
+    reason = rows.reason(row.doubt)
+    return Outcome(row, f"| {name} ({network.vehicles:,}) | {trip} | {at_minor} | {at_all} | {reason} |")
 
 
 def of_kind(kind: str, found: list[Outcome]) -> str:
     """What the networks of a kind have together: a row of the second table."""
-    mores = [one.row.more for one in found]
+    mores = [one.row.excess for one in found]
     jams = ", ".join(f"{one.row.jams:.0f}" for one in found)
-    return f"| {TOLD.get(kind, kind)} | {min(mores):+.1%} to {max(mores):+.1%} | {jams} |"
+    return f"| {PAGE_NAMES.get(kind, kind)} | {min(mores):+.1%} to {max(mores):+.1%} | {jams} |"
 
 
 def compared(kind: str, seed: int, args: argparse.Namespace) -> Outcome:
@@ -118,20 +119,20 @@ ACROSS = 4  # kinds in a row of the picture
 
 def climbed(kind: str, args: argparse.Namespace) -> list[Row]:
     """A network's rows from the least level on, up to the first at which SUMO is locked."""
-    found: list[Row] = []
+    climbed_rows: list[Row] = []
     for level in args.levels:
-        made = make(kind, args.seed, args.folder, level, seconds=rows.HALF)
-        sides = rows.both_sides(made, args.runs, args.program, args.tools)
-        found.append(rows.row_of(made.name, made, *sides))
-        if found[-1].is_locked:
+        network = make(kind, args.seed, args.folder, level, seconds=rows.HALF)
+        sides = rows.both_sides(network, args.runs, args.program, args.tools)
+        climbed_rows.append(rows.row_of(network.name, network, *sides))
+        if climbed_rows[-1].is_locked:
             break
-    return found
+    return climbed_rows
 
 
 def load_cell(row: Row | None) -> str:
     if row is None:
         return ""
-    off = "SUMO locks" if row.is_locked else f"{row.more:+.1%}"
+    off = "SUMO locks" if row.is_locked else f"{row.excess:+.1%}"
     return f"{off}, doubted" if row.doubt else off
 
 
@@ -157,7 +158,7 @@ def rows_by_load(levels: Sequence[float], every: Sequence[Row]) -> list[str]:
     table = [f"| Load | networks | mean of the differences | {Tally.HEADS} |", f"|{'---|' * 8}"]
     for level in levels:
         own = [row for row in every if row.level == level]
-        free = [abs(row.more) for row in own if not row.is_locked]
+        free = [abs(row.excess) for row in own if not row.is_locked]
         table.append(f"| {level:g} | {len(own)} | {f'{fmean(free):.1%}' if free else ''} | {rows.tally(own)} |")
     return table
 
@@ -170,9 +171,10 @@ def draw_loads(kinds: Sequence[str], found: Sequence[Sequence[Row]], path: str) 
     for kind, kind_rows, axes in zip(kinds, found, places.flat):
         free = [row for row in kind_rows if not row.is_locked]
         axes.axhspan(-100 * NEAR, 100 * NEAR, color="#e8e8e8")
-        axes.plot([row.level for row in free], [100 * row.more for row in free], color="#999999")
+        axes.plot([row.level for row in free], [100 * row.excess for row in free], color="#999999")
         for row in free:
-            axes.plot(row.level, 100 * row.more, "o", color="black", markerfacecolor="white" if row.doubt else "black")
+            face = "white" if row.doubt else "black"
+            axes.plot(row.level, 100 * row.excess, "o", color="black", markerfacecolor=face)
         for row in kind_rows[len(free) :]:
             axes.axvline(row.level, color="#999999", linestyle=":")
         axes.set_title(kind, fontsize=8)
@@ -209,7 +211,7 @@ def main_sweep(argv: list[str]) -> int | None:
         draw_loads(kinds, rows_by_kind, args.picture)
 
 
-BEFORE = "e31c1129"  # the last commit of version 1.0.0
+EARLIER_COMMIT = "e31c1129"  # the last commit of version 1.0.0
 PASSING_OVER = """#!/usr/bin/python3
 import os
 import sys
@@ -231,18 +233,18 @@ PAIR_HEADS = (
 class Pair:
     """A network's rows by the tools of before and by these."""
 
-    before: Row
-    now: Row
+    earlier: Row
+    present: Row
 
     @property
     def worse(self) -> float:
-        return abs(self.now.more) - abs(self.before.more)
+        return abs(self.present.excess) - abs(self.earlier.excess)
 
     def cells(self) -> list[str]:
-        if self.now.is_locked:
-            return ["SUMO locks", *("doubted" * bool(row.doubt) for row in (self.before, self.now))]
-        both = (f"{row.more:+.1%}{', doubted' * bool(row.doubt)}" for row in (self.before, self.now))
-        return [f"{self.now.sumo:.0f}", *both]
+        if self.present.is_locked:
+            return ["SUMO locks", *("doubted" * bool(row.doubt) for row in (self.earlier, self.present))]
+        both = (f"{row.excess:+.1%}{', doubted' * bool(row.doubt)}" for row in (self.earlier, self.present))
+        return [f"{self.present.sumo:.0f}", *both]
 
 
 def tools_of(commit: str, folder: Path) -> Path:
@@ -265,9 +267,9 @@ def take_departures(command: Path) -> None:
     command.chmod(0o755)
 
 
-def pair_of(made: Made, old: Path, args: argparse.Namespace) -> Pair:
-    both = (rows.both_sides(made, args.runs, args.program, tools) for tools in (old, args.tools))
-    return Pair(*(rows.row_of(made.name, made, *sides) for sides in both))
+def pair_of(network: MadeNetwork, old: Path, args: argparse.Namespace) -> Pair:
+    both = (rows.both_sides(network, args.runs, args.program, tools) for tools in (old, args.tools))
+    return Pair(*(rows.row_of(network.name, network, *sides) for sides in both))
 
 
 def pairs_of(kind: str, old: Path, args: argparse.Namespace) -> list[Pair]:
@@ -285,13 +287,13 @@ def pairs_by_kind(kinds: Sequence[str], levels: Sequence[float], found: Sequence
 
 def pairs_by_level(level: float, pairs: Sequence[Pair]) -> Iterator[str]:
     """What holds of the networks of a level in which SUMO is not locked."""
-    free = [pair for pair in pairs if not pair.now.is_locked]
+    free = [pair for pair in pairs if not pair.present.is_locked]
     if not free:
         return
     worse = sum(pair.worse > WORSE for pair in free)
-    for name, own in (("before", [pair.before for pair in free]), ("now", [pair.now for pair in free])):
-        off = [abs(row.more) for row in own]
-        silent = sum(abs(row.more) > FAR and not row.doubt for row in own)
+    for name, own in (("before", [pair.earlier for pair in free]), ("now", [pair.present for pair in free])):
+        off = [abs(row.excess) for row in own]
+        silent = sum(abs(row.excess) > FAR and not row.doubt for row in own)
         false = sum(row.is_near and bool(row.doubt) for row in own)
         of_all = f"{fmean(off):.1%} | {max(off):.1%} | {worse if name == 'now' else ''} | {silent} of {len(own)}"
         yield f"| {level:g} | {name} | {of_all} | {false} |"
@@ -306,7 +308,7 @@ def main_versions(argv: list[str]) -> int | None:
     trips are off, kind by kind, and what holds of all. With the folder of sweep SUMO's runs there are used again.
     """
     parser = rows.parser_of(main_versions, "1-5")
-    parser.add_argument("--before", default=BEFORE, help="a commit")
+    parser.add_argument("--before", default=EARLIER_COMMIT, help="a commit")
     shared.add_some(parser, "--kinds", KINDS, USUAL)
     parser.add_argument("--levels", default=[0.5, 0.8], type=rows.floats)
     args = parser.parse_args(argv)
@@ -318,10 +320,10 @@ def main_versions(argv: list[str]) -> int | None:
     for at, level in enumerate(args.levels):
         print(*pairs_by_level(level, [own[at] for own in pairs]), sep="\n")
     if args.rows:
-        rows.keep(args.rows, [pair.now for own in pairs for pair in own])
+        rows.keep(args.rows, [pair.present for own in pairs for pair in own])
 
 
-EACH = 4  # rows of a kind
+ROWS_OF_A_KIND = 4  # rows of a kind
 RULES = ("town", "permissive-arterial", "lane-drop", "zipper", "limit", "types")
 LOADS, CLIMB = (0.5, 0.6, 0.7, 0.8, 0.9), (0.5, 0.7, 0.9, 1.1)
 CLIMBING = ("grid", "turn-lanes", "one-way", "shared-legs", "left-hand")  # of which one is at all loads of CLIMB
@@ -345,10 +347,11 @@ class DrawnRow:
 def drawn(seed: int) -> list[Network]:
     draws = Random(seed)
     networks = [
-        Network(kind, draws.randrange(1000, 100_000), draws.choice(LOADS)) for kind in RULES for _ in range(EACH)
+        Network(kind, draws.randrange(1000, 100_000), draws.choice(LOADS))
+        for kind in RULES for _ in range(ROWS_OF_A_KIND)
     ]
     for kind, parts in PARTS_OF.items():
-        count = EACH // len(parts)
+        count = ROWS_OF_A_KIND // len(parts)
         networks += [Network(kind, draws.randrange(1000, 100_000), draws.choice(LOADS)) for _ in range(count)]
     kind, own = draws.choice(CLIMBING), draws.randrange(1000, 100_000)
     return [*networks, *(Network(kind, own, level) for level in CLIMB)]
@@ -366,16 +369,16 @@ def drawn_rows_of(one: Network, args: argparse.Namespace) -> list[DrawnRow]:
     return [DrawnRow(made.drawn, row) for row in parts_of(made, *sides)]
 
 
-def parts_of(made: Made, theirs: Sequence[Side], ours: Sequence[Side]) -> Iterator[Row]:
-    for begin in PARTS_OF.get(made.kind, ("",)):
-        name = f"{made.name}, {begin}" if begin else made.name
-        yield rows.row_of(name, made, part_of(theirs, begin), part_of(ours, begin))
+def parts_of(network: MadeNetwork, theirs: Sequence[Side], ours: Sequence[Side]) -> Iterator[Row]:
+    for begin in PARTS_OF.get(network.kind, ("",)):
+        name = f"{network.name}, {begin}" if begin else network.name
+        yield rows.row_of(name, network, part_of(theirs, begin), part_of(ours, begin))
 
 
 def drawn_line(one: DrawnRow) -> str:
     row = one.row
     said = ", ".join(f"{name} {value}" for name, value in one.drawn.items())
-    trip = "SUMO locks" if row.is_locked else f"{row.here:.1f} ({row.more:+.1%})"
+    trip = "SUMO locks" if row.is_locked else f"{row.here:.1f} ({row.excess:+.1%})"
     lost = f"{row.lost_in_sumo:.0f} / {row.lost_here:.0f}" if row.movement else ""
     cells = (row.network, f"{row.level:g}", said, f"{row.sumo:.1f}", trip, lost, rows.reason(row.doubt))
     return f"| {' | '.join(cells)} |"
@@ -427,7 +430,7 @@ LACKING = '<vType id="passenger"/><vType id="hdv"/>'
 RANDOM_WORDS = ("weights.random-factor",)  # of configurations, of how vehicles choose their ways
 
 
-def done(words, most=0):
+def output_of(words, most=0):
     """What a command prints; a Fault with the last line of what it says where it fails,
     with a status above the most."""
     words = [str(word) for word in words]
@@ -437,7 +440,7 @@ def done(words, most=0):
     return made.stdout
 
 
-def asked(path, end):
+def inputs_of(path, end):
     """The words of the import, SUMO's files, the last second, and what else SUMO is told by a configuration."""
     if path.is_dir():
         [net], [routes] = path.glob("*.net.xml"), path.glob("*.rou.alt.xml")
@@ -450,27 +453,27 @@ def asked(path, end):
 
 
 def demand_row(program, folder, path, end):
-    words, (net, additional, routes), end, sumo_words = asked(path, end)
+    words, (net, additional, routes), end, sumo_words = inputs_of(path, end)
     outputs = ["-o", folder / "run.jsonl", "--map", folder / "map.json"]
-    done([TOP / "tools/streetsim-import", *words, *outputs])
+    output_of([TOP / "tools/streetsim-import", *words, *outputs])
     period = min(900, end)
     run = [
         folder / "run.jsonl", "--map", folder / "map.json", "--until", end, "--period", period, "--out", folder / "out",
     ]
-    printed = done([TOP / "tools/streetsim-run", *run, "--program", program])
+    printed = output_of([TOP / "tools/streetsim-run", *run, "--program", program])
     edges, trips, wanted = folder / "edges.xml", folder / "trips.xml", folder / "edges.add.xml"
     kind = LACKING if path.is_dir() else ""
     text = f'<additional>{kind}<edgeData id="counts" freq="{period}" file="{edges}"/></additional>'
     wanted.write_text(text, encoding="utf-8")
     additional = [path for path in additional if not path.endswith("input_additional.add.xml")]  # outputs, beside it
     files = ["-n", net, "-a", ",".join([*additional, str(wanted)]), *(["-r", ",".join(routes)] if routes else [])]
-    done(
+    output_of(
         [
             "sumo", *files, *sumo_words, "--end", end, "--tripinfo-output", trips, "--no-step-log", "-W",
             "--ignore-route-errors",
         ]
     )
-    text = done([TOP / "tools/streetsim-compare", folder / "out", "--sumo", trips, edges], most=1)
+    text = output_of([TOP / "tools/streetsim-compare", folder / "out", "--sumo", trips, edges], most=1)
     arrived = re.search(r"arrived: ([\d,]+) here, ([\d,]+) in SUMO", text)
     mean = re.search(r"mean trip of these: ([\d.]+) s here, ([\d.]+) s in SUMO", text)
     counts = re.search(r"GEH below 5 for ([\d.]+) % of ([\d,]+)", text)

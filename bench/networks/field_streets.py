@@ -38,10 +38,10 @@ USUAL_FLOW = 2055  # vehicles an hour of a full lane of SUMO's usual drivers at 
 
 @dataclass(frozen=True)
 class Street:
-    """A street with its drivers. at: metres of the junctions; speeds in metres a second; level: of the demand."""
+    """A street with its drivers. junctions: their metres; speeds in metres a second; level: of the demand."""
 
     name: str
-    at: tuple[int, ...]
+    junctions: tuple[int, ...]
     main: float
     across: float
     driver: str
@@ -52,7 +52,7 @@ class Street:
     @property
     def line(self) -> list[str]:
         """The places along the street."""
-        return ["W", *(f"J{at}" for at in range(1, len(self.at) + 1)), "E"]
+        return ["W", *(f"J{at}" for at in range(1, len(self.junctions) + 1)), "E"]
 
 
 def the_ten():
@@ -67,9 +67,9 @@ def drawn_street(seed, folder):
     """A street that a seed draws, with drivers of its own; its demand is as full as the ten are, by a survey of the
     drivers. folder: for the survey."""
     draws = random.Random(seed)
-    at = [300]
+    junctions = [300]
     for _ in range(draws.randint(3, 5)):
-        at.append(at[-1] + 10 * draws.randint(18, 48))
+        junctions.append(junctions[-1] + 10 * draws.randint(18, 48))
     kind = {
         "sigma": round(draws.uniform(0.2, 0.7), 2), "tau": round(draws.uniform(0.8, 1.5), 2),
         "accel": round(draws.uniform(1.8, 3.2), 2), "decel": round(draws.uniform(3.5, 5.0), 2),
@@ -79,7 +79,7 @@ def drawn_street(seed, folder):
     flow, _ = surveyed(kind, 13.89, folder)
     level = min(1.0, round(0.88 * flow / USUAL_FLOW, 2))
     treatments = ("wave", "split", draws.choice(["diet", "growth"]))
-    return Street(f"drawn{seed}", tuple(at), main, across, "own", kind, level, treatments)
+    return Street(f"drawn{seed}", tuple(junctions), main, across, "own", kind, level, treatments)
 
 
 def type_text(kind):
@@ -93,19 +93,19 @@ def make_net(street, folder, diet=False):
     """The street's .net.xml; diet: with one lane from J2 to J3."""
     plain = Plain()
     plain.node("W", 0, 0)
-    plain.node("E", street.at[-1] + 300, 0)
-    for at, x in enumerate(street.at, 1):
-        plain.node(f"J{at}", x, 0, "traffic_light")
-    for at, x in enumerate(street.at, 1):
-        plain.node(f"N{at}", x, 200)
-        plain.node(f"S{at}", x, -200)
+    plain.node("E", street.junctions[-1] + 300, 0)
+    for number, x in enumerate(street.junctions, 1):
+        plain.node(f"J{number}", x, 0, "traffic_light")
+    for number, x in enumerate(street.junctions, 1):
+        plain.node(f"N{number}", x, 200)
+        plain.node(f"S{number}", x, -200)
     for pair in zip(street.line, street.line[1:]):
         for a, b in (pair, pair[::-1]):
             lanes = 1 if diet and (a, b) == ("J2", "J3") else 2
             plain.named_edge(f"{a}{b}", a, b, numLanes=lanes, speed=street.main, priority=3)
-    for at in range(1, len(street.at) + 1):
+    for number in range(1, len(street.junctions) + 1):
         for side in "NS":
-            ends = (f"{side}{at}", f"J{at}")
+            ends = (f"{side}{number}", f"J{number}")
             for a, b in (ends, ends[::-1]):
                 plain.named_edge(f"{a}{b}", a, b, numLanes=1, speed=street.across, priority=1)
     path = folder / f"{'diet' if diet else 'net'}.net.xml"
@@ -115,30 +115,30 @@ def make_net(street, folder, diet=False):
 
 def programs(net, change):
     """All programs changed: 'wave' offsets by distance eastward, 'split' 6 s from the street's green to the other."""
-    root, out = ElementTree.parse(net).getroot(), []
-    x = {one.get("id"): float(one.get("x")) for one in root.iter("junction")}
+    root, texts = ElementTree.parse(net).getroot(), []
+    x = {node.get("id"): float(node.get("x")) for node in root.iter("junction")}
     speed = max(float(lane.get("speed")) for lane in root.iter("lane"))
     for light in root.iter("tlLogic"):
-        name, phases, done = light.get("id"), list(light.iter("phase")), set()
+        name, phases, split_greens = light.get("id"), list(light.iter("phase")), set()
         cycle = sum(int(float(phase.get("duration"))) for phase in phases)
         offset = round((x[name] - 300) / (speed * 0.9)) % cycle if change == "wave" else 0
-        own = [one for one in root.iter("connection") if one.get("tl") == name]
-        main = {int(one.get("linkIndex")) for one in own if not {*"NS"} & {*one.get("from")}}
+        own = [connection for connection in root.iter("connection") if connection.get("tl") == name]
+        main = {int(connection.get("linkIndex")) for connection in own if not {*"NS"} & {*connection.get("from")}}
         body = ""
         for phase in phases:
             seconds, state = int(float(phase.get("duration"))), phase.get("state")
             is_main = any(state[at] in "Gg" for at in main)
-            if change == "split" and "y" not in state and is_main not in done:
-                done.add(is_main)
+            if change == "split" and "y" not in state and is_main not in split_greens:
+                split_greens.add(is_main)
                 seconds += -6 if is_main else 6
             body += f'<phase duration="{seconds}" state="{state}"/>'
-        out.append(f'<tlLogic id="{name}" type="static" programID="{change}" offset="{offset}">{body}</tlLogic>')
-    return f"<additional>{''.join(out)}</additional>"
+        texts.append(f'<tlLogic id="{name}" type="static" programID="{change}" offset="{offset}">{body}</tlLogic>')
+    return f"<additional>{''.join(texts)}</additional>"
 
 
 def ways(street):
     """(edges of a way, vehicles an hour) of all pairs of ends."""
-    line, count = street.line, len(street.at)
+    line, count = street.line, len(street.junctions)
 
     def along(a, b):
         step = 1 if b > a else -1
@@ -146,13 +146,13 @@ def ways(street):
 
     yield along(0, count + 1), EAST
     yield along(count + 1, 0), WEST
-    for at in range(1, count + 1):
+    for number in range(1, count + 1):
         for side, other in ("NS", "SN"):
-            yield [f"{side}{at}J{at}", f"J{at}{other}{at}"], ACROSS[at - 1]
-            yield [f"{side}{at}J{at}", *along(at, count + 1)], 45
-            yield [f"{side}{at}J{at}", *along(at, 0)], 35
-            yield [*along(0, at), f"J{at}{side}{at}"], 50
-            yield [*along(count + 1, at), f"J{at}{side}{at}"], 35
+            yield [f"{side}{number}J{number}", f"J{number}{other}{number}"], ACROSS[number - 1]
+            yield [f"{side}{number}J{number}", *along(number, count + 1)], 45
+            yield [f"{side}{number}J{number}", *along(number, 0)], 35
+            yield [*along(0, number), f"J{number}{side}{number}"], 50
+            yield [*along(count + 1, number), f"J{number}{side}{number}"], 35
 
 
 def write_demand(street, path, level, tide, seed):
@@ -204,14 +204,14 @@ def mean_of_trips(path):
 
 def write_areas(net, path):
     """Detectors of queues over all lanes that end at a light."""
-    own = []
+    lanes = []
     for edge in ElementTree.parse(net).getroot().iter("edge"):
         if re.search(r"J\d$", edge.get("id")) and edge.get("function") != "internal":
-            own += [(lane.get("id"), float(lane.get("length"))) for lane in edge.iter("lane")]
+            lanes += [(lane.get("id"), float(lane.get("length"))) for lane in edge.iter("lane")]
     made = "".join(
         f'<laneAreaDetector id="q{lane}" lane="{lane}" pos="0" endPos="{metres - 0.1:.2f}" period="80" '
         f'file="areas.xml" jamThreshold="8"/>'
-        for lane, metres in own
+        for lane, metres in lanes
     )
     path.write_text(f"<additional>{made}</additional>", encoding="utf-8")
 
@@ -230,30 +230,30 @@ def write_table(path, head, rows):
         writer.writerows(rows)
 
 
-def measure_day(folder, out, seed, share=0.25, error=0.05):
+def measure_day(folder, out_folder, seed, share=0.25, error=0.05):
     """The planner's files of a day: counts with errors, times of a share of the vehicles, queues."""
-    out.mkdir(parents=True, exist_ok=True)
-    draws, seen, counts, found = np.random.default_rng(seed), list(passages(folder)), {}, {}
-    for way in seen:
+    out_folder.mkdir(parents=True, exist_ok=True)
+    draws, driven, counts, passes = np.random.default_rng(seed), list(passages(folder)), {}, {}
+    for way in driven:
         for (edge, clock), (following, _) in zip(way, way[1:]):
             if WARM <= clock < LAST:
                 key = int(clock // 900), edge, following
                 counts[key] = counts.get(key, 0) + 1
     rows = [(900 * q, a, b, max(0, round(n * draws.normal(1, error)))) for (q, a, b), n in sorted(counts.items())]
-    write_table(out / "counts.csv", ["time", "from", "to", "count"], rows)
-    for way in seen:
+    write_table(out_folder / "counts.csv", ["time", "from", "to", "count"], rows)
+    for way in driven:
         for (edge, begin), (following, end) in zip(way, way[1:]):
             if end > begin > 0 and WARM <= end < LAST and re.search(r"J\d$", following) and draws.random() < share:
-                found.setdefault((edge, following), []).append((end, end - begin))
+                passes.setdefault((edge, following), []).append((end, end - begin))
     rows = []
-    for (edge, following), some in sorted(found.items()):
+    for (edge, following), some in sorted(passes.items()):
         for quarter in range(WARM // 900, LAST // 900):
             own = [seconds for end, seconds in some if end // 900 == quarter]
             if own:
                 spread = round(np.std(own, ddof=1), 1) if len(own) > 1 else ""
                 rows.append((f"{edge}>{following}", 900 * quarter, round(np.mean(own), 1), spread, len(own)))
-    write_table(out / "times.csv", ["segment", "time", "mean", "sd", "n"], rows)
-    write_table(out / "queues.csv", ["edge", "mean_of_cycles", "max"], queue_rows(folder / "areas.xml"))
+    write_table(out_folder / "times.csv", ["segment", "time", "mean", "sd", "n"], rows)
+    write_table(out_folder / "queues.csv", ["edge", "mean_of_cycles", "max"], queue_rows(folder / "areas.xml"))
 
 
 def queue_rows(path):
@@ -278,10 +278,10 @@ def surveyed(kind, speed, folder):
     plain.make(folder / "s.net.xml", "--tls.cycle.time", CYCLE)
     root = ElementTree.parse(folder / "s.net.xml").getroot()
     pair = ("AB", "BC")
-    own = next(one for one in root.iter("connection") if (one.get("from"), one.get("to")) == pair)
+    own = next(lane for lane in root.iter("connection") if (lane.get("from"), lane.get("to")) == pair)
     place, count = int(own.get("linkIndex")), len(next(root.iter("phase")).get("state"))
-    metres = float(next(one for one in root.iter("edge") if one.get("id") == "AB").find("lane").get("length"))
-    state = {letter: "".join(letter if at == place else "r" for at in range(count)) for letter in "rGy"}
+    metres = float(next(edge for edge in root.iter("edge") if edge.get("id") == "AB").find("lane").get("length"))
+    state = {letter: "".join(letter if index == place else "r" for index in range(count)) for letter in "rGy"}
     phases = "".join(f'<phase duration="{s}" state="{state[c]}"/>' for s, c in ((40, "r"), (36, "G"), (4, "y")))
     loop = f'<instantInductionLoop id="l" lane="AB_0" pos="{metres - 0.3:.2f}" file="l.xml"/>'
     light = f'<tlLogic id="B" type="static" programID="x" offset="0">{phases}</tlLogic>'
@@ -293,18 +293,18 @@ def surveyed(kind, speed, folder):
     words = ["sumo", "-n", "s.net.xml", "-r", "s.rou.xml", "-a", "s.add.xml", "--step-length", 0.5, "--seed", 1]
     run([*words, "--end", until, "--no-step-log", "--no-warnings"], folder)
     seen = ElementTree.parse(folder / "l.xml").getroot().iter("instantOut")
-    times = [float(one.get("time")) for one in seen if one.get("state") == "enter"]
-    headway, full = discharge(times, [40 + CYCLE * at for at in range(3, 3 + GREENS)], CYCLE)
+    times = [float(event.get("time")) for event in seen if event.get("state") == "enter"]
+    headway, full = discharge(times, [40 + CYCLE * green for green in range(3, 3 + GREENS)], CYCLE)
     return 3600 / headway, full
 
 
-def write_survey(street, folder, out):
+def write_survey(street, folder, out_folder):
     """The survey of full through lanes of the street and of those across it."""
     rows = []
     for speed in sorted({street.main, street.across}):
         flow, full = surveyed(street.kind, speed, folder)
         rows.append((f"{3.6 * speed:.0f} km/h", round(flow), round(full, 2), GREEN, GREENS))
-    write_table(out / "saturation.csv", ["street", "flow", "vehicles_per_green", "green", "greens"], rows)
+    write_table(out_folder / "saturation.csv", ["street", "flow", "vehicles_per_green", "green", "greens"], rows)
 
 
 def make_field(street, base):
@@ -336,18 +336,18 @@ def truths(street, top, folder):
     net, routes, grown = top / "net.net.xml", folder / "t.rou.xml", folder / "g.rou.xml"
     for seed in TRUTH:
         write_demand(street, routes, street.level, 1.0, 100 + seed)
-        before = in_sumo(net, routes, folder / "t", seed)
-        for what in street.treatments:
-            own = net, routes, None
-            if what in ("wave", "split"):
-                own = net, routes, top / f"{what}.add.xml"
-            elif what == "diet":
-                own = top / "diet.net.xml", routes, None
+        seconds_before = in_sumo(net, routes, folder / "t", seed)
+        for treatment in street.treatments:
+            files = net, routes, None
+            if treatment in ("wave", "split"):
+                files = net, routes, top / f"{treatment}.add.xml"
+            elif treatment == "diet":
+                files = top / "diet.net.xml", routes, None
             else:
                 write_demand(street, grown, 1.1 * street.level, 1.0, 100 + seed)
-                own = net, grown, None
-            after = in_sumo(own[0], own[1], folder / "t", seed, own[2])
-            yield seed, what, round(before, 2), round(after, 2)
+                files = net, grown, None
+            seconds_after = in_sumo(files[0], files[1], folder / "t", seed, files[2])
+            yield seed, treatment, round(seconds_before, 2), round(seconds_after, 2)
 
 
 def truth_of(folder):

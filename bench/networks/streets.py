@@ -100,7 +100,7 @@ class Flow:
 class Draft:
     """How a network is made, and what its demand is like."""
 
-    words: list[str]  # of netconvert or netgenerate, but for the output
+    maker_words: list[str]  # of netconvert or netgenerate, but for the output
     trucks: float = 0.0  # share of vehicles of 12 and 18 m
     lines: int = 0  # of buses that stop
     drawn: dict[str, object] = field(default_factory=dict)  # what the seed gave, for whoever reads a table
@@ -122,14 +122,14 @@ def street(draws: Random, folder: Path) -> Draft:
     light = draws.choice((None, *range(1, len(lengths))))
     pocket = draws.choice((0, 45, 60)) if light else 0
     trucks = draws.choice((0.0, 0.1, 0.2))
-    for at, x in enumerate(accumulate(lengths, initial=0)):
-        plain.node(f"m{at}", x, 0, "traffic_light" if at == light else "priority")
-        if at == light:
-            side_streets(plain, f"m{at}", x)
-    for at in range(len(lengths)):
-        begin, end = f"m{at}", f"m{at + 1}"
-        plain.edge(begin, end, lanes, kmh, 8, pocket if at + 1 == light else 0)
-        plain.edge(end, begin, lanes, kmh, 8, pocket if at == light else 0)
+    for number, x in enumerate(accumulate(lengths, initial=0)):
+        plain.node(f"m{number}", x, 0, "traffic_light" if number == light else "priority")
+        if number == light:
+            side_streets(plain, f"m{number}", x)
+    for number in range(len(lengths)):
+        begin, end = f"m{number}", f"m{number + 1}"
+        plain.edge(begin, end, lanes, kmh, 8, pocket if number + 1 == light else 0)
+        plain.edge(end, begin, lanes, kmh, 8, pocket if number == light else 0)
     drawn = {"lanes": lanes, "kmh": kmh, "metres": lengths, "light": light, "pocket": pocket, "trucks": trucks}
     return Draft([*plain.write(folder), *cycle(draws)], trucks, drawn=drawn)
 
@@ -184,20 +184,21 @@ BUS_LANE = '<lane index="0" allow="bus"/>'
 
 
 def lane_drop(draws: Random, folder: Path) -> Draft:
-    plain, behind = Plain(), draws.choice((0, 30, 60, 120, 240))
-    names, metres, light = ["a", "b", "end", "out"], [LEAD, LEAD, LEAD], "b" if behind else ""
-    if behind:
-        metres[1] = behind
+    plain, metres_behind = Plain(), draws.choice((0, 30, 60, 120, 240))
+    names, metres, light = ["a", "b", "end", "out"], [LEAD, LEAD, LEAD], "b" if metres_behind else ""
+    if metres_behind:
+        metres[1] = metres_behind
     for name, x in zip(names, accumulate(metres, initial=0), strict=True):
         plain.node(name, x, 0, "traffic_light" if name == light else "priority")
     for begin, end in pairwise(names):
         plain.edge(begin, end, 1 if begin == "end" else 2, 50, 8)
-    passing = next((flow for most, flow in ENDS.items() if behind <= most), ENDS_ALONE) if behind else ENDS_ALONE
+    flows_behind = (flow for most, flow in ENDS.items() if metres_behind <= most)
+    passing = next(flows_behind, ENDS_ALONE) if metres_behind else ENDS_ALONE
     flows = [Flow("main", "a-b b-end end-out", passing)]
     if light:
         side_streets(plain, light, LEAD)
         flows.append(Flow("side", f"{light}n-{light} {light}-{light}s", 200))
-    drawn = {"metres behind a light": behind or None}
+    drawn = {"metres behind a light": metres_behind or None}
     return Draft([*plain.write(folder), *cycle(draws)], drawn=drawn, flows=tuple(flows))
 
 
@@ -215,17 +216,17 @@ def zipper(draws: Random, folder: Path) -> Draft:
 def bus_lane(draws: Random, folder: Path) -> Draft:
     plain, metres = Plain(), [draws.randrange(300, 701, 50) for _ in range(3)]
     buses, turning = draws.choice((10, 20, 40)), draws.choice((0, 40))
-    for at, x in enumerate(accumulate(metres, initial=0)):
-        plain.node(f"m{at}", x, 0, "traffic_light" if at in (1, 2) else "priority")
-        if at in (1, 2):
-            side_streets(plain, f"m{at}", x)
-    for begin, end in pairwise(f"m{at}" for at in range(4)):
+    for number, x in enumerate(accumulate(metres, initial=0)):
+        plain.node(f"m{number}", x, 0, "traffic_light" if number in (1, 2) else "priority")
+        if number in (1, 2):
+            side_streets(plain, f"m{number}", x)
+    for begin, end in pairwise(f"m{number}" for number in range(4)):
         plain.edge(begin, end, 2, 50, 8, inside=BUS_LANE)
         plain.edge(end, begin, 2, 50, 8, inside=BUS_LANE)
     east, west = "m0-m1 m1-m2 m2-m3", "m3-m2 m2-m1 m1-m0"
     flows = [Flow(f"{kind}.{way}", edges, hourly, kind) for kind, hourly in (("car", IN_GREEN), ("bus", buses))
              for way, edges in (("e", east), ("w", west))]
-    flows += [Flow(f"side{at}", f"m{at}n-m{at} m{at}-m{at}s", 200) for at in (1, 2)]
+    flows += [Flow(f"side{number}", f"m{number}n-m{number} m{number}-m{number}s", 200) for number in (1, 2)]
     flows += [Flow("right", "m0-m1 m1-m1s", turning), Flow("left", "m0-m1 m1-m2 m2-m2n", turning)]
     words = [*plain.write(folder), *cycle(draws), "--tls.left-green.time", "0"]
     drawn, importing = {"metres": metres, "buses": buses, "turning": turning}, ("--classes", "passenger,bus")
@@ -243,21 +244,21 @@ def limit(draws: Random, folder: Path) -> Draft:
 
 def types(draws: Random, folder: Path) -> Draft:
     plain, metres = Plain(), [draws.randrange(200, 501, 50) for _ in range(4)]
-    for at, x in enumerate(accumulate(metres, initial=0)):
-        plain.node(f"m{at}", x, 0, "traffic_light" if 0 < at < 4 else "priority")
-        if 0 < at < 4:
-            side_streets(plain, f"m{at}", x)
-    for begin, end in pairwise(f"m{at}" for at in range(5)):
+    for number, x in enumerate(accumulate(metres, initial=0)):
+        plain.node(f"m{number}", x, 0, "traffic_light" if 0 < number < 4 else "priority")
+        if 0 < number < 4:
+            side_streets(plain, f"m{number}", x)
+    for begin, end in pairwise(f"m{number}" for number in range(5)):
         plain.street(begin, end, 1, 50, 8)
-    given, share = type_of(draws), draws.choice((0.2, 0.5, 1.0))
-    ways = [("e", " ".join(f"m{at}-m{at + 1}" for at in range(4)), 650)]
-    ways += [("w", " ".join(f"m{at + 1}-m{at}" for at in reversed(range(4))), 500)]
-    ways += [(f"side{at}", f"m{at}n-m{at} m{at}-m{at}s", 200) for at in (1, 2, 3)]
+    attributes, share = type_of(draws), draws.choice((0.2, 0.5, 1.0))
+    ways = [("e", " ".join(f"m{number}-m{number + 1}" for number in range(4)), 650)]
+    ways += [("w", " ".join(f"m{number + 1}-m{number}" for number in reversed(range(4))), 500)]
+    ways += [(f"side{number}", f"m{number}n-m{number} m{number}-m{number}s", 200) for number in (1, 2, 3)]
     shares = {"drawn": share, "car": 1 - share}
     flows = tuple(Flow(f"{kind}.{way}", edges, hourly * part, kind) for way, edges, hourly in ways
                   for kind, part in shares.items() if part)
-    words = " ".join(f'{name}="{value}"' for name, value in given.items())
-    drawn = {"metres": metres, "share": share, **given}
+    words = " ".join(f'{name}="{value}"' for name, value in attributes.items())
+    drawn = {"metres": metres, "share": share, **attributes}
     made = [*plain.write(folder), *cycle(draws), "--tls.left-green.time", "0"]
     return Draft(made, drawn=drawn, flows=flows, types=f'<vType id="drawn" {words}/>')
 
@@ -349,19 +350,20 @@ def other_end(place: tuple[int, int], side: str) -> str:
 Build = Callable[[Random, Path], Draft]
 
 
-def random_town(*words: str, least: int = 70, most: int = 130) -> Build:
-    """A random network of netgenerate; words: more of it."""
+def random_town(*more_words: str, least: int = 70, most: int = 130) -> Build:
+    """A random network of netgenerate; more_words: of its."""
 
     def build(draws: Random, folder: Path) -> Draft:
         iterations, longest = draws.randrange(least, most), draws.randrange(230, 301, 10)
         size = ["--rand.iterations", str(iterations), "--rand.max-distance", str(longest), "--rand.min-distance", "110"]
         size += ["--rand.min-angle", "30", "--seed", str(draws.randrange(1, 1 << 30))]
-        return Draft(["netgenerate", "--rand", *size, *words], drawn={"iterations": iterations, "longest": longest})
+        drawn = {"iterations": iterations, "longest": longest}
+        return Draft(["netgenerate", "--rand", *size, *more_words], drawn=drawn)
 
     return build
 
 
-def grid(*words: str, lanes: tuple[int, ...] = (1, 2)) -> Build:
+def grid(*more_words: str, lanes: tuple[int, ...] = (1, 2)) -> Build:
     """A grid of netgenerate with streets that lead out of it."""
 
     def build(draws: Random, folder: Path) -> Draft:
@@ -370,7 +372,7 @@ def grid(*words: str, lanes: tuple[int, ...] = (1, 2)) -> Build:
         size = ["--grid.x-number", across, "--grid.y-number", up, "--grid.x-length", wide, "--grid.y-length", high]
         size += ["--grid.attach-length", 200, "-L", count, "--tls.cycle.time", draws.choice((60, 70, 80, 90))]
         drawn = {"junctions": [across, up], "metres": [wide, high], "lanes": count}
-        return Draft(["netgenerate", "--grid", *map(str, size), *words], drawn=drawn)
+        return Draft(["netgenerate", "--grid", *map(str, size), *more_words], drawn=drawn)
 
     return build
 

@@ -41,11 +41,11 @@ class Kind:
 def with_words(build: Build, *words: str) -> Build:
     """The same network, made with more words."""
 
-    def more(draws: Random, folder: Path) -> Draft:
+    def build_with_words(draws: Random, folder: Path) -> Draft:
         draft = build(draws, folder)
-        return replace(draft, words=[*draft.words, *words])
+        return replace(draft, maker_words=[*draft.maker_words, *words])
 
-    return more
+    return build_with_words
 
 
 def with_lights(build: Build, kind: str) -> Build:
@@ -55,10 +55,10 @@ def with_lights(build: Build, kind: str) -> Build:
 def with_buses(build: Build) -> Build:
     """The same network with lines of buses."""
 
-    def more(draws: Random, folder: Path) -> Draft:
+    def build_with_buses(draws: Random, folder: Path) -> Draft:
         return replace(build(draws, folder), lines=draws.randrange(2, 5))
 
-    return more
+    return build_with_buses
 
 
 TURN_LANES = grid(*LIGHTS, "--turn-lanes", "1", "--turn-lanes.length", "60", lanes=(2,))
@@ -112,7 +112,7 @@ USUAL = (
 
 FULL = 1800  # vehicles an hour that a lane passes in a green without an end
 PERMISSIVE = 0.35  # of it, where a green waits for others
-LEAST = 20  # vehicles an hour, below which no capacity falls
+LEAST_CAPACITY = 20  # vehicles an hour, below which no capacity falls
 # Of those who give way without a light, by SUMO's states: the least gap that one takes, and what each further one
 # takes of it, in seconds.
 GAPS = {"m": (5.5, 3.0), "Z": (5.5, 3.0), "=": (5.0, 3.5), "s": (8.0, 7.0), "w": (5.0, 7.0)}
@@ -134,10 +134,10 @@ class Connection:
     def capacity(self, hourly: dict[Movement, float]) -> float:
         """Vehicles an hour that pass, by those of each movement."""
         if not self.gaps:
-            return max(LEAST, FULL * self.green)
+            return max(LEAST_CAPACITY, FULL * self.green)
         flow = sum(share * hourly.get(one, 0.0) for one, share in self.foes.items()) / 3600 + 1e-6
         least, each = self.gaps
-        return max(LEAST, 3600 * flow * exp(-flow * least) / (1 - exp(-flow * each)))
+        return max(LEAST_CAPACITY, 3600 * flow * exp(-flow * least) / (1 - exp(-flow * each)))
 
 
 def scale_for(net: Any, ways: Iterable[Sequence[str]], hours: float, level: float) -> float:
@@ -169,14 +169,14 @@ def connections_of(net: Any) -> list[Connection]:
     ]
 
 
-def connection_of(one: Any, node: Any, greens: dict[str, list[float]]) -> Connection:
-    begin, end = one.getFrom(), one.getTo()
-    lane, movement = (begin.getID(), one.getFromLane().getIndex()), (begin.getID(), end.getID())
+def connection_of(connection: Any, node: Any, greens: dict[str, list[float]]) -> Connection:
+    begin, end = connection.getFrom(), connection.getTo()
+    lane, movement = (begin.getID(), connection.getFromLane().getIndex()), (begin.getID(), end.getID())
     lanes = len(begin.getConnections(end))
-    shares, at = greens.get(one.getTLSID(), []), one.getTLLinkIndex()
+    shares, at = greens.get(connection.getTLSID(), []), connection.getTLLinkIndex()
     if 0 <= at < len(shares):
         return Connection(lane, movement, lanes, shares[at], None, {})
-    gaps, place = GAPS.get(one.getState()), one.getJunctionIndex()
+    gaps, place = GAPS.get(connection.getState()), connection.getJunctionIndex()
     others = node.getConnections() if gaps else []
     foes = {
         (foe.getFrom().getID(), foe.getTo().getID()): 1.0 if foe.getState() == "M" else 0.5
@@ -278,7 +278,7 @@ class Trips:
     begins: Ends
     ends: Ends
     trucks: float
-    known: dict[str, set[str]] = field(default_factory=dict)  # edges to which one comes from an edge
+    reachable: dict[str, set[str]] = field(default_factory=dict)  # edges to which one comes from an edge
 
     def write(self, path: Path, count: int, seconds: int, seed: int) -> None:
         """Writes so many trips of some seconds, in the order of departure."""
@@ -305,14 +305,14 @@ class Trips:
     def reached(self, begin: Any) -> set[str]:
         """The edges to which one comes from an edge."""
         name = begin.getID()
-        if name not in self.known:
+        if name not in self.reachable:
             found, open_ = {name}, [begin]
             while open_:
                 onward = [edge for edge in open_.pop().getOutgoing() if edge.getID() not in found]
                 found.update(edge.getID() for edge in onward)
                 open_ += onward
-            self.known[name] = found
-        return self.known[name]
+            self.reachable[name] = found
+        return self.reachable[name]
 
 
 def trips_on(net: Any, trucks: float) -> Trips:
@@ -357,32 +357,32 @@ def find_ways(folder: Path, routes: str, seed: int) -> None:
     (folder / routes.replace(".rou.xml", ".rou.alt.xml")).unlink(missing_ok=True)
 
 
-def write_flows(folder: Path, draft: Draft, seed: int, much: Amount) -> int:
+def write_flows(folder: Path, draft: Draft, seed: int, amount: Amount) -> int:
     """Writes demand.rou.xml of a draft's flows, so many times as many as the level says; gives their number."""
-    draws, found, hours = Random(seed), [], much.seconds / 3600
+    draws, departures, hours = Random(seed), [], amount.seconds / 3600
     for flow in draft.flows:
-        departs = (int(draws.uniform(0, much.seconds)) for _ in range(round(flow.hourly * much.level * hours)))
-        found += [(depart, f"{flow.name}.{at}", flow) for at, depart in enumerate(departs)]
+        departs = (int(draws.uniform(0, amount.seconds)) for _ in range(round(flow.hourly * amount.level * hours)))
+        departures += [(depart, f"{flow.name}.{at}", flow) for at, depart in enumerate(departs)]
     lines = [
         f'<vehicle id="{name}" type="{flow.kind}" depart="{depart}" departLane="best" departSpeed="max">'
         f'<route edges="{flow.edges}"/></vehicle>'
-        for depart, name, flow in sorted(found, key=lambda one: one[:2])
+        for depart, name, flow in sorted(departures, key=lambda one: one[:2])
     ]
     text = "\n".join(lines)
     (folder / "demand.rou.xml").write_text(f"<routes>{TYPES}{draft.types}{text}</routes>\n", encoding="utf-8")
     return len(lines)
 
 
-def write_demand(folder: Path, net: Any, seed: int, much: Amount, trucks: float) -> int:
+def write_demand(folder: Path, net: Any, seed: int, amount: Amount, trucks: float) -> int:
     """Writes demand.rou.xml of trips between edges; gives their number."""
-    trips, vehicles = trips_on(net, trucks), much.vehicles
+    trips, vehicles = trips_on(net, trucks), amount.vehicles
     if vehicles is None:
-        trips.write(folder / "trips.xml", SAMPLE, much.seconds, seed)
+        trips.write(folder / "trips.xml", SAMPLE, amount.seconds, seed)
         find_ways(folder, "sample.rou.xml", seed)
-        times = scale_for(net, ways_of(folder / "sample.rou.xml"), much.seconds / 3600, much.level)
+        times = scale_for(net, ways_of(folder / "sample.rou.xml"), amount.seconds / 3600, amount.level)
         (folder / "sample.rou.xml").unlink()
         vehicles = max(1, round(SAMPLE * times))
-    trips.write(folder / "trips.xml", vehicles, much.seconds, seed + 1)
+    trips.write(folder / "trips.xml", vehicles, amount.seconds, seed + 1)
     find_ways(folder, "demand.rou.xml", seed)
     return len(ways_of(folder / "demand.rou.xml"))
 
@@ -393,7 +393,7 @@ SUMOLIB = f"{SUMO_HOME}/tools"
 
 
 @dataclass(frozen=True)
-class Made:
+class MadeNetwork:
     """A network and its demand; `folder` holds net.net.xml, demand.rou.xml and, with buses, their files."""
 
     folder: Path
@@ -425,7 +425,7 @@ class Made:
 
 def make(
     kind: str, seed: int, work: Path, level: float = 0.8, vehicles: int | None = None, seconds: int = SECONDS
-) -> Made:
+) -> MadeNetwork:
     """A network and a demand, in a folder of their own below `work`; made where they are not there yet.
 
     level: the share of what it can pass that the busiest approach has; vehicles: so many instead; seconds: in which
@@ -438,11 +438,11 @@ def make(
     folder = work.resolve() / f"{kind}-{seed}-{amount}{length}"
     note = folder / "made.json"
     if note.exists():
-        return Made(folder, **json.loads(note.read_text(encoding="utf-8")))
+        return MadeNetwork(folder, **json.loads(note.read_text(encoding="utf-8")))
     folder.mkdir(parents=True, exist_ok=True)
     draws = Random(f"{kind} {seed}")
     draft = KINDS[kind].build(draws, folder)
-    run([*draft.words, "--no-turnarounds", "true", "--no-warnings", "-o", "net.net.xml"], folder)
+    run([*draft.maker_words, "--no-turnarounds", "true", "--no-warnings", "-o", "net.net.xml"], folder)
     net = read_net(folder / "net.net.xml")
     much = Amount(level, vehicles, seconds)
     if draft.flows:
@@ -451,7 +451,7 @@ def make(
         found = write_demand(folder, net, seed, much, draft.trucks)
     if draft.lines:
         write_buses(folder, net, ways_of(folder / "demand.rou.xml"), draft.lines, draws)
-    made = Made(folder, kind, seed, level, found, bool(draft.lines), draft.drawn, draft.importing, seconds)
+    made = MadeNetwork(folder, kind, seed, level, found, bool(draft.lines), draft.drawn, draft.importing, seconds)
     fields = {name: value for name, value in asdict(made).items() if name != "folder"}
     note.write_text(json.dumps(fields, indent=1) + "\n", encoding="utf-8")
     return made

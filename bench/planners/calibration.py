@@ -34,7 +34,7 @@ from streetsim.sumo.network import Options
 
 SEEDS = range(11, 15)
 SHARES = (0.1, 0.2, 0.3, 0.4, 0.5, 0.6, 0.7, 0.8, 0.9, 1.0)
-BOTH = ("uncalibrated", "calibrated")
+STAGES = ("uncalibrated", "calibrated")
 KINDS = {
     "a wave": ("wave",), "a split": ("split",), "waves and splits": ("wave", "split"),
     "growth by a tenth": ("growth",), "a lane removed": ("diet",),
@@ -86,7 +86,7 @@ def surveyed_share(program, street, base, folder, drivers):
     return round(float(np.interp(flow_in_sumo, rising, SHARES)), 3), flow_in_sumo, flows_here
 
 
-def grown(routes, out):
+def grown(routes, out_path):
     """The vehicles with a tenth more, drawn."""
     tree, draws, added_cars = ElementTree.parse(routes), np.random.default_rng(3), []
     root = tree.getroot()
@@ -101,8 +101,8 @@ def grown(routes, out):
         root.remove(car)
     for car in sorted(cars + added_cars, key=lambda one: float(one.get("depart"))):
         root.append(car)
-    tree.write(out)
-    return out
+    tree.write(out_path)
+    return out_path
 
 
 def calibrate(program, net, folder):
@@ -133,7 +133,7 @@ def judged(program, street, base):
     before, changes = truth_of(folder)
     gains = {"name": f"{street.name} {street.driver}", "truth": before, "true": changes, "day": day}
     gains["criteria"] = criteria
-    for stage, drivers in zip(BOTH, (None, folder / "drivers.json")):
+    for stage, drivers in zip(STAGES, (None, folder / "drivers.json")):
         usual = mean_trip(program, top / "net.net.xml", [], routes, options(drivers))
         gains[stage] = {"base": usual}
         for treatment in street.treatments:
@@ -156,7 +156,7 @@ def judged(program, street, base):
 def line_of(gains):
     """A street in a line."""
     parts = [f"{gains['name']}: base {gains['truth']:.1f}"]
-    parts += [f"{which} {gains[which]['base']:.1f}" for which in BOTH]
+    parts += [f"{which} {gains[which]['base']:.1f}" for which in STAGES]
     for what, true in gains["true"].items():
         parts.append(f"{what} {true:+.1f}: {gains['uncalibrated'][what]:+.1f}, {gains['calibrated'][what]:+.1f}")
     parts.append(f"segments of day B {segments(gains, 'calibrated'):.0f} %")
@@ -182,15 +182,15 @@ def errors_of(streets, kinds, which):
 
 def cells_of(streets):
     """The rows of the table for some streets: (what, cells without and with calibration, their ratio)."""
-    off = [off_by([(street[which]["base"], street["truth"]) for street in streets]) for which in BOTH]
+    off = [off_by([(street[stage]["base"], street["truth"]) for street in streets]) for stage in STAGES]
     yield "mean trip of the base off (rms)", *off, ""
     yield "the counted day itself off (rms)", "", off_by([(street["day"], street["truth"]) for street in streets]), ""
-    off = [off_by([(street[which]["base"], street["day"]) for street in streets]) for which in BOTH]
+    off = [off_by([(street[stage]["base"], street["day"]) for street in streets]) for stage in STAGES]
     yield "mean trip of the base off from the counted day (rms)", *off, ""
-    held = [sum(segments(street, which) >= 85 for street in streets) for which in BOTH]
+    held = [sum(segments(street, stage) >= 85 for street in streets) for stage in STAGES]
     yield "85 % of segments within 15 % on the other day", *(f"{count} of {len(streets)}" for count in held), ""
     for kind, kinds in KINDS.items():
-        (error, true), (less, _) = (errors_of(streets, kinds, which) for which in BOTH)
+        (error, true), (less, _) = (errors_of(streets, kinds, stage) for stage in STAGES)
         if true:
             shares = f"{error / true:.0%}", f"{less / true:.0%}"
             yield f"error of {kind}, in % of the changes", *shares, f"{less / error:.2f}"
@@ -214,9 +214,9 @@ def street_rows(streets):
     yield "| Street, drivers | base: true, here | wave | split | growth | lane removed |"
     yield "|---|---|---|---|---|---|"
     for one in streets:
-        cells = [f"{one['truth']:.1f}: " + ", ".join(f"{one[which]['base']:.1f}" for which in BOTH)]
+        cells = [f"{one['truth']:.1f}: " + ", ".join(f"{one[which]['base']:.1f}" for which in STAGES)]
         for what in ("wave", "split", "growth", "diet"):
-            here = ", ".join(f"{one[which][what]:+.1f}" for which in BOTH) if what in one["true"] else ""
+            here = ", ".join(f"{one[which][what]:+.1f}" for which in STAGES) if what in one["true"] else ""
             cells.append(f"{one['true'][what]:+.1f}: {here}" if here else "")
         yield f"| {one['name']} | {' | '.join(cells)} |"
 
@@ -290,7 +290,7 @@ def pair(program, both, until, seed, is_drawn):
     return found[0], found[1] - found[0]
 
 
-def held(program, sides, until, args):
+def coverage_of_intervals(program, sides, until, args):
     """How often each interval has the truth of (mean trip, change), and their mean half widths; and the truth."""
     true_pairs = [pair(program, sides, until, 1000 + day, True) for day in range(args.truth)]
     truth = [fmean(side) for side in zip(*true_pairs)]
@@ -328,7 +328,7 @@ def main_day_intervals(argv: list[str]) -> int | None:
     shared.print_heads("network | interval | mean trip: held, half width | change by the wave: held, half width")
     for name in args.only:
         both, until = STREETS[name](args.work)
-        hits, widths, truth, errors = held(args.program, both, until, args)
+        hits, widths, truth, errors = coverage_of_intervals(args.program, both, until, args)
         for how in HOW:
             cells = [f"{hits[how][side]} of {args.days}, {widths[how][side]:.2f} s" for side in (0, 1)]
             print(f"| {name} | {how} | {cells[0]} | {cells[1]} |", flush=True)
@@ -340,7 +340,7 @@ CYCLE, GREENS, CELLS, FIRST = 80, 30, 60, 3  # the first cycles fill the lane
 UNTIL = (GREENS + FIRST + 1) * CYCLE
 
 
-def passed(program, dawdle, limit, green, seed):
+def passing_clocks(program, dawdle, limit, green, seed):
     """The clocks at which vehicles pass the stop line of a full lane."""
     links = [[0, 0, 1, 1, CELLS, limit], [1, 1, 2, 1, CELLS, limit]]
     load = {
@@ -365,7 +365,7 @@ def passed(program, dawdle, limit, green, seed):
 def measured(program, dawdle, limit, green, seeds):
     """(headway s, vehicles a green), the mean over seeds."""
     begins = [CYCLE - green + CYCLE * cycle for cycle in range(FIRST, FIRST + GREENS)]
-    return np.mean([discharge(passed(program, dawdle, limit, green, seed), begins, CYCLE) for seed in seeds], 0)
+    return np.mean([discharge(passing_clocks(program, dawdle, limit, green, seed), begins, CYCLE) for seed in seeds], 0)
 
 
 def main_saturation(argv: list[str]) -> int | None:

@@ -46,13 +46,13 @@ PROPOSALS, TOOLS_BEST, SEARCH = (
 )
 
 
-def run(words, folder, statuses=(0,)):
+def run(command, folder, statuses=(0,)):
     """Runs a command in a folder; gives its processor seconds and those of the clock."""
     before, begin = shared.children_seconds(), time.perf_counter()
-    words = [str(word) for word in words]
-    done = subprocess.run(words, cwd=folder, env=shared.with_sumo(), capture_output=True, text=True, check=False)
+    command = [str(word) for word in command]
+    done = subprocess.run(command, cwd=folder, env=shared.with_sumo(), capture_output=True, text=True, check=False)
     if done.returncode not in statuses:
-        raise SystemExit(f"{' '.join(words)}\n{done.stdout}{done.stderr}")
+        raise SystemExit(f"{' '.join(command)}\n{done.stdout}{done.stderr}")
     return shared.children_seconds() - before, time.perf_counter() - begin
 
 
@@ -122,13 +122,13 @@ def found_plans(case, args):
     return plans
 
 
-def searched(case, args, name, words):
+def searched(case, args, name, search_words):
     output = case.folder / f"{name}.add.xml"
     if not output.exists():
         given = ["run.jsonl", "--map", "map.json", "--plans", case.net, *case.lights, "--until", UNTIL]
         machine = ["--jobs", args.jobs, "--program", args.program]
-        words = [TOP / "tools/streetsim-signals", *given, *machine, *words, "-o", output, "--out", case.folder / name]
-        spent, clock = run(words, case.folder, (0, 1))
+        command = [TOP / "tools/streetsim-signals", *given, *machine, *search_words, "-o", output]
+        spent, clock = run([*command, "--out", case.folder / name], case.folder, (0, 1))
         with open(case.folder / name / "search.csv", encoding="utf-8") as file:
             trials = list(csv.DictReader(file))
         seeds = f"{trials[0]['simulations']} seed{'s' * (trials[0]['simulations'] != '1')} a plan"
@@ -158,7 +158,7 @@ def in_sumo(case, additional, seed, name):
     return float(trips["duration"]) + float(trips["departDelay"]), int(root.find("teleports").get("total"))
 
 
-def here(case, plans, args):
+def trips_here(case, plans, args):
     """Mean trips here with seeds 101 to 110, {name: (mean, half width)}, by a study."""
     folder = case.folder
     names = dict(zip((f"plan{place}" for place in range(len(plans))), plans, strict=True))
@@ -185,7 +185,7 @@ def rows(name, case, args):
         words = [TOP / "tools/streetsim-import", case.net, *case.types, *case.lights, "--routes", case.routes]
         run([*words, "-o", "run.jsonl", "--map", "map.json"], case.folder)
     plans = {"given": [], **own_tools(case), **found_plans(case, args)}
-    ours, runs, theirs = here(case, plans, args), sumo_runs(case, plans, args), {}
+    ours, runs, theirs = trips_here(case, plans, args), sumo_runs(case, plans, args), {}
     for plan in plans:
         theirs[plan], teleports = [mean for mean, _ in runs[plan]], sum(number for _, number in runs[plan])
         mean, half = mean_and_half_width(theirs[plan])
@@ -329,7 +329,7 @@ class Forgotten:
     def read(self):
         return read_town(str(self.network.net), [str(one) for one in self.network.additional], self.options, Report())
 
-    def passed(self, routes, counts, seed):
+    def passed_counts(self, routes, counts, seed):
         """How many pass each count in a run of some routes, and how many vehicles there are."""
         town = self.read()
         trips = read_trips([str(one) for one in routes], town.net, town.graph, town.types, self.options, Report())
@@ -348,7 +348,7 @@ class Forgotten:
                 found[self.town.net.edges[graph.edges[edge]].end].append((graph.edges[edge], graph.edges[following]))
         return {junction: some for junction, some in sorted(found.items()) if len(some) > 2}
 
-    def counted(self):
+    def drawn_counts(self):
         """Counts of the junctions that are used, with errors, and of the others without."""
         turns, draws = self.turns(), random.Random(f"counted {self.args.counted} {self.network.name}")
         used = set(draws.sample(sorted(turns), max(1, round(SHARE * len(turns)))))
@@ -359,7 +359,8 @@ class Forgotten:
         ]  # fmt: skip
         path = self.folder / "true.csv"
         if not path.exists():
-            values, vehicles, rescues = self.passed(self.network.routes, [count for _, count in counts], TRUE_SEED)
+            all_counts = [count for _, count in counts]
+            values, vehicles, rescues = self.passed_counts(self.network.routes, all_counts, TRUE_SEED)
             path.write_text("\n".join(map(str, (vehicles, rescues, *values))) + "\n")
         self.vehicles, self.rescues, *values = map(int, path.read_text().split())
         true = [(own, replace(count, vehicles=value)) for (own, count), value in zip(counts, values, strict=True)]
@@ -389,7 +390,7 @@ def write_xml(path, counts):
     path.write_text("\n".join([*parts, "</data>"]))
 
 
-def kept(path, make):
+def kept_seconds(path, make):
     """What a file has, made first where it is not there."""
     if not path.exists():
         path.write_text(f"{make():.1f}\n")
@@ -401,14 +402,14 @@ def fitted_here(case, wrong):
     words = [TOP / "tools/streetsim-demand", case.network.net, *case.network.additional, "--counts", "counts.csv"]
     words += ["--ends", "all", "--most", case.args.most, "--runs", 3, "--program", case.program]
     words += ["-o", "here.rou.xml", "--out", "here"]
-    return kept(case.folder / "here.seconds", lambda: run(words, case.folder, (0, 1))[0])
+    return kept_seconds(case.folder / "here.seconds", lambda: run(words, case.folder, (0, 1))[0])
 
 
 def fitted_there(case, wrong):
     write_xml(case.folder / "counts.xml", wrong)
     words = ["/usr/bin/python3", f"{SUMO_HOME}/tools/routeSampler.py", "-r", "here/candidates.rou.xml"]
     words += ["-t", "counts.xml", "--optimize", "full", "-s", 1, "-o", "there.rou.xml"]
-    return kept(case.folder / "there.seconds", lambda: run(words, case.folder, (0, 1))[0])
+    return kept_seconds(case.folder / "there.seconds", lambda: run(words, case.folder, (0, 1))[0])
 
 
 def shares(counts, values):
@@ -423,7 +424,7 @@ SIDES = ("`streetsim-demand`", fitted_here, "here"), ("routeSampler", fitted_the
 
 
 def demand_rows(case):
-    wrong, counts_back, used, all_ = case.counted()
+    wrong, counts_back, used, all_ = case.drawn_counts()
     name = f"{case.network.name}, {case.vehicles:,} vehicles, {used} of {all_} junctions counted"
     for label, find, routes in SIDES:
         if routes not in case.args.sides.split(","):
@@ -432,7 +433,7 @@ def demand_rows(case):
         path = case.folder / f"{routes}.values"
         if not path.exists():
             route_files, all_counts = [case.folder / f"{routes}.rou.xml"], [*wrong, *counts_back]
-            values, vehicles, rescues = case.passed(route_files, all_counts, JUDGE_SEED)
+            values, vehicles, rescues = case.passed_counts(route_files, all_counts, JUDGE_SEED)
             path.write_text("\n".join(map(str, (vehicles, rescues, *values))) + "\n")
         vehicles, _, *values = map(int, path.read_text().split())
         cells = shares(wrong, values[: len(wrong)]), shares(counts_back, values[len(wrong) :])

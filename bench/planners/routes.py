@@ -24,7 +24,7 @@ from streetsim.base.seeds import mean_and_half_width, seeds_of
 
 UNTIL = 10_800
 SLICE = 300
-MADE = {  # by netgenerate: its words, and the seed of randomTrips
+GENERATED = {  # by netgenerate: its words, and the seed of randomTrips
     "spider": (
         "--spider --spider.arm-number 9 --spider.circle-number 5 --spider.space-radius 180 -L 1 --seed 2718 "
         "-j traffic_light",
@@ -128,7 +128,7 @@ def case_of(name, folder):
     count, trips = CASES[name], folder / "demand.trips.xml"
     if name == "town":
         return Case(folder, SAMPLES / "town.net.xml.gz", trips_of(SAMPLES / "town.rou.xml.gz", trips))
-    net, (words, seed) = folder / "made.net.xml", MADE[name]
+    net, (words, seed) = folder / "made.net.xml", GENERATED[name]
     if not trips.exists():
         generate(net, f"{words} --no-turnarounds true")
         random_trips(net, folder / "validated.rou.xml", 3600 / count, f"--seed {seed} --min-distance 500")
@@ -217,8 +217,8 @@ class InSumo:
 def in_sumo(case, routes, seed, obstacles=None):
     """SUMO's run with some routes and a seed. obstacles: vehicles that stand where works are."""
     place, stem = routes.parent, "" if routes.name == "found.rou.xml" else f"{routes.name.removesuffix('.rou.xml')}-"
-    trips, told, passes = (place / f"{stem}{name}-{seed}.xml" for name in ("trips", "statistic", "passes"))
-    if not told.exists():
+    trips, statistic_path, passes = (place / f"{stem}{name}-{seed}.xml" for name in ("trips", "statistic", "passes"))
+    if not statistic_path.exists():
         given = ",".join(map(str, [routes, *([obstacles] if obstacles else [])]))
         words = [
             "sumo", "-n", case.net, "-r", given, "--seed", seed, "-e", UNTIL,
@@ -226,7 +226,7 @@ def in_sumo(case, routes, seed, obstacles=None):
         ]
         words += ["--tripinfo-output.write-unfinished", "--vehroute-output", passes, "--vehroute-output.exit-times"]
         run([*words, "--no-step-log", "--no-warnings", "--statistic-output", place / f"{stem}half.xml"], place)
-        os.replace(place / f"{stem}half.xml", told)
+        os.replace(place / f"{stem}half.xml", statistic_path)
     seconds, arrived, standing = [], 0, 0
     for trip in elements(trips, ["tripinfos"]):
         if trip.get("id").startswith(OBSTACLE):
@@ -236,7 +236,7 @@ def in_sumo(case, routes, seed, obstacles=None):
         if float(trip.get("depart")) >= 0:
             seconds.append((arrival if arrival >= 0 else UNTIL) - wished)
             arrived += arrival >= 0
-    statistic = ElementTree.parse(told).getroot()
+    statistic = ElementTree.parse(statistic_path).getroot()
     lacking = int(statistic.find("vehicles").get("loaded")) - standing - arrived
     return InSumo(fmean(seconds), int(statistic.find("teleports").get("total")), lacking, passes)
 

@@ -165,22 +165,22 @@ def main_day(argv: list[str]) -> int | None:
 
 
 @dataclass
-class Made:
+class RunFiles:
     """The files of a run, and the words by which it is made."""
 
     net: Path
     routes: Path
     until: int
-    words: tuple[str, ...] = ("--junctions", "900")
+    run_words: tuple[str, ...] = ("--junctions", "900")
 
 
 def corridor(folder):
     net, routes = shared.CORRIDOR / "corridor.net.xml.gz", shared.CORRIDOR / "corridor.rou.xml"
-    return Made(net, routes, 4500, ("--every", "1", "--junctions", "900"))
+    return RunFiles(net, routes, 4500, ("--every", "1", "--junctions", "900"))
 
 
 def sample_grid(folder):
-    return Made(shared.SAMPLES / "grid.net.xml.gz", shared.SAMPLES / "grid.rou.xml.gz", 5400)
+    return RunFiles(shared.SAMPLES / "grid.net.xml.gz", shared.SAMPLES / "grid.rou.xml.gz", 5400)
 
 
 def big(folder):
@@ -189,19 +189,19 @@ def big(folder):
     if not routes.exists():
         make_network(net, 12, "traffic_light")
         write_routes(routes, sorted(draws.randrange(3600) for _ in range(8000)), draws, 12)
-    return Made(net, routes, 5400)
+    return RunFiles(net, routes, 5400)
 
 
 RUNS = {"corridor": corridor, "grid": sample_grid, "big": big}
 
 
-def seconds_of(words, folder, told):
+def seconds_of(command, folder, told):
     """The processor seconds of a command and all that it starts."""
     before = shared.children_seconds()
     with open(told, "w", encoding="utf-8") as file:
-        words = [str(word) for word in words]
+        command = [str(word) for word in command]
         environment = {**shared.with_sumo(), "PYTHONDONTWRITEBYTECODE": ""}  # modules are compiled once, as installed
-        subprocess.run(words, cwd=folder, env=environment, stdout=file, stderr=file, check=True)
+        subprocess.run(command, cwd=folder, env=environment, stdout=file, stderr=file, check=True)
     return shared.children_seconds() - before
 
 
@@ -233,7 +233,7 @@ def main_kernel_runs(argv: list[str]) -> int | None:
         if not (folder / "run.map.json").exists():
             words = [TOP / "tools/streetsim-import", case.net, "--routes", case.routes]
             shared.run([*words, "-o", "run.jsonl", "--map", "run.map.json"], folder)
-        words = ["run.jsonl", "--map", "run.map.json", "--until", case.until, "--rounds", 0, *case.words]
+        words = ["run.jsonl", "--map", "run.map.json", "--until", case.until, "--rounds", 0, *case.run_words]
         turns = {
             "here": [TOP / "tools/streetsim-run", *words, "--program", args.program, "--out", "here"],
             "sumo": sumo_words(case.net, case.routes, case.until, folder),
@@ -455,7 +455,7 @@ PICTURES = {  # where each lies below the examples, of which run, how wide and h
 }
 
 
-def named(net: str) -> str:
+def with_street_names(net: str) -> str:
     """The corridor's network with names of its streets."""
     name = {"3": lambda _: "High Street", "1": lambda edge: CROSS_STREETS[int(re.sub(r"\D", "", edge)[0]) - 1]}
 
@@ -470,7 +470,7 @@ def make_runs(work: Path) -> None:
     for name in ("corridor", "town"):
         shared.run([TOOLS / "streetsim-example", name, "--out", work], work)
     net = gzip.decompress((work / "corridor.net.xml.gz").read_bytes()).decode()
-    (work / "named.net.xml").write_text(named(net), encoding="utf-8")
+    (work / "named.net.xml").write_text(with_street_names(net), encoding="utf-8")
     for name, words in (
         ("corridor", ["named.net.xml", "--routes", "corridor.rou.xml"]),
         ("town", ["town.net.xml.gz", "--routes", "town.rou.xml.gz"]),

@@ -53,7 +53,7 @@ class OverSumo:
             name: [state for state in of if "y" not in state.lower() and "g" in state.lower()]
             for name, of in states.items()
         }
-        self.now = dict.fromkeys(self.lanes, 0)
+        self.green_indexes = dict.fromkeys(self.lanes, 0)
         for name in {name for lanes in self.lanes.values() for name in lanes}:
             lane.subscribe(
                 name,
@@ -66,32 +66,32 @@ class OverSumo:
 
     def step(self, actions: dict[str, int]) -> dict[str, list[float]]:
         traci = self.traci
-        changed = [name for name, action in actions.items() if action != self.now[name]]
+        changed = [name for name, action in actions.items() if action != self.green_indexes[name]]
         for name in changed:
-            before, after = self.greens[name][self.now[name]], self.greens[name][actions[name]]
+            before, after = self.greens[name][self.green_indexes[name]], self.greens[name][actions[name]]
             yellow = "".join(
                 "y" if now in "Gg" and then not in "Gg" else now for now, then in zip(before, after, strict=True)
             )
             traci.trafficlight.setRedYellowGreenState(name, yellow)
-            self.now[name] = actions[name]
+            self.green_indexes[name] = actions[name]
         for second in range(EVERY):
             if second == YELLOW:
                 for name in changed:
-                    traci.trafficlight.setRedYellowGreenState(name, self.greens[name][self.now[name]])
+                    traci.trafficlight.setRedYellowGreenState(name, self.greens[name][self.green_indexes[name]])
             traci.simulationStep()
         found = traci.lane.getAllSubscriptionResults()
         return {name: [value for lane in lanes for value in found[lane].values()] for name, lanes in self.lanes.items()}
 
 
 @contextmanager
-def over(traci, words: list[str]) -> Iterator[tuple[OverSumo, dict[str, int]]]:
+def over_sumo(traci, words: list[str]) -> Iterator[tuple[OverSumo, dict[str, int]]]:
     made = OverSumo(words, traci)
     yield made, {name: len(greens) for name, greens in made.greens.items()}
     traci.close()
 
 
 @contextmanager
-def here(words: list[str]) -> Iterator[tuple[SignalEnv, dict[str, int]]]:
+def over_streetsim(words: list[str]) -> Iterator[tuple[SignalEnv, dict[str, int]]]:
     with SignalEnv([*words, "-W"], every=EVERY, yellow=YELLOW, least=EVERY) as made:
         made.reset(seed=1)
         yield made, {name: made.actions(name) for name in made.lights}
@@ -155,7 +155,7 @@ def main_environment(argv: list[str]) -> int | None:
     shared.print_heads(f"Network | {rates} | here by libsumo | load")
     with tempfile.TemporaryDirectory() as folder:  # SUMO writes beside itself
         os.chdir(folder)
-        ways = *(partial(over, one) for one in simulators()), here
+        ways = *(partial(over_sumo, one) for one in simulators()), over_streetsim
         for name, (net, routes) in NETS.items():
             given = ["-n", str(net), "-r", str(routes), "--seed", "1"]
             begin = time.time()
@@ -209,7 +209,7 @@ def run(script: Path, binary: str, options: argparse.Namespace, script_words: li
     """(arrived vehicles, processor seconds of the simulator) of a script."""
     variables = {**os.environ, "PYTHONPATH": f"{SUMO_HOME}/tools", "SUMO_HOME": SUMO_HOME}
     variables["STREETSIM_PROGRAM"] = options.program
-    variables |= {"XDG_CACHE_HOME": str(kept(options)), "PYTHONPYCACHEPREFIX": str(options.work / "bytecode")}
+    variables |= {"XDG_CACHE_HOME": str(import_cache(options)), "PYTHONPYCACHEPREFIX": str(options.work / "bytecode")}
     variables.pop("PYTHONDONTWRITEBYTECODE", None)
     done = subprocess.run(
         [sys.executable, "-c", RUN, script, binary, str(options.seconds), *script_words], env=variables,
@@ -219,7 +219,7 @@ def run(script: Path, binary: str, options: argparse.Namespace, script_words: li
     return int(told.split()[0]), float(spent.split()[1])
 
 
-def kept(asked: argparse.Namespace) -> Path:
+def import_cache(asked: argparse.Namespace) -> Path:
     """The folder of kept imports."""
     return asked.work.resolve() / "kept"
 
@@ -228,7 +228,7 @@ def figures(script: Path, ours: str, options: argparse.Namespace, script_words: 
     """(arrived vehicles, median of processor seconds) over SUMO, at first starts and at later ones."""
     found: list[list[tuple[int, float]]] = [[], [], []]
     for _ in range(options.times):
-        shutil.rmtree(kept(options), ignore_errors=True)
+        shutil.rmtree(import_cache(options), ignore_errors=True)
         for place, binary in zip(found, ("sumo", ours, ours)):
             place.append(run(script, binary, options, script_words))
     return [(own[0][0], statistics.median(seconds for _, seconds in own)) for own in found]
@@ -267,15 +267,16 @@ def main_sumo_scripts(argv: list[str]) -> int | None:
 
 
 SPEED = 13.9  # metres a second
-EACH, DWELL = 180, 20  # seconds between buses of a direction, at their stop
+HEADWAY, DWELL = 180, 20  # seconds between buses of a direction, at their stop
 UNTIL = 7200
 BUSES = {"east": "WJ1 J1J2 J2J3 J3J4 J4J5 J5E", "west": "EJ5 J5J4 J4J3 J3J2 J2J1 J1W"}  # ways of both directions
 STOPS = {"east": "J2J3_0", "west": "J4J3_0"}  # lanes
 KINDS = {"zero": "fixed, all green at once", "wave": "fixed, a green wave eastward", "actuated": "actuated"}
 
 
-def make_corridor(folder, kind, more=""):
-    """The network of the example with lights of a kind, and its demand with buses; more: attributes of their type."""
+def make_corridor(folder, kind, bus_attributes=""):
+    """The network of the example with lights of a kind, and its demand with buses; bus_attributes: of
+    their type."""
     words = ["netconvert", "-s", shared.CORRIDOR / "corridor.net.xml.gz", "-o", "x.net.xml"]
     if kind == "actuated":
         shared.run([*words[:-2], "--plain-output-prefix", "plain"], folder)
@@ -289,12 +290,12 @@ def make_corridor(folder, kind, more=""):
     wave = wave if kind == "wave" else "<additional></additional>"
     (folder / "x.add.xml").write_text(wave.replace("</additional>", f"{stops}</additional>"), encoding="utf-8")
     flows = "".join(
-        f'<flow id="bus{name}" type="bus" begin="60" end="3600" period="{EACH}"><route edges="{edges}"/>'
+        f'<flow id="bus{name}" type="bus" begin="60" end="3600" period="{HEADWAY}"><route edges="{edges}"/>'
         f'<stop busStop="{name}" duration="{DWELL}"/></flow>'
         for name, edges in BUSES.items()
     )
     demand = (shared.CORRIDOR / "corridor.rou.xml").read_text(encoding="utf-8")
-    bus = f'<vType id="bus" vClass="bus" {more}/>{flows}</routes>'
+    bus = f'<vType id="bus" vClass="bus" {bus_attributes}/>{flows}</routes>'
     (folder / "x.rou.xml").write_text(demand.replace("</routes>", bus), encoding="utf-8")
 
 
@@ -308,7 +309,7 @@ class Waiting:
         ends = [(None, None) if self.is_fixed else (one.minDur, one.maxDur) for one in program.phases]
         rows = [(one.duration, one.state, *both) for one, both in zip(program.phases, ends, strict=True)]
         self.phases = [bounded(row, SEEN_SECONDS) for row in rows]
-        self.logic, self.since, self.at = Coordinated(self.phases, ()), 0, 0
+        self.logic, self.since, self.shown_phase = Coordinated(self.phases, ()), 0, 0
         self.logic.begin_at(0, offset or 0)
 
     def step(self, clock, indexes):
@@ -325,8 +326,8 @@ class Waiting:
                 self.lights.setPhase(self.name, self.logic.phase_index)
             return
         phase_number = self.lights.getPhase(self.name)
-        if phase_number != self.at:
-            self.at, self.since = phase_number, clock
+        if phase_number != self.shown_phase:
+            self.shown_phase, self.since = phase_number, clock
         phase, lasted = self.phases[phase_number], clock - self.since
         may_change = called and phase.is_extended and lasted < phase.most_seconds
         if may_change and (phase_number in called or lasted >= phase.least_seconds):

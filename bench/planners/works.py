@@ -15,7 +15,7 @@ from statistics import fmean
 import shared
 from beside_sumo.rows import sumo_trips
 from networks.streets import Plain
-from networks.unseen import Made, make, read_net, ways_of
+from networks.unseen import MadeNetwork, make, read_net, ways_of
 from shared import SAMPLES, SHIPPED, TOP, numbers, run, teleports_of
 
 PASSES = 1600  # vehicles an hour of an open lane
@@ -58,7 +58,7 @@ class Case:
 
 
 @dataclass(frozen=True)
-class Seen:
+class SeenRun:
     """What a run gave. trips: (wished departure, arrival or the end), by name."""
 
     trips: dict[str, tuple[float, float]]
@@ -66,7 +66,7 @@ class Seen:
     doubt: str = ""
 
 
-def in_sumo(case: Case, works: Stretch | None, seed: int, label: str) -> Seen:
+def in_sumo(case: Case, works: Stretch | None, seed: int, label: str) -> SeenRun:
     """A run of SUMO, kept by its label; nobody is teleported."""
     routes = list(case.routes)
     if works:
@@ -80,7 +80,7 @@ def in_sumo(case: Case, works: Stretch | None, seed: int, label: str) -> Seen:
     for one in ElementTree.parse(trips).iter("tripinfo"):
         found[one.get("id")] = float(one.get("depart")) - float(one.get("departDelay")), float(one.get("arrival"))
     found.pop("works", None)
-    return Seen(found)
+    return SeenRun(found)
 
 
 @cache
@@ -90,7 +90,7 @@ def convert(case: Case) -> None:
     run([TOP / "tools/streetsim-import", *words], case.folder)
 
 
-def here(case: Case, works: Stretch | None, seed: int, label: str, program: str, joint: str) -> Seen:
+def run_here(case: Case, works: Stretch | None, seed: int, label: str, program: str, joint: str) -> SeenRun:
     """A run of streetsim; joint: the lane of works, which is joint without them too."""
     run_folder = case.folder / f"here-{label}-{seed}"
     convert(case)
@@ -111,16 +111,16 @@ def here(case: Case, works: Stretch | None, seed: int, label: str, program: str,
         with open(run_folder / "works.csv", encoding="utf-8") as file:
             stood = max((int(row["longest_stand_s"]) for row in csv.DictReader(file)), default=0)
     doubt = next((line for line in printed.splitlines() if "not to be trusted: " in line), "").partition("trusted: ")[2]
-    return Seen(trips, stood, doubt)
+    return SeenRun(trips, stood, doubt)
 
 
-def mean_trip(seen: Seen, first: float, last: float, until: float, names: set[str] | None = None) -> float:
+def mean_trip(seen: SeenRun, first: float, last: float, until: float, names: set[str] | None = None) -> float:
     """Of those who wish to depart between two seconds; who has not arrived counts until the end."""
     some = [(depart, end) for name, (depart, end) in seen.trips.items() if names is None or name in names]
     return fmean(min(end, until) - depart for depart, end in some if first <= depart < last)
 
 
-def flow(seen: Seen, first: float, last: float) -> float:
+def flow(seen: SeenRun, first: float, last: float) -> float:
     """Arrivals an hour between two seconds."""
     return sum(first <= end < last for _, end in seen.trips.values()) * 3600 / (last - first)
 
@@ -162,14 +162,14 @@ def street_rows(folder: Path, program: str, seeds: range):
     case = plain_street(folder, FULL)
     for place in PLACES:
         works = Stretch("out", 0, place, min(800, place + WORKS), BEGIN, END)
-        flows = [flow(here(case, works, seed, f"{place}", program, ""), BEGIN + 900, END) for seed in seeds]
+        flows = [flow(run_here(case, works, seed, f"{place}", program, ""), BEGIN + 900, END) for seed in seeds]
         yield f"| {FULL:,} | {place} | {fmean(flows):,.0f} |"
 
 
 def street_row(case: Case, hourly: int, place: int, program: str, seeds: range) -> str:
     works = Stretch("out", 0, place, min(799, place + WORKS), BEGIN, END)
     theirs = [in_sumo(case, works, seed, f"{place}") for seed in seeds]
-    ours = [here(case, works, seed, f"{place}", program, "") for seed in seeds]
+    ours = [run_here(case, works, seed, f"{place}", program, "") for seed in seeds]
     there, own = (fmean(mean_trip(one, BEGIN - 100, END, UNTIL) for one in some) for some in (theirs, ours))
     longest = (max(max(end - depart for depart, end in one.trips.values()) for one in some) for some in (theirs, ours))
     more = 100 * (own / there - 1)
@@ -181,27 +181,28 @@ def street_row(case: Case, hourly: int, place: int, program: str, seeds: range) 
 # ---- streets and towns from a seed
 
 DRAWN = ("street", "street", "street", "street", "street", "arterial", "town", "turn-lanes")
-FIRST, LAST, OVER = 600, 3000, 7200
+FIRST, LAST, RUN_END = 600, 3000, 7200
 # Metres of an edge with works, and vehicles that pass it: the first where there is one.
-LEAST, FEW = (150, 100), (200, 100, 50)
+EDGE_METRES, EDGE_VEHICLES = (150, 100), (200, 100, 50)
 
 
 @dataclass(frozen=True)
 class Drawn:
     """Works on a made network, and the share of what the open lanes pass that comes to them."""
 
-    made: Made
+    made_network: MadeNetwork
     works: Stretch
     lanes: int
     share: float
 
     def case(self) -> Case:
-        return Case(self.made.folder, self.made.net, tuple(self.made.routes), tuple(self.made.additional), OVER)
+        network = self.made_network
+        return Case(network.folder, network.net, tuple(network.routes), tuple(network.additional), RUN_END)
 
     def passing(self) -> set[str]:
         """The vehicles whose way has the edge."""
         found = set()
-        for one in ElementTree.parse(self.made.folder / "demand.rou.xml").iter("vehicle"):
+        for one in ElementTree.parse(self.made_network.folder / "demand.rou.xml").iter("vehicle"):
             if self.works.edge in one.find("route").get("edges").split():
                 found.add(one.get("id"))
         return found
@@ -213,7 +214,7 @@ def drawn(seed: int, number: int, work: Path) -> Drawn:
     network = make(kind, seed + number, work, 0.7)
     net = read_net(network.net)
     through = Counter(edge for way in ways(network) for edge in way)
-    able = next(filter(None, (edges_for(net, through, least, few) for few in FEW for least in LEAST)))
+    able = next(filter(None, (edges_for(net, through, least, few) for few in EDGE_VEHICLES for least in EDGE_METRES)))
     able.sort(key=lambda edge: (-through[edge.getID()], edge.getID()))
     edge = able[draws.randrange(max(1, len(able) // 3))]
     length = min(draws.choice((50, 100, 200)), int(edge.getLength()) - 2 * FREE - 21)
@@ -234,8 +235,8 @@ def edges_for(net, through: Counter, least: int, few: int) -> list:
     return [edge for edge in able if through[edge.getID()] >= few]
 
 
-def ways(made: Made) -> list[list[str]]:
-    return ways_of(made.folder / "demand.rou.xml")
+def ways(made_network: MadeNetwork) -> list[list[str]]:
+    return ways_of(made_network.folder / "demand.rou.xml")
 
 
 def drawn_rows(seed: int, folder: Path, program: str, seeds: range):
@@ -251,17 +252,18 @@ def drawn_row(network: Drawn, program: str, seeds: range) -> str:
     joint = f"{works.edge}_{works.lane}"
     added = []
     runs = []
-    for side in (in_sumo, lambda *asked: here(*asked, program, joint)):
+    for side in (in_sumo, lambda *asked: run_here(*asked, program, joint)):
         with_works = [side(case, works, seed, "works") for seed in seeds]
         without = [side(case, None, seed, "none") for seed in seeds]
-        means = (fmean(mean_trip(seen, FIRST, LAST, OVER, names) for seen in some) for some in (with_works, without))
+        means = (fmean(mean_trip(seen, FIRST, LAST, RUN_END, names) for seen in some) for some in (with_works, without))
         first, second = means
         added.append(first - second)
         runs.append(with_works)
     stood = max(seen.stood for seen in runs[1])
     doubt = "doubted" if any(seen.doubt for seen in runs[1]) else ""
     what = f"{works.edge} ({network.lanes} lanes), lane {works.lane}, {works.end - works.begin} m"
-    name = f"{network.made.name}{street_in_words(network.made.drawn) if network.made.kind == 'street' else ''}"
+    made = network.made_network
+    name = f"{made.name}{street_in_words(made.drawn) if made.kind == 'street' else ''}"
     cells = f"{100 * network.share:.0f} % | {added[0]:+.1f} | {added[1]:+.1f} | {stood} s | {doubt}"
     return f"| {name} | {what} | {cells} |"
 

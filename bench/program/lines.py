@@ -22,7 +22,7 @@ from shared import ring_of
 from test_kept import random_lines
 from trials import ERRORS, RECORD, Contradicted, LinkedTrial, Session, Trial, record_of
 
-MOST = 4_096  # nodes, and links
+MOST_NODES = 4_096  # nodes, and links
 TURNS_OF_A_LINK = 8
 ALL_CALLS = ["--calls", "1000000"]  # by default fewer are served
 FIRST_LINK = 100_000_000
@@ -46,9 +46,9 @@ SMALL_LOADED = line({"links": 1, "nodes": 2, "turns": 0})
 def great():
     """A load with as many nodes, links and turns as there may be, and its reply.
     All links run from the first node to itself."""
-    nodes = [[number, 1, 2] for number in range(1, MOST + 1)]
-    links = [[FIRST_LINK + at, 1, 1, 1, 10, 5] for at in range(MOST)]
-    pairs = ((at, (at + further) % MOST) for at in range(MOST) for further in range(TURNS_OF_A_LINK))
+    nodes = [[number, 1, 2] for number in range(1, MOST_NODES + 1)]
+    links = [[FIRST_LINK + at, 1, 1, 1, 10, 5] for at in range(MOST_NODES)]
+    pairs = ((at, (at + further) % MOST_NODES) for at in range(MOST_NODES) for further in range(TURNS_OF_A_LINK))
     turns = [[FIRST_LINK + at, 0, FIRST_LINK + onward, 0] for at, onward in pairs]
     reply = line({"links": len(links), "nodes": len(nodes), "turns": len(turns)})
     return line(shared.load(nodes, links, turns)), reply
@@ -101,14 +101,14 @@ def peak(process):
         return next(int(row.split()[1]) * 1_024 for row in status if row.startswith("VmHWM:"))
 
 
-def ask(process, text, wanted):
+def ask(process, text, expected):
     """The time on the wall from the first byte of a line to its reply, in seconds."""
     begun = time.perf_counter()
     process.stdin.write(text)
     process.stdin.flush()
     said = process.stdout.readline()
     spent = time.perf_counter() - begun
-    equal(said, wanted)
+    equal(said, expected)
     return spent
 
 
@@ -126,7 +126,7 @@ def one_line(program, text, wanted, wanted_next):
     return spent, memory
 
 
-def tell(name, value):
+def print_figure(name, value):
     print(f"  {name:<24}{value}")
 
 
@@ -136,7 +136,7 @@ def time_short_lines(args):
     replies = SMALL_LOADED + AT_ZERO * args.lines
     runs = [spent_by(args.program, SMALL + lines, replies)[0] - base for _ in range(args.times)]
     print(f"{args.lines} lines that advance by 0 steps")
-    tell("lines a second", f"{args.lines / min(runs):.0f} (median {args.lines / statistics.median(runs):.0f})")
+    print_figure("lines a second", f"{args.lines / min(runs):.0f} (median {args.lines / statistics.median(runs):.0f})")
 
 
 def microseconds(program, start, texts, number):
@@ -154,7 +154,7 @@ def time_kind(args, start, name, commands, replies):
     for told, what, spent in (
         ("processor time a line", name, plain), ('with "x":null', f"{name} by way of a JSON value", null)
     ):
-        tell(told, f"{min(spent):.2f} µs (median {statistics.median(spent):.2f} µs)")
+        print_figure(told, f"{min(spent):.2f} µs (median {statistics.median(spent):.2f} µs)")
         keep_result(args, "program", what, {"Measured": f"{min(spent):.2f} µs"})
 
 
@@ -162,8 +162,8 @@ def time_line(args, name, text, wanted, wanted_next):
     runs = [one_line(args.program, text, wanted, wanted_next) for _ in range(args.times)]
     spent = [run[0] * 1_000 for run in runs]
     print(f"{name}, {len(text) - 1} bytes")
-    tell("time", f"{min(spent):.1f} ms (median {statistics.median(spent):.1f} ms)")
-    tell("most memory", f"{max(run[1] for run in runs) / 1e6:.1f} MB")
+    print_figure("time", f"{min(spent):.1f} ms (median {statistics.median(spent):.1f} ms)")
+    print_figure("most memory", f"{max(run[1] for run in runs) / 1e6:.1f} MB")
 
 
 def main_lines(argv: list[str]) -> int | None:
@@ -213,17 +213,17 @@ def sessions(vehicles, lines, waiting):
     and what each reply to these has."""
     draws = random.Random(1)
     base, cars = driving(vehicles), [draws.randrange(vehicles) for _ in range(lines)]
-    asked = b"".join(line({"cmd": "vehicle", "car": car}) for car in cars)
+    questions = b"".join(line({"cmd": "vehicle", "car": car}) for car in cars)
     beside = f"lines a second beside {vehicles:,} vehicles"
-    yield f"`vehicle` {beside}", base, asked, [{"car": car} for car in cars]
+    yield f"`vehicle` {beside}", base, questions, [{"car": car} for car in cars]
     counts = line({"cmd": "count"}) * lines
     yield f"`count` {beside}", base, counts, [{"admitted": vehicles, "arrived": 0, "waiting": 0}] * lines
     entered = b"".join(enter_on(0, draws.randrange(1_000_000)) for _ in range(waiting))
     name = f"`enter` lines a second, {waiting:,} on one lane, random departs"
     yield name, rings_of(1), entered, [{"car": car} for car in range(waiting)]
     cars = [draws.randrange(waiting) for _ in range(lines // 100)]  # fewer, since who waits is sought
-    asked, told = b"".join(line({"cmd": "vehicle", "car": car}) for car in cars), {"state": "waiting"}
-    yield "`vehicle` lines a second of these", rings_of(1) + entered, asked, [{"car": car, **told} for car in cars]
+    questions, told = b"".join(line({"cmd": "vehicle", "car": car}) for car in cars), {"state": "waiting"}
+    yield "`vehicle` lines a second of these", rings_of(1) + entered, questions, [{"car": car, **told} for car in cars]
 
 
 def check(replies, expected):

@@ -50,33 +50,38 @@ def ring(density):
 def grid(vehicles, advances=20):
     side, draws = 32, random.Random(1)
     nodes = [(x, y) for x in range(side) for y in range(side)]
-    number = {node: at for at, node in enumerate(nodes)}
+    number = {node: index for index, node in enumerate(nodes)}
     links = [
-        (at, node, (node[0] + dx, node[1] + dy))
+        (index, node, (node[0] + dx, node[1] + dy))
         for node in nodes
-        for at, (dx, dy) in enumerate(DIRECTIONS)
+        for index, (dx, dy) in enumerate(DIRECTIONS)
         if (node[0] + dx, node[1] + dy) in number
     ]
-    place = {(direction, begin): at for at, (direction, begin, _) in enumerate(links)}
+    place = {(direction, begin): index for index, (direction, begin, _) in enumerate(links)}
     onward = [
         [place[to, end] for to in ((way + 1) % 4, way, (way + 3) % 4) if (to, end) in place] for way, _, end in links
     ]
-    turns = [[at, lane, then, lane] for at, after in enumerate(onward) for then in after for lane in (0, 1)]
+    pairs = [(index, onward_link) for index, after in enumerate(onward) for onward_link in after]
+    turns = [[index, lane, onward_link, lane] for index, onward_link in pairs for lane in (0, 1)]
     lines = [
         load(
-            [[at, 1, 4] for at in range(len(nodes))],
-            [[at, number[begin], number[end], 2, 100, 5] for at, (_, begin, end) in enumerate(links)],
+            [[index, 1, 4] for index in range(len(nodes))],
+            [[index, number[begin], number[end], 2, 100, 5] for index, (_, begin, end) in enumerate(links)],
             turns,
             zone=20,
             change=800,
         )
     ]
     for node in nodes:
-        into = [at for at, (_, _, end) in enumerate(links) if end == node]
+        into = [index for index, (_, _, end) in enumerate(links) if end == node]
         phases = [
             [
                 30,
-                [[at, lane, then] for at in into if links[at][0] % 2 == axis for then in onward[at] for lane in (0, 1)],
+                [
+                    [index, lane, onward_link]
+                    for index in into if links[index][0] % 2 == axis
+                    for onward_link in onward[index] for lane in (0, 1)
+                ],
             ]
             for axis in (0, 1)
         ]
@@ -126,7 +131,7 @@ SESSIONS = {
     "sparse 10000": lambda: sparse(10_000),
     "star 10000": lambda: star(10_000),
 }
-TOLD = {  # in the words of RESULTS.md
+PAGE_NAMES = {  # in the words of RESULTS.md
     **{f"ring 0.{tenth}": f"ring of 100 links, {tenth}0 % full" for tenth in (1, 3)},
     **{f"grid {count}": f"grid of two-lane links, {count:,} vehicles" for count in (5_000, 20_000, 100_000, 400_000)},
     "sparse 10000": "4,096 links of 7,500 km, 10,000 vehicles",
@@ -146,11 +151,11 @@ class Program:
         replies = []
         for at in range(0, len(lines), BATCH):
             part = lines[at : at + BATCH]
-            self.send(part)
+            self.write(part)
             replies += [self.process.stdout.readline() for _ in part]
         return replies
 
-    def send(self, lines):
+    def write(self, lines):
         self.process.stdin.write("".join(text + "\n" for text in lines).encode())
         self.process.stdin.flush()
 
@@ -165,15 +170,15 @@ def run(words_of, lines, chunks):
     first = [program.ask(lines) for program in programs]
     updates, spent = [], {program.name: [] for program in programs}
     for steps in chunks:
-        said = []
+        own_replies = []
         for program in programs:
             before = program.ask([line(cmd="count")])
             start = time.perf_counter()
             moved = program.ask([line(cmd="advance", steps=steps)])
             spent[program.name].append(time.perf_counter() - start)
-            said.append(before + moved + program.ask([line(cmd="count")]))
-        first = [replies + more for replies, more in zip(first, said, strict=True)]
-        cells = [json.loads(said[0][at])["cells"] for at in (0, 2)]
+            own_replies.append(before + moved + program.ask([line(cmd="count")]))
+        first = [replies + more for replies, more in zip(first, own_replies, strict=True)]
+        cells = [json.loads(own_replies[0][at])["cells"] for at in (0, 2)]
         updates.append(sum(cells) / 2 * steps)
     for program in programs:
         program.end()
@@ -214,7 +219,7 @@ def main_steps(argv: list[str]) -> int | None:
             runs = [rates_of(command_lines, *make(), args.times) for _ in range(args.runs)]
             found = cells_of(runs)
             print(f"  {name:<14}" + ", ".join(f"{it} {cell}" for it, cell in found.items()), flush=True)
-            keep_rates(args, TOLD[name] + RUNS.get(args.runs, f" ({args.runs} runs)"), found, runs)
+            keep_rates(args, PAGE_NAMES[name] + RUNS.get(args.runs, f" ({args.runs} runs)"), found, runs)
 
 
 def of_workers(count):
@@ -274,7 +279,7 @@ def cells(program):
     return json.loads(program.ask([line(cmd="count")])[0])["cells"]
 
 
-def counted(path, lines, warm_up_steps, steps, folder):
+def profiled(path, lines, warm_up_steps, steps, folder):
     """Runs a session up to the steps that are counted, and these;
     gives callgrind's file and how many updates they are."""
     profile = Path(folder) / "callgrind.out"
@@ -330,7 +335,7 @@ def main_instructions(argv: list[str]) -> int | None:
     print("instructions a vehicle and step (reads that miss 32 KB, and 1 MB)")
     for name in args.only:
         with tempfile.TemporaryDirectory() as folder:
-            found, updates = counted(args.program, SESSIONS[name]()[0], args.before, args.steps, folder)
+            found, updates = profiled(args.program, SESSIONS[name]()[0], args.before, args.steps, folder)
             rows = by_function(found)
         for function, numbers in rows:
             instructions, near, far = (number / updates for number in numbers)

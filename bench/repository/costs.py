@@ -33,14 +33,14 @@ PART = re.compile(r"== \w")
 VERDICT = re.compile(r"logic=proved (?:tests=(\d+) )?functions=(\d+)")
 PROVED = re.compile(r"rt: (\w+)(: its tests are)? proved$")
 TRIED = re.compile(r"rt: must-fail (\w+)/\S+: (refused|NOT REFUSED)")
-KNOWN = re.compile(r"rt: (\w+): (\d+) of its \d+ must-fail edits were tried by an earlier run")
+TRIED_EARLIER = re.compile(r"rt: (\w+): (\d+) of its \d+ must-fail edits were tried by an earlier run")
 # Only the whole gate says so, once all is proved and each edit is refused.
-PASSED = re.compile(r"^rt: ok; ", re.M)
+GATE_PASSED = re.compile(r"^rt: ok; ", re.M)
 
 
 def processes():
     """Each process that runs: its parent, its words, its folder, when it started, and its processor seconds so far."""
-    found = {}
+    by_pid = {}
     for pid in filter(str.isdigit, os.listdir("/proc")):
         try:
             fields = Path(f"/proc/{pid}/stat").read_text().rsplit(")", 1)[1].split()
@@ -48,8 +48,8 @@ def processes():
             folder = os.readlink(f"/proc/{pid}/cwd")
         except OSError:
             continue
-        found[int(pid)] = (int(fields[1]), words, folder, fields[19], (int(fields[11]) + int(fields[12])) / TICKS)
-    return found
+        by_pid[int(pid)] = (int(fields[1]), words, folder, fields[19], (int(fields[11]) + int(fields[12])) / TICKS)
+    return by_pid
 
 
 def below(found, top):
@@ -65,23 +65,23 @@ def below(found, top):
     return all_below
 
 
-def kind_of(words, folder):
+def kind_of(command, folder):
     """What a process of the gate is for, and the crate; or none."""
-    if Path(words[0]).name != "rattle" or "--crate-name" not in words:
+    if Path(command[0]).name != "rattle" or "--crate-name" not in command:
         return None
-    crate = words[words.index("--crate-name") + 1]
+    crate = command[command.index("--crate-name") + 1]
     if Path(folder).name.startswith("rt-edit"):
         return crate, "edits"
-    if "--test" in words:
+    if "--test" in command:
         return crate, "tests"
-    return crate, "compiled" if "--crate-checked" in words else "proof"
+    return crate, "compiled" if "--crate-checked" in command else "proof"
 
 
 class Watch:
     """The processor seconds of each process below one, as they were seen last, and how busy the machine was."""
 
     def __init__(self, top):
-        self.top, self.seconds, self.loads, self.begun = top, {}, [], time.time()
+        self.top, self.seconds, self.loads, self.start = top, {}, [], time.time()
 
     def look(self):
         found = processes()
@@ -100,7 +100,7 @@ class Watch:
         return total
 
     def minutes(self):
-        return (time.time() - self.begun) / 60
+        return (time.time() - self.start) / 60
 
     def load(self):
         return sum(self.loads) / len(self.loads) if self.loads else 0.0
@@ -109,19 +109,19 @@ class Watch:
 def done_in(output):
     """What a run has done itself: {(crate, kind): functions that were proved, tests that were,
     edits that were tried}."""
-    done, tried, count = {}, Counter(), 0
+    counts, tried, count = {}, Counter(), 0
     for line in output.splitlines():
         if PART.match(line):
             count = 0
-        elif found := VERDICT.match(line):
-            count = int(found[1] or found[2])
-        elif found := PROVED.match(line):
-            done[found[1], "tests" if found[2] else "proof"] = count
-        elif found := TRIED.match(line):
-            tried[found[1]] += 1
-        elif found := KNOWN.match(line):
-            tried[found[1]] -= int(found[2])
-    return done | {(crate, "edits"): number for crate, number in tried.items() if number > 0}
+        elif match := VERDICT.match(line):
+            count = int(match[1] or match[2])
+        elif match := PROVED.match(line):
+            counts[match[1], "tests" if match[2] else "proof"] = count
+        elif match := TRIED.match(line):
+            tried[match[1]] += 1
+        elif match := TRIED_EARLIER.match(line):
+            tried[match[1]] -= int(match[2])
+    return counts | {(crate, "edits"): number for crate, number in tried.items() if number > 0}
 
 
 def listed():
@@ -156,19 +156,19 @@ def is_program(crate):
     return (TOP / "crates" / crate / "src/main.rt").exists()
 
 
-def wanted(crate):
+def figure_kinds(crate):
     """The kinds of figures that a crate has."""
     texts = [path.read_text() for path in files_of(crate) if path.suffix == ".rt"]
-    has = {
+    has_kind = {
         "proof": True,
         "tests": any(re.search(r"#\[test\]", text) for text in texts),
         "edits": edits_of(crate) > 0,
         "compiled": is_program(crate),
     }
-    return [kind for kind in KINDS if has[kind]]
+    return [kind for kind in KINDS if has_kind[kind]]
 
 
-def noted(command, output, watch, sums):
+def run_notes(command, output, watch, sums):
     """A run, to be kept: what it did, with its processor seconds and what was counted."""
     done, seconds = done_in(output), watch.sums()
     done |= {(crate, "compiled"): 0 for crate, kind in done if kind == "proof" and is_program(crate)}
@@ -196,27 +196,28 @@ def figures(runs, crate, kind, total):
 def all_figures(runs):
     """{(crate, kind): figures or None} of all that the crates have."""
     sums = {crate: sum_of(crate) for crate in listed()}
-    return {(crate, kind): figures(runs, crate, kind, sums[crate]) for crate in sums for kind in wanted(crate)}
+    return {(crate, kind): figures(runs, crate, kind, sums[crate]) for crate in sums for kind in figure_kinds(crate)}
 
 
-def table(found, names, own, crates=None):
+def table(figures_by_part, names, with_runs, crates=None):
     """A row for each crate, in the order of crates.txt, and the sums;
-    `own`: whether a row ends with the names of its runs."""
+    `with_runs`: whether a row ends with the names of its runs."""
     rows = []
     for crate in crates or listed():
-        of = {kind: found.get((crate, kind)) for kind in KINDS}
+        of = {kind: figures_by_part.get((crate, kind)) for kind in KINDS}
         counts = [of[kind][1] if of[kind] else 0 for kind in ("proof", "tests")]
         numbers = [lines_of(crate, ".rt"), lines_of(crate, ".antt"), *counts, edits_of(crate)]
         rows.append([crate, *numbers, *(round(of[kind][0]) if of[kind] else 0 for kind in KINDS)])
-    rows.append(["all crates", *(sum(row[at] for row in rows) for at in range(1, len(rows[0])))])
+    rows.append(["all crates", *(sum(row[column] for row in rows) for column in range(1, len(rows[0])))])
     lines = [[row[0], *(f"{number:,}" if number else "" for number in row[1:])] for row in rows]
-    for line in lines[:-1] if own else ():
-        used = {number for kind in KINDS if found.get((line[0], kind)) for number in found[line[0], kind][2]}
+    for line in lines[:-1] if with_runs else ():
+        figured = filter(None, (figures_by_part.get((line[0], kind)) for kind in KINDS))
+        used = {number for figure in figured for number in figure[2]}
         line.append(", ".join(names[number] for number in sorted(used)))
     for line in lines:
-        for at, kind in enumerate(KINDS):
-            if (line[0], kind) in found and found[line[0], kind] is None:
-                line[at - len(KINDS) - own] = "not known"
+        for column, kind in enumerate(KINDS):
+            if (line[0], kind) in figures_by_part and figures_by_part[line[0], kind] is None:
+                line[column - len(KINDS) - with_runs] = "not known"
     return [f"| {' | '.join(line)} |" for line in lines]
 
 
@@ -259,8 +260,8 @@ def told_of(runs, names):
 
 def write(runs, gaps):
     """Writes docs/COSTS.md of the figures of some runs, and gives whether it could."""
-    found = all_figures(runs)
-    lacking = [f"{crate} ({kind})" for (crate, kind), one in found.items() if one is None]
+    figures_by_part = all_figures(runs)
+    lacking = [f"{crate} ({kind})" for (crate, kind), figure in figures_by_part.items() if figure is None]
     if lacking:
         print(f"costs: no watched run has what the gate took from earlier ones: {', '.join(lacking)}", file=sys.stderr)
     if lacking and not gaps:
@@ -270,13 +271,13 @@ def write(runs, gaps):
             file=sys.stderr,
         )
         return False
-    used = sorted({number for one in found.values() if one for number in one[2]})
+    used = sorted({number for figure in figures_by_part.values() if figure for number in figure[2]})
     names = {number: str(at) for at, number in enumerate(used, 1)}
     kit = subprocess.run(["rt", "version"], capture_output=True, text=True, check=False).stdout.strip()
-    own = len(names) > 1
+    with_runs = len(names) > 1
     whose = (
         "The last column says which runs a crate's figures are of."
-        if own
+        if with_runs
         else "Other work on the machine makes them greater."
     )
     text = f"""# What the gate costs
@@ -291,10 +292,10 @@ A crate is proved once more for its tests, and once
 more under its edits.
 {whose}
 
-{HEAD}{" Runs |" if own else ""}
-|{"---|" * (10 + own)}
+{HEAD}{" Runs |" if with_runs else ""}
+|{"---|" * (10 + with_runs)}
 """
-    (TOP / "docs/COSTS.md").write_text(text + "\n".join(table(found, names, own)) + "\n")
+    (TOP / "docs/COSTS.md").write_text(text + "\n".join(table(figures_by_part, names, with_runs)) + "\n")
     return True
 
 
@@ -314,41 +315,42 @@ def insert(runs, crates):
     the other rows stay as they are. Gives whether it could."""
     path, figured = TOP / "docs/COSTS.md", all_figures(runs)
     lines = path.read_text().splitlines()
-    told = [at for at, line in enumerate(lines) if re.match(r"\| \d+ \| `", line)]
-    found = {pair: one for pair, one in figured.items() if pair[0] in crates}
+    run_lines = [place for place, line in enumerate(lines) if re.match(r"\| \d+ \| `", line)]
+    figures_by_part = {pair: figure for pair, figure in figured.items() if pair[0] in crates}
     lacking = [
-        *(f"{crate} ({kind})" for (crate, kind), one in found.items() if one is None),
+        *(f"{crate} ({kind})" for (crate, kind), figure in figures_by_part.items() if figure is None),
         *sorted(set(crates) - set(listed())),
     ]
-    if lacking or not told:
+    if lacking or not run_lines:
         print(
             f"costs: no watched run has {', '.join(lacking)}" if lacking else "costs: the table is of one run",
             file=sys.stderr,
         )
         return False
-    used = sorted({number for one in found.values() for number in one[2]})
-    names = {number: str(at) for at, number in enumerate(used, int(cells_of(lines[told[-1]])[0]) + 1)}
+    used = sorted({number for figure in figures_by_part.values() for number in figure[2]})
+    names = {number: str(place) for place, number in enumerate(used, int(cells_of(lines[run_lines[-1]])[0]) + 1)}
     head = lines.index(f"{HEAD} Runs |")
     rows = {cells_of(line)[0]: line for line in lines[head + 2 : -1]}
-    rows |= dict(zip(crates, table(found, names, True, crates)))
+    rows |= dict(zip(crates, table(figures_by_part, names, True, crates)))
     kept = [rows[crate] for crate in listed() if crate in rows]
-    lines = [*lines[: told[-1] + 1], *rows_of_runs(runs, names), *lines[told[-1] + 1 : head + 2], *kept, summed(kept)]
+    behind = run_lines[-1] + 1
+    lines = [*lines[:behind], *rows_of_runs(runs, names), *lines[behind : head + 2], *kept, summed(kept)]
     path.write_text("\n".join(lines) + "\n")
     return True
 
 
 def run_gate(command):
     """Runs the gate, passes its output on, and gives the output and the watch; also where it is ended by Ctrl-C."""
-    output, ended = [], threading.Event()
+    output, run_ended = [], threading.Event()
     with subprocess.Popen(command, stdout=subprocess.PIPE, text=True, errors="replace") as gate:
         watch = Watch(gate.pid)
-        looking = threading.Thread(target=look_until, args=(watch, ended))
+        looking = threading.Thread(target=look_until, args=(watch, run_ended))
         looking.start()
         with contextlib.suppress(KeyboardInterrupt):
             for line in gate.stdout:
                 output.append(line)
                 print(line, end="", flush=True)
-        ended.set()
+        run_ended.set()
         looking.join()
     return "".join(output), watch
 
@@ -372,12 +374,12 @@ def beside(pid, log):
 def watched(words):
     """What a run has printed, which is watched, and what is noted of it."""
     sums = {crate: sum_of(crate) for crate in listed()}
-    name = " ".join(words.command or named(words.beside))
+    name = " ".join(words.command or command_of(words.beside))
     output, watch = beside(words.beside, words.log) if words.beside else run_gate(words.command)
-    return output, noted(name, output, watch, sums)
+    return output, run_notes(name, output, watch, sums)
 
 
-def named(pid):
+def command_of(pid):
     """The words of a process, the last part of the first one."""
     words = Path(f"/proc/{pid}/cmdline").read_text(errors="replace").rstrip("\0").split("\0")
     at = 1 if Path(words[0]).name.startswith("python") and len(words) > 1 else 0
@@ -408,26 +410,26 @@ def main_costs(argv: list[str]) -> int | None:
     parser.add_argument("--gaps", action="store_true")
     parser.add_argument("--rows", metavar="NAME,..")
     parser.add_argument("command", nargs=argparse.REMAINDER)
-    words = parser.parse_args(argv)
-    if bool(words.command) + bool(words.log) + bool(words.rows) != 1 or words.beside and not words.log:
+    args = parser.parse_args(argv)
+    if bool(args.command) + bool(args.log) + bool(args.rows) != 1 or args.beside and not args.log:
         parser.error("give a command, or --log, with or without --beside, or --rows")
     signal.signal(signal.SIGTERM, signal.default_int_handler)
     notes = TOP / "out/costs.json"
     runs = json.loads(notes.read_text()) if notes.exists() else []
-    if words.rows:
-        return 0 if insert(runs, words.rows.split(",")) else 1
-    if words.command or words.beside:
-        output, run = watched(words)
+    if args.rows:
+        return 0 if insert(runs, args.rows.split(",")) else 1
+    if args.command or args.beside:
+        output, run = watched(args)
         runs += [run] if run["parts"] else []
         notes.parent.mkdir(exist_ok=True)
         notes.write_text(json.dumps(runs, indent=1) + "\n")
         print(f"costs: {len(run['parts'])} parts of this run are noted in {notes}", file=sys.stderr)
     else:
-        output = Path(words.log).read_text(errors="replace")
-    if not PASSED.search(output):
+        output = Path(args.log).read_text(errors="replace")
+    if not GATE_PASSED.search(output):
         print("costs: this was not the gate, or it has not passed; docs/COSTS.md stays", file=sys.stderr)
         return 1
-    return 0 if write(runs, words.gaps) else 1
+    return 0 if write(runs, args.gaps) else 1
 
 
 def main_hostile(argv: list[str]) -> int | None:

@@ -81,15 +81,15 @@ def section(lines: list[str], heading: str) -> range:
     return range(begin, next(ends, len(lines)))
 
 
-def columns(page: Row, made: Row) -> list[int] | None:
+def columns(page: Row, printed: Row) -> list[int] | None:
     """For each column of a page's table the place of the printed one with the same head; none where one is lost."""
-    found: list[int] = []
+    indexes: list[int] = []
     for head in page:
-        begin = found[-1] + 1 if found else 0
-        if head not in made[begin:]:
+        begin = indexes[-1] + 1 if indexes else 0
+        if head not in printed[begin:]:
             return None
-        found.append(made.index(head, begin))
-    return found
+        indexes.append(printed.index(head, begin))
+    return indexes
 
 
 @dataclass(frozen=True)
@@ -98,14 +98,14 @@ class Match:
 
     grid: Grid
     width: int  # how many first cells tell the rows apart
-    wanted: dict[Row, Row]
+    printed_rows: dict[Row, Row]
 
     def key(self, line: int) -> Row:
         return self.grid.filled(line)[: self.width]
 
     def common(self) -> int:
         """How many rows of the page were printed."""
-        return sum(self.key(line) in self.wanted for line in self.grid.rows)
+        return sum(self.key(line) in self.printed_rows for line in self.grid.rows)
 
 
 def match(grid: Grid, made: Grid) -> Match | None:
@@ -118,44 +118,44 @@ def match(grid: Grid, made: Grid) -> Match | None:
     return Match(grid, width, {row[:width]: row for row in rows})
 
 
-def put(text: str, heading: str, printed: str) -> Placed:
+def place_tables(text: str, heading: str, printed: str) -> Placed:
     """The tables of what a script printed in those of a section of a text that have most of their rows."""
-    done = Placed(text.split("\n"))
-    within = section(done.lines, heading)
-    there = list(grids(done.lines[within.start : within.stop], within.start))
-    for made in grids([line for line in printed.split("\n") if is_row(line)]):
-        ways = [found for grid in there if (found := match(grid, made))]
+    placed = Placed(text.split("\n"))
+    within = section(placed.lines, heading)
+    there = list(grids(placed.lines[within.start : within.stop], within.start))
+    for printed_grid in grids([line for line in printed.split("\n") if is_row(line)]):
+        ways = [found for grid in there if (found := match(grid, printed_grid))]
         best = max(ways, key=lambda one: (one.common(), len(one.grid.head)), default=None)
         if best and best.common():
-            place(done, best)
+            place(placed, best)
         else:
-            done.missing.append(f"the table {' | '.join(made.head)}")
-    return done
+            placed.missing.append(f"the table {' | '.join(printed_grid.head)}")
+    return placed
 
 
-def place(done: Placed, found: Match) -> None:
+def place(placed: Placed, found: Match) -> None:
     """Printed rows in a table of the page."""
-    wanted = dict(found.wanted)
+    unplaced = dict(found.printed_rows)
     for line in found.grid.rows:
-        old, new = found.grid.filled(line), wanted.pop(found.key(line), None)
+        old, new = found.grid.filled(line), unplaced.pop(found.key(line), None)
         if new is None:
-            done.unmade.append(" | ".join(old))
+            placed.unmade.append(" | ".join(old))
         else:
-            done.placed += 1
-            move(done, line, old, new)
-    done.missing += [" | ".join(row) for row in wanted.values()]
+            placed.placed += 1
+            move(placed, line, old, new)
+    placed.missing += [" | ".join(row) for row in unplaced.values()]
 
 
-def move(done: Placed, line: int, old: Row, new: Row) -> None:
+def move(placed: Placed, line: int, old_row: Row, new_row: Row) -> None:
     """A row of the page as it is now; its first cell stays empty where it was."""
-    if old != new:
-        done.moved.append(f"{' | '.join(old)}\n    now: {' | '.join(new)}")
-        before, bar, rest = done.lines[line].partition("|")
-        first = new[0] if rest.partition("|")[0].strip() else ""
-        done.lines[line] = f"{before}{bar} {' | '.join((first, *new[1:]))} |"
+    if old_row != new_row:
+        placed.moved.append(f"{' | '.join(old_row)}\n    now: {' | '.join(new_row)}")
+        before, bar, rest = placed.lines[line].partition("|")
+        first = new_row[0] if rest.partition("|")[0].strip() else ""
+        placed.lines[line] = f"{before}{bar} {' | '.join((first, *new_row[1:]))} |"
 
 
-KEPT = TOP / "bench/tables.json"
+DIGESTS = TOP / "bench/tables.json"
 COMMANDS = all_commands()
 RUNNING_NOTHING = ("doubts",)
 Digests = dict[str, str]
@@ -170,13 +170,13 @@ class Table:
     page: str
     heading: str
     command: str
-    words: str
+    command_words: str
     minutes: int
 
     def line(self, program: str, place: Path) -> list[str]:
         """The command line. place: the folder of its own."""
         usual = [] if self.command in RUNNING_NOTHING else [program, "--work", str(place)]
-        return [sys.executable, str(TOP / "bench/run"), self.command, *usual, *shlex.split(self.words)]
+        return [sys.executable, str(TOP / "bench/run"), self.command, *usual, *shlex.split(self.command_words)]
 
     def place(self, folder: Path) -> Path:
         """Its own folder: where what the tools found is kept, one for these tools."""
@@ -241,14 +241,14 @@ def made_by(table: Table, program: str, folder: Path) -> str:
     """What a table's measurement prints, made where it is not kept; a failure ends all."""
     path, digests = folder / f"{table.name}.json", table.digests()
     found = json.loads(path.read_text(encoding="utf-8")) if path.exists() else {}
-    if found.get("digests") == digests and found.get("words") == table.words:
+    if found.get("digests") == digests and found.get("words") == table.command_words:
         return found["text"]
     command = table.line(program, table.place(folder))
     print(f"{table.name}: {shlex.join(command[1:])}", flush=True)
     done = subprocess.run(command, env=shared.with_sumo(), stdout=subprocess.PIPE, text=True, check=False)
     if done.returncode:
         raise SystemExit(f"{table.name}: status {done.returncode}")
-    path.write_text(json.dumps({"digests": digests, "words": table.words, "text": done.stdout}, indent=1))
+    path.write_text(json.dumps({"digests": digests, "words": table.command_words, "text": done.stdout}, indent=1))
     return done.stdout
 
 
@@ -262,7 +262,7 @@ def told_of(table: Table, done: Placed) -> str:
 
 
 def kept_digests() -> dict[str, Digests]:
-    return json.loads(KEPT.read_text(encoding="utf-8"))
+    return json.loads(DIGESTS.read_text(encoding="utf-8"))
 
 
 def keep_table(table: Table, done: Placed) -> None:
@@ -271,20 +271,20 @@ def keep_table(table: Table, done: Placed) -> None:
     if done.placed and not done.unmade:
         known = {**kept_digests(), table.name: table.digests()}
         own = {name: known[name] for name in sorted(known) if name in {one.name for one in TABLES}}
-        KEPT.write_text(json.dumps(own, indent=1) + "\n", encoding="utf-8")
+        DIGESTS.write_text(json.dumps(own, indent=1) + "\n", encoding="utf-8")
 
 
 def list_all(tables: Sequence[Table]) -> int:
     """Prints what is known of each table; gives how many are not of the present tools."""
-    kept, old, needed = kept_digests(), 0, 0
+    kept, stale, minutes = kept_digests(), 0, 0
     for table in tables:
         why = what_changed(kept.get(table.name), table.digests())
-        old, needed = old + bool(why), needed + bool(why) * table.minutes
+        stale, minutes = stale + bool(why), minutes + bool(why) * table.minutes
         state = f"not of the present tools: {why}" if why else "of the present tools"
         place = f"{table.page}, {table.heading.lstrip('# ')}"
         print(f"{table.name}: {place}: {state} ({table.minutes} min)", flush=True)
-    print(f"{old} of {len(tables)} are not; to make these all takes {needed} min of one processor")
-    return old
+    print(f"{stale} of {len(tables)} are not; to make these all takes {minutes} min of one processor")
+    return stale
 
 
 def make_all(tables: Sequence[Table], program: str, folder: Path, putting: bool) -> int:
@@ -292,9 +292,9 @@ def make_all(tables: Sequence[Table], program: str, folder: Path, putting: bool)
     wrong = 0
     for table in tables:
         text = made_by(table, program, folder)
-        with open(KEPT, "a", encoding="utf-8") as lock:  # of another call that puts, too
+        with open(DIGESTS, "a", encoding="utf-8") as lock:  # of another call that puts, too
             fcntl.flock(lock, fcntl.LOCK_EX)
-            done = put((TOP / table.page).read_text(encoding="utf-8"), table.heading, text)
+            done = place_tables((TOP / table.page).read_text(encoding="utf-8"), table.heading, text)
             if putting:
                 keep_table(table, done)
         print(told_of(table, done), flush=True)
@@ -329,7 +329,7 @@ def main_tables(argv: list[str]) -> int | None:
     """
     parser = shared.parser_of(main_tables, program=False)
     parser.add_argument("program", metavar="PROGRAM", nargs="?", type=shared.found_program)
-    parser.add_argument("--work", type=shared.whole, help="a folder for what is made")
+    parser.add_argument("--work", type=shared.whole_path, help="a folder for what is made")
     parser.add_argument("--only", help="names of tables, with commas between")
     parser.add_argument("--list", action="store_true", help="run nothing")
     parser.add_argument("--put", action="store_true", help="write rows into the pages, and digests into tables.json")
@@ -343,7 +343,7 @@ def main_tables(argv: list[str]) -> int | None:
     return 1 if make_all(chosen(args.only), args.program, shared.work_of(args), args.put) else 0
 
 
-RESULTS, RESULT_ROWS = TOP / "bench/RESULTS.md", TOP / "bench/results.csv"
+RESULTS_PAGE, RESULT_ROWS = TOP / "bench/RESULTS.md", TOP / "bench/results.csv"
 NUMBER = re.compile(r"\d+(?:,\d{3})*(?:\.\d+)?")
 
 
@@ -418,12 +418,12 @@ def keep_result(args: argparse.Namespace, table: str, row: str, measured: Mappin
 
 def write_results(kept_cells: Sequence[MeasuredCell]) -> None:
     """Writes kept rows, and the page with them."""
-    page = with_results(RESULTS.read_text(encoding="utf-8"), kept_cells)
+    page = with_results(RESULTS_PAGE.read_text(encoding="utf-8"), kept_cells)
     with RESULT_ROWS.open("w", encoding="utf-8", newline="") as file:
         table = csv.DictWriter(file, [one.name for one in fields(MeasuredCell)], lineterminator="\n")
         table.writeheader()
         table.writerows(asdict(one) for one in kept_cells)
-    RESULTS.write_text(page, encoding="utf-8")
+    RESULTS_PAGE.write_text(page, encoding="utf-8")
 
 
 def main_results(argv: list[str]) -> int | None:

@@ -98,13 +98,13 @@ class Machine:
 
     def files(self):
         """The files of the machine, but for those in which programs keep notes."""
-        found = set()
+        paths = set()
         for at, folders, names in os.walk(self.root):
             inside = Path(at).relative_to(self.root)
             folders[:] = [name for name in folders if str(inside / name) not in NOTES]
-            found.update(str(inside / name) for name in [*folders, *names])
+            paths.update(str(inside / name) for name in [*folders, *names])
         noted = (self.root / "var/lib/dpkg/info").glob("streetsim*")
-        return found | {str(path.relative_to(self.root)) for path in noted}
+        return paths | {str(path.relative_to(self.root)) for path in noted}
 
     def leaves_nothing(self, before):
         self.tells_left(self.files() - before)
@@ -139,16 +139,16 @@ def opened(machine):
     folder = f"{WALK}/pages"
     machine.tries("a folder for pages", "true", folder)
     (machine.root / folder.lstrip("/") / "osm.osm.xml").write_text(osm_town(), encoding="utf-8")
-    for name, (before, words, most) in PAGES.items():
+    for name, (before, words, most_seconds) in PAGES.items():
         done = machine.runs(f"{before}\nTIMEFORMAT='took %R %U %S'\ntime taskset -c 0,1 streetsim-open {words}", folder)
         took = re.search(r"took ([\d.]+) ([\d.]+) ([\d.]+)", done.stdout)
         page = re.search(r"^\S+\.html: [\d,]+ bytes$", done.stdout, re.MULTILINE)
-        if done.returncode or not took or not page or float(took[1]) > most:
+        if done.returncode or not took or not page or float(took[1]) > most_seconds:
             machine.faults += 1
             print(*(f"  {line}" for line in done.stdout.splitlines()[-12:]), sep="\n", flush=True)
         wall, *cpu = map(float, took.groups() if took else (0, 0, 0))
         told = page[0] if page else "no page"
-        print(f"{name}: {told}, {wall:.1f} s (at most {most}), {sum(cpu):.1f} s of processor", flush=True)
+        print(f"{name}: {told}, {wall:.1f} s (at most {most_seconds}), {sum(cpu):.1f} s of processor", flush=True)
 
 
 def used(machine, prefix, load, version, pages):
@@ -170,13 +170,13 @@ def used(machine, prefix, load, version, pages):
 
 def package(machine, name, version, pages):
     """The trial of Debian's package."""
-    before = machine.files()
+    files_before = machine.files()
     machine.tries(f"apt-get install ./{name}", f"apt-get install -qy ./{name}", "/root")
     load = "set +eu; . /usr/share/bash-completion/bash_completion; _completion_loader streetsim-run; "
     load += "_completion_loader streetsim-plot; _completion_loader streetsim; set -e"
     used(machine, "/usr", load, version, pages)
     machine.tries("apt-get purge streetsim", "apt-get purge -qy streetsim", "/root")
-    machine.leaves_nothing(before)
+    machine.leaves_nothing(files_before)
 
 
 def wheel(machine, name, version):
@@ -211,13 +211,13 @@ def main_installed(argv: list[str]) -> int | None:
     parser.add_argument("--base", metavar="FILE", type=Path, required=True)
     parser.add_argument("--walks", metavar="PAGES", default=",".join(SECTIONS), help="pages, with commas between")
     args = parser.parse_args(argv)
-    begun = time.monotonic()
+    start = time.monotonic()
     if not args.base.exists():
         args.base.parent.mkdir(parents=True, exist_ok=True)
         words = ["mmdebstrap", "--quiet", "--variant=minbase", f"--include={INCLUDED}", "bookworm", args.base, MIRROR]
         subprocess.run(words, check=True)
-        print(f"{args.base} is made, {(time.monotonic() - begun) / 60:.1f} min", flush=True)
-        begun = time.monotonic()
+        print(f"{args.base} is made, {(time.monotonic() - start) / 60:.1f} min", flush=True)
+        start = time.monotonic()
     subprocess.run(["sha256sum", "--quiet", "-c", "SHA256SUMS"], cwd=args.folder, check=True)
     [deb], [whl] = args.folder.glob("streetsim_*_amd64.deb"), args.folder.glob("streetsim_tools-*.whl")
     version = deb.name.split("_")[1]
@@ -229,7 +229,7 @@ def main_installed(argv: list[str]) -> int | None:
         package(machine, deb.name, version, args.walks.split(","))
         wheel(machine, whl.name, version)
     told = f"{machine.faults} things are other than they should be" if machine.faults else "all is as it should be"
-    print(f"{told}, {(time.monotonic() - begun) / 60:.1f} min ({TOP.name}, Debian 12, no network)")
+    print(f"{told}, {(time.monotonic() - start) / 60:.1f} min ({TOP.name}, Debian 12, no network)")
     return 1 if machine.faults else 0
 
 
@@ -285,27 +285,27 @@ def copy_of(top):
     return top
 
 
-def tested(top, names, most, more=None):
+def tested(top, names, most_seconds, more=None):
     """What fails of some tests in a copy at `top`: the first one's name, or those that were run where none is told, as
-    they took more than `most` seconds; nothing where all pass."""
+    they took more than `most_seconds`; nothing where all pass."""
     words = [sys.executable, "-W", "ignore", "-m", "unittest", *(() if more else ("-f",)), *names]
     env = {**os.environ, "PYTHONDONTWRITEBYTECODE": "1", **(more or {})}
-    with tempfile.TemporaryFile("w+") as told:
-        streams = {"stdin": subprocess.DEVNULL, "stdout": subprocess.DEVNULL, "stderr": told}
+    with tempfile.TemporaryFile("w+") as error_file:
+        streams = {"stdin": subprocess.DEVNULL, "stdout": subprocess.DEVNULL, "stderr": error_file}
         with subprocess.Popen(words, cwd=top / "tools/tests", env=env, start_new_session=True, **streams) as process:
             try:
-                status = process.wait(most)
+                status = process.wait(most_seconds)
             except subprocess.TimeoutExpired:
                 status = None
             finally:
                 with contextlib.suppress(ProcessLookupError):  # also what the tests left behind
                     os.killpg(process.pid, signal.SIGKILL)
-        told.seek(0)
-        found = re.search(r"^(?:FAIL|ERROR): \S+ \((\S+)\)", told.read(), re.MULTILINE)
+        error_file.seek(0)
+        found = re.search(r"^(?:FAIL|ERROR): \S+ \((\S+)\)", error_file.read(), re.MULTILINE)
     return () if status == 0 else (found[1],) if found and found[1].count(".") == 2 else tuple(names)
 
 
-def noted(top, module, most):
+def keep_coverage(top, module, most_seconds):
     """Runs a module of tests in a copy, and keeps which lines its tests pass, and {test: (seconds, passed)}."""
     from coverage import CoverageData, CoverageException
 
@@ -316,15 +316,15 @@ def noted(top, module, most):
     (folder / "rules").write_text(RULES.format(folder=folder, top=top))
     more = {"COVERAGE_PROCESS_START": "rules", "PYTHONPATH": "start", "TESTED_TIMES": "times"}
     begin = time.monotonic()
-    tested(top, [module], most, {name: str(folder / file) for name, file in more.items()})
-    whole = CoverageData(str(folder / "whole"))
+    tested(top, [module], most_seconds, {name: str(folder / file) for name, file in more.items()})
+    coverage = CoverageData(str(folder / "whole"))
     for part in folder.glob("data.*"):
         one = CoverageData(str(part))
         with contextlib.suppress(CoverageException):  # of a process that was ended while it wrote
             one.read()
-            whole.update(one)
+            coverage.update(one)
         part.unlink()
-    whole.write()
+    coverage.write()
     times = {}
     for line in (folder / "times").read_text().splitlines() if (folder / "times").exists() else ():
         name, seconds, well = line.split()
@@ -334,13 +334,13 @@ def noted(top, module, most):
     print(f"{module}: {time.monotonic() - begin:.0f} s, {good} of {len(times)} pass", flush=True)
 
 
-def map_of(top, modules, jobs, most):
+def map_of(top, modules, jobs, most_seconds):
     """({test or class: seconds}, {file: {line: names of tests and classes}}) of those modules; made where lacking."""
     from coverage import CoverageData
 
     lacking = [module for module in modules if not (top / "map" / module / "times.json").exists()]
     with ThreadPoolExecutor(jobs) as pool:
-        list(pool.map(lambda module: noted(top, module, most), lacking))
+        list(pool.map(lambda module: keep_coverage(top, module, most_seconds), lacking))
     seconds, lines = {}, {}
     for module in modules:
         times = json.loads((top / "map" / module / "times.json").read_text())
@@ -356,16 +356,17 @@ def map_of(top, modules, jobs, most):
 
 def runs_of(names, seconds):
     """[(seconds, tests of one module)] that names of tests and classes come to, the quickest first."""
-    whole = {name for name in names if any(other.startswith(f"{name}.") for other in seconds)}
-    tests = {one for name in whole for one in seconds if one.startswith(f"{name}.")} | (set(names) - whole)
+    whole_classes = {name for name in names if any(other.startswith(f"{name}.") for other in seconds)}
+    tests = {one for name in whole_classes for one in seconds if one.startswith(f"{name}.")}
+    tests |= set(names) - whole_classes
     classes = {}
     for test in sorted(tests):
         classes.setdefault(test.rpartition(".")[0], []).append(test)
-    whole = {kind: seconds.get(kind, 0) + sum(seconds[test] for test in chosen) for kind, chosen in classes.items()}
-    return sorted((whole[kind], sorted(chosen, key=seconds.__getitem__)) for kind, chosen in classes.items())
+    totals = {kind: seconds.get(kind, 0) + sum(seconds[test] for test in chosen) for kind, chosen in classes.items()}
+    return sorted((totals[kind], sorted(chosen, key=seconds.__getitem__)) for kind, chosen in classes.items())
 
 
-OTHER = {ast.Lt: "<=", ast.LtE: "<", ast.Gt: ">=", ast.GtE: ">", ast.Eq: "!=", ast.NotEq: "==", ast.In: "not in",
+OPPOSITES = {ast.Lt: "<=", ast.LtE: "<", ast.Gt: ">=", ast.GtE: ">", ast.Eq: "!=", ast.NotEq: "==", ast.In: "not in",
          ast.NotIn: "in", ast.Is: "is not", ast.IsNot: "is", ast.Add: "-", ast.Sub: "+"}
 SLOWER = 10  # times a class of tests may take what it took, and
 SPARE = 60  # seconds more, before a change counts as noticed, by its endless loop
@@ -379,7 +380,7 @@ def places(path):
     for function in ast.walk(ast.parse(text)):
         if isinstance(function, ast.FunctionDef):
             for node in ast.walk(function):
-                if (changed := other(node)) and node.lineno == node.end_lineno:
+                if (changed := replacement(node)) and node.lineno == node.end_lineno:
                     place = (node.lineno, node.col_offset, node.end_col_offset)
                     if stands(lines[node.lineno - 1].encode()[place[1] : place[2]].decode(errors="replace"), node):
                         yield function.lineno, place, changed
@@ -392,13 +393,13 @@ def stands(text, node):
     return False
 
 
-def other(node):
+def replacement(node):
     """What takes the place of a node: of a number, a comparison, a sum, a minus or a returned value; None of others."""
     if isinstance(node, ast.Constant) and type(node.value) in (int, float):
         return repr(node.value + 1)
-    if isinstance(node, ast.Compare) and len(node.ops) == 1 and (sign := OTHER.get(type(node.ops[0]))):
+    if isinstance(node, ast.Compare) and len(node.ops) == 1 and (sign := OPPOSITES.get(type(node.ops[0]))):
         return f"({ast.unparse(node.left)} {sign} {ast.unparse(node.comparators[0])})"
-    if isinstance(node, ast.BinOp) and (sign := OTHER.get(type(node.op))):
+    if isinstance(node, ast.BinOp) and (sign := OPPOSITES.get(type(node.op))):
         return f"({ast.unparse(node.left)} {sign} {ast.unparse(node.right)})"
     if isinstance(node, ast.UnaryOp) and isinstance(node.op, ast.USub):
         return ast.unparse(node.operand)
@@ -428,29 +429,29 @@ class Change:
     def tests(self):
         return sum(len(tests) for _, tests in self.runs)
 
-    def told(self, top):
+    def in_words(self, top):
         """The change in words; the file at `top` is as it was."""
         before, _ = self.lines((top / "tools/streetsim" / self.path).read_bytes())
         what = before[self.place[1] : self.place[2]].decode()
         return f"{self.path}:{self.place[0]}: {what} -> {self.text} ({self.ran} of {self.tests} tests)"
 
-    def tried(self, top, most):
+    def tried(self, top, most_seconds):
         """Makes the change in a copy at `top`, runs the tests, and takes it back."""
         file, spent = top / "tools/streetsim" / self.path, 0.0
-        whole = file.read_bytes()
-        lines = whole.split(b"\n")
-        lines[self.place[0] - 1] = self.lines(whole)[1]
+        file_bytes = file.read_bytes()
+        lines = file_bytes.split(b"\n")
+        lines[self.place[0] - 1] = self.lines(file_bytes)[1]
         file.write_bytes(b"\n".join(lines))
         try:
             for seconds, tests in self.runs:
-                if spent and spent + seconds > most:
+                if spent and spent + seconds > most_seconds:
                     return
                 spent, self.ran = spent + seconds, self.ran + len(tests)
                 if failed := tested(top, tests, SLOWER * seconds + SPARE):
                     self.noticed = seconds, failed
                     return
         finally:
-            file.write_bytes(whole)
+            file.write_bytes(file_bytes)
 
     def entry(self, top):
         """What the list of tools/tests has of a change that was noticed quickly, of a line that its file has once."""
@@ -463,13 +464,13 @@ class Change:
 
 def functions(top, lines):
     """{(file, line of a function): its places that a test passes, with their tests}."""
-    found = {}
+    changes = {}
     for path in sorted((top / "tools/streetsim").rglob("*.py")):
         name = os.path.relpath(path, top / "tools/streetsim")
         for function, place, text in places(path):
             if names := lines.get(name, {}).get(place[0]):
-                found.setdefault((name, function), []).append((place, text, names))
-    return found
+                changes.setdefault((name, function), []).append((place, text, names))
+    return changes
 
 
 def keep(path, entries):
@@ -502,7 +503,7 @@ def main_mutants(argv: list[str]) -> int | None:
     parser.add_argument("--keep", type=Path, metavar="FILE")
     args = parser.parse_args(argv)
     os.environ["STREETSIM_PROGRAM"] = args.program
-    tops = [copy_of(args.work / str(at)) for at in range(args.jobs)]
+    tops = [copy_of(args.work / str(number)) for number in range(args.jobs)]
     all_tests = sorted((path.stem for path in (tops[0] / "tools/tests").glob("test_*.py")))
     modules = args.tests.split(",") if args.tests else all_tests
     seconds, lines = map_of(tops[0], modules, args.jobs, args.longest)
@@ -517,7 +518,7 @@ def main_mutants(argv: list[str]) -> int | None:
         """Tries the changes of a copy, by its number."""
         for change in work[at :: args.jobs]:
             change.tried(tops[at], args.most)
-            print("noticed:" if change.noticed else "LIVED:  ", change.told(tops[at]), flush=True)
+            print("noticed:" if change.noticed else "LIVED:  ", change.in_words(tops[at]), flush=True)
 
     with ThreadPoolExecutor(args.jobs) as pool:
         list(pool.map(try_some, range(args.jobs)))
@@ -525,6 +526,6 @@ def main_mutants(argv: list[str]) -> int | None:
     open_ = sum(change.ran < change.tests for change in lived)
     told = f"{len(lived)} lived, {open_} of these with tests for which --most left no time:"
     print(f"{len(work)} changes of {len(drawn)} functions, {told}")
-    print(*sorted(change.told(tops[0]) for change in lived), sep="\n")
+    print(*sorted(change.in_words(tops[0]) for change in lived), sep="\n")
     if args.keep:
         keep(args.keep, [entry for change in work if (entry := change.entry(tops[0]))])

@@ -17,11 +17,11 @@ while traci.simulation.getTime() < float(sys.argv[2]):
         for light, index, metres, state in traci.vehicle.getNextTLS(bus)[:1]:
             if metres > 60 or "y" in states[light][traci.trafficlight.getPhase(light)]:
                 continue
-            left = traci.trafficlight.getNextSwitch(light) - traci.simulation.getTime()
-            if state in "gG" and left < 5:
+            seconds_left = traci.trafficlight.getNextSwitch(light) - traci.simulation.getTime()
+            if state in "gG" and seconds_left < 5:
                 traci.trafficlight.setPhaseDuration(light, 5)
                 helped += 1
-            elif state == "r" and left > 5:
+            elif state == "r" and seconds_left > 5:
                 traci.trafficlight.setPhaseDuration(light, 5)
                 helped += 1
 traci.close()

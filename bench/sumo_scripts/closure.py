@@ -11,21 +11,21 @@ closed, arrived, turned = "", 0, set()
 while traci.simulation.getTime() < float(sys.argv[2]):
     traci.simulationStep()
     arrived += traci.simulation.getArrivedNumber()
-    now = traci.simulation.getTime()
-    if now == CLOSED:
+    clock = traci.simulation.getTime()
+    if clock == CLOSED:
         counts = {}
         for name in traci.vehicle.getIDList():
             for edge in traci.vehicle.getRoute(name)[1:-1]:
                 counts[edge] = counts.get(edge, 0) + 1
         closed = sorted(counts, key=lambda edge: (-counts[edge], edge))[3]
         traci.edge.adaptTraveltime(closed, 10000)
-    if now == OPEN:
+    if clock == OPEN:
         traci.edge.adaptTraveltime(closed, 20)
-    if CLOSED <= now < OPEN:
+    if CLOSED <= clock < OPEN:
         for name in traci.vehicle.getIDList():
             route, index = traci.vehicle.getRoute(name), traci.vehicle.getRouteIndex(name)
-            ahead = route[index + 1 : -1]
-            if name not in turned and closed in ahead and route[index] != closed and not (
+            edges_ahead = route[index + 1 : -1]
+            if name not in turned and closed in edges_ahead and route[index] != closed and not (
                 traci.vehicle.getRoadID(name).startswith(":")
             ):
                 try:

@@ -12,19 +12,19 @@ since, arrived = dict.fromkeys(lights, 0), 0
 while traci.simulation.getTime() < float(sys.argv[2]):
     traci.simulationStep()
     arrived += traci.simulation.getArrivedNumber()
-    now = traci.simulation.getTime()
+    clock = traci.simulation.getTime()
     for light in lights:
         phase = traci.trafficlight.getPhase(light)
-        state, spent = states[light][phase], now - since[light]
+        state, spent = states[light][phase], clock - since[light]
         if "y" in state.lower():
-            over = spent >= 3
+            is_over = spent >= 3
         else:
             green = {lane for lane, letter in zip(lanes[light], state) if letter in "gG" and lane in loops}
-            seen = any(traci.inductionloop.getTimeSinceDetection(loops[lane]) < 4 for lane in green)
-            over = spent >= 40 or spent >= 10 and not seen
-        if over:
+            is_occupied = any(traci.inductionloop.getTimeSinceDetection(loops[lane]) < 4 for lane in green)
+            is_over = spent >= 40 or spent >= 10 and not is_occupied
+        if is_over:
             traci.trafficlight.setPhase(light, (phase + 1) % len(states[light]))
-            since[light] = now
+            since[light] = clock
         else:
             traci.trafficlight.setPhaseDuration(light, 1000)
 traci.close()

@@ -8,12 +8,12 @@ phases = {light: traci.trafficlight.getAllProgramLogics(light)[0].phases for lig
 until = dict.fromkeys(phases, 0)
 arrived = 0
 while traci.simulation.getTime() < float(sys.argv[2]):
-    now = traci.simulation.getTime()
-    for light, own in phases.items():
-        if until[light] <= now:
-            following = (traci.trafficlight.getPhase(light) + 1) % len(own) if now else 0
+    clock = traci.simulation.getTime()
+    for light, light_phases in phases.items():
+        if until[light] <= clock:
+            following = (traci.trafficlight.getPhase(light) + 1) % len(light_phases) if clock else 0
             traci.trafficlight.setPhase(light, following)
-            until[light] = now + (3 if "y" in own[following].state.lower() else 25)
+            until[light] = clock + (3 if "y" in light_phases[following].state.lower() else 25)
     traci.simulationStep()
     arrived += traci.simulation.getArrivedNumber()
 traci.close()

@@ -14,16 +14,16 @@ since, arrived = dict.fromkeys(lights, 0), 0
 while traci.simulation.getTime() < float(sys.argv[2]):
     traci.simulationStep()
     arrived += traci.simulation.getArrivedNumber()
-    now = traci.simulation.getTime()
+    clock = traci.simulation.getTime()
     for light in lights:
         around = traci.junction.getContextSubscriptionResults(light) or {}
-        there = [one for one in around.values() if one[tc.VAR_LANE_ID] in lanes[light]]
-        phase, spent = traci.trafficlight.getPhase(light), now - since[light]
+        nearby = [one for one in around.values() if one[tc.VAR_LANE_ID] in lanes[light]]
+        phase, spent = traci.trafficlight.getPhase(light), clock - since[light]
         yellow = "y" in states[light][phase].lower()
-        stand = sum(one[tc.VAR_SPEED] < 0.1 for one in there) > len(there) / 2
+        stand = sum(one[tc.VAR_SPEED] < 0.1 for one in nearby) > len(nearby) / 2
         if spent >= 3 if yellow else spent >= 12 and (stand or spent >= 40):
             traci.trafficlight.setPhase(light, (phase + 1) % len(states[light]))
-            since[light] = now
+            since[light] = clock
         elif spent % 5 == 0:
             traci.trafficlight.setPhaseDuration(light, 1000)
 traci.close()

@@ -3,11 +3,11 @@ import sys
 
 import traci
 
-words = [*sys.argv[3:], "--no-step-log", "--no-warnings"]
-traci.start([sys.argv[1], *words])
+sumo_words = [*sys.argv[3:], "--no-step-log", "--no-warnings"]
+traci.start([sys.argv[1], *sumo_words])
 for episode, green in enumerate((20, 30, 40)):
     if episode:
-        traci.load(words)
+        traci.load(sumo_words)
     for light in traci.trafficlight.getIDList():
         logic = traci.trafficlight.getAllProgramLogics(light)[0]
         for phase in logic.phases:

@@ -34,8 +34,8 @@ if sys.argv[1] in ORDERS:
     traci.close()
 else:
     port = traci.getFreeSocketPort()
-    words = ["--remote-port", str(port), "--num-clients", "2", "--no-step-log", "--no-warnings"]
-    sumo = subprocess.Popen([sys.argv[1], *sys.argv[3:], *words], stdout=subprocess.DEVNULL)
+    sumo_words = ["--remote-port", str(port), "--num-clients", "2", "--no-step-log", "--no-warnings"]
+    sumo = subprocess.Popen([sys.argv[1], *sys.argv[3:], *sumo_words], stdout=subprocess.DEVNULL)
     clients = [subprocess.Popen([sys.executable, __file__, order, sys.argv[2], str(port)]) for order in ORDERS]
     for client in clients:
         client.wait()

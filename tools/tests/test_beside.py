@@ -11,7 +11,7 @@ from beside_sumo import rows  # noqa: E402
 from beside_sumo.rows import (  # noqa: E402
     REASONS, Row, Side, Tally, doubt_of, mean_trips, reasons, row_of, side_of, tally, text_of,
 )
-from networks.unseen import Made  # noqa: E402
+from networks.unseen import MadeNetwork  # noqa: E402
 
 FULL = "9 of 10 vehicles pass lanes that are nearly full by the demand, and their queues may be other than in SUMO: "
 PLACES = "left from A to B at J1: demand 1.10 of what passes here; straight on from C to D at J2: demand 1.00 of what"
@@ -32,7 +32,7 @@ class Rows(Case):
         self.assertEqual(str(tally([ROW, OFF])), "1 | 0 | 1 | 0 | 0")
 
     def test_a_row_has_the_movement_that_is_off_most(self):
-        made = Made(self.folder, "town", 1, 0.5, 3, seconds=1800)
+        made = MadeNetwork(self.folder, "town", 1, 0.5, 3, seconds=1800)
         trips = {"v1": (599.0, 900.0), "v2": (600.0, 700.0), "v3": (700.0, 820.0)}
         theirs = Side(trips, {("a", "b"): (30, 10.0), ("b", "c"): (30, 5.0), ("c", "d"): (29, 0.0)})
         later = {name: (depart, arrival + 11.0) for name, (depart, arrival) in trips.items()}

@@ -19,7 +19,8 @@ sys.path.insert(0, str(TOP / "bench"))
 from program.lines import ROWS  # noqa: E402
 from repository import pages  # noqa: E402
 from repository.pages import (  # noqa: E402
-    RESULTS, TABLES, MeasuredCell, grids, keep_result, put, read_results, section, with_results, write_results,
+    RESULTS_PAGE, TABLES, MeasuredCell, grids, keep_result, place_tables, read_results, section, with_results,
+    write_results,
 )
 from shared import all_commands, digests_of, loaded_by  # noqa: E402
 
@@ -104,31 +105,31 @@ def figures(lines):
 
 class Placing(Case):
     def test_rows_that_moved_are_put(self):
-        done = put(PAGE, "## How close", PRINTED)
+        done = place_tables(PAGE, "## How close", PRINTED)
         self.assertEqual(done.moved, ["main | 100 | 20.0 (+1 %) | \n    now: main | 100 | 21.0 (+2 %) | "])
         self.assertEqual(done.placed, 2)
         self.assertIn("| main | 100 | 21.0 (+2 %) |  |", done.lines)
         self.assertIn("| | 200 | **30.0** | doubted |", done.lines)
 
     def test_what_has_no_place_is_told(self):
-        done = put(PAGE, "## How close", PRINTED)
+        done = place_tables(PAGE, "## How close", PRINTED)
         self.assertEqual(done.missing, ["side | 200 | 41.0 | ", "the table Town | mean, s"])
         self.assertEqual(done.unmade, ["side | 100 | 40.0 | "])
 
     def test_of_tables_with_one_head_that_with_its_rows_is_taken(self):
         head = "| Street | held |\n|---|---|\n"
-        done = put(f"# Both\n\n{head}| one | 1 |\n\n{head}| other | 2 |\n", "# Both", f"{head}| other | 3 |\n")
+        done = place_tables(f"# Both\n\n{head}| one | 1 |\n\n{head}| other | 2 |\n", "# Both", f"{head}| other | 3 |\n")
         self.assertEqual((done.moved, done.unmade), (["other | 2\n    now: other | 3"], []))
 
     def test_the_rest_of_the_page_stays(self):
-        done = put(PAGE, "## How close", PRINTED)
+        done = place_tables(PAGE, "## How close", PRINTED)
         changed = [at for at, pair in enumerate(zip(PAGE.split("\n"), done.lines, strict=True)) if len(set(pair)) > 1]
         self.assertEqual(changed, [PAGE.split("\n").index("| main | 100 | 20.0 (+1 %) | |")])
 
     def test_an_empty_first_cell_is_the_one_above(self):
-        done = put(PAGE, "## How close", PRINTED.replace("30.0", "31.0"))
+        done = place_tables(PAGE, "## How close", PRINTED.replace("30.0", "31.0"))
         self.assertIn("|  | 200 | 31.0 | doubted |", done.lines)
-        self.assertEqual(put("\n".join(done.lines), "## How close", PRINTED.replace("30.0", "31.0")).moved, [])
+        self.assertEqual(place_tables("\n".join(done.lines), "## How close", PRINTED.replace("30.0", "31.0")).moved, [])
 
 
 class Sources(Case):
@@ -235,7 +236,7 @@ class Results(Case):
 
 class KeptResults(Case):
     def test_the_page_is_what_the_rows_give(self):
-        text = RESULTS.read_text(encoding="utf-8")
+        text = RESULTS_PAGE.read_text(encoding="utf-8")
         self.assertEqual(with_results(text, read_results()), text)
 
     def test_each_row_is_measured_by_what_is_there(self):
