@@ -271,7 +271,7 @@ class ByHand(unittest.TestCase):
         places, found = PlanPlaces(movements, seen.kernel.plans), []
         for _, part in seen.ended_passages(interval, {}):
             one = Crossings(places, part)
-            found += zip(map(movements.name, one.movement.tolist()), one.end.tolist(), strict=True)
+            found += zip(map(movements.edge_pair, one.movement.tolist()), one.end.tolist(), strict=True)
         return found
 
     def test_layout(self):

@@ -1,8 +1,9 @@
 """Geometry of lines of points, in metres: lengths, points and headings along a line. Pages and the TraCI module use
 it."""
+from bisect import bisect_right
 from collections.abc import Sequence
-from itertools import pairwise
-from math import atan2, degrees, hypot
+from itertools import accumulate, pairwise
+from math import atan2, degrees, dist, hypot
 
 Point = tuple[float, float]
 Line = Sequence[Sequence[float]]  # of points
@@ -55,3 +56,24 @@ def nearest(point: Point, line: Line) -> tuple[float, float]:
 def distance(point: Point, line: Line) -> float:
     """Metres from a point to a line, or to its single point."""
     return nearest(point, line)[0]
+
+
+class Polyline:
+    """A line through two or more points (x, y), in metres."""
+
+    def __init__(self, points: Line) -> None:
+        """points: (x, y) in metres, two at least."""
+        self.points = points
+        self.sizes = [dist(begin, end) for begin, end in zip(points, points[1:])]
+        self.ends = list(accumulate(self.sizes))
+
+    def point_and_angle(self, share: float, side: float = 0.0) -> tuple[float, float, float]:
+        """(x, y, angle) at a share, 0 to 1, of the length, `side` metres to the right of the line: metres, and the
+        angle of the line there in degrees clockwise from north."""
+        metres = share * self.ends[-1]
+        piece = min(bisect_right(self.ends, metres), len(self.sizes) - 1)
+        (x, y), (following_x, following_y) = self.points[piece : piece + 2]
+        size = self.sizes[piece] or 1.0
+        east, north = (following_x - x) / size, (following_y - y) / size
+        along = metres - (self.ends[piece] - self.sizes[piece])
+        return x + east * along + north * side, y + north * along - east * side, degrees(atan2(east, north)) % 360

@@ -25,7 +25,8 @@ def seeds_words(seeds: Sequence[int]) -> list[str]:
 
 
 def machine_words(args: argparse.Namespace) -> list[str]:
-    """The words that name the program and how many runs go side by side, as they were given."""
+    """The words that tell the tools that make a page or folder again which program they run, and how many runs go side
+    by side."""
     return ["--program", args.program, "--jobs", str(args.jobs)]
 
 

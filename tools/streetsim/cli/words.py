@@ -1,4 +1,5 @@
-"""Words that several commands take: each function adds one or a few to a command's parser."""
+"""Words that several commands take: functions that add one or a few to a command's parser, and that read the seeds and
+other values that these words give."""
 import argparse
 from collections.abc import Sequence
 

@@ -1,4 +1,5 @@
-"""The table of works: what each place let pass in each period, and what stood before it."""
+"""What one place of works let pass in each period, and what stood before it: the figures of works.csv, which
+`observe.works` writes."""
 from bisect import bisect_left, bisect_right
 from collections.abc import Iterator, Sequence
 from dataclasses import dataclass

@@ -1,5 +1,5 @@
-"""The criteria that a calibrated base must meet: counts (GEH), routes, segments, saturation and queues of a day.
-streetsim-calibrate reckons them before and after the fit."""
+"""The criteria that a calibrated base must meet: counts (GEH, and by how much a flow may be off), routes, segments,
+saturation and queues of a day. streetsim-calibrate reckons them before and after the fit."""
 from __future__ import annotations
 
 from collections import defaultdict

@@ -1,4 +1,5 @@
-"""SUMO's detectors of additional files: induction loops (e1) and lane areas (e2)."""
+"""SUMO's detectors of additional files: induction loops (e1) and lane areas (e2), and what an area sees of the vehicles
+on its lane: how many are inside, halt and stand in a jam."""
 from collections.abc import Callable, Sequence
 from dataclasses import dataclass, field
 

@@ -1,4 +1,4 @@
-"""counts.csv and edges.csv: who passes stop lines, and means over samples, by period."""
+"""counts.csv and edges.csv: sums by period of who passes stop lines, and means over samples."""
 from __future__ import annotations
 
 from collections.abc import Iterator, Sequence

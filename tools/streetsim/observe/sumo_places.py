@@ -1,9 +1,6 @@
 """Where vehicles are in SUMO's terms: lane names, metres along a lane, points and angles."""
-from bisect import bisect_right
-from itertools import accumulate
-from math import atan2, degrees, dist
-
-from streetsim.model.mapping import Map, Shape
+from streetsim.base.shapes import Polyline
+from streetsim.model.mapping import Map
 from streetsim.observe.sumo_seconds import Spot
 
 LANE_WIDTH = 3.2  # metres, SUMO's default
@@ -35,24 +32,3 @@ class LanePlaces:
         link = self.mapping.links[spot.link]
         side = ((len(link.lanes) - 1) / 2 - spot.lane) * LANE_WIDTH
         return self.lines[spot.link].point_and_angle(self.metres_on_lane(spot) / link.metres, side)
-
-
-class Polyline:
-    """A line through two or more points (x, y), in metres."""
-
-    def __init__(self, points: Shape) -> None:
-        """points: (x, y) in metres, two at least."""
-        self.points = points
-        self.sizes = [dist(begin, end) for begin, end in zip(points, points[1:])]
-        self.ends = list(accumulate(self.sizes))
-
-    def point_and_angle(self, share: float, side: float = 0.0) -> tuple[float, float, float]:
-        """(x, y, angle) at a share, 0 to 1, of the length, `side` metres to the right of the line: metres, and the
-        angle of the line there in degrees clockwise from north."""
-        metres = share * self.ends[-1]
-        piece = min(bisect_right(self.ends, metres), len(self.sizes) - 1)
-        (x, y), (following_x, following_y) = self.points[piece : piece + 2]
-        size = self.sizes[piece] or 1.0
-        east, north = (following_x - x) / size, (following_y - y) / size
-        along = metres - (self.ends[piece] - self.sizes[piece])
-        return x + east * along + north * side, y + north * along - east * side, degrees(atan2(east, north)) % 360

@@ -49,7 +49,7 @@ class WorksTable(Observer):
                 self.note_looks(clock, LanesNow(seconds, second), due, polled)
 
     def note_looks(self, clock: int, lanes: LanesNow, due: Iterable[Watched], polled: Iterable[Watched]) -> None:
-        """Notes what works show that are due at a clock, or polled."""
+        """Notes for works.csv what works show that are due at a clock, or polled."""
         takeouts = self.kernel.vehicles.takeouts
         while self.rescued < len(takeouts) and takeouts[self.rescued].clock < clock:
             for watched in self.watched:
@@ -96,7 +96,7 @@ class WorksTable(Observer):
 
 
 class LanesNow:
-    """The lanes in one second, as replies."""
+    """The lanes in one second, as replies: those before works are looked at."""
 
     def __init__(self, seconds: Seconds, second: int) -> None:
         """second: by its number among these."""
@@ -104,7 +104,7 @@ class LanesNow:
         self.slots = seconds.slot[self.begin : seconds.first[second + 1]]
 
     def lane_at(self, lane_key: Place) -> Lane:
-        """What stands on a lane, without closed stretches."""
+        """What stands on a lane before works, without closed stretches."""
         slot = 2 * lane_key[0] + lane_key[1]
         low, high = (self.begin + np.searchsorted(self.slots, (slot, slot + 1))).tolist()
         if low == high:

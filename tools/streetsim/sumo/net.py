@@ -420,3 +420,11 @@ def connections_of(net: SumoNet) -> dict[str, list[NetConnection]]:
     for connection in net.connections:
         found[net.edges[connection.source].end].append(connection)
     return found
+
+
+def connections_to_lanes(net: SumoNet) -> dict[tuple[str, int], list[NetConnection]]:
+    """By lane, (edge, index), the connections that lead to it."""
+    found = defaultdict(list)
+    for one in net.connections:
+        found[one.target, one.target_lane].append(one)
+    return dict(found)

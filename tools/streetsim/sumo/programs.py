@@ -10,7 +10,7 @@ from streetsim.base.files import Json
 from streetsim.model.runs import Command
 from streetsim.sumo.crossing import Flows
 from streetsim.sumo.demand import DemandVehicle
-from streetsim.sumo.net import STATIC, NetConnection, SumoNet, connections_of
+from streetsim.sumo.net import STATIC, NetConnection, SumoNet, connections_of, connections_to_lanes
 from streetsim.sumo.network import Network
 from streetsim.sumo.signals import light_of
 from streetsim.sumo.types import Kind, Types
@@ -104,14 +104,6 @@ def connection_fields(connection: NetConnection, net: SumoNet) -> list[Any]:
     lane = f"{connection.source}_{connection.source_lane}"
     next_lane = f"{connection.target}_{connection.target_lane}"
     return [connection.index, lane, next_lane, back, connection.direction]
-
-
-def connections_to_lanes(net: SumoNet) -> dict[tuple[str, int], list[NetConnection]]:
-    """By lane, (edge, index), the connections that lead to it."""
-    found = defaultdict(list)
-    for one in net.connections:
-        found[one.target, one.target_lane].append(one)
-    return dict(found)
 
 
 def lane_fields(

@@ -299,3 +299,20 @@ def command(code: int, body: bytes) -> bytes:
 def state_of(code: int, result: int = tc.RTYPE_OK, why: str = "") -> bytes:
     """The state of a command: RTYPE_OK, RTYPE_NOTIMPLEMENTED or RTYPE_ERR, and why."""
     return command(code, bytes((result,)) + text(why))
+
+
+def commands_in_message(message: bytes) -> list[tuple[int, int]]:
+    """The first byte, from its code on, and the end of each command of a message, the last one first. BadMessage where
+    their lengths are not its own."""
+    commands, position = [], 0
+    while position < len(message):
+        size, head = message[position], 1
+        if not size:
+            if position + 1 + INT.size > len(message):
+                raise BadMessage("a message ends in the length of a command")
+            (size,), head = INT.unpack_from(message, position + 1), 1 + INT.size
+        if size <= head or position + size > len(message):
+            raise BadMessage(f"a command of {size:,} bytes, where {len(message) - position:,} are left")
+        commands.append((position + head, position + size))
+        position += size
+    return commands[::-1]

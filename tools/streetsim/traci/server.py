@@ -12,7 +12,9 @@ from streetsim.simulation.errors import FatalTraCIError, NotHere, TraCIException
 from streetsim.simulation.options import read_options
 from streetsim.traci import constants as tc
 from streetsim.traci.answering import GET_OF, OK_STATES, SET_OF, read_get_command, read_set_command, whole_message
-from streetsim.traci.protocol import DOUBLE, INT, MOST_MESSAGE, BadMessage, ValueReader, command, state_of, text
+from streetsim.traci.protocol import (
+    DOUBLE, INT, MOST_MESSAGE, BadMessage, ValueReader, command, commands_in_message, state_of, text,
+)  # fmt: skip
 from streetsim.traci.subscribing import CONTEXT_OF, SUBSCRIBE_OF, Subscriptions
 
 HOST = "127.0.0.1"
@@ -51,7 +53,7 @@ class TraciClient:
         if not INT.size + 2 <= size <= MOST_MESSAGE:
             raise BadMessage(f"a message of {size:,} bytes: {INT.size + 2} to {MOST_MESSAGE:,} are taken")
         self.message, self.answer = self.exactly(size - INT.size), bytearray()
-        self.pending = commands_in(self.message)
+        self.pending = commands_in_message(self.message)
 
     def receive(self) -> None:
         """Waits for bytes; ClientGone where the client goes away."""
@@ -89,23 +91,6 @@ class TraciClient:
             self.send_answer(state_of(self.message[1] if len(self.message) > 1 else 0, tc.RTYPE_ERR, why))
         except ClientGone:
             pass
-
-
-def commands_in(message: bytes) -> list[tuple[int, int]]:
-    """The first byte, from its code on, and the end of each command of a message, the last one first. BadMessage where
-    their lengths are not its own."""
-    commands, position = [], 0
-    while position < len(message):
-        size, head = message[position], 1
-        if not size:
-            if position + 1 + INT.size > len(message):
-                raise BadMessage("a message ends in the length of a command")
-            (size,), head = INT.unpack_from(message, position + 1), 1 + INT.size
-        if size <= head or position + size > len(message):
-            raise BadMessage(f"a command of {size:,} bytes, where {len(message) - position:,} are left")
-        commands.append((position + head, position + size))
-        position += size
-    return commands[::-1]
 
 
 class Server:
