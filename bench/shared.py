@@ -300,13 +300,13 @@ def led_to(node: ast.stmt, used: str, known_modules: Iterable[str]) -> tuple[ast
     if not isinstance(node, (ast.Import, ast.ImportFrom)):
         return node, None
     name, _, attribute = used.partition(".")
-    one = next(one for one in node.names if name in (one.asname, one.name.partition(".")[0]))
+    alias = next(alias for alias in node.names if name in (alias.asname, alias.name.partition(".")[0]))
     if isinstance(node, ast.Import):
-        return ast.Import([one]), (one.name, attribute) if one.name in known_modules else None
-    if f"{node.module}.{one.name}" in known_modules:
-        return node, (f"{node.module}.{one.name}", attribute)
-    led = (node.module, one.name) if node.module in known_modules else None
-    return ast.ImportFrom(node.module, [one], node.level), led
+        return ast.Import([alias]), (alias.name, attribute) if alias.name in known_modules else None
+    if f"{node.module}.{alias.name}" in known_modules:
+        return node, (f"{node.module}.{alias.name}", attribute)
+    led = (node.module, alias.name) if node.module in known_modules else None
+    return ast.ImportFrom(node.module, [alias], node.level), led
 
 
 class Definitions(ast.NodeTransformer):

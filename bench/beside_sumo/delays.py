@@ -22,7 +22,7 @@ from streetsim.model.mapping import read_map
 from streetsim.model.runs import read_run
 from streetsim.model.service import LETTERS, SIGNALS, level, percentile
 from streetsim.observe import junction_measures as measuring
-from streetsim.observe.crossings import Crossings
+from streetsim.observe.crossings import Crossings, Movements, PlanPlaces
 from streetsim.observe.junction_layout import approaches_of
 from streetsim.observe.passages import Passages
 from streetsim.report.beside_sumo import correlation
@@ -378,10 +378,16 @@ def plain_crossings(folder, mapping):
     plans = [line.command["plan"] for line in read_run(folder / "run.jsonl").enters]
     kernel = kernel_of(mapping, plans, dawdle=there.dawdle)
     show(kernel, [(poll["clock"], [lane[:4] for lane in poll["lanes"]]) for poll in there.polls()], seen)
-    found = Crossings(seen, kernel.plans, seen.done({}))
-    columns = (one.tolist() for one in (found.movement, found.delay, found.stops))
-    return [SimpleNamespace(movement=found.names[at], delay=delay, stops=stops)
-            for at, delay, stops in zip(*columns, strict=True)]  # fmt: skip
+    movements, crossings = Movements(seen), []
+    planned = PlanPlaces(movements, kernel.plans)
+    for _, passages in seen.ended_passages(3600, {}):
+        found = Crossings(planned, passages)
+        columns = (one.tolist() for one in (found.movement, found.delay, found.stops))
+        crossings += [
+            SimpleNamespace(movement=movements.name(number), delay=delay, stops=stops)
+            for number, delay, stops in zip(*columns, strict=True)
+        ]
+    return crossings
 
 
 def main_delays(argv: list[str]) -> int | None:

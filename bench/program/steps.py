@@ -495,7 +495,7 @@ class Followed(Program):
 
     def second(self) -> int:
         """Makes a second and looks at its block: how many stand still. Then its reply is read."""
-        self.send([ADVANCE])
+        self.write([ADVANCE])
         block = self.reader.read()
         stand = int((block.speed == 0).sum())
         self.process.stdout.readline()

@@ -366,8 +366,10 @@ def runs_of(names, seconds):
     return sorted((totals[kind], sorted(chosen, key=seconds.__getitem__)) for kind, chosen in classes.items())
 
 
-OPPOSITES = {ast.Lt: "<=", ast.LtE: "<", ast.Gt: ">=", ast.GtE: ">", ast.Eq: "!=", ast.NotEq: "==", ast.In: "not in",
-         ast.NotIn: "in", ast.Is: "is not", ast.IsNot: "is", ast.Add: "-", ast.Sub: "+"}
+OPPOSITES = {
+    ast.Lt: "<=", ast.LtE: "<", ast.Gt: ">=", ast.GtE: ">", ast.Eq: "!=", ast.NotEq: "==", ast.In: "not in",
+    ast.NotIn: "in", ast.Is: "is not", ast.IsNot: "is", ast.Add: "-", ast.Sub: "+",
+}  # fmt: skip
 SLOWER = 10  # times a class of tests may take what it took, and
 SPARE = 60  # seconds more, before a change counts as noticed, by its endless loop
 QUICK = 1.0  # seconds of tests, of changes that are kept

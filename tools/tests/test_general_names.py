@@ -1,17 +1,20 @@
-"""No name of the tools or of dev is one general word, which says nothing of what it names."""
+"""No name of the tools, of dev or of bench is one general word, which says nothing of what it names."""
 import unittest
 
 from general_names import general_names
 from support import TOOLS, Case
 
 TOP = TOOLS.parent
-FOLDERS = ("tools/streetsim", "dev")
+FOLDERS = ("tools/streetsim", "dev", "bench")
 # Methods by which users' own observers are called, as PYTHON.md tells.
 PROTOCOL = {"see"}
 MAP_KEY = "a key of the map's file"
 REPLY_KEY = "a key of the program's replies, which become this class"
 # Those that stay, and the reason.
 STAY = {
+    "bench/beside_sumo/rows.py: Row.here": "a column of the rows that are kept",
+    "bench/networks/unseen.py: MadeNetwork.words": "a key of made.json",
+    "bench/planners/routes.py: Row.here": "a key of the rows that --work keeps",
     "tools/streetsim/base/client.py: Census.taken": REPLY_KEY,
     "tools/streetsim/base/client.py: Gone": "the program's name of this refusal",
     "tools/streetsim/base/client.py: Refused.__init__.at": REPLY_KEY,

@@ -201,7 +201,7 @@ class Results(Case):
     def setUp(self):
         super().setUp()
         self.page, self.rows = (Path(self.write(name, "")) for name in ("page", "rows"))
-        for name, path in (("RESULTS", self.page), ("RESULT_ROWS", self.rows)):
+        for name, path in (("RESULTS_PAGE", self.page), ("RESULT_ROWS", self.rows)):
             patched = mock.patch.object(pages, name, path)
             patched.start()
             self.addCleanup(patched.stop)
