@@ -374,17 +374,17 @@ def plain_delays(folder, mapping):
 def plain_crossings(folder, mapping):
     """What each vehicle lost on each approach, without the loss of a stop, in the order in which they left these."""
     measuring.STOP_LOSS = 0.0, 0.0
-    there, seen = read_folder(str(folder / "here")), Passages()
+    there, approach_passages = read_folder(str(folder / "here")), Passages()
     plans = [line.command["plan"] for line in read_run(folder / "run.jsonl").enters]
     kernel = kernel_of(mapping, plans, dawdle=there.dawdle)
-    show(kernel, [(poll["clock"], [lane[:4] for lane in poll["lanes"]]) for poll in there.polls()], seen)
-    movements, crossings = Movements(seen), []
+    show(kernel, [(poll["clock"], [lane[:4] for lane in poll["lanes"]]) for poll in there.polls()], approach_passages)
+    movements, crossings = Movements(approach_passages), []
     planned = PlanPlaces(movements, kernel.plans)
-    for _, passages in seen.ended_passages(3600, {}):
+    for _, passages in approach_passages.ended_passages(3600, {}):
         found = Crossings(planned, passages)
         columns = (one.tolist() for one in (found.movement, found.delay, found.stops))
         crossings += [
-            SimpleNamespace(movement=movements.name(number), delay=delay, stops=stops)
+            SimpleNamespace(movement=movements.edge_pair(number), delay=delay, stops=stops)
             for number, delay, stops in zip(*columns, strict=True)
         ]
     return crossings

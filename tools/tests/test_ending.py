@@ -25,11 +25,11 @@ class Still(unittest.TestCase):
             kernel.clock = clock
             self.assertEqual(ending.next_clock(), clock)
             ending.act(clock, now)
-            self.assertEqual(bool(ending.ended), clock >= 1_500, clock)
-            if ending.ended:
+            self.assertEqual(bool(ending.end_reason), clock >= 1_500, clock)
+            if ending.end_reason:
                 break
         still = "no vehicle has changed its cell for 720 s, longer than the longest cycle, 700 s"
-        self.assertEqual((ending.ended, kernel.until), (f"ended at 1,500 s: {still}", 1_500))
+        self.assertEqual((ending.end_reason, kernel.until), (f"ended at 1,500 s: {still}", 1_500))
 
 
 @needs_simulator

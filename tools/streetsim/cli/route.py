@@ -89,7 +89,7 @@ def add_search(tool_parser: argparse.ArgumentParser) -> None:
     )
     tool_parser.add_argument(
         "--tried", type=integer_within(1, 8), default=1, metavar="N",
-        help="number of values that an iteration tries side by side for the share of the trips: the share, half of it, "
+        help="number of values of --share that an iteration tries side by side: the share, half of it, "
         "a quarter, .. "
         "(default %(default)s)",
     )
