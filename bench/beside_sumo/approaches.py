@@ -448,7 +448,7 @@ def driven_row(program, kind, network):
         kind, f"{network.level:g}", f"{network.vehicles:,}", f"{sumo_runs[1][1]:,}, {our_runs[1][1]:,}",
         f"{sumo_runs[0][0]:.1f} -> {sumo_runs[1][0]:.1f}", f"{our_runs[0][0]:.1f} -> {our_runs[1][0]:.1f}",
         f"{100 * (our_runs[1][0] / sumo_runs[1][0] - 1):+.1f}", f"{gains[0]:+.0f}, {gains[1]:+.0f}",
-        compared(sumo_runs[1][2], our_runs[1][2]), "not to be trusted" if our_runs[1][3] else "",
+        compared(sumo_runs[1][2], our_runs[1][2]), "yes" if our_runs[1][3] else "",
     ]  # fmt: skip
     return f"| {' | '.join(cells)} |"
 
@@ -470,7 +470,7 @@ def main_actuated(argv: list[str]) -> int | None:
     args = parser.parse_args(argv)
     work = shared.work_of(args)
     trips = "SUMO, fixed -> actuated, s | here, s | apart, % | gain in SUMO, here, %"
-    greens = "greens within 1 s, mean difference | "
+    greens = "greens within 1 s, mean difference | doubted"
     shared.print_heads(f"Network | level | vehicles | arrived in SUMO, here | {trips} | {greens}")
     for kind in args.kinds:
         for level in map(float, args.levels.split(",")):
