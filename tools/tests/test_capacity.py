@@ -13,6 +13,7 @@ from streetsim.report.beside_sumo import trip_times_of
 from streetsim.sumo.across import may_turn_on_red
 from streetsim.sumo.crossing import CrossingMovement, set_heads, set_lane, wait_together
 from streetsim.sumo.driving import driving_of
+from streetsim.sumo.full import full_at_light
 from streetsim.sumo.gaps import gap_capacity, gap_wait, until_first
 from streetsim.sumo.greens import green_here, hidden_middle, hidden_start, passing_here, vehicles_leaving
 from streetsim.sumo.heads import Heads, passing_heads
@@ -157,6 +158,15 @@ class Lanes(unittest.TestCase):
 
 class OneLane(Lanes):
     """Such lanes, of which lefts from the west wait."""
+
+    def test_a_lane_that_never_has_green_is_full(self):
+        """As one of a network that sumo-tools ships: 30 an hour wish to pass, and nobody can; one is counted."""
+        shut = self.movement(("w", "on"), ("w", 0), 30)
+        shut.green = shut.sure = 0
+        set_lane(shut, (shut,))
+        settle([shut])
+        ((full_lane, _),) = full_at_light("c", [shut], {shut.pair: "s"})
+        self.assertEqual((full_lane.junction, full_lane.demand), ("c", 30.0))
 
     def test_wait_for_a_gap(self):
         # (e^1.0833 - 1) * 6 - 6.5 and (e^0.65 - 1) * 10 - 6.5 seconds.

@@ -14,7 +14,7 @@ from streetsim.sumo.merges import Merge
 from streetsim.sumo.net import SumoNet
 from streetsim.sumo.network import Network
 from streetsim.sumo.signals import movements
-from streetsim.sumo.yielding import capacity
+from streetsim.sumo.yielding import LEAST_PASSING, capacity
 
 PART_SECONDS, LEAST_PART = 900, 1 / 8  # that are looked at alone; share of the vehicles, below which these are not
 LEAST_FLOW = 30.0  # vehicles an hour of a lane
@@ -106,11 +106,12 @@ def full_at_light(
 
 def by_greens(sharing: Sequence[CrossingMovement], wish: float) -> float:
     """Vehicles an hour that a lane lets pass, of wish that want to (above 0), if nobody waited for gaps: where only
-    some of its movements have green, those before the first vehicle of another one."""
+    some of its movements have green, those before the first vehicle of another one; LEAST_PASSING at least."""
     cycle, each = sharing[0].cycle, sum(one.flow * one.headway for one in sharing) / wish
     held = [sum(one.flow for one in sharing if not one.green >> second & 1) / wish for second in range(cycle)]
     queues = ((share, len(list(seconds)) / each) for share, seconds in groupby(held))
-    return sum(until_first(queue, share) if share else queue for share, queue in queues) * 3600 / cycle
+    vehicles = sum(until_first(queue, share) if share else queue for share, queue in queues)
+    return max(LEAST_PASSING, vehicles * 3600 / cycle)
 
 
 def full_merges(merges: Iterable[Merge], flows: Flows) -> Iterator[LaneAndPairs]:

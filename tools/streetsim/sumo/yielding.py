@@ -21,6 +21,7 @@ MOST_AGAINST = 1e5  # vehicles an hour; beyond that numbers overflow
 MOST_EQUIVALENT = 10.0  # vehicles, for one that waits
 ROUNDS, CLOSE = 30, 1.0  # of the search for flows that fit to each other, vehicles an hour
 LEAST_STOPPED = 0.4  # vehicles in a red, below which none go
+LEAST_PASSING = 1.0  # vehicles an hour, also of a lane that never has green: so it counts as full
 FAR_FROM_FULL, NEARLY_FULL = 0.6, 0.8  # of what a lane lets pass: one of several of its edge, the only one
 
 
@@ -200,18 +201,18 @@ def leaving_bits(foe: CrossingMovement, rate: float) -> int:
 
 def capacity(sharing: Sequence[CrossingMovement], wish: float) -> float:
     """Vehicles an hour that a lane lets pass, by its movements, of wish that want to (above 0): all until the first
-    comes that waits to turn, and then those of the seconds that are shown to it."""
+    comes that waits to turn, and then those of the seconds that are shown to it; LEAST_PASSING at least."""
     cycle, green = sharing[0].cycle, reduce(or_, (movement.green for movement in sharing))
     mean_headway = sum(movement.flow * movement.headway for movement in sharing) / wish
     most_vehicles = green.bit_count() / mean_headway
     waiting = [movement for movement in sharing if movement.waits]
     share = sum(movement.flow for movement in waiting) / wish
     if not share:
-        return most_vehicles * 3600 / cycle
+        return max(LEAST_PASSING, most_vehicles * 3600 / cycle)
     shown = max(movement.shown_open / HEADWAYS[movement.limit - 1] for movement in waiting)
     shown += waiting[0].sure.bit_count() / mean_headway
     before = max(0.0, most_vehicles - shown)
-    return min(most_vehicles, until_first(before, share) + shown) * 3600 / cycle
+    return max(LEAST_PASSING, min(most_vehicles, until_first(before, share) + shown) * 3600 / cycle)
 
 
 def equivalents(movements: Iterable[CrossingMovement]) -> dict[EdgePair, float]:
