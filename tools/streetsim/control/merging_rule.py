@@ -89,8 +89,8 @@ class MergeTurn:
         begins when the same one has stood first for PATIENCE seconds; it ends when nobody is on the held cells or the
         GAP_AHEAD ones after them, when nobody stands first, or when the same one has for more than MOST_WAIT
         seconds."""
-        cells = range(point.low, point.works_cell)
-        approaching = [vehicle for vehicle in sides[point.lane].vehicles if vehicle.cell in cells]
+        vehicles = sides[point.lane].vehicles
+        approaching = [vehicle for vehicle in vehicles if point.low <= vehicle.cell < point.works_cell]
         front = approaching[0] if approaching else None
         head = front.car if front and front.speed == 0 and front.cell >= point.works_cell - NEAR else None
         if head != self.head:

@@ -247,7 +247,7 @@ class PageSession:
 
     def message(self, tells_all: bool = False, refused: str = "", **further_fields: Any) -> bytes:
         """What the page is told: a number, the length of JSON; JSON; the vehicles of both traffics, as of World.rows.
-        tells_all: to a page that knows nothing; else what is new."""
+        tells_all: for a page that knows nothing; else it has what is new."""
         assert self.current is not None
         worlds, parts = self.worlds(self.current), []
         for world in worlds:

@@ -146,8 +146,9 @@ def search_by_share(
     on_iteration: Callable[[str, Iteration], bool],
 ) -> Iterator[Diverted]:  # fmt: skip
     """For each share (0 to 1) of drivers who know of the works, what a search of its own gives; each begins with the
-    ways without_works and is judged by the check seeds. on_iteration: gets a label and an iteration, and gives whether
-    the user asks for an end. The trips are copies. Fault where a trip has no way round the works, or a run fails."""
+    ways of `without_works` and is judged by the check seeds. on_iteration: gets a label and an iteration, and gives
+    whether the user asks for an end. The trips are copies. Fault where a trip has no way round the works, or a run
+    fails."""
     earlier = without_works.search
     town = town_with_works(earlier.town, closing.shutting)
     for share in shares:
