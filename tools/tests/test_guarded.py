@@ -4,6 +4,7 @@ import json
 import unittest
 
 from support import MAP, NUMBERED, PROGRAM, Case, needs_simulator
+from streetsim.base.files import Fault
 from streetsim.demand.matrices import read_matrices
 from streetsim.model.mapping import map_from
 from streetsim.model.names import read_own
@@ -37,6 +38,36 @@ class Guarded(Case):
                     found = [*csv.reader(file)][1:]
                 self.assertEqual(found[9_000], [safe.get(one, str(one)) for one in row])
                 self.assertEqual((len(found), [one for _, one, _ in found[9_001:]]), (9_004, ["1", "1.0", "True"]))
+
+    def test_a_table_of_other_versions(self):
+        """Last columns that are not there are empty, further ones are given; without an earlier column, or with one
+        twice, it is none; each row is looked at as before."""
+        header = ("id", "begin", "edge", "v_c")
+        for text, found in (
+            ("id,begin,edge,v_c\na,1,e,0.5\n", ["a", "1", "e", "0.5"]),
+            ("id,begin,edge\na,1,e\n", ["a", "1", "e", ""]),
+            ("id,begin\na,1\n", ["a", "1", "", ""]),
+            ("id,begin,edge,v_c,doubt\na,1,e,,x\n", ["a", "1", "e", "", "x"]),
+        ):
+            with self.subTest(text):
+                self.assertEqual([list(row.values()) for row in map(dict, self.sorted_as(header, text))], [found])
+        for text, told in (
+            ("id\na\n", "expected the columns id, begin, edge, v_c"),
+            ("id,edge,v_c\na,e,1\n", "expected the columns id, begin, edge, v_c"),
+            ("id,begin,edge,begin\na,1,e,2\n", "expected the columns id, begin, edge, v_c"),
+            ("", "expected the columns id, begin, edge, v_c"),
+            ("id,begin\na,x\n", "line 2: begin = 'x' is no number"),
+            ("id,begin\na,inf\n", "line 2: begin = 'inf' is no number"),
+            ("id,begin\na\n", "line 2: expected 2 cells"),
+            ("id,begin\na,1,2\n", "line 2: expected 2 cells"),
+        ):
+            with self.subTest(text), self.assertRaisesRegex(Fault, told):
+                self.sorted_as(header, text)
+
+    def sorted_as(self, header, text):
+        """The rows of a table of a text, with their columns in the order of a header, and further ones behind."""
+        rows = read_table(self.write("t.csv", text), header)
+        return [{name: row[name] for name in [*header, *(one for one in row if one not in header)]} for row in rows]
 
     def test_names_and_matrices_are_read_back(self):
         names = self.write("n.csv", "id,name\na,'=Main\n")

@@ -104,21 +104,29 @@ def write_table(path: FilePath, header: Sequence[str], rows: Iterable[Iterable[o
 
 
 def read_table(path: FilePath, header: Sequence[str]) -> list[dict[str, str]]:
-    """The rows of a CSV table, as texts by column; Fault where it cannot be read, has other columns than `header`
-    (columns of names, which end in _name, may stand among them), a row that is shorter or longer, or a text where a
-    number belongs."""
+    """The rows of a CSV table, as texts by column. Last columns of `header` that the table does not have, as tables of
+    earlier versions, are empty; further columns, as those of names, are given too. Fault where it cannot be read, where
+    an earlier column is absent, more than half of them are, or one is there twice, and for a row that is shorter or
+    longer, or has a text where a number belongs."""
     with reading(path), open_text(path) as file:
         rows = csv.DictReader(lines_of(file))
-        if [name for name in rows.fieldnames or () if name in header or not name.endswith("_name")] != [*header]:
+        found = rows.fieldnames or ()
+        absent = [name for name in header if name not in found]
+        if absent != [*header[len(header) - len(absent) :]] or 2 * len(absent) > len(header) or has_twice(found):
             raise Fault(f"{path}: expected the columns {', '.join(header)}")
-        entries = []
+        entries, numbers = [], [name for name in header if name not in TEXTS and name in found]
         for row in rows:
             if None in row or None in row.values():
-                raise Fault(f"{path}: line {rows.line_num}: expected {len(rows.fieldnames or ())} cells")
-            if wrong := next((name for name in header if name not in TEXTS and not is_number(row[name])), None):
+                raise Fault(f"{path}: line {rows.line_num}: expected {len(found)} cells")
+            if wrong := next((name for name in numbers if not is_number(row[name])), None):
                 raise Fault(f"{path}: line {rows.line_num}: {wrong} = {row[wrong]!r} is no number")
-            entries.append({name: unguarded(text) for name, text in row.items()})
+            entries.append(dict.fromkeys(absent, "") | {name: unguarded(text) for name, text in row.items()})
         return entries
+
+
+def has_twice(names: Sequence[str]) -> bool:
+    """Whether a name is there more than once."""
+    return len({*names}) < len(names)
 
 
 def is_number(text: str) -> bool:
