@@ -86,13 +86,30 @@ class ToldOnce(Case):
 
 
 class Decisions(Case):
+    @staticmethod
+    def forms(text: str) -> str:
+        """The only chapter with a table: its heading, a sentence and a row for each call or type."""
+        found = re.search(r"^## Forms of calls\n.*?(?=^## )", text, re.MULTILINE | re.DOTALL)
+        return found[0] if found else ""
+
     def test_entries_have_four_lines(self):
         text = (TOP / DECISIONS).read_text(encoding="utf-8")
-        lines = [line for line in text.partition("\n## ")[2].splitlines()[1:] if line and not line.startswith("## ")]
+        entries = text.partition("\n## ")[2].replace(self.forms(text), "")
+        lines = [line for line in entries.splitlines()[1:] if line and not line.startswith("## ")]
         self.assertEqual([line for at, line in enumerate(lines) if not line.startswith(ENTRY[at % len(ENTRY)])], [])
         self.assertLessEqual(len(lines), MOST_ENTRIES * len(ENTRY))
         self.assertEqual(len(lines) % len(ENTRY), 0)
         self.assertLessEqual(len(text.split()), MOST_WORDS)
+
+    def test_forms_are_those_of_the_code(self):
+        chapter = self.forms((TOP / DECISIONS).read_text(encoding="utf-8"))
+        rows = [line.split(" | ") for line in chapter.splitlines() if line.startswith("| `")]
+        self.assertGreater(len(rows), 30)
+        self.assertEqual([row for row in rows if len(row) != 4], [])
+        code = "\n".join(path.read_text(encoding="utf-8") for path in sorted(TOP.glob("crates/*/src/**/*.rt")))
+        words = [word.rpartition("::")[2] for row in rows for word in re.findall(r"`([\w:]+)`", row[0])]
+        self.assertEqual(len(words), len(rows))
+        self.assertEqual([word for word in words if not re.search(rf"\b(fn|enum|struct|trait) {word}\b", code)], [])
 
 
 if __name__ == "__main__":
