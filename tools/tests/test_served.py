@@ -1,4 +1,5 @@
 """streetsim-sumo and TraCI's protocol: a conversation that was recorded of SUMO, hostile bytes, SUMO's own clients."""
+import contextlib
 import glob
 import os
 import random
@@ -18,11 +19,14 @@ from support import DATA, PROGRAM, TOOLS, Case, needs_package, needs_simulator, 
 
 import streetsim.traci as traci
 from streetsim.base.files import Fault
+from streetsim.simulation.confining import confined
 from streetsim.simulation.errors import FatalTraCIError
 from streetsim.simulation.options import read_options
-from streetsim.traci import constants as tc, domain, server
+from streetsim.traci import constants as tc, domain, meeting, server
 from streetsim.traci.answering import ReadCall
-from streetsim.traci.protocol import MOST_MESSAGE, BadMessage, ValueReader, command, double, string, strings, text
+from streetsim.traci.protocol import (
+    MOST_MESSAGE, BadMessage, ValueReader, command, commands_in_message, double, string, strings, text,
+)  # fmt: skip
 from streetsim.traci.server import OK_STATES, Server, TraciClient, listen
 from streetsim.traci.table import DOMAINS, GETS, SETS
 
@@ -245,9 +249,81 @@ class Protocol(Served):
         serving = threading.Thread(target=Server(listening, 1, self.told.append).serve)
         serving.start()
         with socket.create_connection(("127.0.0.1", port)) as client:
-            client.sendall(b"rubbish")
+            client.sendall(message(step()) + b"rubbish")
+            self.assertEqual(read(client.makefile("rb"))[:2], OK_STATES[tc.CMD_SIMSTEP][:2])
         serving.join()
         listen(port).close()
+
+    def test_what_is_no_client_is_dropped_and_the_next_one_served(self):
+        """A page of the web, one that goes away, a byte, silence, and too many of them: a line tells of each."""
+        traci.start(["sumo", *WORDS])
+        with patch.object(meeting, "FIRST_WAIT", 1.0), patch.object(meeting, "MOST_NEW", 4):
+            listening = listen(0)
+            address = listening.getsockname()
+            lost = []
+            serving = threading.Thread(target=lambda: lost.append(Server(listening, 1, self.told.append).serve()))
+            serving.start()
+            for data, why in (
+                (b"GET / HTTP/1.1\r\nHost: localhost\r\n\r\n", "TraCI's protocol: 1,195,725,856 bytes"),
+                (b"\0\0\0\x09\0\x7f\xff\xff\xff", "a command of 2,147,483,647 bytes"),
+                (b"\x00", "within 1 s"), (b"", "within 1 s"),
+            ):  # fmt: skip
+                with self.subTest(data=data), socket.create_connection(address, timeout=10) as stray:
+                    stray.sendall(data)
+                    self.assertEqual(told_until_end(stray), b"")
+                    self.assertIn(why, self.told[-1])
+            with socket.create_connection(address):
+                pass
+            with contextlib.ExitStack() as strays:
+                for _ in range(6):
+                    strays.enter_context(socket.create_connection(address))
+                with socket.create_connection(address, timeout=10) as client:
+                    client.sendall(message(asked("simulation", tc.VAR_TIME)) + message((tc.CMD_CLOSE, b"")))
+                    self.assertIn(b"\x0b" + struct.pack("!d", 0.0), told_until_end(client))
+            serving.join()
+        self.assertEqual(lost, [0])
+        self.assertTrue(any("it ended" in line for line in self.told), self.told)
+        self.assertTrue(any("4 others came" in line for line in self.told), self.told)
+
+    def test_many_commands_and_parts_are_refused_before_they_take_memory(self):
+        """Eight million commands were 1.2 GB; more than 65,536 of a message, or parts of a command, are an error."""
+        commands = struct.pack("!BB", 2, tc.CMD_GETVERSION)
+        self.assertEqual(len(commands_in_message(commands * 65_536)), 65_536)
+        with self.assertRaisesRegex(BadMessage, "more than 65,536 commands"):
+            commands_in_message(commands * 65_537)
+        part = bytes((tc.TYPE_UBYTE, 0))
+        for count, is_taken in ((65_536, True), (65_537, False)):
+            data = bytes((tc.TYPE_COMPOUND,)) + struct.pack("!i", count) + count * part
+            reader = ValueReader(data, 0, len(data))
+            if is_taken:
+                self.assertEqual(len(reader.typed()[1]), count)
+            else:
+                self.assertRaisesRegex(BadMessage, "more than 65,536 parts", reader.typed)
+
+    def test_files_that_clients_name_are_written_in_one_folder(self):
+        """States, logs and outputs; names with dots and links lead nowhere else. The conversation goes on."""
+        inside = self.folder / "inside"
+        inside.mkdir()
+        (inside / "link").symlink_to(self.folder)
+        traci.start(["sumo", *WORDS])
+        paths = self.folder / "x", inside / "../x", inside / "link/x", inside, inside / "x"
+        save = bytes((tc.CMD_SAVE_SIMSTATE,)) + text("")
+        saves = [(DOMAINS["simulation"].set, save + string(str(path))) for path in paths]
+        loads = [(tc.CMD_LOAD, strings([*WORDS, *words])) for words in (
+            ["--log", f"{self.folder}/x"], ["--tripinfo-output", f"{inside}/../x"], ["--writes", str(self.folder)],
+            ["--tripinfo-output", f"{inside}/y", "--output-prefix", "../z"],
+            ["--tripinfo-output", f"{inside}/trips.xml"],
+        )]  # fmt: skip
+        with confined(str(inside)):
+            [states] = answers(self.talk(message(*saves, *loads, (tc.CMD_CLOSE, b""))))
+        error = tc.RTYPE_ERR
+        self.assertEqual([result for _, result, _ in states], [*4 * [error], 0, *4 * [error], 0, 0])
+        for _, _, why in (*states[:4], *states[5:7], states[8]):
+            self.assertIn(f"are written in {inside} alone (--writes)", why)
+        self.assertIn("--writes is no word of a client's", states[7][2])
+        traci.close()
+        self.assertEqual({path.name for path in self.folder.iterdir()}, {"inside"})
+        self.assertEqual({path.name for path in inside.iterdir()}, {"link", "trips.xml", "x"})
 
     def test_two_clients_step_in_their_order(self):
         """The second one asks at each clock what the first one has set; a step is made when both have asked for it, and
@@ -316,6 +392,13 @@ class Protocol(Served):
         self.assertEqual([result for states in answers(said) for _, result, _ in states], 6 * [0])
         self.assertEqual((traci.simulation.getTime(), traci.simulation.getOption("seed")), (1.0, "5"))
         self.assertEqual(said.count(b"\x0b" + struct.pack("!d", 5.0)), 1)  # subscriptions are over
+
+
+def told_until_end(connection):
+    """All that comes from a connection until it ends."""
+    with contextlib.suppress(ConnectionResetError):
+        return b"".join(iter(lambda: connection.recv(1 << 16), b""))
+    return b""
 
 
 def read(said):
@@ -405,6 +488,8 @@ class Command(Case):
         for words, why in (
             (["--tripinfo-ouput", "x"], "The nearest is --tripinfo-output."), (["--random"], "give a --seed"),
             (["--scale", "2"], "make the routes of the demand"), (["--num-clients", "0"], "is not 1 to 64"),
+            (["--writes", "."], "is for clients, who come with --remote-port"),
+            (["--remote-port", "9", "--writes", "none"], "is no folder"),
             (["--remote-port", "70000"], "is not 0 to 65,535"), (["--vehroute-output", "x"], "not written here"),
         ):  # fmt: skip
             told = self.run_command(*WORDS, *words, status=2).stderr

@@ -1,7 +1,7 @@
 """Opens a session of the words of SUMO's command line."""
 import os
 import sys
-from collections.abc import Mapping, Sequence
+from collections.abc import Iterable, Mapping, Sequence
 from contextlib import redirect_stderr
 from io import StringIO
 from pathlib import Path
@@ -10,6 +10,7 @@ from tempfile import TemporaryDirectory
 from streetsim.base.files import whole_file
 from streetsim.base.words import ROUNDS, names_in
 from streetsim.model.replications import DRAWN
+from streetsim.simulation.confining import why_not_written
 from streetsim.simulation.errors import FatalTraCIError
 from streetsim.simulation.kept_imports import KeptImport, key_of, read_kept, write_kept
 from streetsim.simulation.options import IMPORTED, LOGS, NO_FILE, read_options, warnings_of
@@ -52,6 +53,7 @@ def import_session(folder: Path, options: Options) -> TraciSession:
     try:
         write_warnings(messages + notes_of(session), options)
         if paths := output_paths(options, facts):
+            refuse_outside(paths.values())
             session.write(paths, int(facts.edgedata[0][1]) or PERIOD if facts.edgedata else PERIOD)
     except Exception:
         session.close()
@@ -119,16 +121,32 @@ def notes_of(session: TraciSession) -> str:
     return "".join(f"{line}\n" for line in lines)
 
 
-def output_paths(options: Options, facts: Facts) -> dict[str, str]:
+def output_paths(options: Options, facts: Facts | None) -> dict[str, str]:
     """{kind: path} of the output files that options ask for (kinds as in SERVED), and as "edgedata" of the first
-    edgeData of additional files. --output-prefix stands before the name of each file."""
+    edgeData of additional files, where their facts are given. --output-prefix stands before the name of each file."""
     prefix, paths = options.get("output-prefix", ""), {}
     for name, kind in SERVED.items():
         if options.get(name, NO_FILE[0]) not in NO_FILE:
             paths[kind] = options[name]
-    if facts.edgedata:
+    if facts is not None and facts.edgedata:
         paths["edgedata"] = facts.edgedata[0][0]
     return {kind: os.path.join(os.path.dirname(path), prefix + os.path.basename(path)) for kind, path in paths.items()}
+
+
+def written_paths(options: Options) -> list[str]:
+    """The paths of all files that options ask for, without those of additional files."""
+    return [*log_paths(options), *output_paths(options, None).values()]
+
+
+def log_paths(options: Options) -> list[str]:
+    """The paths of the files that get what the import says."""
+    return sorted({options[name] for name in LOGS if options.get(name)})
+
+
+def refuse_outside(paths: Iterable[str]) -> None:
+    """FatalTraCIError for a file that may not be written there."""
+    if (why := why_not_written(paths)) is not None:
+        raise FatalTraCIError(why)
 
 
 def is_on(value: str) -> bool:
@@ -142,6 +160,7 @@ def write_warnings(messages: str, options: Options) -> None:
     messages = "".join(f"warning: {text}\n" for text in warnings_of(options)) + messages
     if not is_on(options.get("no-warnings", "false")):
         sys.stderr.write(messages)
-    for path in {options[name] for name in LOGS if options.get(name)}:
+    refuse_outside(log_paths(options))
+    for path in log_paths(options):
         with whole_file(path) as file:
             file.write(messages)

@@ -21,7 +21,7 @@ SHORT = {
 INPUTS = {
     "configuration-file", "net-file", "route-files", "additional-files", "step-length", "time-to-teleport",
     "output-prefix", "rounds", "ignore-route-errors", "merge", "lights", "stops", "rescue", "priority", "seen",
-    "close", "departures",
+    "close", "departures", "writes",
 }
 LOGS = ("log", "message-log", "error-log")  # files that get what the import says
 IMPORTED = {
@@ -155,6 +155,8 @@ def warnings_of(options: Mapping[str, str]) -> list[str]:
         f"--{name} {options[name]}".rstrip() + f" has no effect here{CHANGES.get(name, '')}" for name in lacking
         if name not in IMPORTED and name not in DONE_BY_TOOL
     ]  # fmt: skip
+    if "writes" in options and "remote-port" not in options:
+        warnings.append(f"--writes {options['writes']} has no effect here: it is for clients of streetsim-sumo")
     if not options.get("time-to-teleport", "-1").startswith("-") and options["time-to-teleport"] != "0":
         time = options["time-to-teleport"]
         warnings.append(f"--time-to-teleport {time} has no effect here: nobody teleports; --rescue {time} rescues")

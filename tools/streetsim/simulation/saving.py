@@ -5,6 +5,7 @@ from hashlib import sha256
 
 from streetsim.base.files import Fault, open_text, whole_file
 from streetsim.base.unpacking import refuse_crowded
+from streetsim.simulation.confining import why_not_written
 from streetsim.simulation.deeds import NAMES
 from streetsim.simulation.errors import TraCIException
 from streetsim.simulation.session import TraciSession
@@ -14,7 +15,9 @@ FORMAT = "streetsim state 7"
 
 def save_state(session: TraciSession, path: str) -> None:
     """Writes to a file what restores a session: the clock, and what a script has done up to it. What merging holds
-    closed is opened. Fault where the file cannot be written."""
+    closed is opened. TraCIException where the file may not be written there, Fault where it cannot be."""
+    if (why := why_not_written([path])) is not None:
+        raise TraCIException(f"simulation.saveState: {why}")
     session.open_held_lanes()
     state = {"format": FORMAT, "of": digests_of(session), "clock": session.clock, "done": session.deeds.entries}
     with whole_file(path) as file:

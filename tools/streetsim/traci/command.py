@@ -1,5 +1,6 @@
 """streetsim-sumo: SUMO's command line over streetsim: a run to its end, or TraCI's protocol for clients."""
 import argparse
+import os
 import sys
 import time
 from collections.abc import Mapping, Sequence
@@ -10,6 +11,7 @@ from streetsim.base.client import ProgramEnded, Refused
 from streetsim.base.files import Fault, seconds
 from streetsim.base.words import Parser
 from streetsim.model import trust
+from streetsim.simulation.confining import confined
 from streetsim.simulation.errors import FatalTraCIError
 from streetsim.simulation.opening import is_on
 from streetsim.simulation.options import IMPORTED, read_options
@@ -18,7 +20,7 @@ from streetsim.simulation.statistics import WaitingCount, doubts_of, statistics_
 from streetsim.traci.checking import check_script
 from streetsim.traci.server import HOST, Server, listen, turn_away
 
-PORTS, CLIENTS, CHECK = "remote-port", "num-clients", "--check"
+PORTS, CLIENTS, WRITES, CHECK = "remote-port", "num-clients", "writes", "--check"
 MINUTE, MOST_CLIENTS = 60, 64
 ALL_LEFT = "All vehicles have left the simulation."
 RUN_OPTIONS = ("departures", "lights", "merge", "close", "stops", "priority", "seen")
@@ -33,6 +35,7 @@ OPTION_HELP = (
     ("--seed NUMBER", "seed of all random draws; equal seeds give equal runs"),
     ("--remote-port PORT", "serves TraCI's protocol at a port of the loopback address"),
     ("--num-clients NUMBER", "waits for so many clients, which tell their places by setOrder (1)"),
+    ("--writes FOLDER", "files that clients name are written in this folder alone"),
     ("--tripinfo-output FILE", "a row for each vehicle that arrived"),
     ("--summary-output FILE", "a row for each second"),
     ("--queue-output FILE", "the queues of each second"),
@@ -94,6 +97,7 @@ def main(arguments: list[str]) -> int:
 def run_with_options(arguments: Sequence[str], options: Mapping[str, str]) -> int:
     """Makes the run that SUMO's words ask for, which have these options, by clients or alone; gives the status."""
     count, port = number_in(options, CLIENTS, 1, 1, MOST_CLIENTS), number_in(options, PORTS, 0, 0, (1 << 16) - 1)
+    writes = folder_in(options, WRITES, port)
     listening = listen(port) if port else None
     is_verbose, started = "verbose" in options and is_on(options["verbose"]), time.monotonic()
     if listening is not None:
@@ -110,7 +114,8 @@ def run_with_options(arguments: Sequence[str], options: Mapping[str, str]) -> in
     lost_clients, reason, waiting_by_minute = 0, "TraCI requested termination.", list[WaitingCount]()
     try:
         if listening is not None:
-            lost_clients = Server(listening, count, lambda text: print(text, file=sys.stderr)).serve()
+            with confined(writes):
+                lost_clients = Server(listening, count, lambda text: print(text, file=sys.stderr)).serve()
             session = traci.simulation.session()
         else:
             reason, waiting_by_minute = run_to_end(session, seconds(options["end"]) if "end" in options else inf)
@@ -128,6 +133,16 @@ def number_in(options: Mapping[str, str], name: str, default: int, least: int, m
     if not text.isdecimal() or len(text) > 9 or not least <= int(text) <= most:
         raise Fault(f"--{name} {text}: is not {least} to {most:,}")
     return int(text)
+
+
+def folder_in(options: Mapping[str, str], name: str, port: int) -> str | None:
+    """The folder of an option, or None; Fault where it is none, and without a port, as no client has a word then."""
+    folder = options.get(name)
+    if folder is not None and not port:
+        raise Fault(f"--{name} {folder}: is for clients, who come with --{PORTS}")
+    if folder is not None and not os.path.isdir(folder):
+        raise Fault(f"--{name} {folder}: is no folder")
+    return folder
 
 
 def run_to_end(session: TraciSession, end: float) -> tuple[str, list[WaitingCount]]:

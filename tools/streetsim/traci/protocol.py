@@ -10,7 +10,8 @@ from typing import Any
 
 from streetsim.traci import constants as tc
 
-MOST_MESSAGE = 1 << 24  # bytes of a message that are taken, at most
+LEAST_MESSAGE, MOST_MESSAGE = 6, 1 << 24  # bytes of a message that are taken, with its length
+MOST_COMMANDS, MOST_PARTS = 1 << 16, 1 << 16  # of a message; of the compounds of a command; at most
 MOST_DEPTH = 8  # compounds within each other that are taken, at most
 SHORT_COMMAND = 255  # bytes of a command whose length is one byte, at most
 INT, DOUBLE, BYTE, UBYTE, POINT, SPACE, COLOUR = (
@@ -38,6 +39,7 @@ class ValueReader:
     def __init__(self, message: bytes, position: int, end: int) -> None:
         """position, end: of the bytes that are read."""
         self.message, self.position, self.end = message, position, end
+        self.parts_left = MOST_PARTS
 
     def unpack(self, layout: struct.Struct) -> tuple[TraciValue, ...]:
         """The next values of a layout."""
@@ -77,7 +79,11 @@ class ValueReader:
         """How many parts the next compound has, which is within so many others."""
         if depth >= MOST_DEPTH:
             raise BadMessage(f"more than {MOST_DEPTH} compounds within each other")
-        return self.count()
+        count = self.count()
+        self.parts_left -= count
+        if self.parts_left < 0:
+            raise BadMessage(f"compounds of more than {MOST_PARTS:,} parts")
+        return count
 
     def read_value(self, letter: str) -> TraciValue:
         """The next value of a type by its letter, behind the mark."""
@@ -304,7 +310,7 @@ def state_of(code: int, result: int = tc.RTYPE_OK, why: str = "") -> bytes:
 def commands_in_message(message: bytes) -> list[tuple[int, int]]:
     """The first byte, from its code on, and the end of each command of a message, the last one first. BadMessage where
     their lengths are not its own."""
-    commands, position = [], 0
+    commands, position = list[tuple[int, int]](), 0
     while position < len(message):
         size, head = message[position], 1
         if not size:
@@ -313,6 +319,8 @@ def commands_in_message(message: bytes) -> list[tuple[int, int]]:
             (size,), head = INT.unpack_from(message, position + 1), 1 + INT.size
         if size <= head or position + size > len(message):
             raise BadMessage(f"a command of {size:,} bytes, where {len(message) - position:,} are left")
+        if len(commands) == MOST_COMMANDS:
+            raise BadMessage(f"a message of more than {MOST_COMMANDS:,} commands")
         commands.append((position + head, position + size))
         position += size
     return commands[::-1]

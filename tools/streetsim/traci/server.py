@@ -8,12 +8,15 @@ import streetsim.traci as traci
 from streetsim.base import limits
 from streetsim.base.files import Fault
 from streetsim.base.client import ProgramEnded, Refused
+from streetsim.simulation.confining import why_not_written
 from streetsim.simulation.errors import FatalTraCIError, NotHere, TraCIException
+from streetsim.simulation.opening import written_paths
 from streetsim.simulation.options import read_options
 from streetsim.traci import constants as tc
 from streetsim.traci.answering import GET_OF, OK_STATES, SET_OF, read_get_command, read_set_command, whole_message
+from streetsim.traci.meeting import Meeting
 from streetsim.traci.protocol import (
-    DOUBLE, INT, MOST_MESSAGE, BadMessage, ValueReader, command, commands_in_message, state_of, text,
+    DOUBLE, INT, LEAST_MESSAGE, MOST_MESSAGE, BadMessage, ValueReader, command, commands_in_message, state_of, text,
 )  # fmt: skip
 from streetsim.traci.subscribing import CONTEXT_OF, SUBSCRIBE_OF, Subscriptions
 
@@ -50,8 +53,8 @@ class TraciClient:
     def next_message(self) -> None:
         """Waits for the next message. ClientGone where the client goes away; BadMessage for a length that none has."""
         (size,) = INT.unpack(self.exactly(INT.size))
-        if not INT.size + 2 <= size <= MOST_MESSAGE:
-            raise BadMessage(f"a message of {size:,} bytes: {INT.size + 2} to {MOST_MESSAGE:,} are taken")
+        if not LEAST_MESSAGE <= size <= MOST_MESSAGE:
+            raise BadMessage(f"a message of {size:,} bytes: {LEAST_MESSAGE} to {MOST_MESSAGE:,} are taken")
         self.message, self.answer = self.exactly(size - INT.size), bytearray()
         self.pending = commands_in_message(self.message)
 
@@ -116,10 +119,8 @@ class Server:
 
     def meet(self) -> None:
         """Waits until all clients are there. Where there are several, each tells its place in their order first."""
-        while len(self.clients) < self.count:
-            accepted, _ = self.listening.accept()
-            accepted.setsockopt(socket.IPPROTO_TCP, socket.TCP_NODELAY, 1)
-            self.clients.append(TraciClient(accepted))
+        met = Meeting(self.listening, self.count, self.warn).clients_met()
+        self.clients += [TraciClient(connection, unread=received) for connection, received in met]
         self.listening.close()
         if self.count > 1:
             for client in list(self.clients):
@@ -288,11 +289,14 @@ class Server:
         begin."""
         (arguments,) = reader.typed_values("l")
         try:
-            net = read_options(arguments).get("net-file", "")
+            options = read_options(arguments)
         except FatalTraCIError as fault:
             raise TraCIException(str(fault)) from None
-        if not os.path.exists(net):
+        if not os.path.exists(net := options.get("net-file", "")):
             raise TraCIException(f"load: no network {net!r}")
+        why = "--writes is no word of a client's" if "writes" in options else why_not_written(written_paths(options))
+        if why is not None:
+            raise TraCIException(f"load: {why}")
         traci.load(arguments)
         for client in self.clients:
             client.subscriptions, client.target = Subscriptions(), -1.0
