@@ -46,6 +46,7 @@ class Junction:
     looked_at: tuple[Stream, ...] = ()
     major: tuple[Stream, ...] = ()
     lanes: int = 1  # of the main street
+    exit_lanes: int = 0  # of its arms that lead away; 0: as many
     arm: int = ARM
     exit_arm: int = EXIT_ARM
     speed: float = SPEED
@@ -80,6 +81,7 @@ def draw_arm(plain: Plain, junction: Junction, node: str, arm: str, priority: in
     """The two edges of an arm."""
     name, usual = junction.name, {"numLanes": lanes, "speed": junction.speed, "priority": priority}
     plain.named_edge(f"{name}{arm}c", f"{name}{arm}in", node, **usual)
+    usual["numLanes"] = junction.exit_lanes or lanes
     plain.named_edge(f"{name}c{arm}", node, f"{name}{arm}out", **usual)
 
 

@@ -23,7 +23,7 @@ from networks.unseen import MadeNetwork
 from shared import CORRIDOR, SAMPLES, SHIPPED, TOOLS, TOP, digest_of_commands, numbers
 from shared import run, spread, teleports_of
 from streetsim.model.folder import read_folder
-from streetsim.model.tables import MOVEMENTS, read_table
+from streetsim.model.tables import APPROACHES, MOVEMENTS, read_table
 from streetsim.report.beside_sumo import edge_counts_of, geh, read_edgedata, read_tripinfo, trip_times_of
 
 EXTRA_SECONDS = 1800  # seconds behind the last departure, at which both sides end
@@ -39,6 +39,7 @@ class Side:
     delays: dict[Way, tuple[float, float]] = field(default_factory=dict)  # vehicles, mean seconds
     teleports: int = 0
     doubt: str = ""
+    queues: dict[str, float] = field(default_factory=dict)  # metres of the 95 % queue, by approach
 
 
 def sumo_trips(trips: Path, words: Iterable[object]) -> Path:
@@ -63,14 +64,22 @@ def trips_here(folder: Path) -> dict[str, tuple[float, float]]:
 
 def in_sumo(network: MadeNetwork, seed: int) -> Side:
     """Delays are seconds on an edge beyond those at its speed, movement by movement."""
-    folder, name = network.folder, f"sumo-{seed}"
-    trips, ways, statistics = (folder / f"{name}.{kind}.xml" for kind in ("trips", "ways", "statistics"))
-    end = network.seconds + EXTRA_SECONDS
-    words = ["-n", network.net, "-r", ",".join(map(str, network.routes)), "--seed", seed, "--end", end]
-    words += ["-a", ",".join(map(str, network.additional))] if network.additional else []
+    trips, ways, statistics = files_of_sumo(network, seed)
+    return Side(read_tripinfo(str(trips)), delays_of(ways, speeds_of(network.net)), teleports_of(statistics))
+
+
+def files_of_sumo(
+    network: MadeNetwork, name: object, additional: Sequence[Path] = (), drawn: Sequence[object] = ()
+) -> list[Path]:
+    """SUMO's trips, ways and statistics of a run, whose name is its seed where no other words draw it."""
+    outputs = [network.folder / f"sumo-{name}.{kind}.xml" for kind in ("trips", "ways", "statistics")]
+    trips, ways, statistics = outputs
+    end, besides = network.seconds + EXTRA_SECONDS, [*network.additional, *additional]
+    words = ["-n", network.net, "-r", ",".join(map(str, network.routes)), *(drawn or ["--seed", name]), "--end", end]
+    words += ["-a", ",".join(map(str, besides))] if besides else []
     words += ["--statistic-output", statistics, "--vehroute-output", ways, "--vehroute-output.exit-times"]
-    found = read_tripinfo(str(sumo_trips(trips, words)))
-    return Side(found, delays_of(ways, speeds_of(network.net)), teleports_of(statistics))
+    sumo_trips(trips, words)
+    return outputs
 
 
 def in_sumo_until_locked(network: MadeNetwork, seeds: Sequence[int]) -> list[Side]:
@@ -125,7 +134,9 @@ def read_side(folder: Path, printed: str, seed: int) -> Side:
         (row["approach"], row["to"]): (float(row["vehicles"]), float(row["control_delay_s"]))
         for row in read_table(str(folder / "movements.csv"), MOVEMENTS)
     }
-    return Side(trip_times_of(read_folder(str(folder))), delays, doubt=doubt_of(printed, seed))
+    approaches = read_table(str(folder / "approaches.csv"), APPROACHES)
+    queues = {row["approach"]: float(row["queue_95_m"] or 0) for row in approaches}
+    return Side(trip_times_of(read_folder(str(folder))), delays, 0, doubt_of(printed, seed), queues)
 
 
 def doubt_of(printed: str, seed: int) -> str:
@@ -135,13 +146,14 @@ def doubt_of(printed: str, seed: int) -> str:
 
 def text_of(side: Side) -> str:
     delays = [[*way, *values] for way, values in side.delays.items()]
-    return json.dumps({"trips": side.trips, "delays": delays, "doubt": side.doubt})
+    return json.dumps({**asdict(side), "delays": delays})
 
 
 def side_of(text: str) -> Side:
     kept = json.loads(text)
     delays = {(edge, following): (count, mean) for edge, following, count, mean in kept["delays"]}
-    return Side({name: tuple(times) for name, times in kept["trips"].items()}, delays, doubt=kept["doubt"])
+    trips = {name: tuple(times) for name, times in kept["trips"].items()}
+    return Side(trips, delays, kept["teleports"], kept["doubt"], kept["queues"])
 
 
 def mean_trips(theirs: Sequence[Side], ours: Sequence[Side], first: int = 0) -> tuple[float, float]:

@@ -41,24 +41,29 @@ class Plain:
         self.edges.append(f'<edge id="{name}" from="{begin}" to="{end}"{given}>{inside}</edge>')
 
     def edge(
-        self, begin: str, end: str, lanes: int, kmh: int, priority: int, pocket: int = 0, inside: str = ""
+        self, begin: str, end: str, lanes: int, kmh: int, priority: int, pocket: int = 0, inside: str = "",
+        pocket_lanes: int = 1,
     ) -> None:
-        """An edge by the names of its nodes; pocket: metres of one more lane before its end, for those who turn
-        left."""
+        """An edge by the names of its nodes; pocket: metres of more lanes before its end, for those who turn left."""
         usual = {"speed": f"{kmh * KMH:.2f}", "priority": priority}
         if pocket:
-            few, all_of_them = (" ".join(map(str, range(count))) for count in (lanes, lanes + 1))
+            few, all_of_them = (" ".join(map(str, range(count))) for count in (lanes, lanes + pocket_lanes))
             inside = f'<split pos="0" lanes="{few}"/><split pos="-{pocket}" lanes="{all_of_them}"/>'
-        self.named_edge(f"{begin}-{end}", begin, end, inside, **usual, numLanes=lanes + bool(pocket))
+        self.named_edge(f"{begin}-{end}", begin, end, inside, **usual, numLanes=lanes + (pocket_lanes if pocket else 0))
 
     def street(self, one: str, other: str, lanes: int, kmh: int, priority: int) -> None:
         """Edges both ways."""
         self.edge(one, other, lanes, kmh, priority)
         self.edge(other, one, lanes, kmh, priority)
 
-    def connect(self, begin: str, end: str) -> None:
-        """Where connections are told, an edge leads to those alone that are."""
-        self.connections.append(f'<connection from="{begin}" to="{end}"/>')
+    def connect(self, begin: str, end: str, lanes: tuple[int, int] | None = None) -> None:
+        """Where connections are told, an edge leads to those alone that are. lanes: from, to; netconvert's if none."""
+        given = f' fromLane="{lanes[0]}" toLane="{lanes[1]}"' if lanes else ""
+        self.connections.append(f'<connection from="{begin}" to="{end}"{given}/>')
+
+    def ban(self, begin: str, end: str) -> None:
+        """Nobody turns from one edge to the other."""
+        self.connections.append(f'<delete from="{begin}" to="{end}"/>')
 
     def write(self, folder: Path) -> list[str]:
         """Writes the files; gives netconvert's words for them."""
@@ -107,6 +112,8 @@ class Draft:
     flows: tuple[Flow, ...] = ()  # all that drives, in place of trips between edges
     types: str = ""  # more types of vehicles, in SUMO's words
     importing: tuple[str, ...] = ()  # more words for streetsim-import
+    peak: tuple[float, ...] = ()  # how much departs in each of equal parts of the time; evenly where nothing is told
+    change: Callable[[Path], None] | None = None  # what is done with the made network
 
 
 # ---- streets on which one drives through
@@ -134,23 +141,6 @@ def street(draws: Random, folder: Path) -> Draft:
     return Draft([*plain.write(folder), *cycle(draws)], trucks, drawn=drawn)
 
 
-def arterial(draws: Random, folder: Path) -> Draft:
-    """A main street of two lanes with four to seven lights, left turns with a lane of their own or without."""
-    plain, lights = Plain(), draws.randrange(4, 8)
-    lengths = [draws.randrange(160, 421, 20) for _ in range(lights + 1)]
-    pocket, side = draws.choice((0, 50, 70)), draws.choice((1, 1, 2))
-    for at, x in enumerate(accumulate(lengths, initial=0)):
-        inside = 0 < at <= lights
-        plain.node(f"m{at}", x, 0, "traffic_light" if inside else "priority")
-        if inside:
-            side_streets(plain, f"m{at}", x, side)
-    for one, other in pairwise(range(lights + 2)):
-        plain.edge(f"m{one}", f"m{other}", 2, 50, 8, pocket if other <= lights else 0)
-        plain.edge(f"m{other}", f"m{one}", 2, 50, 8, pocket if one >= 1 else 0)
-    drawn = {"lights": lights, "metres": lengths, "pocket": pocket, "side lanes": side}
-    return Draft([*plain.write(folder), *cycle(draws)], drawn=drawn)
-
-
 def cross(draws: Random, folder: Path) -> Draft:
     """A lone light, two lanes on each arm and a pocket for left turns."""
     plain, pocket = Plain(), draws.choice((60, 80, 100))
@@ -169,8 +159,8 @@ def side_streets(plain: Plain, node: str, x: float, lanes: int = 1) -> None:
         plain.street(node, f"{node}{name}", lanes, 50, 4)
 
 
-def cycle(draws: Random) -> list[str]:
-    return ["--tls.cycle.time", str(draws.choice((60, 70, 80, 90)))]
+def cycle(draws: Random, seconds: tuple[int, ...] = (60, 70, 80, 90)) -> list[str]:
+    return ["--tls.cycle.time", str(draws.choice(seconds))]
 
 
 # ---- streets on which lanes end, become one or are for some alone

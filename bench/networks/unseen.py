@@ -22,8 +22,12 @@ from random import Random
 from typing import Any
 
 import shared
+from networks.lit_streets import (
+    SPLITS, WALK, MainStreet, banned_turns, couplet, offset_tees, retimed, two_lefts, with_peak, with_split, with_walk,
+    without_permissive,
+)
 from networks.streets import (
-    Build, Draft, arterial, bus_lane, cross, grid, lane_drop, limit, mains, radial, random_town, rings, street,
+    BUS_LANE, Build, Draft, bus_lane, cross, grid, lane_drop, limit, mains, radial, random_town, rings, street,
     types, zipper,
 )
 from shared import SUMO_HOME, run
@@ -61,13 +65,13 @@ def with_buses(build: Build) -> Build:
     return build_with_buses
 
 
+ARTERIAL = MainStreet()
+YIELDING = replace(ARTERIAL, arrow=0)
 TURN_LANES = grid(*LIGHTS, "--turn-lanes", "1", "--turn-lanes.length", "60", lanes=(2,))
 KINDS: dict[str, Kind] = {
     "street": Kind("a main street of two or three lanes, with a light or none, trucks, turn lanes", street),
-    "arterial": Kind("a main street with four to seven fixed lights", arterial),
-    "permissive-arterial": Kind(
-        "an arterial whose left turns are all permissive", with_words(arterial, "--tls.left-green.time", "0")
-    ),
+    "arterial": Kind("a main street with four to seven fixed lights", ARTERIAL),
+    "permissive-arterial": Kind("an arterial whose left turns are all permissive", YIELDING),
     "grid": Kind("a grid with fixed lights", grid(*LIGHTS)),
     "turn-lanes": Kind("a grid with fixed lights and left-turn lanes of 60 m", TURN_LANES),
     "town": Kind("a random town of one and two lanes, lights where netgenerate guesses them", random_town(*GUESSED)),
@@ -88,19 +92,49 @@ KINDS: dict[str, Kind] = {
     "left-hand": Kind("a random town of the left-hand side", random_town(*GUESSED, "--lefthand", "true")),
     "actuated-grid": Kind("a grid with actuated lights", with_lights(grid(*LIGHTS), "actuated")),
     "actuated-turn-lanes": Kind("turn-lanes with actuated lights", with_lights(TURN_LANES, "actuated")),
-    "actuated-arterial": Kind("an arterial with actuated lights", with_lights(arterial, "actuated")),
+    "actuated-arterial": Kind("an arterial with actuated lights", with_lights(ARTERIAL, "actuated")),
     "actuated-town": Kind("a random town with actuated lights", with_lights(random_town(*GUESSED), "actuated")),
     "delay-town": Kind("a random town with delay-based lights", with_lights(random_town(*GUESSED), "delay_based")),
     "nema-cross": Kind("a lone NEMA light", with_lights(cross, "NEMA")),
-    "nema-arterial": Kind("an arterial with NEMA lights", with_lights(arterial, "NEMA")),
+    "nema-arterial": Kind("an arterial with NEMA lights", with_lights(ARTERIAL, "NEMA")),
     "lane-drop": Kind("a street whose second lane ends, behind a light or without", lane_drop),
     "zipper": Kind("two streets that become one by turns", zipper),
     "bus-lane": Kind("a street of two lights with lanes for buses alone", bus_lane),
     "limit": Kind("a lone street with any limit", limit),
     "types": Kind("a street of three lights and vehicles of a drawn type", types),
-    "bus-arterial": Kind("an arterial with lines of buses that stop", with_buses(arterial)),
+    "bus-arterial": Kind("an arterial with lines of buses that stop", with_buses(ARTERIAL)),
     "bus-town": Kind("a random town with lines of buses that stop", with_buses(random_town(*GUESSED))),
 }
+# With fixed lights at which left turns are permissive, or have arrows.
+LIT: dict[str, Kind] = {
+    "bus-stops": Kind("permissive-arterial with lines of buses that stop", with_buses(YIELDING)),
+    "near-lights": Kind(
+        "lights 60 to 100 m apart", replace(YIELDING, metres=(60, 101, 10), pockets=(0,), cycles=(50, 60, 70))
+    ),
+    "couplet": Kind("two one-way streets and those that cross both", couplet),
+    "fast": Kind("a main street of 80 km/h", replace(YIELDING, kmh=80, metres=(400, 801, 50), pockets=(80, 120))),
+    "two-lefts": Kind("a small grid where two lanes turn left", retimed(two_lefts, without_permissive)),
+    "long-cycle": Kind("cycles of 110 to 140 s", replace(YIELDING, cycles=(110, 120, 140))),
+    "short-pocket": Kind("lanes for left turns of 20 or 30 m", replace(YIELDING, pockets=(20, 30))),
+    "poor-splits": Kind(
+        "greens that do not fit", retimed(YIELDING, lambda one, draws: with_split(one, draws.uniform(*SPLITS)))
+    ),
+    "offset-tees": Kind("side streets one after another, some without a light", offset_tees),
+    "walks": Kind(
+        "red for all, for pedestrians", retimed(YIELDING, lambda one, draws: with_walk(one, draws.choice(WALK)))
+    ),
+    "short-cycle": Kind("cycles of 40 s", replace(YIELDING, cycles=(40,))),
+    "three-lanes": Kind("a main street of three lanes", replace(YIELDING, lanes=3)),
+    "lorries": Kind("15 % lorries", replace(YIELDING, trucks=0.15)),
+    "banned-turns": Kind("a small grid, some of whose left turns are banned", banned_turns),
+    "arrows": Kind("arrows of 10 s for left turns", replace(ARTERIAL, pockets=(50, 70, 100), arrow=10)),
+    "morning-peak": Kind("a demand that grows to a peak", with_peak(YIELDING)),
+    "bus-lanes": Kind(
+        "a main street with lanes for buses alone, and lines that stop",
+        with_buses(replace(YIELDING, lanes=3, inside=BUS_LANE, pockets=(0,), classes="passenger,bus")),
+    ),
+}
+KINDS |= LIT
 # With fixed lights or none, and without buses.
 USUAL = (
     *("town", "radial", "arterial", "grid", "turn-lanes", "one-way", "left-hand", "shared-legs", "right-on-red"),
@@ -278,12 +312,13 @@ class Trips:
     begins: Ends
     ends: Ends
     trucks: float
+    peak: tuple[float, ...] = ()
     reachable: dict[str, set[str]] = field(default_factory=dict)  # edges to which one comes from an edge
 
     def write(self, path: Path, count: int, seconds: int, seed: int) -> None:
         """Writes so many trips of some seconds, in the order of departure."""
         draws, lines = Random(seed), []
-        for number, depart in enumerate(sorted(draws.uniform(0, seconds) for _ in range(count))):
+        for number, depart in enumerate(sorted(self.departure(draws) * seconds for _ in range(count))):
             begin, end = self.pair(draws)
             kind = draws.choice(("truck", "trailer")) if draws.random() < self.trucks else "car"
             lines.append(
@@ -291,6 +326,11 @@ class Trips:
                 'departLane="best" departSpeed="max"/>'
             )
         path.write_text("<routes>" + TYPES + "\n".join(lines) + "</routes>\n", encoding="utf-8")
+
+    def departure(self, draws: Random) -> float:
+        """When one departs, as a share of the time."""
+        part = draws.choices(range(len(self.peak)), self.peak)[0] if self.peak else 0
+        return (part + draws.uniform(0, 1)) / max(1, len(self.peak))
 
     def pair(self, draws: Random) -> tuple[Any, Any]:
         """Where one begins and ends: with a way between, not near each other, and not there and back."""
@@ -315,8 +355,8 @@ class Trips:
         return self.reachable[name]
 
 
-def trips_on(net: Any, trucks: float) -> Trips:
-    return Trips(net, ends_of(net, "getFromNode"), ends_of(net, "getToNode"), trucks)
+def trips_on(net: Any, draft: Draft) -> Trips:
+    return Trips(net, ends_of(net, "getFromNode"), ends_of(net, "getToNode"), draft.trucks, draft.peak)
 
 
 def ends_of(net: Any, node: str) -> Ends:
@@ -373,13 +413,15 @@ def write_flows(folder: Path, draft: Draft, seed: int, amount: Amount) -> int:
     return len(lines)
 
 
-def write_demand(folder: Path, net: Any, seed: int, amount: Amount, trucks: float) -> int:
-    """Writes demand.rou.xml of trips between edges; gives their number."""
-    trips, vehicles = trips_on(net, trucks), amount.vehicles
+def write_demand(folder: Path, net: Any, seed: int, amount: Amount, draft: Draft) -> int:
+    """Writes demand.rou.xml of trips between edges; gives their number. The level is that of the busiest part of the
+    time."""
+    trips, vehicles = trips_on(net, draft), amount.vehicles
+    hours = amount.seconds / 3600 / (max(draft.peak) * len(draft.peak) / sum(draft.peak) if draft.peak else 1.0)
     if vehicles is None:
         trips.write(folder / "trips.xml", SAMPLE, amount.seconds, seed)
         find_ways(folder, "sample.rou.xml", seed)
-        times = scale_for(net, ways_of(folder / "sample.rou.xml"), amount.seconds / 3600, amount.level)
+        times = scale_for(net, ways_of(folder / "sample.rou.xml"), hours, amount.level)
         (folder / "sample.rou.xml").unlink()
         vehicles = max(1, round(SAMPLE * times))
     trips.write(folder / "trips.xml", vehicles, amount.seconds, seed + 1)
@@ -443,12 +485,14 @@ def make(
     draws = Random(f"{kind} {seed}")
     draft = KINDS[kind].build(draws, folder)
     run([*draft.maker_words, "--no-turnarounds", "true", "--no-warnings", "-o", "net.net.xml"], folder)
+    if draft.change:
+        draft.change(folder / "net.net.xml")
     net = read_net(folder / "net.net.xml")
     much = Amount(level, vehicles, seconds)
     if draft.flows:
         found = write_flows(folder, draft, seed, much)
     else:
-        found = write_demand(folder, net, seed, much, draft.trucks)
+        found = write_demand(folder, net, seed, much, draft)
     if draft.lines:
         write_buses(folder, net, ways_of(folder / "demand.rou.xml"), draft.lines, draws)
     made = MadeNetwork(folder, kind, seed, level, found, bool(draft.lines), draft.drawn, draft.importing, seconds)

@@ -1,17 +1,21 @@
-"""bench/beside_sumo/rows.py: rows of networks beside SUMO, kept, counted and told by what is doubted."""
+"""bench/beside_sumo: rows of networks, kept, counted and told by what is doubted; variants of lit networks."""
 import sys
 import unittest
+import xml.etree.ElementTree as ElementTree
 from dataclasses import replace
+from random import Random
 from unittest import mock
 
-from support import TOOLS, Case
+from support import TOOLS, Case, needs_sumo, needs_sumo_tools
 
 sys.path.insert(0, str(TOOLS.parent / "bench"))
 from beside_sumo import rows  # noqa: E402
+from beside_sumo.lit import Compared, Layout, closed_lane, decisions, lost_on_lane, whole_jams  # noqa: E402
 from beside_sumo.rows import (  # noqa: E402
     REASONS, Row, Side, Tally, doubt_of, mean_trips, reasons, row_of, side_of, tally, text_of,
 )
-from networks.unseen import MadeNetwork  # noqa: E402
+from networks.lit_streets import Program, with_cycle, with_split, with_walk  # noqa: E402
+from networks.unseen import MadeNetwork, make  # noqa: E402
 
 FULL = "9 of 10 vehicles pass lanes that are nearly full by the demand, and their queues may be other than in SUMO: "
 PLACES = "left from A to B at J1: demand 1.10 of what passes here; straight on from C to D at J2: demand 1.00 of what"
@@ -47,7 +51,7 @@ class Rows(Case):
 
 class Sides(Case):
     def test_a_kept_side_is_read_again(self):
-        side = Side({"v": (1.0, 2.5)}, {("a", "b"): (3.0, 4.5)}, doubt="why")
+        side = Side({"v": (1.0, 2.5)}, {("a", "b"): (3.0, 4.5)}, 2, "why", {"a": 30.5})
         self.assertEqual(side_of(text_of(side)), side)
 
     def test_what_is_said_against_a_run_is_found_by_its_seed(self):
@@ -63,6 +67,67 @@ class Doubts(Case):
         self.assertEqual(reasons(FULL + PLACES), {full})
         self.assertEqual(reasons(f"3 rescues of 9 vehicles; {streets}; {FULL}{PLACES}"), {full, gives_way, rescued})
         self.assertEqual(reasons("routes are 12 % longer here"), {other})
+
+
+LIGHT = Program("c", 0, ((37, "GGrr"), (3, "yyrr"), (37, "rrGg"), (3, "rryy")), frozenset({0, 1}))
+
+
+class Programs(Case):
+    def seconds(self, program):
+        return [seconds for seconds, _ in program.phases]
+
+    def test_a_cycle_keeps_the_shares_of_its_greens(self):
+        self.assertEqual(self.seconds(with_cycle(LIGHT, 60)), [27, 3, 27, 3])
+        self.assertEqual(self.seconds(with_cycle(LIGHT, 20)), [7, 3, 7, 3])
+
+    def test_a_split_keeps_the_cycle(self):
+        self.assertEqual(self.seconds(with_split(LIGHT, 0.75)), [56, 3, 18, 3])
+        self.assertEqual(self.seconds(with_split(LIGHT, 0.99)), [68, 3, 6, 3])
+
+    def test_walking_is_red_for_all(self):
+        self.assertEqual(with_walk(LIGHT, 12).phases[-1], (12, "rrrr"))
+
+
+class Variants(Case):
+    def compared(self, case, theirs, ours, formula, doubt=""):
+        return Compared(replace(ROW, doubt=doubt), case, theirs, ours, {}, {}, formula)
+
+    def test_two_are_told_apart_where_they_differ_in_sumo(self):
+        base = self.compared("base", [100.0, 110.0, 105.0], [90.0, 91.0, 92.0], 20.0)
+        better = self.compared("cycle", [95.0, 104.0, 100.0], [88.0, 90.0, 89.0], 25.0, "why")
+        alike = self.compared("offsets", [99.0, 109.0, 104.0], [80.0, 81.0, 82.0], 20.0)
+        unsteady = self.compared("split", [90.0, 130.0, 120.0], [95.0, 95.0, 95.0], 30.0)
+        [found] = decisions([base, better])
+        self.assertEqual((found.right, found.formula_right, found.doubted), (True, False, True))
+        self.assertEqual(list(decisions([base, alike])), [])
+        self.assertEqual(list(decisions([base, unsteady])), [])
+
+    def test_webster(self):
+        """A lane of 360 vehicles an hour with half of the time green: 11.25 s and the wait that chance adds."""
+        lost = lost_on_lane([(360.0, 0.5, 900.0)], 60, 0.5)
+        self.assertAlmostEqual(lost / 180, 60 * 0.25 / (2 * 0.8) + 450 * (-0.6 + (0.36 + 1.6 / 450) ** 0.5), places=6)
+
+    def test_a_jam_that_fills_a_lane_goes_on_before_it(self):
+        jams = {"a_0": [50.0, 40.0, 0.0], "b_0": [49.0, 20.0, 0.0]}
+        layout = Layout({}, set(), {}, {}, {"a_0": 200.0, "b_0": 50.0})
+        self.assertEqual(whole_jams(["a_0", "b_0"], jams, layout), [99.0, 20.0, 0.0])
+
+    @needs_sumo
+    @needs_sumo_tools
+    def test_the_lanes_that_led_to_a_closed_one_lead_to_the_one_beside_it(self):
+        made = make("short-cycle", 7, self.folder, vehicles=20)
+        lanes = edge_lanes(made.net)
+        closed_lane(made, Random(1))
+        [edge] = [edge for edge, count in edge_lanes(made.net).items() if count < lanes[edge] and ".-" not in edge]
+        self.assertEqual(edge_lanes(made.net)[edge], 1)
+        onto = [one for one in ElementTree.parse(made.net).iter("connection") if one.get("to") == edge]
+        straight = [one.get("fromLane") for one in onto if one.get("dir") == "s" and one.get("tl")]
+        self.assertEqual(straight, ["0", "1"])
+
+
+def edge_lanes(net):
+    edges = ElementTree.parse(net).iter("edge")
+    return {edge.get("id"): len(edge.findall("lane")) for edge in edges if edge.get("function") != "internal"}
 
 
 if __name__ == "__main__":

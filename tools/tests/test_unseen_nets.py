@@ -75,6 +75,36 @@ class Nets(Case):
         self.assertTrue(lines and halts)
         self.assertLessEqual(set(halts), stops)
 
+    def programs(self, kind):
+        """The phases of each light of a network: seconds and state."""
+        root = ElementTree.parse(make(kind, 7, self.folder, vehicles=20).net).getroot()
+        return [[(int(one.get("duration")), one.get("state")) for one in light] for light in root.iter("tlLogic")]
+
+    def test_programs_are_what_their_kinds_say(self):
+        for phases in self.programs("walks"):
+            self.assertEqual(set(phases[-1][1]), {"r"})
+            self.assertIn(phases[-1][0], (12, 15, 20))
+        for phases in self.programs("short-cycle"):
+            self.assertEqual(sum(seconds for seconds, _ in phases), 40)
+        letters = {letter for light in self.programs("two-lefts") for _, state in light for letter in state}
+        self.assertEqual(letters, {*"Gyr"})
+        greens = {phases[0][0] for phases in self.programs("poor-splits")}
+        self.assertGreater(len(greens), 1)
+
+    def test_a_banned_turn_is_none(self):
+        made = make("banned-turns", 7, self.folder, vehicles=20)
+        root = ElementTree.parse(made.net).getroot()
+        lefts = [one for one in root.iter("connection") if one.get("tl") and one.get("dir") == "l"]
+        lit = [one for one in root.iter("junction") if one.get("type") == "traffic_light"]
+        self.assertGreater(made.drawn["banned"], 0)
+        self.assertEqual(len(lefts), 4 * len(lit) - made.drawn["banned"])
+
+    def test_a_peak_has_more_than_its_share(self):
+        made = make("morning-peak", 7, self.folder, 0.5, seconds=1800)
+        departs = [float(one.get("depart")) for one in ElementTree.parse(made.routes[0]).iter("vehicle")]
+        quarters = [sum(depart // 450 == at for depart in departs) for at in range(4)]
+        self.assertGreater(max(quarters), 1.4 * min(quarters))
+
     def test_what_is_asked_wrongly_ends_in_one_line(self):
         told = self.made(7, "--work", self.folder, "--kinds", "villages", status=2)
         self.assertRegex(told, r"^bench/run unseen-nets: argument --kinds: 'villages' is none of street, .*\n$")
