@@ -7,19 +7,21 @@ from __future__ import annotations
 
 from collections.abc import Callable, Collection, Mapping, Sequence
 from dataclasses import dataclass, field
-from importlib import import_module
 from itertools import accumulate
 from multiprocessing import get_context
 from multiprocessing.connection import Connection
-from types import ModuleType
+from typing import Any
 
 from streetsim.base import limits
 from streetsim.base.arrays import Array, numpy as np
+from streetsim.simulation.conventions import NEXT_STEP, Discrete, Env, MultiDiscrete, ParallelEnv, VectorEnv, shares_space
 from streetsim.simulation.lights import LightShow
-from streetsim.simulation.opening import open_session
+from streetsim.simulation.opening import is_on, open_session
+from streetsim.simulation.options import read_options
 from streetsim.simulation.session import TraciSession
 
 GREEN = "Gg"
+RENDERED: Mapping[str, Any] = {"render_modes": ["ansi"], "render_fps": 1}
 Observation = list[float]
 
 
@@ -59,7 +61,13 @@ class SignalEnv:
         self.every, self.yellow, self.least_green = every, yellow, least
         self.controlled = controlled
         self.session: TraciSession | None = None
+        self.draws, self.seed = np.random.default_rng(self.seed_of_words()), 0  # of seeds of runs; that of the last run
         self.agents: dict[str, LightAgent] = {}
+
+    def seed_of_words(self) -> int | None:
+        """The seed that the words name; None where they name none, or have it drawn."""
+        options = read_options(self.run_words)
+        return int(options["seed"]) if "seed" in options and not is_on(options.get("random", "false")) else None
 
     @property
     def lights(self) -> list[str]:
@@ -72,12 +80,15 @@ class SignalEnv:
 
     def reset(self, seed: int | None = None) -> tuple[dict[str, Observation], dict]:
         """Begins the run anew, in which each light of `lights` shows its first green phase until an action changes it.
-        Equal seeds (None: that of the words) give equal runs. Gives ({light: observation}, figures). FatalTraCIError or
-        Fault if it fails, KeyError where the network lacks one of `controlled`, ValueError where one of these has a
+        Equal seeds give equal runs. Without one the seed is drawn, by what the last one that was given has begun, and
+        before any by the seed of the words, where they name one. Gives ({light: observation}, figures). FatalTraCIError
+        or Fault if it fails, KeyError where the network lacks one of `controlled`, ValueError where one of these has a
         single green."""
         self.close()
-        words = self.run_words if seed is None else [*self.run_words, "--seed", str(seed)]
-        self.session = open_session(words)
+        if seed is not None:
+            self.draws = np.random.default_rng(seed)
+        self.seed = drawn_from(self.draws) if seed is None else int(seed)
+        self.session = open_session([*self.run_words, "--random", "false", "--seed", str(self.seed)])
         self.begin, self.end_count = self.session.clock, 0
         lights = self.session.control.lights
         names = sorted(lights if self.controlled is None else self.controlled)
@@ -185,10 +196,19 @@ class SignalEnv:
         return [number for number in self.vehicles_on(lane) if not positions[number].speed]
 
     def figures(self) -> dict:
-        """{"time": clock in seconds, "vehicles": on the road, "standing": of these, "arrived": since the reset}."""
+        """{"time": clock in seconds, "vehicles": on the road, "standing": of these, "arrived": since the reset, "seed":
+        of the run}."""
         clock, view = self.running_session().clock, self.running_session().view
         standing = len(view.speed) - int(np.count_nonzero(view.speed))
-        return {"time": clock, "vehicles": len(view.numbers), "standing": standing, "arrived": self.end_count}
+        return {"time": clock, "vehicles": len(view.numbers), "standing": standing, "arrived": self.end_count, "seed": self.seed}
+
+    def text(self) -> str:
+        """A line with the figures of the run, and one for each light: what it shows, and who stands before it."""
+        session, lines = self.running_session(), [", ".join(f"{name} {value}" for name, value in self.figures().items())]
+        for name, agent in self.agents.items():
+            standing = sum(len(self.standing_on(lane)) for lane in agent.lanes)
+            lines.append(f"{name}: {session.control.state(name)}, {standing} stand before it")
+        return "\n".join(lines)
 
     def has_vehicles_left(self) -> bool:
         """Whether any vehicle is on the road or is still to depart."""
@@ -225,100 +245,32 @@ def agent_of(light: LightShow) -> LightAgent:
     return LightAgent(greens or [light.phases[0][1]], lanes, links=links)
 
 
-# The conventions of Gymnasium and PettingZoo, whose packages need not be there
+class ParallelSignals(ParallelEnv):
+    """SignalEnv by the conventions of PettingZoo's parallel environments, whose ParallelEnv it is where that is
+    installed: agents are the names of lights, observations arrays, and what is over is told by agent. The run that
+    tells spaces and agents is that of the words' own seed."""
 
-
-class Discrete:
-    """A space of numbers from 0 to below n, where Gymnasium is not installed."""
-
-    def __init__(self, n: int, seed: int | None = None) -> None:
-        """n: how many; seed: of sample."""
-        self.n, self.shape, self.dtype = n, (), np.int64
-        self.seed(seed)
-
-    def seed(self, seed: int | None = None) -> None:
-        """Begins the draws of sample anew."""
-        self.draws = np.random.default_rng(seed)
-
-    def sample(self) -> int:
-        """A number that is drawn."""
-        return int(self.draws.integers(self.n))
-
-    def contains(self, value: object) -> bool:
-        """Whether a value is a number of the space."""
-        return isinstance(value, (int, np.integer)) and 0 <= int(value) < self.n
-
-
-class Box:
-    """A space of arrays of numbers from low to high, where Gymnasium is not installed."""
-
-    def __init__(self, low: float, high: float, shape: tuple[int, ...], seed: int | None = None) -> None:
-        """shape: of the arrays; seed: of sample."""
-        self.low, self.high = np.full(shape, low, np.float32), np.full(shape, high, np.float32)
-        self.shape, self.dtype = shape, np.float32
-        self.seed(seed)
-
-    def seed(self, seed: int | None = None) -> None:
-        """Begins the draws of sample anew."""
-        self.draws = np.random.default_rng(seed)
-
-    def sample(self) -> Array:
-        """An array that is drawn."""
-        return self.draws.uniform(self.low, self.high).astype(np.float32)
-
-    def contains(self, value: Array) -> bool:
-        """Whether a value is an array of the space."""
-        return np.shape(value) == self.shape and bool(np.all((self.low <= value) & (value <= self.high)))
-
-
-def space_of_actions(count: int) -> Discrete:
-    """The space of so many actions: Gymnasium's where that is installed."""
-    if (spaces := gymnasium_spaces()) is None:
-        return Discrete(count)
-    space: Discrete = spaces.Discrete(count)
-    return space
-
-
-def space_of_observations(length: int) -> Box:
-    """The space of observations of a length, all from 0 to 1: Gymnasium's where that is installed."""
-    if (spaces := gymnasium_spaces()) is None:
-        return Box(0.0, 1.0, (length,))
-    space: Box = spaces.Box(0.0, 1.0, (length,), np.float32)
-    return space
-
-
-def gymnasium_spaces() -> ModuleType | None:
-    """Gymnasium's module of spaces; None where it is not installed."""
-    try:
-        return import_module("gymnasium.spaces")
-    except ImportError:
-        return None
-
-
-class ParallelSignals:
-    """SignalEnv by the conventions of PettingZoo's parallel environments: agents are the names of lights, observations
-    arrays, and what is over is told by agent. The run that tells spaces and agents is that of the words' own seed."""
-
-    metadata: Mapping[str, object] = {"name": "streetsim_signals_v0", "render_modes": []}
-    render_mode = None
+    metadata: Mapping[str, object] = {"name": "streetsim_signals_v0", **RENDERED}
 
     def __init__(
-        self, words: Sequence[str], every: int = 5, yellow: int = 3, least: int = 5, seconds: int = 3600,
-        controlled: Collection[str] | None = None,
+        self, run_words: Sequence[str], render_mode: str | None = None, controlled: Collection[str] | None = None,
+        **settings: int,
     ) -> None:  # fmt: skip
-        """As SignalEnv takes them; begins a run, and raises what reset raises."""
-        self.env = SignalEnv(words, every, yellow, least, seconds, controlled)
-        observations, _ = self.env.reset()
+        """run_words, controlled, settings: as SignalEnv takes them; render_mode: "ansi", by which render gives a text,
+        or None. Begins a run, and raises what reset raises; ValueError for another render_mode."""
+        self.render_mode = checked_mode(render_mode)
+        self.env = SignalEnv(run_words, controlled=controlled, **settings)
+        observations, _ = self.env.reset(self.env.seed_of_words())
         self.possible_agents = self.env.lights
         self.agents: list[str] = []
-        self.observation_spaces = {name: space_of_observations(len(values)) for name, values in observations.items()}
-        self.action_spaces = {name: space_of_actions(self.env.actions(name)) for name in observations}
+        self.observation_spaces = {name: shares_space(len(values)) for name, values in observations.items()}
+        self.action_spaces = {name: Discrete(self.env.actions(name)) for name in observations}
 
-    def observation_space(self, agent: str) -> Box:
+    def observation_space(self, agent: str) -> Any:
         """The space of an agent's observations."""
         return self.observation_spaces[agent]
 
-    def action_space(self, agent: str) -> Discrete:
+    def action_space(self, agent: str) -> Any:
         """The space of an agent's actions."""
         return self.action_spaces[agent]
 
@@ -331,65 +283,77 @@ class ParallelSignals:
     def step(
         self, actions: Mapping[str, int]
     ) -> tuple[dict[str, Array], dict[str, float], dict[str, bool], dict[str, bool], dict[str, dict]]:
-        """Makes a step; gives by agent observations, rewards, whether no vehicle is left, whether the time is over, and
-        figures. Agents are none any more when the run is over."""
+        """Makes a step; gives by agent observations, rewards, whether no vehicle is left (terminated), whether the time
+        is over (truncated), and figures. Agents are none any more when the run is over, and all is empty then."""
+        if not self.agents:
+            return {}, {}, {}, {}, {}
         observations, rewards, ended, over, figures = self.env.step(actions)
         agents = self.agents
         self.agents = [] if ended or over else agents
         terminated, truncated = dict.fromkeys(agents, ended), dict.fromkeys(agents, over)
         return arrays_of(observations), rewards, terminated, truncated, {name: figures for name in agents}
 
-    def render(self) -> None:
-        """Does nothing: streetsim-live shows runs."""
+    def render(self) -> str | None:
+        """With the mode "ansi" a line on the run and one for each light; else None."""
+        return self.env.text() if self.render_mode else None
 
     def close(self) -> None:
         """Ends the run."""
         self.env.close()
 
-    @property
-    def unwrapped(self) -> ParallelSignals:
-        """The environment itself."""
-        return self
 
+class OneSignal(Env):
+    """SignalEnv of one light by the conventions of Gymnasium's Env, which it is where that is installed."""
 
-class OneSignal:
-    """SignalEnv of one light by the conventions of Gymnasium's Env."""
+    metadata: Mapping[str, object] = RENDERED
 
-    metadata: Mapping[str, object] = {"render_modes": []}
-    render_mode, spec, reward_range = None, None, (-float("inf"), float("inf"))
+    def __init__(
+        self, run_words: Sequence[str], light: str | None = None, render_mode: str | None = None, **settings: int
+    ) -> None:  # fmt: skip
+        """light: its name; None: the only one that has two greens. Others as of ParallelSignals. ValueError where there
+        are none or several; raises what reset raises."""
+        controlled = None if light is None else [light]
+        self.parallel = ParallelSignals(run_words, render_mode, controlled, **settings)
+        if len(self.parallel.possible_agents) != 1:
+            self.parallel.close()
+            raise ValueError(f"{len(self.parallel.possible_agents)} lights have two greens: name one (light=)")
+        [self.light] = self.parallel.possible_agents
+        self.render_mode = render_mode
+        self.observation_space = self.parallel.observation_space(self.light)
+        self.action_space = self.parallel.action_space(self.light)
 
-    def __init__(self, words: Sequence[str], light: str | None = None, **more: int) -> None:
-        """light: its name; None: the only one that has two greens. more: as SignalEnv takes them. ValueError where
-        there are none or several; raises what reset raises."""
-        self.env = ParallelSignals(words, controlled=None if light is None else [light], **more)
-        if len(self.env.possible_agents) != 1:
-            self.env.close()
-            raise ValueError(f"{len(self.env.possible_agents)} lights have two greens: name one (light=)")
-        [self.light] = self.env.possible_agents
-        self.observation_space = self.env.observation_space(self.light)
-        self.action_space = self.env.action_space(self.light)
-
-    def reset(self, seed: int | None = None, options: object = None) -> tuple[Array, dict]:
+    def reset(self, *, seed: int | None = None, options: object = None) -> tuple[Array, dict]:
         """Begins a run; gives (observation, figures). options have no effect."""
-        observations, figures = self.env.reset(seed)
+        super().reset(seed=seed)
+        if seed is None and self._np_random is None:
+            self.np_random = self.parallel.env.draws
+        observations, figures = self.parallel.reset(drawn_from(self.np_random) if seed is None else seed)
         return observations[self.light], figures[self.light]
 
     def step(self, action: int) -> tuple[Array, float, bool, bool, dict]:
         """Makes a step; gives (observation, reward, whether no vehicle is left, whether the time is over, figures)."""
-        results = self.env.step({self.light: int(action)})
-        return tuple(by_light[self.light] for by_light in results)  # type: ignore[return-value]
+        observations, rewards, terminated, truncated, figures = self.parallel.env.step({self.light: int(action)})
+        return arrays_of(observations)[self.light], rewards[self.light], terminated, truncated, figures
 
-    def render(self) -> None:
-        """Does nothing: streetsim-live shows runs."""
+    def render(self) -> str | None:
+        """As of ParallelSignals."""
+        return self.parallel.render()
 
     def close(self) -> None:
         """Ends the run."""
-        self.env.close()
+        self.parallel.close()
 
-    @property
-    def unwrapped(self) -> OneSignal:
-        """The environment itself."""
-        return self
+
+def checked_mode(render_mode: str | None) -> str | None:
+    """A render_mode; ValueError where it is none of RENDERED."""
+    if render_mode not in (None, *RENDERED["render_modes"]):
+        raise ValueError(f"render_mode {render_mode!r}: there is 'ansi'; streetsim-live shows runs")
+    return render_mode
+
+
+def drawn_from(draws: Any) -> int:
+    """A seed of a run, of NumPy's generator."""
+    return int(draws.integers(1 << 31))
 
 
 def arrays_of(observations: Mapping[str, Observation]) -> dict[str, Array]:
@@ -412,17 +376,21 @@ class SideBySide:
 
     def call(self, method: str, words: Sequence[tuple]) -> list:
         """What a method of each gives, with words for each; the first exception of one is raised here."""
-        for end, arguments in zip(self.ends, words, strict=True):
-            end.send((method, arguments))
+        return self.call_each([(method, arguments, {}) for arguments in words])
+
+    def call_each(self, calls: Sequence[tuple[str, tuple, dict]]) -> list:
+        """As `call`, of a method of each, with words and words by name."""
+        for end, call in zip(self.ends, calls, strict=True):
+            end.send(call)
         results = [end.recv() for end in self.ends]
         for result in results:
             if isinstance(result, Exception):
                 raise result
         return results
 
-    def reset(self, seeds: Sequence[int]) -> list:
+    def reset(self, seeds: Sequence[int | None]) -> list:
         """What reset of each gives, by its seed."""
-        return self.call("reset", [(seed,) for seed in seeds])
+        return self.call_each([("reset", (), {"seed": seed}) for seed in seeds])
 
     def step(self, actions: Sequence[object]) -> list:
         """What step of each gives, by its actions."""
@@ -445,13 +413,73 @@ class SideBySide:
         self.close()
 
 
+class VectorSignals(VectorEnv):
+    """Environments of one light each, side by side, by the conventions of Gymnasium's vector environments, whose
+    VectorEnv it is where that is installed: all is told as arrays over the environments. Where a run is over, the next
+    step begins another one, whatever its action (NEXT_STEP)."""
+
+    metadata: Mapping[str, object] = {"render_modes": [], "autoreset_mode": NEXT_STEP}
+    render_mode, closed = None, False
+
+    def __init__(self, make: Callable[[], OneSignal], num_envs: int) -> None:
+        """make: makes one of them; num_envs: how many."""
+        self.num_envs, self.is_over = num_envs, np.zeros(num_envs, bool)
+        with make() as env:
+            self.single_observation_space, self.single_action_space = env.observation_space, env.action_space
+        self.observation_space = shares_space(num_envs, *self.single_observation_space.shape)
+        self.action_space = MultiDiscrete([self.single_action_space.n] * num_envs)
+        self.side_by_side = SideBySide(make, num_envs)
+
+    def reset(
+        self, *, seed: int | Sequence[int | None] | None = None, options: object = None
+    ) -> tuple[Array, dict[str, Array]]:
+        """Begins all runs, by a seed for each, or by one number and those that follow it, or by seeds that are drawn;
+        gives (observations, figures). options have no effect."""
+        if isinstance(seed, (int, np.integer)):
+            self.np_random = np.random.default_rng(int(seed))
+            seed = [int(seed) + place for place in range(self.num_envs)]
+        given: Sequence[int | None] = [None] * self.num_envs if seed is None else seed
+        seeds = [drawn_from(self.np_random) if one is None else one for one in given]
+        self.is_over[:] = False
+        results = self.side_by_side.reset(seeds)
+        return np.stack([observation for observation, _ in results]), joined_figures([told for _, told in results])
+
+    def step(self, actions: Sequence[int]) -> tuple[Array, Array, Array, Array, dict[str, Array]]:
+        """Makes a step of each; gives (observations, rewards, whether no vehicle is left, whether the time is over,
+        figures)."""
+        calls: list[tuple[str, tuple, dict]] = [
+            ("reset", (), {}) if over else ("step", (int(action),), {})
+            for action, over in zip(actions, self.is_over.tolist(), strict=True)
+        ]
+        results = [
+            (told[0], 0.0, False, False, told[1]) if len(told) == 2 else told
+            for told in self.side_by_side.call_each(calls)
+        ]
+        observations, rewards, terminated, truncated, figures = zip(*results)
+        ends = np.array(terminated, bool), np.array(truncated, bool)
+        self.is_over = ends[0] | ends[1]
+        return np.stack(observations), np.array(rewards), *ends, joined_figures(figures)
+
+    def close(self, **_: object) -> None:
+        """Ends all runs and processes; nothing where that is done."""
+        if not self.closed:
+            self.closed = True
+            self.side_by_side.close()
+
+
+def joined_figures(figures: Sequence[Mapping[str, object]]) -> dict[str, Array]:
+    """Figures of several environments as Gymnasium joins them: by name an array, and by _name which have it."""
+    joined = {name: np.array([one[name] for one in figures]) for name in figures[0]}
+    return joined | {f"_{name}": np.ones(len(figures), bool) for name in joined}
+
+
 def serve_environment(make: Callable[[], object], end: Connection) -> None:
     """Makes an environment and does what comes through a pipe, until None comes or it is closed."""
     env = make()
     try:
         while (call := end.recv()) is not None:
             try:
-                end.send(getattr(env, call[0])(*call[1]))
+                end.send(getattr(env, call[0])(*call[1], **call[2]))
             except Exception as fault:  # noqa: BLE001  which is the caller's
                 end.send(fault)
     except EOFError:

@@ -3,6 +3,9 @@ import os
 import subprocess
 import sys
 from functools import partial
+from importlib.util import find_spec
+
+import checkers
 
 from support import PROGRAM, TOOLS, Case, needs_simulator
 from streetsim.env import OneSignal, ParallelSignals, SideBySide, SignalEnv
@@ -133,6 +136,37 @@ class Environment(Case):
             self.assertEqual([list(one) for one in told], 5 * [["J"]])
             self.assertEqual((told[2], told[3]), ({"J": False}, {"J": over}))
         self.assertEqual(env.agents, [])
+
+    def test_checkers(self):
+        """What the checkers of Gymnasium and PettingZoo assert holds, with packages of their names and without any."""
+        checkers.write_packages(self.folder)
+        for path, there in (("", [False, False]), (str(self.folder), [True, True])):
+            words = [sys.executable, checkers.__file__, *WORDS]
+            variables = {**os.environ, "PYTHONPATH": path}
+            done = subprocess.run(words, env=variables, capture_output=True, text=True, check=False)
+            self.assertEqual(done.returncode, 0, done.stderr)
+            self.assertIn(done.stdout.strip(), (str(there), str([True, True])))
+        if find_spec("gymnasium"):  # its own checker
+            from gymnasium.utils.env_checker import check_env
+
+            check_env(OneSignal(WORDS, seconds=50), skip_render_check=True)
+
+    def test_resets_without_a_seed_draw_on(self):
+        """By the words' seed where they name one, and else by a seed that nobody knows; the figures tell each."""
+        for words, equal in (([*WORDS, "--seed", "5"], True), (WORDS, False)):
+            seeds = []
+            for _ in range(2):
+                with SignalEnv(words) as env:
+                    seeds.append([env.reset()[1]["seed"] for _ in range(3)])
+            self.assertEqual(len(set(seeds[0])), 3)
+            self.assertEqual(seeds[0] == seeds[1], equal)
+
+    def test_a_text_of_the_run(self):
+        with OneSignal(WORDS, render_mode="ansi") as env:
+            env.reset(seed=1)
+            self.assertRegex(env.render(), r"^time 0, vehicles 0, .*seed 1\nJ: [Ggr]{12}, 0 stand before it$")
+            with self.assertRaisesRegex(ValueError, "streetsim-live shows runs"):
+                OneSignal(WORDS, render_mode="human")
 
     def test_environments_side_by_side(self):
         """Each gives what it gives alone, and an exception of one is raised."""

@@ -9,11 +9,12 @@ from pathlib import Path
 from xml.etree import ElementTree
 
 from support import MAP, NUMBERED, PROGRAM, TOOLS, Case, needs_package, needs_simulator, needs_sumo_tools
-from streetsim.control.bus_fleet import Dwell
+from streetsim.control.bus_fleet import Dwell, StopOutcome
 from streetsim.model.folder import read_folder
 from streetsim.model.mapping import map_from
 from streetsim.model.tables import AREAS, EDGES, LOOPS, SUMMARY, read_table
-from streetsim.observe.sumo_kinds import KINDS
+from streetsim.model.stops import STANDING, Visit
+from streetsim.observe.sumo_kinds import KINDS, OutputFile
 from streetsim.observe.sumo_writing import Outputs
 
 SUMO = Path("/usr/share/sumo")
@@ -25,7 +26,9 @@ SCHEMAS = {
     "queue": "queue_file",
     "e1": "det_e1_file",
     "e2": "det_e2_file",
-}
+    "vehroute": "routes_file",
+    "stop": "stopinfo_file",
+}  # SUMO has no schema of lanechange, and that of statistic is none itself
 CORRIDOR = TOOLS / "examples/corridor"
 DETECTORS = """<additional>
   <inductionLoop id="loop" lane="J2J3_0" pos="-40" period="300" file="x.xml"/>
@@ -52,6 +55,7 @@ SCRIPTS = (
     ("output/edgeDataDiff.py {edgedata} {edgedata} i.xml", "i.xml", ""),
     ("output/tripinfoDiff.py {tripinfo} {tripinfo} j.xml", "j.xml", "duration differences"),
     ("output/attributeStats.py {tripinfo} -e tripinfo -a duration", "", "count {arrived}"),
+    ("output/vehrouteDiff.py {vehroute} {vehroute} k.xml", "k.xml", ""),
     ("output/accelerations.py {fcd}", "", "Accelerations"),
     ("output/computeCoordination.py -f {fcd} --filter-route J1J2,J2J3", "", "coordinationFactor"),
 )
@@ -105,6 +109,73 @@ class ByHand(Case):
         [row] = self.rows("tripinfo", "tripinfo")
         self.assertEqual([float(row[name]) for name in ("stopTime", "waitingTime", "timeLoss")], [1, 1, 2])
         self.assertEqual(row["waitingCount"], "1")
+
+    def test_ways(self):
+        """Vehicle 0 leaves its first edge as it enters the second, in second 5, and that as it arrives."""
+        [row] = self.rows("vehroute", "vehicle")
+        self.assertEqual(row, {"id": "v", "depart": "0.00", "arrival": "8.00"})
+        [route] = self.rows("vehroute", "route")
+        self.assertEqual(route, {"edges": "a b"})
+        details = {f"vehroute-output.{name}" for name in ("exit-times", "write-unfinished", "sorted", "route-length")}
+        details |= {"tripinfo-output.write-unfinished"}
+        files = [OutputFile(kind, f"{self.folder}/{kind}.xml", details) for kind in ("vehroute", "tripinfo")]
+        with Outputs(files, map_from("", MAPPING), 0.0) as outputs:
+            for clock, lanes, arrived in FRAMES:
+                outputs.add_second(clock, lanes, arrived)
+        self.assertEqual([row["exitTimes"] for row in self.rows("vehroute", "route")], ["6.00 8.00", "-1"])
+        self.assertEqual([row.get("arrival") for row in self.rows("vehroute", "vehicle")], ["8.00", None])
+        trips = [(row["arrival"], row["routeLength"], row["vaporized"]) for row in self.rows("tripinfo", "tripinfo")]
+        self.assertEqual(trips, [("8.00", "150.00", ""), ("-1.00", "67.50", "end")])
+
+    def test_statistics(self):
+        """One trip of 150 m and 8 s; the other vehicle has departed 2 s late, and nobody waits."""
+        [root] = self.rows("statistic", "statistics")
+        [counts], [means] = self.rows("statistic", "vehicles"), self.rows("statistic", "vehicleTripStatistics")
+        self.assertEqual(counts, {"loaded": "2", "inserted": "2", "running": "1", "waiting": "0"})
+        names = ("count", "routeLength", "speed", "duration", "waitingTime", "timeLoss", "departDelay")
+        self.assertEqual([float(means[name]) for name in names], [1, 150, 18.75, 8, 2, 3, 0])
+        self.assertEqual(means["departDelayWaiting"], "-1.00")
+
+    def test_stops(self):
+        """Who has left a stop is told, with how late it left; who stands at one is not."""
+        visit = Visit(0, 0, "bs", 0, 0, 2, 3, 1, 2, 0.0, 0.0)
+        with Outputs({"stop": f"{self.folder}/stop.xml"}, map_from("", MAPPING), 0.0) as outputs:
+            outputs.expect_vehicle(0, "v", 0, "bus")
+            for clock, lanes, arrived in FRAMES:
+                outputs.add_second(clock, lanes, arrived)
+            outputs.note_stops([StopOutcome(visit, "made", 0, 2, 3), StopOutcome(visit, STANDING, 0, 5)])
+        [row] = self.rows("stop", "stopinfo")
+        names = ("id", "type", "lane", "pos", "started", "ended", "delay", "busStop")
+        self.assertEqual([row[name] for name in names], ["v", "bus", "a_0", "30.00", "2.00", "3.00", "1.00", "bs"])
+
+    def test_lane_changes(self):
+        two = [["a", [0, 1], 0, 1, 10, 5, 75.0, [[0, 0], [75, 0]]], MAPPING["links"][1]]
+        paths = {"lanechange": f"{self.folder}/lanechange.xml"}
+        with Outputs(paths, map_from("", {**MAPPING, "links": two}), 0.0) as outputs:
+            for clock, lane, cell in ((1, 0, 0), (2, 1, 2), (3, 1, 4)):
+                outputs.add_second(clock, [[0, lane, [[0, cell, 2]], []]], ())
+        [row] = self.rows("lanechange", "change")
+        names = ("id", "time", "from", "to", "dir", "speed", "pos")
+        self.assertEqual([row[name] for name in names], ["#0", "1.00", "a_0", "a_1", "1", "15.00", "22.50"])
+
+    def test_files_of_additional_files(self):
+        """Several of a kind: a span of time without edges on which nobody was, and some detectors."""
+        further = [
+            OutputFile("edgedata", f"{self.folder}/ed.xml", name="ed", period=2, begin=2, end=5, has_empty=False),
+            OutputFile("e1", f"{self.folder}/loop.xml", detectors=("loop",)),
+            OutputFile("e1", f"{self.folder}/no.xml", detectors=("x",)),
+            OutputFile("e2", f"{self.folder}/none/x.xml", is_needed=False),
+        ]  # fmt: skip
+        with Outputs(further, map_from("", MAPPING), 0.0) as outputs:
+            for clock, lanes, arrived in FRAMES:
+                outputs.add_second(clock, lanes, arrived)
+        spans = [(row["begin"], row["end"], row["id"]) for row in self.rows("ed", "interval")]
+        self.assertEqual(spans, [("2.00", "4.00", "ed"), ("4.00", "5.00", "ed")])
+        rows = [(row["id"], row["sampledSeconds"]) for row in self.rows("ed", "edge")]
+        self.assertEqual(rows, [("a", "4.00"), ("a", "1.00")])
+        self.assertEqual(self.rows("loop", "interval"), self.rows("e1", "interval"))
+        self.assertEqual(self.rows("no", "interval"), [])
+        self.assertRegex(*outputs.unopened, "x.xml: .*: it is not written")
 
     def test_summary(self):
         rows = self.rows("summary", "step")
@@ -286,7 +357,9 @@ class OfARun(Case):
 
     def test_a_folder_with_every_second_gives_the_same(self):
         polled, paths = read_folder(self.base / "polled"), {kind: self.folder / f"{kind}.xml" for kind in KINDS}
-        with Outputs(paths, polled.mapping, polled.dawdle / 1000, polled.period) as outputs:
+        details = {"vehroute-output.exit-times"}
+        files = [OutputFile(kind, path, details, period=polled.period) for kind, path in paths.items()]
+        with Outputs(files, polled.mapping, polled.dawdle / 1000) as outputs:
             outputs.write_run(polled.trips(), polled.polls())
         for kind, path in paths.items():
             self.assertEqual(path.read_text(), (self.sumo / f"{kind}.xml").read_text(), kind)
@@ -297,7 +370,7 @@ class OfARun(Case):
         shutil.copytree(SUMO / "data/xsd", self.folder / "xsd")
         summary = self.folder / "xsd/summary_file.xsd"  # SUMO 1.15 names a type in it that it does not define
         summary.write_text(summary.read_text().replace('"nonNegativeFloat"', '"nonNegativeFloatType"'))
-        for kind in KINDS:
+        for kind in SCHEMAS:
             schema, output = self.folder / f"xsd/{SCHEMAS[kind]}.xsd", self.sumo / f"{kind}.xml"
             words = ["xmllint", "--nonet", "--noout", "--schema", schema, output]
             done = subprocess.run(words, capture_output=True, text=True, check=False)

@@ -454,10 +454,13 @@ class Command(Case):
         return done
 
     def test_sumos_last_lines_are_the_means_of_its_own_files(self):
-        self.run_command(*WORDS, "-e", "900", "--tripinfo-output", "trips.xml", "--summary-output", "summary.xml")
+        files = [word for kind in ("tripinfo", "summary", "statistic") for word in (f"--{kind}-output", f"{kind}.xml")]
+        self.run_command(*WORDS, "-e", "900", *files)
         told = self.run_command(*WORDS, "-e", "900", "-v", "--duration-log.statistics").stdout
         lines = dict(re.findall(r"^ (\w+): ([\d.]+)$", told, re.MULTILINE))
-        trips = ElementTree.parse(self.folder / "trips.xml").getroot()
+        trips = ElementTree.parse(self.folder / "tripinfo.xml").getroot()
+        statistic = ElementTree.parse(self.folder / "statistic.xml").getroot()
+        told_means = statistic.find("vehicleTripStatistics")
         self.assertIn(f"Statistics (avg of {len(trips)}):", told)
         self.assertIn("Simulation ended at time: 900.00\nReason: The final simulation step has been reached.", told)
         for name, attribute, off in (
@@ -465,6 +468,8 @@ class Command(Case):
             ("DepartDelay", "departDelay", 0.006), ("WaitingTime", "waitingTime", 0.2),
         ):  # fmt: skip
             self.assertAlmostEqual(float(lines[name]), fmean(float(one.get(attribute)) for one in trips), delta=off)
+            self.assertAlmostEqual(float(lines[name]), float(told_means.get(attribute)), delta=off)
+        self.assertEqual((lines["Speed"], told_means.get("count")), (told_means.get("speed"), str(len(trips))))
         last = ElementTree.parse(self.folder / "summary.xml").getroot()[-1]
         self.assertEqual((lines["Inserted"], lines["Running"]), (last.get("inserted"), last.get("running")))
 
@@ -486,11 +491,11 @@ class Command(Case):
     def test_words(self):
         """Unknown ones are refused with the nearest one, and what has no effect says what is otherwise."""
         for words, why in (
-            (["--tripinfo-ouput", "x"], "The nearest is --tripinfo-output."), (["--random"], "give a --seed"),
+            (["--tripinfo-ouput", "x"], "The nearest is --tripinfo-output."),
             (["--scale", "2"], "make the routes of the demand"), (["--num-clients", "0"], "is not 1 to 64"),
             (["--writes", "."], "is for clients, who come with --remote-port"),
             (["--remote-port", "9", "--writes", "none"], "is no folder"),
-            (["--remote-port", "70000"], "is not 0 to 65,535"), (["--vehroute-output", "x"], "not written here"),
+            (["--remote-port", "70000"], "is not 0 to 65,535"),
         ):  # fmt: skip
             told = self.run_command(*WORDS, *words, status=2).stderr
             self.assertRegex(told, f"^streetsim-sumo: .*{re.escape(why)}")
@@ -502,6 +507,27 @@ class Command(Case):
             ("waiting-time-memory 100", "accumulated waiting times are of the whole trip"),
         ):  # fmt: skip
             self.assertIn(f"warning: --{name} has no effect here: {how}", told)
+
+    def test_a_seed_that_is_drawn_is_told_and_repeats_the_run(self):
+        words = [*WORDS, "-e", "200", "--fcd-output"]
+        told = [self.run_command(*words, f"{name}.xml", "--random").stderr for name in "ab"]
+        seeds = [re.search(r"--random drew --seed (\d+)", text)[1] for text in told]
+        self.run_command(*words, "c.xml", "--seed", seeds[0])
+        files = [(self.folder / f"{name}.xml").read_bytes() for name in "abc"]
+        self.assertNotEqual(files[0], files[1])
+        self.assertEqual(files[0], files[2])
+
+    def test_options_are_saved_as_a_configuration(self):
+        """Without a run; its paths are those from its folder, and it gives the run of the words."""
+        words = [*WORDS, "-e", "200", "--tripinfo-output"]
+        self.run_command(*words, "a.xml")
+        (self.folder / "sub").mkdir()
+        self.assertEqual(self.run_command(*words, "b.xml", "-C", "sub/x.sumocfg").stdout, "")
+        self.assertFalse((self.folder / "b.xml").exists())
+        self.run_command("-c", "sub/x.sumocfg")
+        self.assertEqual((self.folder / "a.xml").read_bytes(), (self.folder / "b.xml").read_bytes())
+        if shutil.which("sumo"):
+            subprocess.run(["sumo", "-c", "sub/x.sumocfg", "--no-step-log"], cwd=self.folder, check=True)
 
     def test_a_run_that_is_not_to_be_trusted_says_so_last(self):
         routes = "".join(f'<vehicle id="{at}" depart="0"><route edges="WJ JE"/></vehicle>' for at in range(300))

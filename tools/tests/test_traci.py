@@ -5,6 +5,7 @@ import json
 import os
 import re
 import resource
+import shutil
 import subprocess
 import sys
 import time
@@ -30,7 +31,7 @@ from streetsim.scenario import TrafficLight
 from streetsim.simulation import tally
 from streetsim.simulation.fleet import OnRoad
 from streetsim.simulation.lights import LightShow
-from streetsim.simulation.options import OUTPUT, SHORT, check_option
+from streetsim.simulation.options import OUTPUT, SHORT, check_option, usual_name
 from streetsim.simulation.session import TraciSession
 from streetsim.simulation.street_facts import read_facts
 from streetsim.simulation.view import View
@@ -399,23 +400,24 @@ class Vehicles(Started):
         self.write("x.rou.xml", ROUTES)
         self.write("x.add.xml", '<routes><vType id="truck" length="12"/></routes>')
         inputs = '<net value="x.net.xml"/><route-files v="x.rou.xml"/><additional-files>x.add.xml</additional-files>'
-        text = f'<c>{inputs}<vehroute-output value="old.xml"/><log value="log.txt"/></c>'
+        text = f'<c>{inputs}<vehroutes value="ways.xml"/><tripinfo value="old.xml"/><log value="log.txt"/></c>'
         words = ["sumo", "-c", self.write("x.sumo.cfg", text), "-W"]
-        with self.assertRaisesRegex(
-            traci.FatalTraCIError, "--vehroute-output old.xml: not written here .* leave it out, or give"
-        ):
-            traci.start(words)
-        traci.start([*words, "--vehroute-output", "/dev/null", "--end", "01:30:00"])
+        traci.start([*words, "--tripinfo-output", "/dev/null", "--end", "01:30:00"])
         self.assertEqual(traci.simulation.getEndTime(), 5400.0)
         self.assertEqual(traci.simulation.getOption("log"), str(self.folder / "log.txt"))
         traci.simulationStep(60)
         self.assertEqual(traci.vehicle.getIDList(), ("later",))
+        traci.close()
+        ways = ElementTree.parse(self.folder / "ways.xml").getroot()
+        self.assertEqual([(one.get("id"), one.find("route").get("edges")) for one in ways], [("v", "a b")])
+        self.assertFalse((self.folder / "old.xml").exists())
 
     @needs_sumo_tools
     def test_scenarios_of_bologna_open(self):
-        """Their additional files have the roots <add> and <routes>."""
+        """Their additional files have the roots <add> and <routes>; one has detectors with a file beside it."""
         for name in ("acosta", "joined", "pasubio"):
-            paths = [str(SCENARIOS / f"{name}/{name}_{part}.add.xml") for part in ("vtypes", "detectors", "tls")]
+            parts = [f"{name}_{part}.add.xml" for part in ("vtypes", "detectors", "tls")]
+            paths = [shutil.copy(SCENARIOS / name / part, self.folder) for part in parts]
             words = [
                 "-n",
                 str(SCENARIOS / f"{name}/{name}_buslanes.net.xml"),
@@ -428,11 +430,9 @@ class Vehicles(Started):
             traci.close()
 
     def test_options(self):
-        """Outputs are refused by name, and so is what SUMO does not know."""
+        """What SUMO does not know is refused by name."""
         given = ["sumo", "-n", self.write("x.net.xml", SIGNALLED), "-r", self.write("x.rou.xml", ROUTES)]
         for words, told in (
-            (["--emission-output", "s.xml"], "--emission-output s.xml: not written here"),
-            (["--save-state.times", "60"], "--save-state.times 60: not written here"),
             (["--no-such-option"], "No option with the name 'no-such-option' exists."),
             (["-Z"], "No option with the name 'Z' exists."),
             (["--scale", "1.5"], "--scale 1.5: streetsim has nothing for it"),
@@ -467,21 +467,32 @@ class Vehicles(Started):
             self.assertEqual(said.getvalue(), text if told else "")
 
     def test_files_that_are_not_written_are_told(self):
-        more = '<edgeData id="e" file="edges.xml" period="30"/><edgeData id="f" file="more.xml"/></additional>'
+        """Files of additional files lie beside these, as in SUMO; what is not written is told by name, also without
+        warnings, and the run goes on."""
+        more = """<edgeData id="e" file="edges.xml" period="30"/><edgeData id="f" file="more.xml" begin="10" end="50"
+            excludeEmpty="true"/><edgeData id="g" file="gas.xml" type="emissions"/><e3Detector id="h" file="e3.xml"/>
+            <edgeData id="i" file="none/i.xml"/></additional>"""
         words = ["sumo", "-n", self.write("x.net.xml", SIGNALLED), "-r", self.write("x.rou.xml", ROUTES)]
-        additional = self.write(
-            "x.add.xml", AREAS.replace("</additional>", more.replace("edges.xml", str(self.folder / "edges.xml")))
-        )
         with redirect_stderr(StringIO()) as said:
-            traci.start([*words, "-a", additional])
-        self.assertIn("warning: additional files ask for x, more.xml, not written here: ", said.getvalue())
+            additional = self.write("x.add.xml", AREAS.replace("</additional>", more))
+            traci.start([*words, "-a", additional, "-W", "--output-prefix", "my-", "--emission-output", "s.xml"])
+        told = [line for line in said.getvalue().splitlines() if "not written" in line]
+        for part in (
+            "--emission-output s.xml is not written: emissions", "x of <laneAreaDetector> is not written: another element",
+            "gas.xml of <edgeData> is not written: edgeData of type emissions", "e3.xml of <e3Detector> is not written:",
+            "i.xml: ",
+        ):  # fmt: skip
+            self.assertEqual(sum(part in line for line in told), 1, told)
+        self.assertEqual(len(told), 5)
         self.steps(60)
         traci.close()
-        intervals = ElementTree.parse(self.folder / "edges.xml").getroot().findall("interval")
-        self.assertEqual(
-            [(one.get("begin"), one.get("end")) for one in intervals], [("0.00", "30.00"), ("30.00", "60.00")]
-        )
-        self.assertEqual(intervals[0].find("edge[@id='a']").get("departed"), "1")
+        read = {name: ElementTree.parse(self.folder / f"my-{name}").getroot() for name in ("edges.xml", "more.xml", "x")}
+        spans = {name: [(one.get("begin"), one.get("end")) for one in root] for name, root in read.items()}
+        self.assertEqual(spans["edges.xml"], [("0.00", "30.00"), ("30.00", "60.00")])
+        self.assertEqual(spans["more.xml"], [("10.00", "50.00")])
+        self.assertEqual((len(spans["x"]), {one.get("id") for one in read["x"]}), (6, {"loop"}))
+        self.assertEqual(read["edges.xml"][0].find("edge[@id='a']").get("departed"), "1")
+        self.assertEqual([edge.get("id") for edge in read["more.xml"][0]], ["b"])
 
     def test_classes(self):
         """Buses alone may use the left lane, so that the network has it with --classes bus."""
@@ -1192,6 +1203,16 @@ class Constants(unittest.TestCase):
                 - SHORT.items(),
                 set(),
             )
+
+    @needs_sumo
+    def test_all_names_of_sumos_options_are_known(self):
+        """SUMO's own template tells by which further names it has an option."""
+        told = subprocess.run(["sumo", "--save-template", "/dev/stdout"], capture_output=True, text=True, check=False)
+        names = re.findall(r'<([\w.:-]+) value="[^"]*" synonymes="([^"]*)"', told.stdout)
+        further = [(word, name) for name, words in names for word in words.split() if len(word) > 1]
+        self.assertGreater(len(further), 40)
+        for word, name in further:
+            self.assertEqual(usual_name(word), name)
 
     @needs_sumo
     @needs_traci

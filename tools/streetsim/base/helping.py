@@ -9,12 +9,13 @@ GROUPS = {  # the words of all commands by what they are of, as their options ar
     "study before projection times saturation queues validate drivers configuration-file net-file route-files "
     "additional-files",
     "Output": "output out csv warnings run sumo-output junctions polls along sealed title question plan-names short "
-    "detail sheets corridor strict no-open port tripinfo-output summary-output queue-output fcd-output output-prefix "
-    "log verbose no-warnings duration-log.statistics force",
+    "detail sheets corridor strict no-open port log verbose no-warnings duration-log.statistics force",
+    "SUMO's files": "tripinfo-output summary-output queue-output fcd-output vehroute-output statistic-output "
+    "edgedata-output stop-output lanechange-output output-prefix save-configuration",
     "Time": "begin end until every period first last interval slice what",
     "Demand": "vehicles ends ways most error",
     "Seeds and search": "seeds check-seeds check budget precision rounds runs iterations gap share tried anew bounds "
-    "cycle least reserve verify-sumo free vary",
+    "cycle least reserve verify-sumo free vary random",
     "Streets and road works": "close joint lost merge works-limit slow sign knowing edges both rescue",
     "Lights and buses": "lights fixed priority seen stops",
     "Model": "dawdle change zone seed residence buffer permissive classes turns sizes ignore-route-errors",

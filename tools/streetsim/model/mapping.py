@@ -78,6 +78,7 @@ class MapTurn:
     limit: int = 2  # of its link, cells a step
     accel: float = 2.6  # metres a second and second of usual cars that start as those do who start there, in the mean
     apart: float = 0.0  # seconds more between two of a queue there than between usual cars
+    inside: float = 0.0  # metres of SUMO's lanes in the junction, on which nobody drives here
 
 
 class MapNode(NamedTuple):

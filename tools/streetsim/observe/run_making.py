@@ -118,17 +118,19 @@ class RunTables:
         if options.kinds:
             yield self.sumo_files(options.kinds, folder, files)
 
-    def sumo_files(self, kinds: Iterable[str], folder: str, files: contextlib.ExitStack) -> Observer:
+    def sumo_files(self, kinds: Iterable[str], folder: str, blocks: contextlib.ExitStack) -> Observer:
         """What writes SUMO's output files of some kinds to a new folder sumo in the run's, opened as a block of
-        `files`."""
+        `blocks`."""
         from streetsim.observe.sumo_files import SumoFiles
+        from streetsim.observe.sumo_kinds import OutputFile
         from streetsim.observe.sumo_writing import Outputs
 
         os.mkdir(f"{folder}/sumo")
-        paths = {kind: f"{folder}/sumo/{kind}.xml" for kind in kinds}
+        details, period = frozenset({"vehroute-output.exit-times"}), self.settings.period
+        files = [OutputFile(kind, f"{folder}/sumo/{kind}.xml", details, period=period) for kind in kinds]
         dawdle, rescued = self.run.load.command["dawdle"] / 1000, self.steering.rescue.clocks
-        outputs = Outputs(paths, self.mapping, dawdle, self.settings.period, self.run.start(), rescued)
-        return SumoFiles(files.enter_context(outputs), self.steering.buses)
+        outputs = Outputs(files, self.mapping, dawdle, period, self.run.start(), rescued)
+        return SumoFiles(blocks.enter_context(outputs), self.steering.buses)
 
     def write(self, folder: str, trips: Sequence[Entry], clock: int) -> None:
         """Writes the tables, but for those of junctions, to the folder of a run; those of phases, stops and works where

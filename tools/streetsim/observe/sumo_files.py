@@ -6,7 +6,6 @@ from collections.abc import Iterator
 from typing import Any
 
 from streetsim.base.arrays import numpy as np
-from streetsim.control.bus_fleet import dwells
 from streetsim.control.buses import Buses
 from streetsim.kernel.loop import Kernel, Observer
 from streetsim.kernel.seconds import Seconds, groups_of
@@ -29,7 +28,7 @@ class SumoFiles(Observer):
 
     def see(self, seconds: Seconds) -> None:
         """Takes some seconds."""
-        self.outputs.dwells.update(dwells(self.buses.fleet.stop_outcomes()))
+        self.outputs.note_stops(self.buses.fleet.stop_outcomes())
         arrived: defaultdict[int, list[int]] = defaultdict(list)
         owners = self.kernel.vehicles.owner[seconds.arrivals.car].tolist()
         for second, car in sorted(zip(seconds.arrivals.second.tolist(), owners, strict=True)):

@@ -1,13 +1,12 @@
-"""SUMO's output files that have rows of each second or trip: tripinfo, summary, fcd, queue. Each class writes one."""
+"""SUMO's output files that have rows of each second: summary, fcd, queue. Each class writes one."""
 from bisect import bisect_right
-from collections.abc import Mapping, Sequence
+from collections.abc import Sequence
 
 from streetsim.base import limits
 from streetsim.base.files import TextFile, quoteattr
-from streetsim.control.bus_fleet import Dwell
 from streetsim.model.mapping import Place
 from streetsim.observe.sumo_places import LanePlaces
-from streetsim.observe.sumo_seconds import Spot, Second, TripUnderWay
+from streetsim.observe.sumo_seconds import Spot, Second
 
 SCHEMAS = "http://sumo.dlr.de/xsd/"
 HALTING = 0.1  # metres a second, SUMO's: below it a vehicle stands
@@ -40,51 +39,6 @@ def attributes(**values: object) -> str:
     metres) with two decimals, others as str gives them."""
     texts = (f"{value:.2f}" if isinstance(value, float) else str(value) for value in values.values())
     return " ".join(f"{name}={quoteattr(text)}" for name, text in zip(values, texts, strict=True))
-
-
-class Tripinfo(XmlFile):
-    """tripinfo: a row for each vehicle that arrived. It departs in the second in which it is first seen; `departDelay`
-    is since the wished departure, so that it and `duration` add up to the duration of trips.csv. Seconds at stops are
-    in `stopTime`, and neither in `waitingTime` nor in `timeLoss`."""
-
-    root, schema = "tripinfos", "tripinfo_file"
-
-    def __init__(self, file: TextFile, lane_places: LanePlaces, dwells: Mapping[int, Sequence[Dwell]]) -> None:
-        """dwells: by the vehicle's number in looks its stops; those of one that arrives are known by then."""
-        super().__init__(file, lane_places)
-        self.dwells = dwells
-
-    def add_second(self, second: Second) -> None:
-        """Writes a row for each vehicle that arrived in a second."""
-        for car, trip in second.arrived:
-            self.file.write(f"    <tripinfo {self.attributes_of(trip, second.clock, self.dwells.get(car, ()))}/>\n")
-
-    def attributes_of(self, trip: TripUnderWay, arrival: int, stops: Sequence[Dwell]) -> str:
-        """The attributes of a trip that arrived at a clock, with its stops, in SUMO's order."""
-        names, duration, dwell = self.lane_places.names, arrival - trip.depart, sum(stop.seconds for stop in stops)
-        return attributes(
-            id=trip.name,
-            depart=float(trip.depart),
-            departLane=names[trip.first_position.link, trip.first_position.lane],
-            departPos=self.lane_places.metres_on_lane(trip.first_position),
-            departSpeed=self.lane_places.metres_per_second(trip.first_position),
-            departDelay=float(trip.depart - trip.wished),
-            arrival=float(arrival),
-            arrivalLane=names[trip.last_position.link, trip.last_position.lane],
-            arrivalPos=self.lane_places.mapping.links[trip.last_position.link].metres,
-            arrivalSpeed=self.lane_places.metres_per_second(trip.last_position),
-            duration=float(duration),
-            routeLength=trip.metres,
-            waitingTime=float(max(0, trip.waiting - sum(stop.stood for stop in stops))),
-            waitingCount=max(0, trip.stops - len(stops)),
-            stopTime=float(dwell),
-            timeLoss=max(0.0, duration - trip.free - dwell),
-            rerouteNo=0,
-            devices="",
-            vType=trip.kind,
-            speedFactor=1.0,
-            vaporized="",
-        )
 
 
 class SummaryOutput(XmlFile):

@@ -1,12 +1,14 @@
 """SUMO's output files that are sums over intervals: edgeData, e1, e2."""
-from collections.abc import Sequence
+from collections.abc import Collection, Sequence
 from dataclasses import dataclass, field, replace
+from math import inf
 from typing import Any
 
 from streetsim.base.files import TextFile
 from streetsim.model.detectors import E1, E2, Detector, longest_jam
 from streetsim.model.mapping import Place
 from streetsim.observe.sumo_formats import XmlFile, attributes, vehicle_metres
+from streetsim.observe.sumo_kinds import OutputFile
 from streetsim.observe.sumo_places import LanePlaces
 from streetsim.observe.sumo_seconds import Spot, Second
 
@@ -34,10 +36,11 @@ class Edgedata(XmlFile):
 
     root, schema = "meandata", "meandata_file"
 
-    def __init__(self, file: TextFile, lane_places: LanePlaces, period: int, start: int) -> None:
-        """period: seconds of an interval; start: the clock at which the first one begins."""
+    def __init__(self, file: TextFile, lane_places: LanePlaces, wished: OutputFile, start: int) -> None:
+        """wished: what is asked for; start: the clock at the run's begin."""
         super().__init__(file, lane_places)
-        self.period, self.begin, self.clock = period, start, start
+        self.wished, self.period, self.begin = wished, int(wished.period) or inf, max(start, int(wished.begin))
+        self.clock = self.begin
         self.links = lane_places.mapping.links
         self.sums: dict[str, EdgeSums] = {}  # by edge
 
@@ -46,7 +49,9 @@ class Edgedata(XmlFile):
         return self.sums.setdefault(self.links[link].edge, EdgeSums())
 
     def add_second(self, second: Second) -> None:
-        """Adds a second; first writes the interval before it where that has ended."""
+        """Adds a second, where it is asked for; first writes the interval before it where that has ended."""
+        if not self.begin < second.clock <= self.wished.end:
+            return
         if second.clock > self.begin + self.period:
             self.write_interval()
         self.clock = second.clock
@@ -74,10 +79,11 @@ class Edgedata(XmlFile):
         sums.covered += vehicle_metres(spot)
 
     def write_interval(self) -> None:
-        """Writes the interval that has ended, all edges of the map, and begins the next."""
-        end = min(self.clock, self.begin + self.period)
-        self.file.write(f'    <interval begin="{self.begin:.2f}" end="{end:.2f}" id="streetsim">\n')
-        for edge in self.lane_places.mapping.links_of:
+        """Writes the interval that has ended, all edges of the map or those where anybody was, and begins the next."""
+        end, edges = int(min(self.clock, self.begin + self.period)), self.lane_places.mapping.links_of
+        interval = attributes(begin=float(self.begin), end=float(end), id=self.wished.name)
+        self.file.write(f"    <interval {interval}>\n")
+        for edge in edges if self.wished.has_empty else (edge for edge in edges if edge in self.sums):
             row = self.attributes_of(edge, self.sums.get(edge, EdgeSums()), end - self.begin)
             self.file.write(f"        <edge {row}/>\n")
         self.file.write("    </interval>\n")
@@ -118,10 +124,11 @@ class DetectorOutput(XmlFile):
 
     root, kind = "detector", ""
 
-    def __init__(self, file: TextFile, lane_places: LanePlaces, start: int) -> None:
-        """start: the clock at which the first interval of each detector begins."""
+    def __init__(self, file: TextFile, lane_places: LanePlaces, start: int, names: Collection[str] | None) -> None:
+        """start: the clock at which the first interval of each detector begins; names: of detectors, None: all."""
         super().__init__(file, lane_places)
-        self.detectors = [detector for detector in lane_places.mapping.detectors if detector.kind == self.kind]
+        of_kind = (detector for detector in lane_places.mapping.detectors if detector.kind == self.kind)
+        self.detectors = [detector for detector in of_kind if names is None or detector.name in names]
         self.begins, self.clock = {detector.name: start for detector in self.detectors}, start
         self.sums: dict[str, Sums] = {detector.name: self.sums_at_begin(detector, None) for detector in self.detectors}
 

@@ -6,7 +6,10 @@ from typing import Any
 
 from streetsim.model.detectors import size_of
 from streetsim.model.freeflow import Alone
+from streetsim.model.inside import Inside
 from streetsim.model.mapping import Map
+
+DEFAULT = "DEFAULT_VEHTYPE"  # SUMO's type of vehicles that tell none
 
 
 @dataclass(slots=True, frozen=True)
@@ -35,13 +38,15 @@ class TripUnderWay:
     depart: int  # the second in which it departed
     first_position: Spot
     last_position: Spot
-    metres: float = 0.0  # of the links that it has been on
+    metres: float = 0.0  # of the links that it has been on, and of SUMO's lanes in the junctions between
+    links: list[int] = field(default_factory=list)  # that it has been on
+    exits: list[int] = field(default_factory=list)  # the clocks at which it left those before the last
     free: float = 0.0  # seconds of these where nobody is in the way, without the last junction
     waiting: int = 0  # seconds of standing
     stops: int = 0
     standing: int = 0  # seconds for which it has stood by now
     crossing: float = 0.0  # seconds of the junction behind its link
-    kind: str = "DEFAULT_VEHTYPE"
+    kind: str = DEFAULT
 
 
 @dataclass(slots=True)
@@ -70,13 +75,13 @@ class Follower:
 
     def __init__(self, mapping: Map, dawdle: float) -> None:
         """dawdle: the chance, 0 to 1, to go on by a cell a step less."""
-        self.mapping, self.alone = mapping, Alone(mapping, dawdle)
+        self.mapping, self.alone, self.inside = mapping, Alone(mapping, dawdle), Inside(mapping)
         self.trips: dict[int, TripUnderWay] = {}
         self.expected: dict[int, tuple[str, int, str]] = {}  # name, wished second, type
         self.earlier_positions: dict[int, Spot] = {}
         self.entered_at: dict[int, int] = {}  # car: the clock since which it is in a junction
 
-    def expect_vehicle(self, car: int, name: str, wished: int, kind: str = "DEFAULT_VEHTYPE") -> None:
+    def expect_vehicle(self, car: int, name: str, wished: int, kind: str = DEFAULT) -> None:
         """Tells of a vehicle before it is seen: the second at which it would depart, its name and its type. One that
         was not told of is called # and its number."""
         self.expected[car] = name, wished, kind
@@ -118,7 +123,7 @@ class Follower:
         spot: where it is now."""
         previous, trip = self.earlier_positions.get(car), self.trips.get(car)
         if trip is None:
-            name, wished, kind = self.expected.get(car, (f"#{car}", second.clock - 1, "DEFAULT_VEHTYPE"))
+            name, wished, kind = self.expected.get(car, (f"#{car}", second.clock - 1, DEFAULT))
             trip = self.trips[car] = TripUnderWay(name, wished, second.clock - 1, spot, spot, kind=kind)
             second.departed.append(car)
             self.add_link(trip, spot.link)
@@ -126,6 +131,7 @@ class Follower:
             if previous is not None and previous.cell is not None:
                 second.teleported[car] = previous
             second.entered.append((car, spot.link))
+            trip.exits.append(second.clock)
             self.add_link(trip, spot.link)
         elif spot.cell is None and previous.cell is not None:
             second.exited.append((car, previous))
@@ -133,11 +139,13 @@ class Follower:
         trip.last_position = spot
 
     def add_link(self, trip: TripUnderWay, link: int) -> None:
-        """Adds to a trip the metres and free seconds of a link that it comes to. SUMO counts as lost what a vehicle
+        """Adds to a trip the metres and free seconds of a link that it comes to, and of the junction before. SUMO counts as lost what a vehicle
         loses by gaining speed, so it comes at the link's own limit."""
         trip.free += trip.crossing + self.alone.on_link(link, link)
         trip.crossing = self.alone.across(link)
-        trip.metres += self.mapping.links[link].metres
+        trip.links.append(link)
+        last = trip.last_position
+        trip.metres += self.mapping.links[link].metres + self.inside.metres(last.link, last.lane, link)
 
 
 def note_standing(trip: TripUnderWay, spot: Spot) -> None:

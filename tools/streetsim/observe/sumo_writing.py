@@ -2,21 +2,27 @@
 import contextlib
 from bisect import insort
 from collections import defaultdict
-from collections.abc import Callable, Iterable, Mapping, Sequence
+from collections.abc import Iterable, Mapping, Sequence
 from typing import Any
 
 from streetsim.base.files import Fault, FilePath, TextFile, whole_file
 from streetsim.control.bus_fleet import StopOutcome, Dwell, dwells
 from streetsim.model.folder import Frame
 from streetsim.model.mapping import Map
-from streetsim.observe.sumo_formats import Fcd, QueueOutput, SummaryOutput, Tripinfo, XmlFile
+from streetsim.observe.sumo_formats import Fcd, QueueOutput, SummaryOutput, XmlFile
 from streetsim.observe.sumo_intervals import Edgedata, InductionLoopOutput, LaneAreaOutput
+from streetsim.observe.sumo_kinds import OutputFile
 from streetsim.observe.sumo_places import LanePlaces
-from streetsim.observe.sumo_seconds import Follower
+from streetsim.observe.sumo_seconds import DEFAULT, Follower
+from streetsim.observe.sumo_trips import LaneChanges, StatisticOutput, StopOutput, Tripinfo, VehicleRoutes
+
+
+class Discarded(Exception):
+    """The files are not to be left behind."""
 
 
 class Outputs(contextlib.ExitStack):
-    """Open output files, {kind: path}, which take their names when the block ends without an exception.
+    """Open output files, which take their names when the block ends without an exception.
 
     Tell vehicles by `expect_vehicle`, then each second of the run by `add_second`. Edges are summed over `period`
     seconds, detectors over their own; `dawdle` is the run's chance of slowing down (0 to 1), by which the free driving
@@ -25,30 +31,53 @@ class Outputs(contextlib.ExitStack):
     """
 
     def __init__(
-        self, paths: Mapping[str, FilePath], mapping: Map, dawdle: float, period: int = 900, start: int = 0,
-        rescued: Sequence[int] = (),
-    ) -> None:
-        """Opens the files; paths: {kind of KINDS: path}; other arguments as above. Fault where one cannot be
-        written, KeyError for another kind."""
+        self, files: Mapping[str, FilePath] | Iterable[OutputFile], mapping: Map, dawdle: float, period: int = 900,
+        start: int = 0, rescued: Sequence[int] = (),
+    ) -> None:  # fmt: skip
+        """Opens the files; files: {kind of KINDS: path}, or each as OutputFile has it; other arguments as above. Fault
+        where one that is needed cannot be written, KeyError for another kind."""
         super().__init__()
         self.follower, self.start = Follower(mapping, dawdle), start
         self.wished: list[int] = []
+        self.rescued = rescued
         self.dwells: dict[int, list[Dwell]] = {}
-        lane_places = LanePlaces(mapping)
-        makers: dict[str, Callable[[TextFile], XmlFile]] = {
-            "tripinfo": lambda file: Tripinfo(file, lane_places, self.dwells),
-            "summary": lambda file: SummaryOutput(file, lane_places, self.wished, rescued),
-            "edgedata": lambda file: Edgedata(file, lane_places, period, start),
-            "fcd": lambda file: Fcd(file, lane_places),
-            "queue": lambda file: QueueOutput(file, lane_places),
-            "e1": lambda file: InductionLoopOutput(file, lane_places, start),
-            "e2": lambda file: LaneAreaOutput(file, lane_places, start),
-        }
+        self.outcomes: list[StopOutcome] = []
+        self.lane_places = LanePlaces(mapping)
         self.writers: list[XmlFile] = []
-        with contextlib.ExitStack() as files:
-            for kind, path in paths.items():
-                self.writers.append(makers[kind](files.enter_context(whole_file(path))))
-            self.push(files.pop_all())
+        self.unopened: list[str] = []  # texts on files that are not needed and cannot be written
+        if isinstance(files, Mapping):
+            files = [OutputFile(kind, path, period=period) for kind, path in files.items()]
+        with contextlib.ExitStack() as opened:
+            for one in files:
+                try:
+                    self.writers.append(self.writer_of(one, opened.enter_context(whole_file(one.path))))
+                except Fault as fault:
+                    if one.is_needed:
+                        raise
+                    self.unopened.append(f"{fault}: it is not written")
+            self.push(opened.pop_all())
+
+    def writer_of(self, wished: OutputFile, file: TextFile) -> XmlFile:
+        """What writes an open file. KeyError for a kind that is none of KINDS."""
+        places, departs, rescued, dwells = self.lane_places, self.wished, self.rescued, self.dwells
+        return {
+            "tripinfo": lambda: Tripinfo(file, places, dwells, wished.details),
+            "summary": lambda: SummaryOutput(file, places, departs, rescued),
+            "edgedata": lambda: Edgedata(file, places, wished, self.start),
+            "fcd": lambda: Fcd(file, places),
+            "queue": lambda: QueueOutput(file, places),
+            "e1": lambda: InductionLoopOutput(file, places, self.start, wished.detectors),
+            "e2": lambda: LaneAreaOutput(file, places, self.start, wished.detectors),
+            "vehroute": lambda: VehicleRoutes(file, places, wished.details),
+            "statistic": lambda: StatisticOutput(file, places, departs, rescued, dwells),
+            "stop": lambda: StopOutput(file, places, self.outcomes),
+            "lanechange": lambda: LaneChanges(file, places),
+        }[wished.kind]()
+
+    def note_stops(self, outcomes: Iterable[StopOutcome]) -> None:
+        """Takes what has become of all stops until now."""
+        self.outcomes[:] = outcomes
+        self.dwells.update(dwells(self.outcomes))
 
     def __exit__(self, kind: type[BaseException] | None, *details: Any) -> bool:
         """Writes the ends of the files, which get their names; after an exception, which goes on, they are not left
@@ -58,7 +87,12 @@ class Outputs(contextlib.ExitStack):
                 writer.write_end()
         return super().__exit__(kind, *details)
 
-    def expect_vehicle(self, car: int, name: str, wished: int, kind: str = "DEFAULT_VEHTYPE") -> None:
+    def discard(self) -> None:
+        """Closes the files, of which nothing is left."""
+        with contextlib.suppress(Discarded), self:
+            raise Discarded
+
+    def expect_vehicle(self, car: int, name: str, wished: int, kind: str = DEFAULT) -> None:
         """Tells of a vehicle before it is seen: its number in later looks, its name, the second at which it would
         depart, and its type."""
         self.follower.expect_vehicle(car, name, wished, kind)
@@ -76,7 +110,7 @@ class Outputs(contextlib.ExitStack):
     ) -> None:
         """Writes a whole run, of the rows of trips.csv in the order of the vehicles' numbers (all with SUMO's default
         type), what stood on the lanes in every second, and what became of stops; Fault where the looks skip one."""
-        self.dwells.update(dwells(stops))
+        self.note_stops(stops)
         arrivals = defaultdict(list)
         for car, trip in enumerate(trips):
             self.expect_vehicle(car, str(trip["id"]), int(trip["depart"]))

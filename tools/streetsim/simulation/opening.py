@@ -5,36 +5,42 @@ from collections.abc import Iterable, Mapping, Sequence
 from contextlib import redirect_stderr
 from io import StringIO
 from pathlib import Path
+from random import randrange
 from tempfile import TemporaryDirectory
 
-from streetsim.base.files import whole_file
+from streetsim.base.files import FilePath, whole_file
 from streetsim.base.words import ROUNDS, names_in
 from streetsim.model.replications import DRAWN
+from streetsim.observe.sumo_kinds import DETAILS, OutputFile
 from streetsim.simulation.confining import why_not_written
 from streetsim.simulation.errors import FatalTraCIError
 from streetsim.simulation.kept_imports import KeptImport, key_of, read_kept, write_kept
-from streetsim.simulation.options import IMPORTED, LOGS, NO_FILE, read_options, warnings_of
+from streetsim.simulation.options import IMPORTED, LOGS, NO_FILE, read_options, unwritten_of, warnings_of
 from streetsim.simulation.script_settings import ScriptSettings
 from streetsim.simulation.session import TraciSession
-from streetsim.simulation.street_facts import Facts, read_facts
+from streetsim.simulation.street_facts import read_facts
 from streetsim.simulation.writing import SERVED
 
 Options = Mapping[str, str]
-PERIOD = 900  # seconds of the rows of edgeData without a period
 
 
 def open_session(arguments: Sequence[str]) -> TraciSession:
     """A session, by the words of SUMO's command line without SUMO's name; tells on standard error what differs from
     SUMO. FatalTraCIError or Fault where it cannot be imported or started."""
-    options = read_options([*arguments])
+    options = with_seed(read_options([*arguments]))
     with TemporaryDirectory() as folder:
         return import_session(Path(folder), options)
 
 
+def with_seed(options: Options) -> Options:
+    """The options with a seed that is drawn, where they ask for one (random)."""
+    return {**options, "seed": str(randrange(1 << 31))} if is_on(options.get("random", "false")) else options
+
+
 def import_session(folder: Path, options: Options) -> TraciSession:
     """The session of some options (long names), imported into a folder; tells warnings as write_warnings does. Output
-    files are written that are asked for, edgeData by its period in whole seconds, PERIOD where that is below 1.
-    FatalTraCIError where they name no network, Fault where the import or the run cannot be made."""
+    files are written that are asked for. FatalTraCIError where they name no network, or a file that may not be written,
+    Fault where the import or the run cannot be made."""
     names = ("route-files", "additional-files")
     routes, additional = ([part.strip() for part in options.get(name, "").split(",") if part.strip()] for name in names)
     if not options.get("net-file"):
@@ -52,9 +58,15 @@ def import_session(folder: Path, options: Options) -> TraciSession:
         raise
     try:
         write_warnings(messages + notes_of(session), options)
-        if paths := output_paths(options, facts):
-            refuse_outside(paths.values())
-            session.write(paths, int(facts.edgedata[0][1]) or PERIOD if facts.edgedata else PERIOD)
+        prefix = options.get("output-prefix", "")
+        paths, details = output_paths(options), frozenset(name for name in DETAILS if is_on(options.get(name, "false")))
+        refuse_outside(paths.values())
+        further = [one._replace(path=with_prefix(prefix, one.path)) for one in facts.outputs]
+        outside = {one: why for one in further if (why := why_not_written([str(one.path)])) is not None}
+        wished = [OutputFile(kind, path, details) for kind, path in paths.items()]
+        wished += [one for one in further if one not in outside]
+        unopened = session.write(wished) if wished else []
+        tell_always(options, [*facts.unwritten, *outside.values(), *unopened])
     except Exception:
         session.close()
         raise
@@ -113,29 +125,35 @@ def notes_of(session: TraciSession) -> str:
     if session.yielding.lines:
         gaps = "in the gaps of the vehicles of the route files; those that the script adds are in no gaps"
         lines.append(f"{session.yielding.summary()}, {gaps}")
-    if session.facts.unwritten:
-        names = ", ".join(dict.fromkeys(session.facts.unwritten))
-        instead = "streetsim-run --sumo-output e1,e2,edgedata writes such files"
-        lines.append(f"warning: additional files ask for {names}, not written here: {instead}")
     lines += [*session.works_notes, *(f"warning: {text}" for text in session.notes)]
     return "".join(f"{line}\n" for line in lines)
 
 
-def output_paths(options: Options, facts: Facts | None) -> dict[str, str]:
-    """{kind: path} of the output files that options ask for (kinds as in SERVED), and as "edgedata" of the first
-    edgeData of additional files, where their facts are given. --output-prefix stands before the name of each file."""
-    prefix, paths = options.get("output-prefix", ""), {}
-    for name, kind in SERVED.items():
-        if options.get(name, NO_FILE[0]) not in NO_FILE:
-            paths[kind] = options[name]
-    if facts is not None and facts.edgedata:
-        paths["edgedata"] = facts.edgedata[0][0]
-    return {kind: os.path.join(os.path.dirname(path), prefix + os.path.basename(path)) for kind, path in paths.items()}
+def tell_always(options: Options, unwritten: Iterable[str]) -> None:
+    """Tells on standard error, also with --no-warnings, which files that are asked for are not written, by options and
+    (unwritten: a text each) by additional files, and which seed was drawn."""
+    texts = [*unwritten_of(options), *dict.fromkeys(unwritten)]
+    if is_on(options.get("random", "false")):
+        texts.append(f"--random drew --seed {options['seed']}, which repeats the run")
+    sys.stderr.writelines(f"streetsim: {text}\n" for text in texts)
+
+
+def output_paths(options: Options) -> dict[str, str]:
+    """{kind: path} of the output files that options ask for, kinds as in SERVED."""
+    asked = {kind: options.get(name, NO_FILE[0]) for name, kind in SERVED.items()}
+    prefix = options.get("output-prefix", "")
+    return {kind: with_prefix(prefix, path) for kind, path in asked.items() if path not in NO_FILE}
+
+
+def with_prefix(prefix: str, path: FilePath) -> str:
+    """The path of a file, with a text (that of --output-prefix) before its name."""
+    folder, name = os.path.split(path)
+    return os.path.join(folder, prefix + name)
 
 
 def written_paths(options: Options) -> list[str]:
     """The paths of all files that options ask for, without those of additional files."""
-    return [*log_paths(options), *output_paths(options, None).values()]
+    return [*log_paths(options), *output_paths(options).values()]
 
 
 def log_paths(options: Options) -> list[str]:

@@ -7,9 +7,10 @@ from streetsim.base.files import Fault, seconds
 from streetsim.base.words import FALSE, MOST_ROUNDS
 from streetsim.control.bus_planned import MOST_SEEN
 from streetsim.model.replications import DRAWN, LISTED
+from streetsim.observe.sumo_kinds import DETAILS
 from streetsim.simulation.errors import FatalTraCIError
 from streetsim.simulation.writing import SERVED
-from streetsim.sumo.configuration import NOWHERE as NO_FILE, OUTPUT, SILENT, SYNONYMS, is_one, read_configuration
+from streetsim.sumo.configuration import NOWHERE as NO_FILE, OUTPUT, SILENT, is_one, read_configuration, usual_name
 
 SHORT = {
     "-c": "configuration-file", "-n": "net-file", "-r": "route-files", "-a": "additional-files", "-b": "begin",
@@ -21,8 +22,9 @@ SHORT = {
 INPUTS = {
     "configuration-file", "net-file", "route-files", "additional-files", "step-length", "time-to-teleport",
     "output-prefix", "rounds", "ignore-route-errors", "merge", "lights", "stops", "rescue", "priority", "seen",
-    "close", "departures", "writes",
+    "close", "departures", "random", "writes",
 }
+SAVED = "save-configuration"  # the file to which the options are written; no run is made
 LOGS = ("log", "message-log", "error-log")  # files that get what the import says
 IMPORTED = {
     "seed", "begin", "classes", "joint", "turns", "sizes", "dawdle", "change", "zone", "residence", "buffer",
@@ -33,7 +35,19 @@ REFUSED = {
     "scale": "make the routes of the demand that is wanted",
     "load-state": "a run repeats exactly: start it again and step to the time",
     "mesosim": "there are no queues of the mesoscopic model here",
-    "random": "give a --seed",
+}
+# SUMO's files that are not written here, and what to do instead.
+NOT_WRITTEN = {
+    r"emission|battery|elechybrid|chargingstations|overheadwire|substations": "emissions and power are not reckoned; "
+    "SUMO's emissionsDrivingCycle reads --fcd-output",
+    r"person": "there are no persons",
+    r"collision": "nobody collides",
+    r"save-state": "simulation.saveState of a script writes states",
+    SAVED: "streetsim-sumo writes it alone, and makes no run",
+    r"save-": "sumo itself writes it",
+    r"^device|railsignal": "there are no such devices",
+    r"lanedata": "--edgedata-output has the sums of edges, --fcd-output each vehicle",
+    "": "--fcd-output has each vehicle in each second",
 }
 # SUMO's options that have no effect: what is otherwise here.
 CHANGES = {
@@ -49,6 +63,7 @@ CHANGES = {
     "default.speeddev": ": all vehicles wish the limit; --dawdle changes how they drive",
     "num-clients": "", "remote-port": "", "verbose": "", "no-step-log": "", "step-log.period": "",
 }
+DONE_ANYWAY = ("ignore-route-errors", "vehroute-output.last-route")
 WARNED_ALONE = ("waiting-time-memory",)  # what scripts are told, and no run
 DONE_BY_TOOL = ("duration-log.statistics",)  # by streetsim-sumo
 # SUMO's further options and their families.
@@ -122,26 +137,33 @@ def long_name(argument: str) -> str:
         if argument not in SHORT:
             raise FatalTraCIError(f"No option with the name '{argument.removeprefix('-')}' exists.")
         return SHORT[argument]
-    name = argument.removeprefix("--")
-    return SYNONYMS.get(name, name)
+    return usual_name(argument.removeprefix("--"))
 
 
 def check_option(name: str, option_text: str) -> None:
-    """FatalTraCIError for an option (long name, text of its value) that is unknown, has a wrong value, is one of
-    REFUSED, or asks for an output that is not written here."""
+    """FatalTraCIError for an option (long name, text of its value) that is unknown, has a wrong value, or is one of
+    REFUSED."""
     is_on = option_text.lower() not in FALSE
     if name in VALUE_CHECKS and not VALUE_CHECKS[name][0](option_text):
         raise FatalTraCIError(f"--{name} {option_text}: {VALUE_CHECKS[name][1]}")
     if name in REFUSED and is_on and not (name == "scale" and is_one(option_text)):
         raise FatalTraCIError(f"--{name} {option_text}: streetsim has nothing for it; {REFUSED[name]}")
-    if OUTPUT.fullmatch(name) and name not in SERVED and option_text not in NO_FILE and is_on:
-        reason = f"not written here ({', '.join(f'--{served}' for served in SERVED)} are)"
-        raise FatalTraCIError(f"--{name} {option_text}: {reason}; leave it out, or give --{name} /dev/null")
     is_known = name in INPUTS or name in IMPORTED or name in REFUSED or name in LOGS
     if not (is_known or OUTPUT.fullmatch(name) or SILENT.fullmatch(name) or WITHOUT_EFFECT.fullmatch(name)):
         matches = get_close_matches(name, (*INPUTS, *IMPORTED, *REFUSED, *LOGS, *SERVED, *SHORT.values(), *CHANGES), 1)
         nearest = f" The nearest is --{matches[0]}." if matches else ""
         raise FatalTraCIError(f"No option with the name '{name}' exists.{nearest}")
+
+
+def unwritten_of(options: Mapping[str, str]) -> list[str]:
+    """Texts on the files that options ask for and that are not written here."""
+    texts = []
+    for name, path in options.items():
+        is_asked = path not in NO_FILE and path.lower() not in FALSE
+        if OUTPUT.fullmatch(name) and name not in SERVED and is_asked:
+            instead = next(text for pattern, text in NOT_WRITTEN.items() if re.search(pattern, name))
+            texts.append(f"--{name} {path} is not written: {instead}")
+    return texts
 
 
 def warnings_of(options: Mapping[str, str]) -> list[str]:
@@ -150,6 +172,7 @@ def warnings_of(options: Mapping[str, str]) -> list[str]:
         name for name in options
         if name in WARNED_ALONE
         or WITHOUT_EFFECT.fullmatch(name) and not SILENT.fullmatch(name) and not OUTPUT.fullmatch(name)
+        and name not in (*DETAILS, *DONE_ANYWAY)
     ]
     warnings = [
         f"--{name} {options[name]}".rstrip() + f" has no effect here{CHANGES.get(name, '')}" for name in lacking

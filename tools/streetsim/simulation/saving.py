@@ -39,8 +39,8 @@ def digests_of(session: TraciSession) -> dict[str, str]:
 
 
 def load_state(session: TraciSession, path: str) -> None:
-    """Brings a session to a state that was saved of the same files and words. TraCIException where the file has no such
-    state, or output files are being written. Fault where it was changed after it was saved, or the program is gone; the
+    """Brings a session to a state that was saved of the same files and words; output files are written anew, as of a run
+    that came to the state. TraCIException where the file has no such state. Fault where it was changed after it was saved, or the program is gone; the
     run can only be closed then."""
     try:
         with open_text(path) as file:
@@ -51,8 +51,6 @@ def load_state(session: TraciSession, path: str) -> None:
         raise TraCIException(f"{path}: cannot be read: {fault}") from None
     if not isinstance(state, dict) or state.get("format") != FORMAT:
         raise TraCIException(f"{path}: not a state that simulation.saveState of streetsim wrote")
-    if session.writer is not None:
-        raise TraCIException("simulation.loadState: output files are being written, which go on from second to second")
     try:
         if differing := [text for text, digest in digests_of(session).items() if state["of"].get(text) != digest]:
             raise TraCIException(f"{path}: a state of {differing[0]}")

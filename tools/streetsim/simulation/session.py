@@ -10,15 +10,16 @@ from streetsim.control.works_asked import all_works
 from streetsim.control.works_sites import with_works
 from streetsim.kernel.loop import NEVER, Controller, Kernel, own_line
 from streetsim.kernel.seconds import Block
+from streetsim.model.inside import Inside
 from streetsim.model.mapping import read_map
 from streetsim.model.runs import Line, read_own_run
 from streetsim.model.stops import STANDING, Visit
+from streetsim.observe.sumo_kinds import OutputFile
 from streetsim.observe.sumo_writing import Outputs
 from streetsim.simulation.client import RunClient
 from streetsim.simulation.columns import LaneColumns, Streets, VehicleColumns
 from streetsim.simulation.deeds import Deeds, Doer, deed
 from streetsim.simulation.errors import FatalTraCIError, TraCIException
-from streetsim.simulation.inside import Inside
 from streetsim.simulation.lights import Control
 from streetsim.simulation.script_settings import ScriptSettings
 from streetsim.simulation.shortest_paths import ShortestPaths
@@ -51,7 +52,7 @@ class TraciSession(Simulation, Doer):
         run, mapping = read_own_run(folder / "run.jsonl"), read_map(folder / "map.json")
         works = all_works([options.get("close", "")], mapping, run.start(), None)
         run, mapping, self.works_notes = with_works(run, mapping, folder / "map.json", works)
-        self.facts, self.options, self.inside = facts, options, Inside(mapping, facts)
+        self.facts, self.options, self.inside = facts, options, Inside(mapping)
         self.detectors = {detector.name: detector for detector in mapping.detectors}
         self.writer: Outputs | None = None  # of SUMO's output files
         super().__init__(run, mapping, settings)
@@ -63,17 +64,21 @@ class TraciSession(Simulation, Doer):
         self.pending: dict[int, tuple[int, Sequence[int]]] = {}  # by vehicle: a link, and other links after its end
         super().start()
         self.forget_steps()
-        self.paths = ShortestPaths(self, self.inside, self.view)
+        self.paths = ShortestPaths(self, self.inside, self.view, self.facts)
         self.vehicle_points = VehiclePoints(self.view, self.map)
         streets = Streets(self.map)
         self.vehicle_columns = VehicleColumns(self.view, self.tally, self.vehicle_points, streets)
         self.lane_columns = LaneColumns(self.view, self.tally, self.fleet, streets, self.facts, self.lane_of)
 
     def restart(self) -> None:
-        """Has the run begin anew. ProgramEnded where the program failed."""
+        """Has the run begin anew, and with it the output files. ProgramEnded where the program failed, Fault where a
+        file cannot be written."""
         self.program.client.close()
         self.source.enters[:] = self.of_file
         self.start()
+        if self.writer is not None:
+            self.writer.discard()
+            self.write(self.written)
 
     def forget_steps(self) -> None:
         """Forgets what the steps of the last call of step gave."""
@@ -99,7 +104,7 @@ class TraciSession(Simulation, Doer):
 
     def observers_before_view(self) -> Iterable[SecondObserver]:
         """What counts standing and distances, and who passes induction loops."""
-        self.tally = Tally(self.view, self.fleet, self.inside, self.dawdle)
+        self.tally = Tally(self.view, self.fleet, self.map.links, self.inside, self.dawdle)
         self.loops = LoopTally([detector for detector in self.map.detectors if detector.kind == "e1"])
         return [self.tally, self.loops]
 
@@ -108,13 +113,15 @@ class TraciSession(Simulation, Doer):
         """A client of the program. Steps are made by `step`."""
         return self.program.client
 
-    def write(self, paths: Mapping[str, str], period: int) -> None:
-        """Has SUMO's output files written from now on, at paths by kind, as output_paths of opening gives them. period:
-        seconds of the rows of edgeData. Fault where one cannot be written."""
-        self.writer = Outputs(paths, self.map, self.dawdle, period, self.clock, self.steering.rescue.clocks)
+    def write(self, wished: Sequence[OutputFile]) -> list[str]:
+        """Has SUMO's output files written from now on, the run's begin. Gives a text on each that cannot be written;
+        Fault where that is one that is needed."""
+        self.written = wished
+        self.writer = Outputs(wished, self.map, self.dawdle, 0, self.clock, self.steering.rescue.clocks)
         files = Files(self.writer, self.steering.buses, self.types)
         files.begin(self.kernel)
         self.kernel.observers = [*self.kernel.observers, files]
+        return self.writer.unopened
 
     def close(self) -> None:
         """Ends the run; output files get their names. ProgramEnded where the program failed."""

@@ -3,9 +3,10 @@ from functools import cached_property
 from math import inf
 from operator import itemgetter
 
+from streetsim.model.inside import Inside
 from streetsim.simulation.errors import TraCIException
-from streetsim.simulation.inside import Inside
 from streetsim.simulation.simulation import Simulation
+from streetsim.simulation.street_facts import Facts
 from streetsim.simulation.view import View
 from streetsim.sumo.router import Router
 from streetsim.sumo.way_costs import Costs, flat_costs
@@ -18,9 +19,10 @@ class ShortestPaths:
     """Shortest ways over the links of a simulation's map, by the turns that its run has; no turn is added. Where an
     edge has parallel links, a way may begin and end on any of them."""
 
-    def __init__(self, simulation: Simulation, inside: Inside, view: View) -> None:
-        """inside: metres inside junctions; view: whose speeds give the seconds."""
-        self.simulation, self.map, self.inside, self.view = simulation, simulation.map, inside, view
+    def __init__(self, simulation: Simulation, inside: Inside, view: View, facts: Facts) -> None:
+        """inside: metres inside junctions; view: whose speeds give the seconds; facts: with the limits of lanes."""
+        self.simulation, self.map, self.facts = simulation, simulation.map, facts
+        self.inside, self.view = inside, view
         self.adapted: dict[str, float] = {}  # seconds that a script has set, by edge
         self.at_clock: tuple[int, Router] | None = None  # a clock, and the search by its travel times
 
@@ -87,6 +89,6 @@ class ShortestPaths:
         view, lanes = self.view, self.simulation.lanes_on(edge)
         positions = [view.positions[number] for lane in lanes for number in view.on_lane(lane)]
         speeds = [position.metres_a_second(self.map.links) for position in positions]
-        limit = self.inside.facts.lanes[self.map.lane_name(*lanes[0])].speed
+        limit = self.facts.lanes[self.map.lane_name(*lanes[0])].speed
         mean = sum(speeds) / len(speeds) if speeds else limit
         return self.map.links[lanes[0][0]].metres / max(SLOWEST, mean)

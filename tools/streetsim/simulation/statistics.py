@@ -41,12 +41,12 @@ def statistics_of(session: TraciSession) -> Statistics:
     """The statistics of a session at its clock, of the same figures as those of a tripinfo file."""
     view, fleet, tally, links = session.view, session.fleet, session.tally, session.map.links
     alone, stood = Alone(session.map, session.dawdle), dwells(session.steering.buses.fleet.stop_outcomes())
-    numbers = [number for number in range(len(fleet.names)) if view.arrival[number]]
+    numbers, travelled = [number for number in range(len(fleet.names)) if view.arrival[number]], tally.travelled
     rows: defaultdict[str, list[float]] = defaultdict(list)
     for number in numbers:
         plan, stops = fleet.plans[number], stood.get(number, ())
         depart = int(view.departure[number])
-        seconds, metres = int(view.arrival[number]) - depart, sum(links[link].metres for link in plan)
+        seconds, metres = int(view.arrival[number]) - depart, float(travelled[number]) + links[plan[-1]].metres
         free = sum(alone.on_link(link, link) for link in plan) + sum(alone.across(link) for link in plan[:-1])
         rows["RouteLength"].append(metres)
         rows["Speed"].append(metres / seconds)

@@ -1,21 +1,37 @@
 """What SUMO's files tell and a run's map does not: widths and classes of lanes, names of streets, connections,
 junctions, programs of lights, routes by name."""
+import os
 from collections.abc import Container, Sequence
 from dataclasses import dataclass, field
+from math import inf
+from typing import NamedTuple
 from xml.etree.ElementTree import Element
 
-from streetsim.base.files import at_least_zero, attribute, elements, number, optional, seconds
+from streetsim.base.files import at_least_zero, attribute, element_told, elements, number, optional, seconds
+from streetsim.observe.sumo_kinds import OutputFile
 from streetsim.simulation.lights import LightShow
+from streetsim.sumo.bus_stops import BusStop, begin_and_end_on_lane
 from streetsim.sumo.configuration import NOWHERE as NO_FILE
+from streetsim.sumo.detectors import TRUE
 from streetsim.sumo.net import OFF_PROGRAM
 
 Point = tuple[float, float]
 WIDTH = 3.2  # metres of a lane, where a file has none
 INSIDE = "internal"  # the function of the edges in a junction
-WRITING = (
-    "edgeData", "laneData", "inductionLoop", "e1Detector", "laneAreaDetector", "e2Detector", "e3Detector",
-    "entryExitDetector",
-)
+# Elements of additional files that have a file written: of which kind, or why it is not written here.
+WRITTEN = {
+    "edgeData": "edgedata", "inductionLoop": "e1", "e1Detector": "e1", "laneAreaDetector": "e2", "e2Detector": "e2",
+}
+UNWRITTEN = {
+    **dict.fromkeys(
+        ("entryExitDetector", "e3Detector"),
+        "there are no e3 detectors; streetsim-run --junctions writes delays and queues of approaches",
+    ),
+    "laneData": "edgeData has the sums of edges, --fcd-output each vehicle",
+    "instantInductionLoop": "an inductionLoop with a period of 1 s has each second",
+    "routeProbe": "--vehroute-output has the route of each vehicle",
+    "timedEvent": "a script writes what it reads",
+}
 
 
 @dataclass(slots=True)
@@ -50,6 +66,15 @@ class JunctionFacts:
     shape: tuple[Point, ...]  # closed
 
 
+class StopFacts(NamedTuple):
+    """A bus stop of an additional file: its lane, where on it, in metres, and what it is called."""
+
+    lane: str
+    begin: float
+    end: float
+    called: str
+
+
 @dataclass(slots=True)
 class Facts:
     """What the files of a run say; lanes, edges and junctions by SUMO's names, routes (their edges) by their own;
@@ -57,7 +82,6 @@ class Facts:
 
     lanes: dict[str, LaneFacts] = field(default_factory=dict)
     inside: dict[str, float] = field(default_factory=dict)  # metres of the lanes inside junctions
-    onward: dict[str, str] = field(default_factory=dict)  # by lane inside a junction the next one there
     streets: dict[str, str] = field(default_factory=dict)  # by edge
     junctions: dict[str, JunctionFacts] = field(default_factory=dict)
     lights: dict[str, LightShow] = field(default_factory=dict)
@@ -65,8 +89,9 @@ class Facts:
     boundary: tuple[Point, Point] = ((0.0, 0.0), (0.0, 0.0))
     routes: dict[str, tuple[str, ...]] = field(default_factory=dict)
     types: dict[str, dict[str, str]] = field(default_factory=dict)  # by vehicle type its attributes
-    edgedata: list[tuple[str, float]] = field(default_factory=list)  # file and period, as additional files ask for them
-    unwritten: list[str] = field(default_factory=list)  # files of detectors and of further edgeData
+    stops: dict[str, StopFacts] = field(default_factory=dict)
+    outputs: list[OutputFile] = field(default_factory=list)  # that additional files ask for
+    unwritten: list[str] = field(default_factory=list)  # texts on those of them that are not written
 
     def read_edge(self, path: str, element: Element) -> None:
         """Notes the lanes of an edge and its street's name; of lanes inside a junction the metres alone."""
@@ -83,20 +108,13 @@ class Facts:
             self.streets[edge] = element.get("name") or ""
 
     def read_connection(self, path: str, element: Element) -> None:
-        """Notes a connection from a lane that was read; of one inside a junction, on which lane it goes on."""
+        """Notes a connection from a lane that was read."""
         ends = ("from", "fromLane"), ("to", "toLane")
         source, target = (f"{element.get(edge)}_{element.get(lane)}" for edge, lane in ends)
         via, direction, state, light = (element.get(name) or "" for name in ("via", "dir", "state", "tl"))
-        if source in self.inside and via:
-            self.onward[source] = via
         if source in self.lanes:
             index = optional(path, element, "linkIndex", int, -1)
             self.lanes[source].links.append(ConnectionFacts(target, via, direction, state, light, index))
-
-    def metres_inside(self, via: str) -> float:
-        """Metres of the way through a junction that begins with a lane inside it; 0 for an unknown lane."""
-        metres = self.inside.get(via, 0.0)
-        return metres + self.metres_inside(self.onward[via]) if via in self.onward else metres
 
     def read_light(self, path: str, element: Element) -> None:
         """Notes a program of a light, as the import takes it (read_program); the last one of a light runs, the others
@@ -118,6 +136,38 @@ class Facts:
         light.programs = {**(self.lights[name].programs if name in self.lights else {}), program: (phases, names)}
         self.lights[name] = light
 
+    def read_stop(self, path: str, element: Element) -> None:
+        """Notes a bus stop; passes over one of a lane that is not there, as the import does."""
+        lane = attribute(path, element, "lane")
+        ends = (optional(path, element, name, number, None) for name in ("startPos", "endPos"))
+        if lane in self.lanes:
+            stop, friendly = BusStop(lane, *ends), element.get("friendlyPos", "false").lower() in TRUE
+            begin, end = begin_and_end_on_lane(stop, self.lanes[lane].metres, friendly, element_told(path, element))
+            self.stops[attribute(path, element, "id")] = StopFacts(lane, begin, end, element.get("name", ""))
+
+    def read_output(self, path: str, element: Element) -> None:
+        """Notes a file that an element asks for; its path is from the folder of the additional file, as in SUMO. Of
+        detectors one file has those that name it."""
+        file, kind = os.path.join(os.path.dirname(path), file_of(element)), WRITTEN.get(element.tag, "")
+        measured, at_path = element.get("type", "performance"), [output for output in self.outputs if output.path == file]
+        if kind == "edgedata" and measured not in ("", "performance", "traffic"):
+            self.leave_out(element, file, f"edgeData of type {measured} is not reckoned here")
+        elif not kind:
+            self.leave_out(element, file, UNWRITTEN[element.tag])
+        elif at_path and (kind == "edgedata" or at_path[0].kind != kind):
+            self.leave_out(element, file, "another element has this file: give it one of its own")
+        elif kind == "edgedata":
+            self.outputs.append(edge_output(path, element, file))
+        else:
+            name = attribute(path, element, "id")
+            names = (*(at_path[0].detectors or ()), name) if at_path else (name,)
+            others = [output for output in self.outputs if output not in at_path]
+            self.outputs = [*others, OutputFile(kind, file, detectors=names, is_needed=False)]
+
+    def leave_out(self, element: Element, file: str, why: str) -> None:
+        """Notes that a file that an element asks for is not written."""
+        self.unwritten.append(f"{file} of <{element.tag}> is not written: {why}")
+
     def lights_at(self, names: Container[str]) -> dict[str, LightShow]:
         """{name: light} of the lights among names; puts into each its connections by index, and how many letters its
         states have. All connections must have been read before."""
@@ -135,6 +185,21 @@ class Facts:
 def points(text: str) -> tuple[Point, ...]:
     """The points (x, y) of a shape's text, in metres. ValueError for a malformed one."""
     return tuple((number(x), number(y)) for x, y, *_ in (part.split(",") for part in text.split()))
+
+
+def file_of(element: Element) -> str:
+    """The file that an element asks for; NO_FILE where it asks for none."""
+    return element.get("file", element.get("dest", NO_FILE[0]))
+
+
+def edge_output(path: str, element: Element, file: str) -> OutputFile:
+    """The file of an element edgeData."""
+    period, span = "period" if element.get("period") is not None else "freq", at_least_zero(seconds)
+    return OutputFile(
+        "edgedata", file, is_needed=False, name=attribute(path, element, "id"), period=optional(path, element, period, span, 0.0),
+        begin=optional(path, element, "begin", span, 0.0), end=optional(path, element, "end", span, inf),
+        has_empty=element.get("excludeEmpty", "false").lower() not in (*TRUE, "defaults"),
+    )  # fmt: skip
 
 
 def box(text: str) -> tuple[Point, Point]:
@@ -173,12 +238,9 @@ def read_element(facts: Facts, path: str, element: Element) -> None:
         facts.junctions[attribute(path, element, "id")] = JunctionFacts(point, closed)
     elif element.tag == "tlLogic":
         facts.read_light(path, element)
+    elif element.tag == "busStop":
+        facts.read_stop(path, element)
     elif element.tag == "location":
         facts.boundary = optional(path, element, "convBoundary", box, facts.boundary)
-    elif element.tag in WRITING and element.get("file", NO_FILE[0]) not in NO_FILE:
-        if element.tag == "edgeData" and not facts.edgedata:
-            period = "period" if element.get("period") is not None else "freq"
-            seconds_of_rows = optional(path, element, period, at_least_zero(seconds), 0.0)
-            facts.edgedata.append((attribute(path, element, "file"), seconds_of_rows))
-        else:
-            facts.unwritten.append(attribute(path, element, "file"))
+    elif element.tag in (*WRITTEN, *UNWRITTEN) and file_of(element) not in NO_FILE:
+        facts.read_output(path, element)

@@ -6,8 +6,9 @@ from typing import NamedTuple
 from streetsim.base import limits
 from streetsim.base.arrays import Array, numpy as np
 from streetsim.model.detectors import Detector
+from streetsim.model.inside import Inside
+from streetsim.model.mapping import MapLink
 from streetsim.simulation.fleet import Fleet
-from streetsim.simulation.inside import Inside
 from streetsim.simulation.view import FleetSecond, SecondObserver, View
 
 MOST_SECONDS = 512  # seconds that are kept before they are summed up
@@ -26,10 +27,12 @@ class Tally(SecondObserver):
     """Standing, lost time and distance of vehicles, by the numbers of the fleet. Seconds are kept as they come, and
     summed up when it is asked for what they say: most scripts ask for some of it, or for nothing."""
 
-    def __init__(self, view: View, fleet: Fleet, inside: Inside, dawdle: float) -> None:
-        """view: of the same run, which knows who enters anew, and sees each second after this; dawdle: the chance, 0 to
-        1, to go on by a cell less."""
-        self.view, self.fleet, self.inside, self.links = view, fleet, inside, inside.map.links
+    def __init__(
+        self, view: View, fleet: Fleet, links: Sequence[MapLink], inside: Inside, dawdle: float
+    ) -> None:  # fmt: skip
+        """view: of the same run, which knows who enters anew, and sees each second after this; links: of its map;
+        dawdle: the chance, 0 to 1, to go on by a cell less."""
+        self.view, self.fleet, self.inside, self.links = view, fleet, inside, links
         self.free = np.repeat([link.limit - dawdle for link in self.links], 2)
         self.standing_now, self.standing_ever = (np.zeros(limits.VEHICLES, np.int64) for _ in range(2))  # seconds
         self.lost_so_far, self.metres_behind = (np.zeros(limits.VEHICLES) for _ in range(2))  # seconds; metres

@@ -2,11 +2,12 @@
 from streetsim.control.buses import Buses
 from streetsim.kernel.loop import Kernel
 from streetsim.observe.sumo_files import SumoFiles
+from streetsim.observe.sumo_kinds import KINDS
 from streetsim.observe.sumo_writing import Outputs
 from streetsim.observe.trips import vehicle_names
 from streetsim.simulation.types import TypesByVehicle
 
-SERVED = {f"{kind}-output": kind for kind in ("tripinfo", "summary", "fcd", "queue")}
+SERVED = {f"{kind}-output": kind for kind in KINDS if kind not in ("e1", "e2")}
 
 
 class Files(SumoFiles):

@@ -26,7 +26,7 @@ def read_additional(path: FilePath, net: SumoNet, types: Types, report: Report, 
     that switch a light off, have no effect and are reported. Fault where the file cannot be read or an element is
     wrong; Unrouted where Demand.read_element raises it."""
     undone = defaultdict(list)
-    for element in elements(path, ["additional", "add", "routes", "tlLogics"]):
+    for element in elements(path, ["additional", "add", "a", "routes", "tlLogics"]):
         if element.tag == "tlLogic":
             refuse_unknown_light(path, element, net)
             read_program(path, element, net, ())

@@ -10,14 +10,46 @@ from streetsim.base.words import FALSE
 
 # Files whose paths are beside the configuration: those that are read, and those that are written.
 FILES = ("net-file", "route-files", "additional-files")
-WRITTEN = ("tripinfo-output", "summary-output", "fcd-output", "queue-output", "log", "message-log", "error-log")
+WRITTEN = (
+    *(f"{kind}-output" for kind in (
+        "tripinfo", "summary", "fcd", "queue", "vehroute", "statistic", "stop", "lanechange", "edgedata",
+    )), "log", "message-log", "error-log",
+)  # fmt: skip
 SYNONYMS = {
     "net": "net-file",
     "routes": "route-files",
     "additional": "additional-files",
     "configuration": "configuration-file",
     "tripinfo": "tripinfo-output",
+    "summary": "summary-output",
+    "vehroutes": "vehroute-output",
+    "personroutes": "personroute-output",
+    "statistics-output": "statistic-output",
+    **dict.fromkeys(("ndump", "netstate", "netstate-output"), "netstate-dump"),
+    "dump-empty-edges": "netstate-dump.empty-edges",
+    "dump-precision": "netstate-dump.precision",
     "log-file": "log",
+    "suppress-warnings": "no-warnings",
+    "no-duration-log": "duration-log.disable",
+    "save-config": "save-configuration",
+    "save-config.relative": "save-configuration.relative",
+    "save-template.commented": "save-commented",
+    "weights": "weight-files",
+    "measure": "weight-attribute",
+    "data-files": "edgedata-files",
+    "abs-rand": "random",
+    "srand": "seed",
+    "carfollow.model": "default.carfollowmodel",
+    "meso.ignore-lanes.by-vclass": "meso-ignore-lanes-by-vclass",
+    "with-taz": "device.rerouting.with-taz",
+    "routing-threads": "device.rerouting.threads",
+}
+# By the part before its last point: that of other names of options.
+FAMILIES = {
+    "vehroutes": "vehroute-output",
+    **dict.fromkeys(("netstate", "netstate-output"), "netstate-dump"),
+    "device.routing": "device.rerouting",
+    "person-device.routing": "person-device.rerouting",
 }
 
 # What SUMO says and shows, its speed and its looks: of no effect on what is simulated;
@@ -44,6 +76,13 @@ DONE_OTHERWISE = {  # what a configuration asks for otherwise than it is done he
 }
 
 
+def usual_name(name: str) -> str:
+    """The name of an option that SUMO has by several."""
+    family, _, rest = name.rpartition(".")
+    rest = "explicit" if rest == "knownveh" else rest
+    return SYNONYMS.get(name) or (f"{FAMILIES.get(family, family)}.{rest}" if family else name)
+
+
 def read_configuration(path: str) -> dict[str, str]:
     """The options that a configuration (.sumocfg) sets, {long name: value as text}; the paths of FILES and WRITTEN are
     made those from the folder of the command, several with commas between. Of an option that is set twice the last
@@ -53,7 +92,7 @@ def read_configuration(path: str) -> dict[str, str]:
         for setting in element.iter():
             value = setting.get("value", setting.get("v", (setting.text or "").strip()))
             if value:
-                options[SYNONYMS.get(setting.tag, setting.tag)] = value
+                options[usual_name(setting.tag)] = value
     path_from_here = partial(os.path.join, os.path.dirname(path))
     for name in WRITTEN:
         if options.get(name, NOWHERE[0]) not in NOWHERE:

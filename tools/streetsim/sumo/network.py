@@ -70,6 +70,7 @@ class Turn:
     limit: int  # of its link, cells a step
     accel: float = 2.6  # metres a second and second of usual cars that start as its vehicles do, in the mean
     apart: float = 0.0  # seconds more between two of its queue than between usual cars
+    inside: float = 0.0  # metres of the lanes in the junction
 
 
 class Network:
@@ -189,7 +190,8 @@ class Network:
         own, drivers = self.links[link], self.drivers_on(link)
         speed = min((connection.speed or own.speed) * drivers.factor, drivers.max_speed)
         accel, apart = round(drivers.accel, 2), round(drivers.apart, 2)
-        return Turn(next_lane, connection.light, connection.index, added, speed, own.limit, accel, apart)
+        light, inside = (connection.light, connection.index), round(connection.metres, 2)
+        return Turn(next_lane, *light, added, speed, own.limit, accel, apart, inside)
 
     def open_both_lanes(self, report: Report) -> None:
         """Where one lane of two has a turn to a next link, the other gets it too, which is reported: else two vehicles

@@ -12,6 +12,7 @@ from streetsim.simulation.errors import FatalTraCIError, NotHere, TraCIException
 from streetsim.simulation.opening import open_session
 from streetsim.simulation.session import TraciSession
 from streetsim.traci import constants
+from streetsim.traci.absent import ABSENT, AbsentDomain
 from streetsim.traci.advice import advice_on
 from streetsim.traci.domain import Domain
 from streetsim.traci.listeners import Listeners, StepListener
@@ -19,6 +20,7 @@ from streetsim.traci.persons import PersonDomain
 from streetsim.traci.quiet import GUI, SHAPES, Quiet
 from streetsim.traci.roads import EdgeDomain, InductionLoopDomain, JunctionDomain, LaneAreaDomain, LaneDomain
 from streetsim.traci.simulation import RouteDomain, SimulationDomain
+from streetsim.traci.stops import BusStopDomain
 from streetsim.traci.trafficlights import TrafficLightDomain
 from streetsim.traci.vehicles import VehicleDomain, VehicleTypeDomain
 
@@ -144,11 +146,13 @@ vehicle, vehicletype = VehicleDomain(_current_session), VehicleTypeDomain(_curre
 lane, edge, junction = LaneDomain(_current_session), EdgeDomain(_current_session), JunctionDomain(_current_session)
 trafficlight = TrafficLightDomain(_current_session)
 inductionloop, lanearea = InductionLoopDomain(_current_session), LaneAreaDomain(_current_session)
-person = PersonDomain(_current_session)
+person, busstop = PersonDomain(_current_session), BusStopDomain(_current_session)
+_absent = {name: AbsentDomain(_current_session, name) for name in ABSENT}
+globals().update(_absent)
 gui, poi, polygon = Quiet("gui", GUI), Quiet("poi", SHAPES), Quiet("polygon", SHAPES)
-_domains: tuple[Domain | Quiet, ...] = (
+_domains: tuple[Domain | Quiet | AbsentDomain, ...] = (
     simulation, vehicle, vehicletype, route, lane, edge, junction, trafficlight, inductionloop, lanearea, person,
-    gui, poi, polygon,
+    busstop, gui, poi, polygon, *_absent.values(),
 )
 for _domain in (vehicle, lane, edge, junction, inductionloop, lanearea):
     _domain.vehicles = vehicle

@@ -1,6 +1,10 @@
 """What is said of SUMO's calls that are not here: why, and what to do instead."""
 import re
 
+GREENS = (
+    "trafficlight.getNextSwitch and vehicle.getNextTLS tell when a light changes, and streetsim-signals coordinates lights"
+)
+PLATOONS = "all keep the gaps of the rules; --dawdle and --drivers (of streetsim-calibrate) say how closely all follow"
 ALONE = (
     "speeds follow the rules alone; slow a road by its limit in the network, and hold vehicles by a signal "
     "or a closed lane"
@@ -29,8 +33,10 @@ SENTENCES = {
     r"Noise": "noise is not reckoned; models of noise take the flows and speeds of --fcd-output",
     r"Emission|FuelConsumption|Electricity|^overheadwire": EMISSIONS,
     r"^(busstop|parkingarea|chargingstation)\.|Stop(?!Speed)|\.resume|Parking": STOPS,
-    r"\.(setSpeed|slowDown|setSpeedMode|getSpeedMode|setPreviousSpeed|setAcceleration|openGap|"
-    r"deactivateGapControl|requestToC)$": ALONE,
+    r"openGap|GapControl|^simpla": f"speeds and lanes follow the rules alone; {PLATOONS}",
+    r"\.(setSpeed|slowDown|setSpeedMode|getSpeedMode|setPreviousSpeed|setAcceleration|requestToC)$": (
+        f"{ALONE}; of speed advice before lights (GLOSA) {GREENS}"
+    ),
     r"Lateral|Lat$": "vehicles fill their lane and have no place across it; getLaneID tells the lane",
     r"Neighbors|(Left|Right)(Leaders|Followers)": BESIDE,
     r"changeLane|ChangeLane|LaneChange|Sublane|BestLanes": LANES,
@@ -45,7 +51,7 @@ SENTENCES = {
     r"\.moveTo": MOVED,
     r"Via$": "ways are whole; name their edges by setRoute",
     r"Effort": EFFORT,
-    r"vehicle\..*(AdaptedTraveltime|RoutingMode)": "all vehicles know the same travel times; use edge.adaptTraveltime",
+    r"vehicle\..*AdaptedTraveltime": "all vehicles know the same travel times; use edge.adaptTraveltime",
     r"Scale$": "the demand is the route files'; make the routes of the demand that is wanted",
     r"Nema": "a script is the controller; set phases by setPhase or setProgramLogic",
     r"onstraint|(Blocking|Rival|Priority)Vehicles": RAILWAYS,
@@ -60,6 +66,7 @@ SENTENCES = {
     r"DrivingDistance2D": "use simulation.convertRoad and getDrivingDistance",
     r"clearPending": "who waits departs when there is room; do not add whom you do not want",
     r"\.override": "detectors say what they saw; keep other counts in the script",
+    r"^(poi|polygon)\.": "shapes are not kept; the files have them",
     r"^inductionloop\.": "use getLastStepVehicleIDs, and vehicle.getLength for each",
     r"^multientryexit": "there are no e3 detectors; streetsim-run --junctions writes delays and queues of approaches",
     r"^meandata": "the file of edgeData is written at traci.close; edge and lane tell the last step",

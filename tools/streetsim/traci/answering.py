@@ -8,6 +8,7 @@ import streetsim.traci as traci
 from streetsim.simulation.errors import NotHere, TraCIException
 from streetsim.traci import constants as tc
 from streetsim.traci.advice import advice_on
+from streetsim.traci.names import sumo_name
 from streetsim.traci.protocol import (
     DOUBLE, ENCODERS, INT, TYPES, BadMessage, TraciValue, Typed, ValueReader, command, state_of, text,
 )
@@ -107,7 +108,7 @@ def read_set_command(code: int, reader: ValueReader) -> ReadCall:
 def not_here(domain: str, variable: int, how: str) -> NotHere:
     """What is raised for a variable that nothing here tells or changes: it names the call of SUMO's, where it is known,
     and what to do instead."""
-    call = f"{domain}.{SUMO_NAMES.get((domain, variable, how), f'{how} {variable:#04x}')}"
+    call = f"{domain}.{sumo_name(domain, variable, how) or f'{how} {variable:#04x}'}"
     return NotHere(f"{call} is not here: {advice_on(call)}")
 
 
@@ -196,32 +197,6 @@ SPECIAL_CALLS: Mapping[tuple[str, int], Callable[[str, ValueReader], Special]] =
 SPECIAL_ARGUMENTS: Mapping[str, Callable[[ValueReader], Sequence[TraciValue]]] = {
     "adaptTraveltime": travel_time_arguments, "setProgramLogic": program_arguments, "highlight": lambda _: [],
 }
-# SUMO's names of calls that are not here, of which scripts ask most.
-SUMO_NAMES: Mapping[tuple[str, int, str], str] = {
-    (domain, variable, how): name for domain, how, names in (
-        ("vehicle", "set", {
-            tc.VAR_SPEED: "setSpeed", tc.CMD_SLOWDOWN: "slowDown", tc.CMD_CHANGELANE: "changeLane",
-            tc.MOVE_TO_XY: "moveToXY", tc.VAR_MOVE_TO: "moveTo", tc.VAR_SPEEDSETMODE: "setSpeedMode",
-            tc.VAR_LANECHANGE_MODE: "setLaneChangeMode", tc.CMD_STOP: "setStop", tc.CMD_RESUME: "resume",
-            tc.VAR_MAXSPEED: "setMaxSpeed", tc.VAR_ACCELERATION: "setAcceleration", tc.VAR_TYPE: "setType",
-            tc.CMD_CHANGESUBLANE: "changeSublane", tc.CMD_OPENGAP: "openGap", tc.VAR_SPEED_FACTOR: "setSpeedFactor",
-        }),
-        ("vehicle", "get", {
-            tc.VAR_ACCEL: "getAccel", tc.VAR_DECEL: "getDecel", tc.VAR_TAU: "getTau",
-            tc.VAR_CO2EMISSION: "getCO2Emission", tc.VAR_FUELCONSUMPTION: "getFuelConsumption",
-            tc.VAR_SPEEDSETMODE: "getSpeedMode", tc.VAR_LANECHANGE_MODE: "getLaneChangeMode",
-            tc.VAR_BEST_LANES: "getBestLanes", tc.VAR_NEIGHBORS: "getNeighbors", tc.VAR_SIGNALS: "getSignals",
-            tc.VAR_POSITION3D: "getPosition3D", tc.VAR_SPEED_FACTOR: "getSpeedFactor",
-            tc.DISTANCE_REQUEST: "getDrivingDistance2D",
-        }),
-        ("lane", "set", {tc.VAR_MAXSPEED: "setMaxSpeed", tc.VAR_LENGTH: "setLength", tc.VAR_FRICTION: "setFriction"}),
-        ("edge", "set", {tc.VAR_MAXSPEED: "setMaxSpeed", tc.VAR_EDGE_EFFORT: "setEffort"}),
-        ("lane", "get", {tc.VAR_FOES: "getFoes", tc.VAR_CO2EMISSION: "getCO2Emission"}),
-        ("edge", "get", {tc.VAR_CO2EMISSION: "getCO2Emission"}),
-        ("inductionloop", "get", {tc.LAST_STEP_VEHICLE_DATA: "getVehicleData"}),
-        ("simulation", "set", {tc.VAR_SCALE: "setScale", tc.CMD_CLEAR_PENDING_VEHICLES: "clearPending"}),
-    ) for variable, name in names.items()
-}  # fmt: skip
 
 
 def subscribed_value(domain: str, get: Get, name: str, arguments: Sequence[TraciValue]) -> bytes:

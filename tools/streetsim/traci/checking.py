@@ -24,6 +24,7 @@ OTHERWISE = {
     "vehicle.setRouteID": "a vehicle on the road takes it from the next junction on",
     "vehicle.changeTarget": "a vehicle on the road turns off at the next junction",
     "vehicle.rerouteTraveltime": "a vehicle on the road turns off at the next junction",
+    "vehicle.setRoutingMode": "is kept; ways are by the mean speeds of now or edge.adaptTraveltime in each mode",
     "vehicle.getAccumulatedWaitingTime": "of the whole trip, in SUMO of the last 100 s",
     "vehicle.getTimeLoss": "2 to 5 s less for each stop, as vehicles brake and start at once",
     "vehicle.getSpeed": "whole cells a second: steps of some 7.5 m/s",

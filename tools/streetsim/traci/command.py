@@ -8,15 +8,16 @@ from math import inf
 
 import streetsim.traci as traci
 from streetsim.base.client import ProgramEnded, Refused
-from streetsim.base.files import Fault, seconds
+from streetsim.base.files import Fault, quoteattr, seconds, whole_file
 from streetsim.base.words import Parser
 from streetsim.model import trust
 from streetsim.simulation.confining import confined
 from streetsim.simulation.errors import FatalTraCIError
 from streetsim.simulation.opening import is_on
-from streetsim.simulation.options import IMPORTED, read_options
+from streetsim.simulation.options import IMPORTED, NO_FILE, SAVED, read_options
 from streetsim.simulation.session import TraciSession
 from streetsim.simulation.statistics import WaitingCount, doubts_of, statistics_of
+from streetsim.sumo.configuration import FILES, WRITTEN
 from streetsim.traci.checking import check_script
 from streetsim.traci.server import HOST, Server, listen, turn_away
 
@@ -33,6 +34,7 @@ OPTION_HELP = (
     ("-b, --begin TIME", "the time at which the run begins"),
     ("-e, --end TIME", "the time at which it ends; without effect under a client, as in SUMO"),
     ("--seed NUMBER", "seed of all random draws; equal seeds give equal runs"),
+    ("--random", "draws the seed, and tells it"),
     ("--remote-port PORT", "serves TraCI's protocol at a port of the loopback address"),
     ("--num-clients NUMBER", "waits for so many clients, which tell their places by setOrder (1)"),
     ("--writes FOLDER", "files that clients name are written in this folder alone"),
@@ -40,6 +42,11 @@ OPTION_HELP = (
     ("--summary-output FILE", "a row for each second"),
     ("--queue-output FILE", "the queues of each second"),
     ("--fcd-output FILE", "each vehicle in each second"),
+    ("--vehroute-output FILE", "the edges of each vehicle that arrived; with --vehroute-output.exit-times when it left them"),
+    ("--statistic-output FILE", "the counts and means of the whole run"),
+    ("--edgedata-output FILE", "the sums of each edge over the whole run"),
+    ("--stop-output FILE", "a row for each stop that a vehicle has left"),
+    ("--lanechange-output FILE", "each change of lanes"),
     ("--output-prefix TEXT", "stands before the name of each file that is written"),
     ("-t, --duration-log.statistics", "tells the means of all trips at the end"),
     ("-v, --verbose", "tells begin and end"),
@@ -50,6 +57,7 @@ OPTION_HELP = (
     ("--rounds NUMBER", "runs made before the final run, by which vehicles give way without a light (2)"),
     *((f"--{name} ..", "as in streetsim-import") for name in sorted(IMPORTED - {"seed", "begin"})),
     *((f"--{name} ..", "as in streetsim-run") for name in RUN_OPTIONS),
+    ("-C, --save-configuration FILE", "writes the words as a configuration, and makes no run"),
     ("--check SCRIPT.py", "reads a script for TraCI, and says which of its calls are here"),
 )
 
@@ -89,7 +97,13 @@ def main(arguments: list[str]) -> int:
         args = parser().parse_args(arguments)
         return check_script(args.check)
     try:
-        return run_with_options(arguments, read_options(arguments))
+        options = read_options(arguments)
+        if options.get(SAVED, NO_FILE[0]) not in NO_FILE:
+            left_out = (SAVED, "configuration-file")
+            kept = {name: value for name, value in options.items() if name not in left_out}
+            write_configuration(options[SAVED], kept)
+            return 0
+        return run_with_options(arguments, options)
     except (FatalTraCIError, Refused, ProgramEnded) as fault:
         raise Fault(str(fault)) from None
 
@@ -125,6 +139,19 @@ def run_with_options(arguments: Sequence[str], options: Mapping[str, str]) -> in
     print_end(session, options, reason, time.monotonic() - started, waiting_by_minute)
     traci.close()
     return int(lost_clients > 0)
+
+
+def write_configuration(path: str, options: Mapping[str, str]) -> None:
+    """Writes options as a configuration of SUMO's, with paths from its folder. Fault where it cannot be written."""
+    folder = os.path.dirname(os.path.abspath(path))
+    with whole_file(path) as file:
+        file.write('<?xml version="1.0" encoding="UTF-8"?>\n\n<configuration>\n')
+        for name, option_text in options.items():
+            parts = option_text.split(",") if name in FILES else [option_text]
+            if name in (*FILES, *WRITTEN) and option_text not in NO_FILE:
+                parts = [os.path.relpath(part.strip(), folder) for part in parts if part.strip()]
+            file.write(f"    <{name} value={quoteattr(','.join(parts) or 'true')}/>\n")
+        file.write("</configuration>\n")
 
 
 def number_in(options: Mapping[str, str], name: str, default: int, least: int, most: int) -> int:

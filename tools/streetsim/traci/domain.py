@@ -12,7 +12,7 @@ from streetsim.simulation.session import TraciSession
 from streetsim.traci import constants as tc
 from streetsim.traci.advice import advice_on
 from streetsim.traci.protocol import TraciValue
-from streetsim.traci.table import calls_by_variable
+from streetsim.traci.table import OF_ALL, calls_by_variable
 
 VariableValues = dict[int, TraciValue]  # what is told, by variable
 # Letters of the parameters that scripts keep in a domain, at most; as how many a parameter counts beside its own.
@@ -130,7 +130,8 @@ class Domain(CallGroup[TraciSession]):
 
     def variable_values(self, name: str, variables: Iterable[int]) -> VariableValues:
         """{number of a variable: what its call gives for an object}; check_variables must let them pass."""
-        return {variable: getattr(self, self.variables[variable])(name) for variable in variables}
+        calls = {variable: getattr(self, self.variables[variable]) for variable in variables}
+        return {variable: call() if variable in OF_ALL else call(name) for variable, call in calls.items()}
 
     def columns(self, variables: Sequence[int], names: Sequence[str]) -> list[Column]:
         """By variable what its call gives for each of some objects, all of them there."""
@@ -139,7 +140,7 @@ class Domain(CallGroup[TraciSession]):
     def column(self, variable: int, names: Sequence[str]) -> Column:
         """What the call of a variable gives for each of some objects, all of them there."""
         call = getattr(self, self.variables[variable])
-        return [call(name) for name in names]
+        return [call()] * len(names) if variable in OF_ALL else [call(name) for name in names]
 
     def all_values(self, names: Sequence[str], variables: Sequence[int]) -> dict[str, VariableValues]:
         """By object, of some that are all there, what variable_values gives."""

@@ -286,8 +286,8 @@ def nothing_counted(_: object) -> bytes:
 ENCODERS: dict[str, Callable[[TraciValue], bytes]] = {
     "i": integer, "d": double, "B": ubyte, "s": string, "l": strings, "o": point, "p": line, "c": colour,
     "r": road_position, "neighbour": neighbour, "lights": lights_ahead, "stops": stops, "next stops": stops_shortly,
-    "turns": turns,
-    "signals": signals, "logics": logics, "stage": stage, "pair": pair, "none": nothing_counted,
+    "turns": turns, "signals": signals, "logics": logics, "stage": stage, "pair": pair, "none": nothing_counted,
+    "no parts": lambda _: compound(0),
 }
 
 

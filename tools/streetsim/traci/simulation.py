@@ -44,6 +44,10 @@ class SimulationDomain(Domain, SimulationCalls[TraciSession]):
         """The empty name that the one simulation has."""
         return ("",)
 
+    def getIDCount(self) -> int:
+        """1: there is one simulation."""
+        return len(self.subjects())
+
     # Time and vehicles
 
     def getCurrentTime(self) -> int:
@@ -207,8 +211,8 @@ class SimulationDomain(Domain, SimulationCalls[TraciSession]):
         save_state(self.session(), fileName)
 
     def loadState(self, fileName: str) -> None:
-        """Brings the run to a state that saveState wrote in a run of the same files and words; TraCIException for other
-        files, and while output files are being written; Fault (streetsim.files) for a file that was changed since."""
+        """Brings the run to a state that saveState wrote in a run of the same files and words; output files are written
+        anew up to there. TraCIException for other files; Fault (streetsim.files) for a file that was changed since."""
         load_state(self.session(), fileName)
 
     def writeMessage(self, msg: str) -> None:

@@ -5,6 +5,7 @@ from collections.abc import Mapping
 from typing import NamedTuple
 
 from streetsim.traci import constants as tc
+from streetsim.traci.absent import ABSENT
 
 
 class Get(NamedTuple):
@@ -118,9 +119,17 @@ GETS: Mapping[str, Table] = {
         tc.VAR_LENGTH: Get("getLength", "d"), tc.VAR_LANE_ID: Get("getLaneID", "s"),
     },
     "route": {**WITH_PARAMETERS, tc.VAR_EDGES: Get("getEdges", "l")},
-    "person": {**LISTED, tc.VAR_TAXI_RESERVATIONS: Get("getTaxiReservations", "none", "i")},
+    "busstop": {
+        **WITH_PARAMETERS, tc.VAR_LANE_ID: Get("getLaneID", "s"), tc.VAR_POSITION: Get("getStartPos", "d"),
+        tc.VAR_LANEPOSITION: Get("getEndPos", "d"), tc.VAR_NAME: Get("getName", "s"),
+        tc.VAR_STOP_STARTING_VEHICLES_NUMBER: Get("getVehicleCount", "i"),
+        tc.VAR_STOP_STARTING_VEHICLES_IDS: Get("getVehicleIDs", "l"),
+        tc.VAR_BUS_STOP_WAITING: Get("getPersonCount", "i"), tc.VAR_BUS_STOP_WAITING_IDS: Get("getPersonIDs", "l"),
+    },
+    **dict.fromkeys(ABSENT, LISTED),
+    "person": {**LISTED, tc.VAR_TAXI_RESERVATIONS: Get("getTaxiReservations", "no parts", "i")},
     "simulation": {
-        tc.VAR_TIME: Get("getTime", "d"), tc.VAR_TIME_STEP: Get("getCurrentTime", "i"),
+        tc.ID_COUNT: Get("getIDCount", "i"), tc.VAR_TIME: Get("getTime", "d"), tc.VAR_TIME_STEP: Get("getCurrentTime", "i"),
         tc.VAR_DELTA_T: Get("getDeltaT", "d"), tc.VAR_END: Get("getEndTime", "d"), tc.VAR_SCALE: Get("getScale", "d"),
         tc.VAR_NET_BOUNDING_BOX: Get("getNetBoundary", "p"), tc.VAR_COLLISIONS: Get("getCollisions", "none"),
         tc.VAR_MIN_EXPECTED_VEHICLES: Get("getMinExpectedNumber", "i"),
@@ -145,7 +154,7 @@ SETS: Mapping[str, Mapping[int, tuple[str, str]]] = {
         tc.VAR_PARAMETER: ("setParameter", "tss"), tc.VAR_COLOR: ("setColor", "c"), tc.REMOVE: ("remove", "b"),
         tc.VAR_ROUTE: ("setRoute", "l"), tc.VAR_ROUTE_ID: ("setRouteID", "s"), tc.ADD_FULL: ("add", f"t{12 * 's'}ii"),
         tc.CMD_CHANGETARGET: ("changeTarget", "s"), tc.CMD_REROUTE_TRAVELTIME: ("rerouteTraveltime", "t"),
-        tc.VAR_HIGHLIGHT: ("highlight", "*"),
+        tc.VAR_HIGHLIGHT: ("highlight", "*"), tc.VAR_ROUTING_MODE: ("setRoutingMode", "i"),
     },
     "vehicletype": {tc.VAR_PARAMETER: ("setParameter", "tss")},
     "lane": {
@@ -157,6 +166,7 @@ SETS: Mapping[str, Mapping[int, tuple[str, str]]] = {
         tc.LANE_DISALLOWED: ("setDisallowed", "l"), tc.VAR_EDGE_TRAVELTIME: ("adaptTraveltime", "*"),
     },
     "junction": {tc.VAR_PARAMETER: ("setParameter", "tss")},
+    "busstop": {tc.VAR_PARAMETER: ("setParameter", "tss")},
     "inductionloop": {tc.VAR_PARAMETER: ("setParameter", "tss")},
     "lanearea": {tc.VAR_PARAMETER: ("setParameter", "tss")},
     "trafficlight": {
@@ -172,7 +182,8 @@ SETS: Mapping[str, Mapping[int, tuple[str, str]]] = {
 }
 
 
-NOT_SUBSCRIBED = ("getIDList", "getIDCount", "getAdaptedTraveltime")  # that cannot be subscribed to
+NOT_SUBSCRIBED = ("getAdaptedTraveltime",)  # that cannot be subscribed to
+OF_ALL = (tc.TRACI_ID_LIST, tc.ID_COUNT)  # variables of all objects of a domain
 
 
 def calls_by_variable(domain: str) -> dict[int, str]:

@@ -10,12 +10,13 @@ from streetsim.base.shapes import Line
 from streetsim.model.stops import Visit, bus_lines_of
 from streetsim.simulation.calls import METRES, VehicleCalls
 from streetsim.simulation.columns import Column
-from streetsim.simulation.errors import TraCIException
+from streetsim.simulation.errors import NotHere, TraCIException
 from streetsim.simulation.fleet import NOWHERE, OnRoad
 from streetsim.simulation.rerouting import send_along
 from streetsim.simulation.session import TraciSession
 from streetsim.sumo.types import DEFAULT, Kind
 from streetsim.traci import constants as tc
+from streetsim.traci.advice import EFFORT
 from streetsim.traci.domain import Outlined
 from streetsim.traci.looks import Colour, LookDomain
 
@@ -54,17 +55,20 @@ class VehicleDomain(VehicleCalls[TraciSession], LookDomain, Outlined):
         """session: gives the session; FatalTraCIError where no run is under way."""
         super().__init__(session)
         self.colours: dict[str, tuple[int, ...]] = {}  # that scripts keep, by vehicle
+        self.routing_modes: dict[str, int] = {}  # the same
 
     def forget(self) -> None:
         """Forgets subscriptions and what scripts keep, at the end of a run."""
         super().forget()
         self.colours.clear()
+        self.routing_modes.clear()
 
     def forget_one(self, name: str) -> None:
         """Forgets subscriptions to a vehicle that has ended and what scripts keep of it, as its name is used again."""
         self.unsubscribe(name)
         self.contexts.pop(name, None)
         self.colours.pop(name, None)
+        self.routing_modes.pop(name, None)
         self.forget_parameters(name)
 
     def getIDList(self) -> tuple[str, ...]:
@@ -222,9 +226,17 @@ class VehicleDomain(VehicleCalls[TraciSession], LookDomain, Outlined):
         return 0
 
     def getRoutingMode(self, name: str) -> int:
-        """0: ways are by the travel times that all know."""
+        """The mode that setRoutingMode set; else 0."""
         self.look_up(name)
-        return 0
+        return self.routing_modes.get(name, tc.ROUTING_MODE_DEFAULT)
+
+    def setRoutingMode(self, name: str, routingMode: int) -> None:
+        """Keeps a mode, for getRoutingMode: ways are by the mean speeds of now, or by edge.adaptTraveltime, in each.
+        NotHere for those by effort."""
+        self.look_up(name)
+        if routingMode in (tc.ROUTING_MODE_EFFORT, tc.ROUTING_MODE_COMBINED):
+            raise NotHere(f"vehicle.setRoutingMode: {EFFORT}")
+        self.routing_modes[name] = int(routingMode)
 
     def flat(self, name: str) -> float:
         """0.0: the plane is flat, and vehicles are in the middle of their lane."""
