@@ -1,6 +1,8 @@
 """streetsim-sumo and TraCI's protocol: a conversation that was recorded of SUMO, hostile bytes, SUMO's own clients."""
 import contextlib
 import glob
+import importlib
+import json
 import os
 import random
 import re
@@ -12,6 +14,7 @@ import sys
 import threading
 import unittest
 import xml.etree.ElementTree as ElementTree
+from fnmatch import fnmatchcase
 from statistics import fmean
 from unittest.mock import patch
 
@@ -24,6 +27,8 @@ from streetsim.simulation.errors import FatalTraCIError
 from streetsim.simulation.options import read_options
 from streetsim.traci import constants as tc, domain, meeting, server
 from streetsim.traci.answering import ReadCall
+from streetsim.traci.absent import ABSENT
+from streetsim.traci.checking import QUIET, ScriptCall, classify_call
 from streetsim.traci.protocol import (
     MOST_MESSAGE, BadMessage, ValueReader, command, commands_in_message, double, string, strings, text,
 )  # fmt: skip
@@ -32,6 +37,7 @@ from streetsim.traci.table import DOMAINS, GETS, SETS
 
 CROSS = TOOLS / "examples/actuated"
 WORDS = ["-n", str(CROSS / "cross.net.xml.gz"), "-r", str(CROSS / "cross.rou.xml"), "-W"]
+EVERY = DATA / "traci/every_call"
 CONVERSATION = DATA / "traci/conversation.txt"
 SUMO, DEBIAN = "/usr/share/sumo", "/usr/lib/python3/dist-packages"
 LISTENS = r"streetsim-sumo listens at port (\d+) of 127.0.0.1 for \d+ clients\n"
@@ -552,14 +558,35 @@ class Command(Case):
         )))  # fmt: skip
         told = self.run_command("--check", path, status=1).stdout
         for part in (
-            r"\A5 here:.*person.getIDList \(line 11\).*start \(line 12\).*vehicle.subscribe \(line 9\)",
+            r"5 here:.*person.getIDList \(line 11\).*start \(line 12\).*vehicle.subscribe \(line 9\)",
             "2 otherwise:.*gui.setZoom: shows nothing.*getAccumulatedWaitingTime: of the whole trip",
             r"2 not here:.*VAR_CO2EMISSION: .*\(line 9\).*vehicle.setSpeed: speeds follow the rules",
         ):
             self.assertRegex(told, f"(?s){part}")
-        self.run_command("--check", self.write("good.py", "import traci\ntraci.simulationStep()\n"))
+        self.assertRegex(told, r"\Awarning: libsumo \(line 3\) runs SUMO itself within the script: import traci")
+        good = "import traci\ntraci.simulationStep()\n"
+        self.assertNotIn("warning", self.run_command("--check", self.write("good.py", good)).stdout)
+        os_words = "import os, simpla\nos.environ['LIBSUMO_AS_TRACI'] = '1'\n" + good
+        told = self.run_command("--check", self.write("good.py", os_words)).stdout
+        self.assertRegex(told, r"warning: simpla \(line 1\) platoons are not here: .*\nwarning: LIBSUMO_AS_TRACI \(line 2\)")
         told = self.run_command("--check", self.write("x.py", "import ("), status=2).stderr
         self.assertIn("is no script of Python", told)
+
+
+def sumo_calls():
+    """Each call of the domains of SUMO's own traci, as "domain.call"."""
+    with patch.object(sys, "path", [f"{SUMO}/tools", *sys.path]):
+        theirs = importlib.import_module("traci")
+    domains = [(name, getattr(theirs, name)) for name in DOMAINS]
+    return [
+        f"{name}.{call}" for name, domain in domains for call in dir(domain)
+        if call[0].islower() and callable(getattr(domain, call))
+    ]
+
+
+def matches(call, pattern):
+    """Whether "domain.call", or the call alone, is as a pattern has it."""
+    return fnmatchcase(call if "." in pattern else call.split(".")[1], pattern)
 
 
 LOOP = """
@@ -646,6 +673,57 @@ class Clients(Case):
         self.variables["PYTHONPATH"] = DEBIAN
         told = self.run_client(binary[0], self.write("other.py", of_libtraci), binary[1], *WORDS)
         self.assertEqual(told, by_traci)
+
+    def answers_of(self, client, path):
+        """By call that is said to be here what it says over a client of SUMO's; path: Python's, which has that."""
+        calls = [call for call in sumo_calls() if classify_call(ScriptCall(*call.split("."), 1))[0] != "not here"]
+        self.assertGreater(len(calls), 370)
+        listed = self.write("calls.json", json.dumps(calls))
+        words = ["-n", CROSS / "cross.net.xml.gz", *(f"--classes=passenger,bus,truck -W -r {EVERY}.rou.xml".split())]
+        self.variables["PYTHONPATH"] = path
+        done = subprocess.run(
+            list(map(str, [
+                "/usr/bin/python3", f"{EVERY}.py", client, listed, TOOLS / "streetsim-sumo", *words, "-a", f"{EVERY}.add.xml",
+            ])), env=self.variables, capture_output=True, text=True, check=False, cwd=self.folder,
+        )  # fmt: skip
+        self.assertIn("TOLD ", done.stdout, done.stderr)
+        return json.loads(done.stdout.split("TOLD ")[1])
+
+    @needs_sumo_tools
+    def test_each_call_that_is_said_to_be_here_answers(self):
+        """Over SUMO's traci, unmodified, with words that make sense."""
+        told = self.answers_of("traci", f"{SUMO}/tools")
+        self.assertEqual({call: text for call, text in told.items() if re.match(r"\w*(Error|Exception)\b", text)}, {})
+        for call, text in (
+            ("busstop.getVehicleIDs", "('bus',)"), ("busstop.getName", "'Market'"), ("vehicle.getStopState", "17"),
+            ("busstop.subscribe", "None"), ("rerouter.getIDList", "()"), ("simulation.getIDCount", "1"),
+            ("person.getTaxiReservations", "()"), ("vehicle.rerouteTraveltime", "None"),
+            ("vehicle.getRoutingMode", "0"), ("route.getEdges", "('WJ', 'JE')"),
+        ):  # fmt: skip
+            self.assertEqual(told[call], text, call)
+
+    @needs_sumo_tools
+    def test_the_page_has_each_call_that_is_not_here(self):
+        """Each is in the table of PYTHON.md, where each pattern names some of them, and none that is here."""
+        page = (TOOLS / "PYTHON.md").read_text(encoding="utf-8").split("| Calls that are not here |")[1].split("\n\n")[0]
+        patterns = [part for line in page.splitlines()[2:] for part in re.findall("`([^`]+)`", line.split("|")[1])]
+        here, absent = [], []
+        for call in sumo_calls():
+            domain, name = call.split(".")
+            is_here = classify_call(ScriptCall(domain, name, 1))[0] != "not here"
+            (here if is_here and domain not in (*ABSENT, *QUIET, "person") else absent).append(call)
+        found = {part: {call for call in [*here, *absent] if matches(call, part)} for part in patterns}
+        self.assertEqual([part for part in patterns if not found[part] or found[part] & {*here}], [])
+        self.assertEqual({*absent} - set().union(*found.values()), set())
+
+    @needs_package("sumo", glob.glob(f"{DEBIAN}/libtraci/_libtraci.*.so"))
+    @needs_sumo_tools
+    def test_each_call_answers_libtraci(self):
+        """But for those that libtraci itself lacks."""
+        told = self.answers_of("libtraci", DEBIAN)
+        failed = {call for call, text in told.items() if re.match(r"\w*(Error|Exception)\b", text)}
+        self.assertEqual(failed, {"edge.setAllowed", "edge.setDisallowed", "simulation.getIDCount"})
+        self.assertTrue(all(told[call].startswith("AttributeError") for call in failed))
 
     @needs_package("g++", shutil.which("g++"))
     @needs_package("sumo", os.path.exists("/usr/include/libsumo/libtraci.h"))

@@ -1,6 +1,7 @@
 """TraCI's calls: by hand on small streets, and three scripts as its users write them, beside SUMO's own."""
 import gzip
 import importlib.util
+import inspect
 import json
 import os
 import re
@@ -38,6 +39,10 @@ from streetsim.simulation.view import View
 from streetsim.traci import constants as tc
 import streetsim.traci as traci
 from streetsim.traci.advice import NOTHING
+from streetsim.traci.answering import read_set_command
+from streetsim.traci.checking import ScriptCall, classify_call
+from streetsim.traci.names import sumo_name
+from streetsim.traci.protocol import ValueReader, text
 from streetsim.traci.roads import InductionLoopDomain
 
 SCRIPTS, ACTUATED = TOOLS / "examples/traci", TOOLS / "examples/actuated"
@@ -1223,6 +1228,25 @@ class Constants(unittest.TestCase):
         ours, of_sumo = ({name: one for name, one in vars(it).items() if name[0] != "_"} for it in (tc, theirs))
         self.assertEqual(ours, of_sumo)
         self.assertEqual(len(ours), 535)
+
+    @needs_traci
+    def test_what_is_said_of_a_call_that_is_not_here_names_it(self):
+        """By the variables that SUMO's own client asks for; several of its calls may have one variable."""
+        with unittest.mock.patch.object(sys, "path", [str(SUMO / "tools"), *sys.path]):
+            theirs = importlib.import_module("traci")
+        names = {}
+        for domain, call in ((domain, call) for domain in DOMAINS for call in vars(type(getattr(theirs, domain)))):
+            source = inspect.getsource(getattr(type(getattr(theirs, domain)), call)) if call[0].islower() else ""
+            found = re.search(r"(_getUniversal|_getCmd|_setCmd|_sendCmd)\(\s*(?:tc\.CMD_\w+, )?tc\.(\w+)", source)
+            if found and classify_call(ScriptCall(domain, call, 1))[0] == "not here":
+                how = "get" if found[1].startswith("_get") or "CMD_GET" in source else "set"
+                names.setdefault((domain, getattr(tc, found[2]), how), set()).add(call)
+        self.assertGreater(len(names), 170)
+        for (domain, variable, how), calls in names.items():
+            self.assertIn(sumo_name(domain, variable, how), calls)
+        with self.assertRaisesRegex(traci.NotHere, "vehicle.setLaneChangeMode is not here: lanes are changed by"):
+            words = bytes((tc.VAR_LANECHANGE_MODE,)) + text("v")
+            read_set_command(tc.CMD_SET_VEHICLE_VARIABLE, ValueReader(words, 0, len(words)))
 
     @needs_traci
     def test_each_call_of_sumo_is_here_or_says_what_to_do_instead(self):

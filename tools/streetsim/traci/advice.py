@@ -19,6 +19,7 @@ EMISSIONS = "emissions are not reckoned; SUMO's emissionsDrivingCycle reads the 
 LANES = "lanes are changed by the rules alone; lane.setDisallowed closes a lane"
 LIMITS = "limits are the network's; change them there and start again"
 MOVED = "nobody is moved; remove the vehicle and add it anew"
+NEMA = "a script is the controller; set phases by setPhase or setProgramLogic"
 PERSONS = "there are no persons; give them their time in the program of the light"
 RAILWAYS = "there are no railways; lights follow their programs and the script"
 STOPS = "stops are those of the files; write another stop there, or hold vehicles by a signal or a closed lane"
@@ -53,7 +54,7 @@ SENTENCES = {
     r"Effort": EFFORT,
     r"vehicle\..*AdaptedTraveltime": "all vehicles know the same travel times; use edge.adaptTraveltime",
     r"Scale$": "the demand is the route files'; make the routes of the demand that is wanted",
-    r"Nema": "a script is the controller; set phases by setPhase or setProgramLogic",
+    r"Nema": NEMA,
     r"onstraint|(Blocking|Rival|Priority)Vehicles": RAILWAYS,
     r"Foes": "who gives way to whom is not told; the network's file has it",
     r"Friction": "all roads are dry; --dawdle changes how vehicles drive",

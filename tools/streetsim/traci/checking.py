@@ -2,6 +2,7 @@
 from __future__ import annotations
 
 import ast
+import os
 import re
 from collections import defaultdict
 from collections.abc import Iterator
@@ -10,7 +11,7 @@ from typing import NamedTuple
 import streetsim.traci as traci
 from streetsim.base.files import Fault
 from streetsim.traci import constants as tc
-from streetsim.traci.advice import advice_on
+from streetsim.traci.advice import PLATOONS, advice_on
 from streetsim.traci.table import DOMAINS, GETS
 
 MODULES = ("traci", "libsumo", "libtraci", "streetsim.traci")
@@ -18,6 +19,12 @@ QUIET = ("gui", "poi", "polygon")
 # By which a call of what may be a domain is known.
 CALL = re.compile(r"(get|set|is|subscribe|unsubscribe|add|remove|change|reroute|slow|move|adapt|open|resume|highlight)")
 VARIABLE_PREFIXES = ("VAR_", "LAST_STEP_", "TL_", "LANE_")  # begins of the names of variables
+# Modules, and variables of the environment, by which a script runs SUMO itself, or asks for what is not here.
+OWN_SUMO = "runs SUMO itself within the script: import traci in its place, which starts the program that it is given"
+WARNED = {
+    "libsumo": OWN_SUMO, "LIBSUMO_AS_TRACI": OWN_SUMO,
+    "simpla": f"platoons are not here: {PLATOONS}",
+}
 # Calls that are done otherwise than in SUMO, and how.
 OTHERWISE = {
     "vehicle.setRoute": "a vehicle on the road takes it from the next junction on",
@@ -70,11 +77,13 @@ class ScriptNames(ast.NodeVisitor):
         self.constants: set[str] = set()
         self.calls: list[ScriptCall] = []
         self.variables: list[tuple[str, int]] = []
+        self.warned: list[tuple[str, int]] = []  # names of WARNED, with their lines
 
     def visit_Import(self, node: ast.Import) -> None:
         """Notes modules by their names."""
         for alias in node.names:
             package, _, module_name = alias.name.rpartition(".")
+            self.note_warned(alias.name.split(".")[0], node.lineno)
             if module_name == "constants" and package in MODULES and alias.asname:
                 self.constants.add(alias.asname)
             elif alias.name in MODULES or package in MODULES:
@@ -82,6 +91,7 @@ class ScriptNames(ast.NodeVisitor):
 
     def visit_ImportFrom(self, node: ast.ImportFrom) -> None:
         """Notes domains, constants and TraCI itself."""
+        self.note_warned((node.module or "").split(".")[0], node.lineno)
         for alias in node.names:
             bound_name = alias.asname or alias.name
             if node.module == "streetsim" and alias.name == "traci":
@@ -91,6 +101,15 @@ class ScriptNames(ast.NodeVisitor):
             elif node.module in MODULES and alias.name in DOMAINS:
                 self.domains[bound_name] = alias.name
                 self.sure.add(bound_name)
+
+    def visit_Constant(self, node: ast.Constant) -> None:
+        """Notes the name of a variable of the environment."""
+        self.note_warned(node.value, node.lineno)
+
+    def note_warned(self, name: object, line: int) -> None:
+        """Notes a name that is one of WARNED."""
+        if isinstance(name, str) and name in WARNED:
+            self.warned.append((name, line))
 
     def visit_Assign(self, node: ast.Assign) -> None:
         """Notes names of connections and domains."""
@@ -165,6 +184,10 @@ def check_script(path: str) -> int:
         kinds[kind][message].append(call.line)
     for message, line in variables_not_here(script):
         kinds["not here"][message].append(line)
+    for name, line in dict.fromkeys(script.warned):
+        print(f"warning: {name} (line {line}) {WARNED[name]}")
+    if "LIBSUMO_AS_TRACI" in os.environ:
+        print(f"warning: LIBSUMO_AS_TRACI of the environment {OWN_SUMO}")
     for kind, calls in kinds.items():
         print(f"{len(calls)} {kind}{':' if calls else ''}")
         for message, lines in sorted(calls.items()):

@@ -8,6 +8,7 @@ from streetsim.control.actuated_kept import phase_bounds
 from streetsim.simulation.errors import NotHere, TraCIException
 from streetsim.simulation.lights import LightShow, Phases, check_index, seconds_of
 from streetsim.traci import constants as tc
+from streetsim.traci.advice import NEMA
 from streetsim.traci.domain import Domain
 
 OFF_PROGRAM, SWITCHED = "off", "hold states by setRedYellowGreenState, or take the light out of the network"
@@ -96,6 +97,12 @@ class TrafficLightDomain(Domain):
     def getControlledLanes(self, name: str) -> tuple[str, ...]:
         """The lane of each signal, by its index; an empty text where a signal has no connection here."""
         return tuple(link[0] if link else "" for link in self.session().control.light(name).links)
+
+    def check_key(self, name: str, key: str) -> None:
+        """As of other domains; NotHere also for keys by which SUMO changes a light of type NEMA."""
+        super().check_key(name, key)
+        if key.startswith("NEMA."):
+            raise NotHere(f"trafficlight: parameter {key!r}: {NEMA}")
 
     def getControlledLinks(self, name: str) -> tuple[list[tuple[str, str, str]], ...]:
         """For each signal [(lane, next lane, lane inside the junction)]; [] where it has no connection here."""

@@ -2,14 +2,15 @@
 
     every_call.py traci|libtraci CALLS BINARY WORDS ..      CALLS: a file with a JSON list of "domain.call"
 
-The run has the cross of examples/actuated with two bus stops, a bus that stands at the first, a loop and an area."""
+The run has the cross of examples/actuated with every_call.add.xml and every_call.rou.xml: a bus stands at the first of
+two stops, and there are a loop and an area."""
 import importlib
 import json
 import sys
 
 client, names, *command = sys.argv[1:]
-traci = importlib.import_module(client)
-tc = importlib.import_module(f"{client}.constants")
+traci = importlib.import_module(client)  # of libtraci the constants are an attribute
+tc = traci.constants
 traci.start(command)
 traci.simulationStep(40)
 ROUTE, EDGE, LANE, LIGHT, BUS = "way", "WJ", "WJ_0", "J", "bus"
