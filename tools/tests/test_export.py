@@ -21,7 +21,10 @@ needs_pyproj = needs_package("python3-pyproj", HAS_PYPROJ)
 UTM = "+proj=utm +zone=32 +ellps=WGS84 +datum=WGS84 +units=m +no_defs"
 # The point (500000, 0) of each UTM zone is the equator at its central meridian, 9 degrees east in zone 32.
 LOCATION = {"offset": [-500000.0, 0.0], "projection": UTM}
-QUEUED = {"nearly_full": "", "queue_50_m": 7.5, "queue_95_m": 15.0, "queue_max_m": 22.5, "storage_m": 75.0}
+QUEUED = {
+    "nearly_full": "", "full_percent": 0, "blocked_percent": "", "doubt": "", "queue_50_m": 7.5, "queue_95_m": 15.0,
+    "queue_max_m": 22.5, "storage_m": 75.0,
+}
 LOST = {"vehicles": 10, "stopped_delay_s": 5.0, "stops_per_vehicle": 0.5, "error_s": ""}
 
 

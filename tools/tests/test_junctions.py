@@ -4,6 +4,7 @@ import json
 import re
 import unittest
 from collections import Counter
+from dataclasses import replace
 from types import SimpleNamespace
 
 import numpy
@@ -11,16 +12,19 @@ import numpy
 from seen import kernel_of, show
 from support import MAP, NUMBERED, PROGRAM, TOOLS, Case, needs_simulator
 from streetsim.control.bus_fleet import Dwell
-from streetsim.model.mapping import map_from
+from streetsim.model.doubts import ALL, JUNCTION, OF_WORKS, Doubt
+from streetsim.model.fullness import STRAIGHT, FullLane, Fullness
+from streetsim.model.mapping import Map, MapLink, MapNode, MapSignal, MapTurn, map_from
 from streetsim.model.service import PRIORITY, ROUNDABOUT, SIGNALS, STOP_LOSS, level, percentile
 from streetsim.model.tables import APPROACHES, JUNCTIONS, MOVEMENTS, read_table
 from streetsim.model.waiting import Foe, Gap, GivingWay
 from streetsim.observe.crossings import Crossed, Crossings, Movements, PlanPlaces
+from streetsim.observe.doubted_places import doubt_of_lane
 from streetsim.observe.junction_capacity import usual_flow
 from streetsim.observe.junction_facing import junctions_with_facing_streets
 from streetsim.observe.junction_layout import Approach, Greens, approaches_of, movements_that_stop, turn_name
-from streetsim.observe.junction_measures import Losses, stop_loss, weighted_mean_losses
-from streetsim.observe.junction_rows import JunctionTables, queue_columns, queue_figures
+from streetsim.observe.junction_measures import Interval, Losses, stop_loss, weighted_mean_losses
+from streetsim.observe.junction_rows import JunctionTables, queue_columns, queue_figures, spill_columns
 from streetsim.observe.lane_utilisation import UtilisationCalculator
 from streetsim.observe.passages import Passages
 from streetsim.observe.shown import ShownPlans
@@ -261,6 +265,11 @@ def judged(frames, plans, signals=((0, SIGNAL),), dwells=None, end=10, parts=1):
     return judge.interval_measures(0, shown)
 
 
+def departs_of(seen):
+    """The clocks of the wished departures, by vehicle."""
+    return numpy.array([line.command["depart"] for line in seen.kernel.run.enters])
+
+
 class ByHand(unittest.TestCase):
     plans = [[1, *plan] for plan in PLANS]
 
@@ -270,7 +279,7 @@ class ByHand(unittest.TestCase):
         movements = Movements(seen)
         places, found = PlanPlaces(movements, seen.kernel.plans), []
         for _, part in seen.ended_passages(interval, {}):
-            one = Crossings(places, part)
+            one = Crossings(places, part, departs_of(seen))
             found += zip(map(movements.edge_pair, one.movement.tolist()), one.end.tolist(), strict=True)
         return found
 
@@ -285,6 +294,19 @@ class ByHand(unittest.TestCase):
         self.assertEqual((lost.vehicles, lost.delay, lost.stood, lost.stops), (2, 4 + STOP_LOSS[0], 2.5, 1.0))
         self.assertEqual(self.crossings(FRAMES, self.plans), [(("a", "b"), 8), (("a", "b"), 10)])
         self.assertEqual(judged(FRAMES, self.plans, end=9).lost["a", "b"].vehicles, 1)
+
+    def test_who_waits_to_enter(self):
+        """Vehicles that wished to depart at 0 and are first seen at 9 and at 13, where the light is, have waited 8 and
+        12 s; in the first 11 s two more wait at the end than at the begin, of whom one never enters."""
+        mapping = street(e=(0, 1), g=(1, 2), also={"signals": [["L", 1]]})
+        frames = [(clock, []) for clock in range(1, 9)] + [(9, [[0, 0, [[0, 1, 2]], []]]), (10, [[0, 0, [], [0]]])]
+        frames += [(clock, []) for clock in (11, 12)] + [(13, [[0, 0, [[1, 1, 2]], []]]), (14, [[0, 0, [], [1]]])]
+        seen = passages_of(frames, [[0, 1]] * 3, mapping)
+        crossed = Crossed(seen, seen.kernel.plans, 11, {})
+        first, second = (crossed.losses_in(number)[0]["e", "g"] for number in (0, 1))
+        self.assertEqual(second.delay - first.delay, 4)
+        self.assertGreater(first.delay, 2)
+        self.assertEqual([crossed.entering_more(number) for number in (0, 1)], [{("e", "g"): 2}, {("e", "g"): -1}])
 
     def test_parts_of_the_seconds_show_what_all_do(self):
         """However the seconds are handed over: all at once, a few, or one at a time."""
@@ -323,7 +345,8 @@ class ByHand(unittest.TestCase):
             seen = passages_of([*enumerate([*way, [[2, 0, [[0, 1, 2]], []]]], 1)], [[0, 1, 2]], mapping)
             movements = Movements(seen)
             [(_, done)] = seen.ended_passages(900, {})
-            found += Crossings(PlanPlaces(movements, seen.kernel.plans), done).delay.tolist()
+            planned = PlanPlaces(movements, seen.kernel.plans)
+            found += Crossings(planned, done, departs_of(seen)).delay.tolist()
         self.assertAlmostEqual(found[0], 0, delta=1)
         self.assertAlmostEqual(found[1] - found[0], 4 + STOP_LOSS[0])
 
@@ -367,7 +390,9 @@ class ByHand(unittest.TestCase):
         self.assertAlmostEqual(judged(FRAMES, self.plans).uses[0, 0], 2 / (2400 * 6.5 / 3600))
 
     def test_rows(self):
-        made = JunctionTables(approaches_of(map_from("", MAP)), {"B": 1.104})
+        full = Fullness((FullLane("B", "a_0", STRAIGHT, "a", "b", 1.104),), 2, 2)
+        mapping = replace(map_from("", MAP), full=full)
+        made = JunctionTables(approaches_of(mapping), mapping)
         made.add(judged(FRAMES, self.plans))
         [row] = [dict(zip(MOVEMENTS, row, strict=True)) for row in made.movements]
         names = ("junction", "approach", "to", "movement", "vehicles", "vehicles_per_hour", "queue_95_m", "v_c", "los")
@@ -376,6 +401,52 @@ class ByHand(unittest.TestCase):
         [approach], [junction] = made.approaches, made.junctions
         self.assertEqual((approach[APPROACHES.index("los")], junction[JUNCTIONS.index("los")]), ("A", "A"))
         self.assertEqual(junction[JUNCTIONS.index("nearly_full")], "1.10")
+
+
+    def test_rooms(self):
+        """One lane leads to two: that which goes straight on has the room of both edges, the pocket its own."""
+        lanes = {"p": [0], "a": [0, 1], "b": [0], "c": [0]}
+        ends = {"p": (0, 1), "a": (1, 2), "b": (2, 3), "c": (2, 4)}
+        shapes = {"p": [[0, 0], [9, 0]], "a": [[9, 0], [19, 0]], "b": [[19, 0], [29, 0]], "c": [[19, 0], [19, 9]]}
+        nodes = [MapNode(name, 0.0, 0.0, 1) for name in "OPQRS"]
+        links = [MapLink(name, lanes[name], *ends[name], 10, 2, 100.0, shapes[name]) for name in lanes]
+        pairs = ((0, 0, 1, 0), (0, 0, 1, 1), (1, 0, 2, 0), (1, 1, 3, 0))
+        turns = [MapTurn(*pair, "L", 0, False) for pair in pairs]
+        mapping = Map(nodes, links, turns, [MapSignal("L", 2)], [], {}, [])
+        self.assertEqual(approaches_of(mapping)["a"].rooms, {(1, 0): 200.0, (1, 1): 100.0})
+
+    def test_a_pocket_that_fills_and_is_blocked(self):
+        """Of four cycles its queue fills it in one, and that of the lane beside reaches past it in two."""
+        approach = Approach("a", "B", SIGNALS, [0], 100.0, [(0, 0), (0, 1)], whole_metres=200.0)
+        approach.rooms = {(0, 0): 200.0, (0, 1): 100.0}
+        queues = {(0, 0): [10.0, 98.0, 150.0, 97.0], (0, 1): [97.5, 97.0, 0.0, 20.0]}
+        interval = Interval(0, 900, queues=queues)
+        self.assertEqual(spill_columns(interval, approach, [(0, 1)]), ("25", "50"))
+        self.assertEqual(spill_columns(interval, approach, [(0, 0)]), ("0", ""))
+
+    def test_rows_that_are_doubted(self):
+        """A lane that is full by the demand doubts its movement, and where more come than pass the whole approach; so
+        does a v/c near 1; a doubt of another time does not."""
+        mapping, interval = map_from("", MAP), judged(FRAMES, self.plans)
+
+        def doubts(*doubts, uses=None):
+            """The doubts of movement, approach and junction."""
+            made = JunctionTables(approaches_of(mapping), mapping, doubts)
+            made.add(replace(interval, uses=uses or interval.uses))
+            return [rows[0][-1] for rows in (made.movements, made.approaches, made.junctions)]
+
+        def lane(demand, begin=0, end=0, name="a_0"):
+            """A lane that is full."""
+            return doubt_of_lane(FullLane("B", name, STRAIGHT, "a", "b", demand, 9, begin, end))
+
+        self.assertEqual(doubts(), ["", "", ""])
+        self.assertEqual(doubts(lane(0.85)), ["demand 0.85 of what passes"] * 3)
+        self.assertEqual(doubts(lane(0.85, name="a_1")), ["", "", ""])
+        self.assertEqual(doubts(lane(1.05, name="a_1")), ["demand 1.05 of what passes"] * 3)
+        self.assertEqual(doubts(lane(0.85, 9_000, 9_900)), ["", "", ""])
+        self.assertEqual(doubts(uses={(0, 0): 0.93}), ["v/c 0.93"] * 3)
+        self.assertEqual(doubts(Doubt(JUNCTION, "B", "", "odd", ALL)), ["odd"] * 3)
+        self.assertEqual(doubts(Doubt(OF_WORKS, "", "a", "odd", ALL)), ["", "", ""])
 
 
 @needs_simulator

@@ -114,7 +114,8 @@ class Intervals(unittest.TestCase):
         self.assertIsNone(mean_and_day([3.0])[1])
 
     def test_listed_runs_call_nothing_sure(self):
-        self.assertIn("95 % interval of a day", mean_trip_line([100.0, 104.0], True))
+        told = "mean trip 102.0 s, 95 % interval of the mean 76.6 to 127.4 s, of one day 58.0 to 146.0 s"
+        self.assertEqual(mean_trip_line([100.0, 104.0], True), told)
         told = mean_trip_line([100.0, 104.0], False)
         self.assertIn("of another day nothing is sure", told)
         self.assertNotIn("95 %", told)
@@ -139,7 +140,8 @@ class Commands(Case):
     def test_a_seed_of_several_is_the_run_of_this_seed(self):
         self.given()
         told = self.made("several", "--seeds", "1-2")
-        self.assertRegex(told[-1], r"^mean trip [\d.]+ s, 95 % interval of a day -?[\d.]+ to [\d.]+ s$")
+        spans = r"-?[\d.]+ to [\d.]+ s"
+        self.assertRegex(told[-1], rf"^mean trip [\d.]+ s, 95 % interval of the mean {spans}, of one day {spans}$")
         self.made("one", "--departures", "drawn")
         self.assertEqual(self.trips("one"), self.trips("several/seed-1"))
         self.assertNotEqual(self.trips("one")[1:], self.trips("several/seed-2")[1:])
@@ -155,7 +157,7 @@ class Commands(Case):
         self.made("one", "--departures", "drawn")
         page = self.folder / "page.html"
         self.tool("report", self.folder / "several", "--sealed", "-o", page)
-        self.assertIn("intervals are of a day", page.read_text(encoding="utf-8"))
+        self.assertIn("intervals are of the mean", page.read_text(encoding="utf-8"))
         for name in ("several", "several/seed-2", "one", page):
             told, _ = self.tool("check", self.folder / name, "--program", PROGRAM)
             self.assertIn("is that of a run", told)

@@ -13,7 +13,8 @@ SIDE = 10  # junctions in a row; a ring of ends is around them
 WAYS = ((0, 1), (1, 0), (0, -1), (-1, 0))
 LOST = {"vehicles": 50, "vehicles_per_hour": 200, "stopped_delay_s": 9.0, "stops_per_vehicle": 0.8}
 QUEUED = {
-    "nearly_full": "", "queue_50_m": 15, "queue_95_m": 30, "queue_max_m": 45, "storage_m": 192.5,
+    "nearly_full": "", "full_percent": 0, "blocked_percent": "", "doubt": "",
+    "queue_50_m": 15, "queue_95_m": 30, "queue_max_m": 45, "storage_m": 192.5,
     "saturation_flow": 1760,
 }
 MOST_SHEETS = 12

@@ -23,17 +23,21 @@ from streetsim.model.tables import APPROACHES, JUNCTIONS, MOVEMENTS, SEEDS, TRIP
 from streetsim.report.forecast_errors import PAGE, errors_table
 from streetsim.report.page_choice import RowChange
 from streetsim.report.page_drawings import anchor, letter_mark, queue_picture
-from streetsim.report.page_junctions import full_mark
-from streetsim.report.page_summary import groups_table, state_verdict, trips_told
+from streetsim.report.page_junctions import doubt_mark
+from streetsim.report.page_summary import groups_table, trips_told
+from streetsim.report.page_verdict import state_verdict
 from streetsim.report.plan_costs import PlanCosts
 from streetsim.report.plan_differences import difference_of, mean_delays
-from streetsim.report.run_tables import ResultRow, read_runs
+from streetsim.report.run_tables import ResultRow, of_most, read_runs
 from streetsim.report.works_queues import LinkOnWay, note_standing
 
 CHROMIUM = shutil.which("chromium") or shutil.which("chromium-browser")
 CORRIDOR = TOOLS / "examples/corridor"
 LOST = {"vehicles": 10, "vehicles_per_hour": 40, "stopped_delay_s": 5.0, "stops_per_vehicle": 0.5}
-QUEUED = {"nearly_full": "", "queue_50_m": 7.5, "queue_95_m": 15.0, "queue_max_m": 22.5, "storage_m": 75.0}
+QUEUED = {
+    "nearly_full": "", "full_percent": 0, "blocked_percent": "", "doubt": "", "queue_50_m": 7.5, "queue_95_m": 15.0,
+    "queue_max_m": 22.5, "storage_m": 75.0,
+}
 WARNINGS = ["ignored: 3 x stops", "warning: 2 <turns> & more", "skipped: 4 vehicles: no route", "1 light"]
 # How many pixels of a picture have each colour.
 COUNT = """import json, sys
@@ -53,9 +57,6 @@ def luminance(colour):
     red, green, blue = (part / 12.92 if part <= 0.03928 else ((part + 0.055) / 1.055) ** 2.4 for part in parts)
     return 0.2126 * red + 0.7152 * green + 0.0722 * blue
 
-# Of a junction, and of another one.
-FULL = {"nearly_full": 1.1}, {}
-
 
 class Numbers(unittest.TestCase):
     def test_paired_differences(self):
@@ -65,10 +66,11 @@ class Numbers(unittest.TestCase):
         self.assertEqual((one.mean_before, one.mean_after, one.change), (11.0, 8.0, -3.0))
         self.assertAlmostEqual(one.half, 4.303 / 3**0.5)
         self.assertTrue(one.stands_out())
-        # Of a day: t s sqrt(1 + 1/n), within which is 0.
+        # That of one day, t s sqrt(1 + 1/n), within which is 0, warns, and that of the mean decides.
         day = difference_of(*values, drawn=True)
-        self.assertEqual((day.change, day.of_days, day.stands_out()), (-3.0, True, False))
-        self.assertAlmostEqual(day.half, 4.303 * (4 / 3) ** 0.5)
+        self.assertEqual((day.change, day.half, day.stands_out(), day.word()), (-3.0, one.half, True, "better"))
+        self.assertAlmostEqual(day.day, 4.303 * (4 / 3) ** 0.5)
+        self.assertIsNone(one.day)
         self.assertEqual(difference_of({1: 1.0}, {1: 3.0}, drawn=False).in_words(), "+2.0")
         self.assertIsNone(difference_of({1: 1.0}, {2: 1.0}, drawn=True))
 
@@ -187,10 +189,16 @@ class Given(Case):
 
 
 class Marks(unittest.TestCase):
-    def test_junctions_that_are_nearly_full(self):
-        marked, usual = (ResultRow(("B",), "signals", "", {"control_delay_s": 9.0, **more}, {}) for more in FULL)
-        self.assertIn("nearly full (1.10)", full_mark(marked))
-        self.assertEqual(full_mark(usual), "")
+    def test_rows_that_are_doubted(self):
+        marked, usual = (ResultRow(("B",), "signals", "", {"control_delay_s": 9.0}, {}, why) for why in ("<full>", ""))
+        self.assertIn("doubted: &lt;full&gt;", doubt_mark(marked))
+        self.assertEqual(doubt_mark(usual), "")
+
+    def test_a_doubt_of_some_seeds(self):
+        """Of less than half of the runs it is none."""
+        for doubts, told in ((["a", "b"], "a"), (["a"], "a (in 1 of 2 runs)"), ([], "")):
+            self.assertEqual(of_most(doubts, (1, 2)), told)
+        self.assertEqual(of_most(["a"], (1, 2, 3)), "")
 
 
 class Pages(Given):
@@ -221,11 +229,13 @@ class Pages(Given):
             "What was asked: What changes if 'after' takes the place of 'before'?",
             "2 vehicles from 0:00 to 0:30; one junction, shown from 0:00 to 0:15; two runs of each plan",
             "before: nothing that a run checks of itself speaks against it.",
-            "With 'after' a trip takes 101.5 s on average, and 101.5 s with 'before': not shown to differ",
+            "Undecided for all, better in the worst time, from 0:00 to 0:15.",
+            "With 'after' a trip takes 101.5 s in place of 101.5 s on average: not shown to differ",
             # Changes of -60 and -62, quantile 12.706.
-            "A vehicle's mean delay at a junction is 31.0 s, and 92.0 s before: 61.0 s less "
-            "(95 % interval of dawdling alone: 48.3 to 73.7 s less); at one of one junction it is less beyond the "
-            "chance of dawdling, at none more.",
+            "A vehicle's mean delay at a junction is 31.0 s in place of 92.0 s in the worst time, 0:00 to 0:15: 61.0 s "
+            "less (95 % interval of the mean change by dawdling alone: 48.3 to 73.7 s less).",
+            "The worst movement, from the west to the east at Junction B, waits 31 s (C), 61.0 s less",
+            "At one of one junction the delay from 0:00 to 0:15 is less beyond the chance of dawdling, at none more.",
             "two runs of each plan, simulated by streetsim; departures as listed: the seeds differ by dawdling alone, "
             "so nothing is sure of another day.",
             "2 vehicles, departures as listed",
@@ -248,26 +258,30 @@ class Pages(Given):
         text = self.page(*self.plans()).read_text()
         self.assertNotIn("for sure", text)
         self.assertIn("<li>Departures as listed: the seeds differ by dawdling alone, so nothing is sure", text)
-        self.assertIn("± is the 95 % interval of dawdling alone", text)
+        self.assertIn("± is the 95 % interval of the mean change by dawdling alone", text)
         alone = self.page(self.plans()[0]).read_text()
-        self.assertIn("delay at a junction is 92.0 ± 25.4 s (±: 95 % interval of dawdling alone)", alone)
+        told = "delay at a junction is 92.0 ± 25.4 s in the worst time, 0:00 to 0:15 (±: 95 % interval of the mean by "
+        self.assertIn(told + "dawdling alone)", alone)
 
-    def test_drawn_runs_have_the_interval_of_a_day(self):
-        """Changes of -60 and -62 s: t s sqrt(1 + 1/2) is 12.706 times 1.414 times 1.225, 22.0 s."""
+    def test_drawn_runs_have_two_intervals(self):
+        """Changes of -60 and -62 s: t s / sqrt(2) is 12.7 s for the mean, and t s sqrt(1 + 1/2), 12.706 times 1.414
+        times 1.225, 22.0 s for one day."""
         self.draw_departures("before", "after")
         text = re.sub(r"\s+", " ", re.sub("<[^>]*>", " ", self.page(*self.plans()).read_text()))
         for told in (
-            "departures drawn by each of 2 seeds: intervals are of a day",
-            "61.0 s less (95 % interval of a day: 39.0 to 83.0 s less); at one of one junction it is less for sure, at",
+            "departures drawn by each of 2 seeds: intervals are of the mean",
+            "61.0 s less (95 % interval of the mean change: 48.3 to 73.7 s less; of one day: 39.0 to 83.0 s less)",
+            "At one of one junction the delay from 0:00 to 0:15 is less for sure, at none more.",
             "No movement loses for sure.",
-            "± is the 95 % interval of a day, and changes beyond it are bold",
-            "Junction B 40 92.0 31.0 -61.0 ± 22.0 F to C",
+            "± is the 95 % interval of the mean change, and changes beyond it are bold",
+            "Junction B 40 92.0 31.0 -61.0 ± 12.7 F to C",
             "2 vehicles, departures drawn by each seed",
         ):
             self.assertIn(told, text)
         self.assertNotIn("as listed", text)
         alone = self.page(self.plans()[0]).read_text()
-        self.assertIn("delay at a junction is 92.0 ± 44.0 s (±: 95 % interval of a day)", alone)
+        told = "delay at a junction is 92.0 ± 25.4 s in the worst time, 0:00 to 0:15 (±: 95 % interval of the mean)"
+        self.assertIn(told, alone)
 
     def test_runs_of_other_vehicles_are_not_compared(self):
         self.draw_departures("after")
@@ -387,7 +401,7 @@ class Pages(Given):
         text = path.read_text()
         for changed, told in (
             (text.replace("94.0", '"94,0"', 1), "movements.csv: line 2: control_delay_s = '94,0' is no number"),
-            (text[: text.rindex(",94.0")] + "\n", "movements.csv: line 3: expected 21 cells"),
+            (text[: text.rindex(",94.0")] + "\n", "movements.csv: line 3: expected 24 cells"),
         ):
             path.write_text(changed)
             said = self.tool("report", self.folder / "before", "-o", self.folder / "x.html", status=2)[1]

@@ -27,13 +27,15 @@ CORRIDOR = TOOLS / "examples/corridor"
 
 class Intervals(unittest.TestCase):
     def test_what_the_picture_shows(self):
-        """Of drawn departures the interval of a day alone; of listed ones those of dawdling, as they are called."""
+        """Of drawn departures the intervals of one day and of the mean; of listed ones those of dawdling."""
         row = VariantDifference("wave", 90.0, -10.0, 0.5, 1.5, 5, 5, 9)
         self.assertEqual([(width, label) for width, _, label in intervals_of(row)], [
             (1.5, "dawdling alone, unpaired"), (0.5, "dawdling alone, paired"),
         ])
         drawn = replace(row, day=4.0, mean_of_day=6.0)
-        self.assertEqual([(width, label) for width, _, label in intervals_of(drawn)], [(4.0, "a day")])
+        self.assertEqual([(width, label) for width, _, label in intervals_of(drawn)], [
+            (4.0, "one day"), (0.5, "the mean change"),
+        ])
 
 
 @needs_simulator
@@ -94,7 +96,7 @@ class Tables(Studies):
         self.assertRegex(
             told,
             r"given: mean trip [\d.]+ s\nwave: mean trip [\d.]+ s, [-+][\d.]+ s ± [\d.]+ \(95 % interval of "
-            r"dawdling alone, 4 paired runs\); the wanted",
+            r"the mean change by dawdling alone; 4 paired runs\); the wanted",
         )
         self.assertIn("so nothing is sure of another day\nbeside chance, forecasts were off by", told)
         if find_spec("matplotlib"):

@@ -14,7 +14,9 @@ from streetsim.base.files import Fault
 from streetsim.control.settings import Settings
 from streetsim.control.works_asked import AskedWorks as Wanted, clock_of, really_closed, sites_of, works_of
 from streetsim.control.works_closures import Closure, closures_of
-from streetsim.control.works_crowding import crowded_works, told_of_crowding
+from streetsim.control.works_crowding import (
+    PASSES, crowded_works, passes_beside, told_of_crowded, told_of_crowding,
+)
 from streetsim.control.works_figures import Period, capacity_of, length_at, periods_of, works_rows
 from streetsim.control.works_movements import lost_movements, told_of_lost, without_led_turns
 from streetsim.control.works_queue_ends import reach_of, streets_of
@@ -22,7 +24,8 @@ from streetsim.control.works_sites import imported_for, lanes_to_join, lanes_to_
 from streetsim.control.works_watched import Watched, WorksPassing, WorksQueue, doubts_of
 from streetsim.kernel.loop import Observer
 from streetsim.kernel.seconds import Vehicles
-from streetsim.model.mapping import Map, MapLink, MapTurn, map_from
+from streetsim.model.doubts import OF_WORKS
+from streetsim.model.mapping import Map, MapLink, MapSignal, MapTurn, map_from
 from streetsim.model.runs import Line, Run
 from streetsim.model.tables import BEFORE_WORKS
 from streetsim.observe.works import LanesNow, WorksTable, upstream_of
@@ -354,7 +357,8 @@ class Crowding(unittest.TestCase):
         run = run_of([[0]] * (hourly // 4))
         for line in run.enters:
             line.command["depart"] = line.command["depart"] * 3600 // hourly
-        return list(told_of_crowding(run, mapping, closures)), crowded_works(run, mapping, closures)
+        doubts = crowded_works(run, mapping, closures)
+        return list(told_of_crowding(run, mapping, closures)), list(told_of_crowded(doubts))
 
     def test_more_come_than_pass(self):
         self.assertEqual(self.told(mapped(link("a")), 1100), ([], []))
@@ -362,14 +366,39 @@ class Crowding(unittest.TestCase):
         self.assertIn("edge a: some 2,000 vehicles an hour come to works that leave 1 of 2 lanes", told[0])
         self.assertTrue(told[0].endswith("a queue grows before them"))
         told, doubted = self.told(mapped(link("a"), link("a", 1)), 2000)
-        self.assertEqual(told, doubted[1:])
+        self.assertEqual([text.replace("edge a", "works on a") for text in told], doubted[1:])
 
     def test_works_near_what_their_lanes_pass_are_doubted(self):
         """One lane beside works passes 1,600 an hour."""
         why = "and what they add may be far from SUMO's"
         for hourly, share in ((1200, "0.75"), (1500, "0.94"), (2000, "1.25")):
             doubted = self.told(mapped(link("a")), hourly)[1]
-            self.assertEqual(doubted, [f"works on a: demand {share} of what the open lane passes, {why}"])
+            told = f"works on a: demand {share} of what the open lane passes in the worst hour, {why}"
+            self.assertEqual(doubted, [told])
+
+    def test_the_worst_hour_decides(self):
+        """1,400 come in the first of three hours and nobody later: by the mean of all nobody would doubt it."""
+        run = run_of([[0]] * 1400)
+        for at, line in enumerate(run.enters):
+            line.command["depart"] = at * 3600 // 1400
+        [one] = crowded_works(run, mapped(link("a")), [Closure(0, 0, 20, 30, 0, 10_800)])
+        self.assertEqual((one.kind, one.edge, one.begin, one.end, one.size), (OF_WORKS, "a", 0, 3600, 0.88))
+        self.assertEqual(crowded_works(run, mapped(link("a")), [Closure(0, 0, 20, 30, 3600, 10_800)]), [])
+
+    def test_behind_a_light_fewer_pass(self):
+        """Works that begin 150 m behind the light at the begin of a street of 300 m, and 900 m behind another one."""
+        mapping = mapped(link("a", cells=120), link("b", begin=1, end=2), turns=[turn(0, 0, 1)])
+        works = Closure(1, 0, 20, 30, 0, 3600)
+        for node, passes in ((1, 900 + 210 * 30 / 120), (0, PASSES), (2, PASSES)):
+            mapping.signals = [MapSignal("L", node)]
+            self.assertEqual(passes_beside(mapping, works)[0], passes)
+        mapping.signals = [MapSignal("L", 1)]
+        run = run_of([[0, 1]] * 900)
+        for at, line in enumerate(run.enters):
+            line.command["depart"] = at * 4
+        [one] = crowded_works(run, mapping, [works])
+        self.assertIn("of what the open lane passes, 150 m behind a light, in the worst hour", one.why)
+        self.assertGreater(one.size, 0.9)
 
     def test_a_close_of_the_run_that_nothing_reopens(self):
         """It counts up to the last departure (1,000 in 1,799 s), and is told of where other works are asked for."""

@@ -2,7 +2,7 @@
 import argparse
 import os
 import sys
-from collections.abc import Callable, Sequence
+from collections.abc import Callable, Mapping, Sequence
 from dataclasses import replace
 
 from streetsim.base import limits, program
@@ -19,12 +19,13 @@ from streetsim.control.ending import after_departures
 from streetsim.control.settings import Settings
 from streetsim.control.works_asked import all_works
 from streetsim.control.works_closures import closures_of
-from streetsim.model import trust
+from streetsim.model.doubts import Doubt, doubts_by_seed
 from streetsim.model.folder import LIGHTS, NAME, POLLS
 from streetsim.model.mapping import Map
 from streetsim.model.replications import DRAWN, drawn, listed_in_map
 from streetsim.model.rows import NAME as ROWS
 from streetsim.model.runs import Run, read_with_map, with_load
+from streetsim.model.trust import last_line_of_seeds
 from streetsim.model.tables import PHASES_FILE, ROUTES_FILE, SEEDS, STOPS_FILE, WORKS_FILE, write_table
 from streetsim.observe.kept_lines import remake_setting, write_kept, write_lights
 from streetsim.observe.run_making import Figures, RunOptions, first_poll, make_run
@@ -198,8 +199,8 @@ def print_figures(figures: Figures, name: str) -> None:
     print(f"{name}{figures.summary}")
     if figures.by_class:
         print(f"{name}{figures.by_class}")
-    if figures.doubts:
-        print(f"{name}{trust.verdict(figures.doubts)}")
+    if figures.last_line:
+        print(f"{name}{figures.last_line}")
 
 
 def run_seeds(args: argparse.Namespace, run_options: RunOptions, run: Run, mapping: Map, settings: Settings) -> int:
@@ -234,18 +235,26 @@ def run_seeds(args: argparse.Namespace, run_options: RunOptions, run: Run, mappi
         print_figures(seed_figures, f"seed {seed}: ")
     if means := [seed_figures.mean_trip_s for seed_figures in figures if seed_figures.mean_trip_s is not None]:
         print(mean_trip_line(means, args.departures == DRAWN))
-    if doubtful := [str(seed) for seed, seed_figures in zip(seeds, figures, strict=True) if seed_figures.doubts]:
-        print(f"not to be trusted: seed{'s' if len(doubtful) > 1 else ''} {', '.join(doubtful)}")
+    by_seed = dict(zip(seeds, figures, strict=True))
+    if line := last_line_of_seeds({seed: one.doubts for seed, one in by_seed.items()}, places_of(by_seed), mapping):
+        print(line)
     return 0
 
 
+def places_of(by_seed: Mapping[int, Figures]) -> list[Doubt]:
+    """The doubts with places of runs with several seeds."""
+    return doubts_by_seed({seed: one.places for seed, one in by_seed.items()})
+
+
 def mean_trip_line(means: Sequence[float], is_drawn: bool) -> str:
-    """The line on the mean trips (s) of runs with several seeds, one at least: with the 95 % interval of a day where
-    their departures were drawn, and else with that of dawdling, of which it says so."""
-    mean, half = mean_and_day(means) if is_drawn else mean_and_half_width(means)
+    """The line on the mean trips (s) of runs with several seeds, one at least: with the 95 % intervals of their mean
+    and of one day where departures were drawn, and else with that of dawdling, of which it says so."""
+    mean, half = mean_and_half_width(means)
     if half is None:
         return f"mean trip {mean:.1f} s"
-    ends = f"{mean - half:.1f} to {mean + half:.1f} s"
-    if is_drawn:
-        return f"mean trip {mean:.1f} s, 95 % interval of a day {ends}"
-    return f"mean trip {mean:.1f} s, {ends} by dawdling alone: of another day nothing is sure (--departures listed)"
+    if not is_drawn:
+        ends = f"{mean - half:.1f} to {mean + half:.1f} s"
+        return f"mean trip {mean:.1f} s, {ends} by dawdling alone: of another day nothing is sure (--departures listed)"
+    day = mean_and_day(means)[1] or 0.0
+    spans = [f"{mean - width:.1f} to {mean + width:.1f} s" for width in (half, day)]
+    return f"mean trip {mean:.1f} s, 95 % interval of the mean {spans[0]}, of one day {spans[1]}"

@@ -8,22 +8,26 @@ from itertools import accumulate, cycle
 from streetsim.base import program
 from streetsim.base.files import refuse_foreign, refuse_unwritable, whole_file, whole_folder
 from streetsim.base.progress import Slow, WorkProgress
-from streetsim.base.words import ROUNDS, Parser, add_rounds
+from streetsim.base.words import ROUNDS, Parser, add_rounds, names_in
 from streetsim.cli.defaults import complete_outputs, stem_of
 from streetsim.cli.given_words import given_words
 from streetsim.cli.words import add_departures, add_machines, add_out
 from streetsim.model import trust
+from streetsim.model.doubts import places_told
 from streetsim.model.replications import DRAWN
 from streetsim.model.sources import sum_of
 from streetsim.model.tables import write_table
 from streetsim.search.run_giving_way import outcome_giving_way
 from streetsim.search.run_machines import machines
 from streetsim.search.run_prepared import Outcome
-from streetsim.search.study_differences import DIFFERENCES, RUNS, cell_values, differences, run_rows
+from streetsim.search.study_differences import (
+    DIFFERENCES, RUNS, WINDOWS, WINDOWS_FILE, cell_values, differences, run_rows, window_rows,
+)
 from streetsim.search.study_telling import (
-    doubts, draw_differences, tell_how_sure, tell_differences, tell_ends, tell_giving_way,
+    doubts, draw_differences, places_lines, tell_how_sure, tell_differences, tell_ends, tell_giving_way, windows_told,
 )
 from streetsim.search.study_variants import Study, read_study
+from streetsim.search.study_windows import clocks_of
 
 LAST_FILE = "differences.csv"
 ORIGIN_FILE = "made.json"  # by what a study is made again
@@ -51,6 +55,11 @@ def parser() -> Parser:
         help="half the width that confidence intervals are to have, in percent of the base's mean trip "
         "(default %(default)s)",
     )
+    tool_parser.add_argument(
+        "--close-at", default="", metavar="TIMES",
+        help="times at which works begin, with commas between (S or HH:MM(:SS)): each variant that closes lanes is run "
+        "at each of them, and what each costs is told (default: close_at of the variant, else as its works say)",
+    )
     add_out(tool_parser, "output folder (default: NAME-answer of NAME.toml, here)")
     return tool_parser
 
@@ -75,25 +84,42 @@ def main(arguments: list[str]) -> int:
     refuse_foreign(args.out, args.force)
     args.program = program.find_program(args.program)
     with Slow(f"reading {args.study}"):
-        study = read_study(args.study, args.program, args.rounds, args.departures)
+        hours = clocks_given(args.close_at)
+        study = read_study(args.study, args.program, args.rounds, args.departures, hours)
     outcomes = run_all(args, study)
-    rows = differences(study, outcomes, args.precision)
+    rows, windows = differences(study, outcomes, args.precision), list(window_rows(study, outcomes))
     doubts_by_variant = {name: list(doubts(study, name, outcomes[name])) for name in study.variants}
     named_doubts = [f"{name}: {text}" for name, texts in doubts_by_variant.items() for text in texts]
     with whole_folder(args.out, LAST_FILE) as folder:
         write_table(f"{folder}/runs.csv", RUNS, run_rows(study, outcomes))
-        cells = (cell_values((*astuple(row), "; ".join(doubts_by_variant[row.variant]))) for row in rows)
+        cells = (
+            cell_values((*astuple(row), "; ".join(doubts_by_variant[row.variant]), places_of(study, row.variant)))
+            for row in rows
+        )
+        if windows:
+            write_table(f"{folder}/{WINDOWS_FILE}", WINDOWS, windows)
         write_table(f"{folder}/{LAST_FILE}", DIFFERENCES, cells)
         trust.write_doubts(folder, named_doubts, args.program)
         write_made(args, given_words(tool_parser, args, ELSEWHERE), folder)
         draw_differences(study, rows, f"{folder}/differences.png")
-    tell_differences(rows)
+    tell_differences(rows, [name for name, texts in doubts_by_variant.items() if texts])
+    print(*windows_told(windows), sep="\n", end="\n" if windows else "")
     tell_ends(study, outcomes)
     tell_giving_way(outcomes)
     tell_how_sure(study)
-    if named_doubts:
-        print(trust.verdict(named_doubts))
+    if last_lines := [*places_lines(study), *([trust.verdict(named_doubts)] if named_doubts else [])]:
+        print(*last_lines, sep="\n")
     return 0
+
+
+def places_of(study: Study, name: str) -> str:
+    """The worst doubted places of a variant, by its name, in words."""
+    return places_told(study.variants[name].places, study.variants[name].mapping)
+
+
+def clocks_given(text: str) -> list[int]:
+    """The clocks of --close-at; Fault for others."""
+    return clocks_of(names_in(text)) if text else []
 
 
 def write_made(args: argparse.Namespace, kept_words: list[str], folder: str) -> None:

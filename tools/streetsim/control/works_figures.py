@@ -1,7 +1,8 @@
 """What one place of works let pass in each period, and what stood before it: the figures of works.csv, which
 `observe.works` writes."""
 from bisect import bisect_left, bisect_right
-from collections.abc import Iterator, Sequence
+from collections import defaultdict
+from collections.abc import Iterable, Iterator, Sequence
 from dataclasses import dataclass
 from itertools import accumulate
 from statistics import fmean
@@ -84,3 +85,19 @@ def length_at(queues: Sequence[WorksQueue], share: float) -> float:
     ordered = sorted(queues, key=lambda one: one.metres)
     sums = list(accumulate(one.seconds for one in ordered))
     return ordered[bisect_left(sums, share * sums[-1])].metres if ordered else 0.0
+
+
+def longest_queue(watched: Iterable[Watched]) -> tuple[float, int]:
+    """(metres of the longest queue before any works, its clock); (0, 0) where there was none."""
+    queues = [(one.metres, one.clock) for works in watched for one in works.queues]
+    return max(queues, key=lambda one: one[0], default=(0.0, 0))
+
+
+def worst_quarter(watched: Iterable[Watched]) -> tuple[float, int]:
+    """(the greatest mean delay, seconds, of those who came past works in a quarter of an hour, the clock at which that
+    begins); (0, 0) where nobody did."""
+    delays: defaultdict[int, list[float]] = defaultdict(list)
+    for works in watched:
+        for one in works.passings:
+            delays[(one.clock - 1) // QUARTER * QUARTER].append(one.delay)
+    return max(((fmean(own), begin) for begin, own in delays.items()), default=(0.0, 0))

@@ -8,6 +8,7 @@ from dataclasses import dataclass, field
 from streetsim.base.files import Fault, Json, open_text, read_json, reading
 from streetsim.base.unpacking import LINE, STREAMED, lines_of, refuse_crowded
 from streetsim.model import tables
+from streetsim.model.doubts import Doubt, doubts_from
 from streetsim.model.mapping import Map, map_from
 from streetsim.model.rows import NAME as ROWS
 from streetsim.model.rows import frames_in
@@ -34,6 +35,7 @@ class Folder:
     # Of what the folder was setting: run, seed, start, until, rescue, program.
     setting: Json = field(default_factory=dict)
     doubts: list[str] = field(default_factory=list)  # why the run is not to be trusted
+    places: list[Doubt] = field(default_factory=list)  # and where
 
     @property
     def unproved(self) -> str:
@@ -120,4 +122,8 @@ def read_folder(path: str) -> Folder:
     value = read_json(f"{path}/{NAME}", ("map", "signals", "dawdle", "every", "period"))
     own = {key: value[key] for key in ("signals", "dawdle", "every", "period")}
     made, doubts = value.get("made", {}), value.get("not_trusted", [])
-    return Folder(path, map_from(path, value["map"]), **own, setting=made, doubts=doubts)
+    try:
+        places = doubts_from(value.get("doubts", ()))
+    except TypeError as fault:
+        raise Fault(f"{path}/{NAME}: doubts: {fault}") from None
+    return Folder(path, map_from(path, value["map"]), **own, setting=made, doubts=doubts, places=places)

@@ -21,6 +21,9 @@ class FullLane:
     target: str
     demand: float  # in the worst quarter of an hour, as a share of what can pass here
     vehicles: int = 0  # of the demand, that pass it
+    # Seconds from which to which it is, by quarters of an hour; end 0: where only the whole demand fills it.
+    begin: int = 0
+    end: int = 0
 
     def in_words(self) -> str:
         """Where it is, and how full."""

@@ -24,7 +24,8 @@ Shape = Sequence[Sequence[float]]  # of (x, y)
 KEYS = ("nodes", "links", "turns", "signals", "cars", "options", "warnings")
 INVENTED = "invented."  # with which the names of vehicles begin that nobody counted
 TOLD_INVENTED = "The demand is invented: vehicles that nobody counted drive from border to border of the network"
-WHERE_ANY = ("rings", "programs", "names", "fixed", "end", "timings")  # keys that a map's file has where there are any
+# Keys that a map's file has where there are any.
+WHERE_ANY = ("rings", "programs", "names", "fixed", "end", "timings", "doubted_plans")
 
 
 @dataclass(slots=True, frozen=True)
@@ -137,6 +138,8 @@ class Map:
     reserved: ReservedLanes | None = None  # of classes beside the first
     end: int = 0  # the clock at which SUMO's configuration ends a run, 0 where none does
     timings: list[Json] = field(default_factory=list)  # the programs of lights at the road, as of model.timing
+    # By light, of those whose plan a search made that is not to be trusted, why it is not.
+    doubted_plans: dict[str, str] = field(default_factory=dict)
 
     def __post_init__(self) -> None:
         """Finds the links of each edge."""
@@ -218,7 +221,7 @@ def map_from(path: FilePath, content: Json) -> Map:
         fields["links"], fields["turns"] = rows_of(MapLink, content["links"]), rows_of(MapTurn, content["turns"])
         fields |= {name: content.get(name, []) for name in ("actuated", "rings", "programs", "fixed", "timings")}
         fields["warning_rows"] = content.get("told", [])
-        fields |= {name: content.get(name, {}) for name in ("location", "names", "sources")}
+        fields |= {name: content.get(name, {}) for name in ("location", "names", "sources", "doubted_plans")}
         fields |= {"kinds": content.get("vehicles", {}), "yields": giving_way_of(content.get("yields", ()))}
         fields["full"] = fullness_of(content.get("full", {}))
         fields["end"] = content.get("end", 0)

@@ -143,8 +143,11 @@ def is_drawn(record: Mapping[str, object]) -> bool:
 
 
 def told_of_days(is_drawn_: bool, seeds: int) -> Iterator[str]:
-    """What a page or a last line says of runs of several seeds: of what days their intervals are."""
+    """What a page or a last line says of runs of several seeds: of what their intervals are."""
     if is_drawn_:
-        yield f"departures drawn by each of {seeds} seeds: intervals are of a day"
+        yield (
+            f"departures drawn by each of {seeds} seeds: intervals are of the mean, which more seeds make narrower; "
+            "those of one day are wider, and say so"
+        )
     else:
         yield "departures as listed: the seeds differ by dawdling alone, so nothing is sure of another day"

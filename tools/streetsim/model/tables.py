@@ -47,15 +47,15 @@ SUMMARY = ("time", "entered", "waiting", "on_cells", "in_buffers", "arrived", "t
 SEEDS = ("seed", "vehicles", "arrived", "mean_trip_s", "rescues")
 # All else is numbers.
 TEXTS = {"id", "edge", "state", "junction", "control", "approach", "to", "movement", "los", "before", "light", "ended"}
-TEXTS |= {"line", "stop", "from", "route"}
+TEXTS |= {"line", "stop", "from", "route", "doubt"}
 LOST = ("vehicles", "vehicles_per_hour", "control_delay_s", "error_s", "stopped_delay_s", "stops_per_vehicle")
 QUEUED = ("queue_50_m", "queue_95_m", "queue_max_m", "storage_m")
 MOVEMENTS = (
     *("begin", "end", "junction", "control", "approach", "to", "movement", *LOST, *QUEUED),
-    *("saturation_flow", "capacity_per_hour", "v_c", "los"),
+    *("saturation_flow", "capacity_per_hour", "v_c", "los", "full_percent", "blocked_percent", "doubt"),
 )
-APPROACHES = ("begin", "end", "junction", "control", "approach", *LOST, *QUEUED, "v_c", "los")
-JUNCTIONS = ("begin", "end", "junction", "control", *LOST, "queue_max_m", "v_c", "los", "nearly_full")
+APPROACHES = ("begin", "end", "junction", "control", "approach", *LOST, *QUEUED, "v_c", "los", "doubt")
+JUNCTIONS = ("begin", "end", "junction", "control", *LOST, "queue_max_m", "v_c", "los", "nearly_full", "doubt")
 
 
 @contextlib.contextmanager

@@ -11,6 +11,7 @@ from statistics import fmean
 
 from streetsim.base.files import whole_file
 from streetsim.base.program import proof_note
+from streetsim.model.doubts import Doubt, places_told
 from streetsim.model.folder import NAME
 from streetsim.model.freeflow import FreeFlow
 from streetsim.model.mapping import Map
@@ -102,6 +103,7 @@ def doubts(
     found = [*rescue_doubts(trips, rescues), *arrival_doubts(trips), *entry_doubts(trips, censuses)]
     found += works_doubts(works_in(run, mapping), [(trips.clock, trips.all_arrived())])
     found += [*full_doubts(mapping), *start_doubts(mapping), *reserved_doubts(mapping)]
+    found += plan_doubts(mapping.doubted_plans)
     return [*found, *length_doubts(trips.clock, run, mapping), *actuated_doubts(trips.clock, run, mapping, listed)]
 
 
@@ -223,6 +225,14 @@ def reserved_doubts(mapping: Map) -> Iterator[str]:
         yield f"{own.in_words()}; trips of such buses were {RESERVED_OFF} too short"
 
 
+def plan_doubts(plans: Mapping[str, str]) -> Iterator[str]:
+    """A doubt, for each reason, where the plans of lights were found by a search that is not to be trusted. plans: by
+    light why."""
+    for why, count in Counter(plans.values()).items():
+        told = "the plan of 1 light is" if count == 1 else f"the plans of {count:,} lights are"
+        yield f"{told} of a search that is not to be trusted ({why})"
+
+
 def length_doubts(clock: int, run: Run, mapping: Map) -> Iterator[str]:
     """A doubt where the routes of those that wish to depart before a clock are, together, by more than a tenth longer
     or shorter than in SUMO, as edges are whole cells."""
@@ -249,6 +259,24 @@ def write_doubts(folder: str, doubts: Sequence[str], program: str) -> None:
     with nothing else but that its program is without proofs. program: its path. Fault where it cannot be written."""
     with whole_file(f"{folder}/{NAME}") as file:
         json.dump({"not_trusted": list(doubts), **proof_note(program)}, file, separators=(",", ":"))
+
+
+def last_line(doubts: Sequence[str], places: Sequence[Doubt], mapping: Map) -> str:
+    """The last line of a run: that it is not to be trusted, and why, and its worst doubted places; empty where there is
+    neither."""
+    return "; ".join(filter(None, [verdict(doubts) if doubts else "", places_told(places, mapping)]))
+
+
+def last_line_of_seeds(doubts: Mapping[int, Sequence[str]], places: Sequence[Doubt], mapping: Map) -> str:
+    """The same of runs with several seeds: which are not to be trusted, and why the first of them is not. doubts: by
+    seed; places: of all."""
+    doubtful = {seed: texts for seed, texts in doubts.items() if texts}
+    if not doubtful:
+        return places_told(places, mapping)
+    named = f"seed{'s' if len(doubtful) > 1 else ''} {', '.join(map(str, doubtful))}"
+    first, texts = next(iter(doubtful.items()))
+    why = "; ".join(texts) if len(doubtful) == 1 else f"seed {first}: {'; '.join(texts)}"
+    return "; ".join(filter(None, [f"not to be trusted: {named}: {why}", places_told(places, mapping)]))
 
 
 def verdict(doubts: Sequence[str]) -> str:

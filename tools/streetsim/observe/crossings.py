@@ -32,6 +32,7 @@ class Movements:
         numbers = {edge: number for number, edge in enumerate(self.edges)}
         self.edge_of = np.array([numbers[link.edge] for link in mapping.links])
         self.approach_edges = np.array([numbers[edge] for edge in passages.edges], np.int64)  # by number of an approach
+        self.approach_of = passages.edge_of  # by link the number of its approach, or MISSING
         self.stopping = movements_that_stop(mapping)
         self.losses: dict[int, tuple[float, float]] = {}
 
@@ -77,13 +78,46 @@ class PlanPlaces:
         return self.positions[np.minimum(place, len(self.positions) - 1)], high > low
 
 
+class Entries:
+    """Vehicles whose trips begin on approaches: when they wished to depart, and their movements there."""
+
+    def __init__(self, movements: Movements, plans: Plans, departs: Array) -> None:
+        """departs: the clocks of the wished departures, by vehicle."""
+        edge_of, self.departs = movements.edge_of[plans.links], departs
+        place, last = plans.first_places.copy(), plans.end_places - 1
+        approach = movements.approach_of[plans.links[place]]
+        own = np.where(approach >= 0, movements.approach_edges[np.maximum(approach, 0)], -1)
+        while (off := (edge_of[place] != own) & (place < last) & (own >= 0)).any():
+            place[off] += 1
+        on_way = (own >= 0) & (edge_of[place] == own) & (place < last)
+        following = edge_of[np.minimum(place + 1, last)]
+        # By vehicle, -1: its trip begins elsewhere or ends there.
+        self.movement = np.where(on_way, own * len(movements.edges) + following, -1)
+
+    def grown(self, begins: Array, start: int, interval: int) -> dict[int, dict[int, int]]:
+        """By interval and movement how many more wait to enter at its end than at its begin, without those that are 0.
+        begins: by vehicle the clock at which it was first seen there, 0: never."""
+        grown: dict[int, dict[int, int]] = {}
+        for sign, clocks, rows in ((1, self.departs, self.departs >= 0), (-1, begins - 1, begins > 0)):
+            rows = np.flatnonzero(rows & (self.movement >= 0))
+            keys, counts = np.unique(
+                np.stack([(clocks[rows] - start) // interval, self.movement[rows]]), axis=1, return_counts=True
+            )
+            for number, movement, count in zip(*keys.tolist(), counts.tolist(), strict=True):
+                of_interval = grown.setdefault(number, {})
+                of_interval[movement] = of_interval.get(movement, 0) + sign * count
+        return grown
+
+
 class Crossings:
     """Passages of approaches, as columns: movement by its number, slot, following link, end, line, delay, stops, stood,
-    alone, stood_before. Those whose plan ends on the approach or does not have its edge are left out, and those that
-    left it from an edge before: they arrived, turned back or were rescued there."""
+    alone, stood_before. The delay of a trip that begins there has its wait to enter. Those whose plan ends on the
+    approach or does not have its edge are left out, and those that left it from an edge before: they arrived, turned
+    back or were rescued there."""
 
-    def __init__(self, planned: PlanPlaces, columns: Columns) -> None:
-        """columns: as `Passages.ended_passages` gives them; they follow those of the Crossings before."""
+    def __init__(self, planned: PlanPlaces, columns: Columns, departs: Array) -> None:
+        """columns: as `Passages.ended_passages` gives them; they follow those of the Crossings before. departs: the
+        clocks of the wished departures, by vehicle."""
         plans, movements = planned.plans, planned.movements
         rows = np.flatnonzero(movements.edge_of[columns["slot"] // 2] == movements.approach_edges[columns["edge"]])
         place, is_planned = planned.places_of(columns["owner"][rows], columns["edge"][rows])
@@ -96,7 +130,10 @@ class Crossings:
         self.following = plans.links[place + 1]
         edge = movements.approach_edges[columns["edge"]]
         self.movement = edge * len(movements.edges) + movements.edge_of[self.following]
-        self.delay = columns["end"] - columns["begin"] - plans.seconds_between(first_place, place) - columns["dwell"]
+        is_first = first_place == plans.first_places[columns["owner"]]
+        # Who departs when it wishes to is first seen a second later.
+        begin = np.where(is_first, np.minimum(columns["begin"], departs[columns["owner"]] + 1), columns["begin"])
+        self.delay = columns["end"] - begin - plans.seconds_between(first_place, place) - columns["dwell"]
         self.slot, self.end = columns["slot"], columns["end"]
         self.line, self.stood_before = columns["line"], columns["before"]
         self.stops, self.stood, self.alone = (columns[name] for name in ("stops", "stood", "alone"))
@@ -119,9 +156,11 @@ class Crossed:
         self.log = Log({"line": "i4", "slot": "u2", "before": "i2", "stood": "?"})
         self.passes, self.alone = PeriodSums(lanes), PeriodSums(lanes)  # by interval and lane
         self.lane_links = np.zeros(0, np.int64)  # SLOTS times the lane, and the link to which they go, each pair once
-        planned = PlanPlaces(self.movements, plans)
+        planned, begins = PlanPlaces(self.movements, plans), passages.begins_under_way()
+        departs = np.array([line.command["depart"] for line in passages.kernel.run.enters], np.int64)
         for number, part in passages.ended_passages(interval, dwells_of):
-            crossings = Crossings(planned, part)
+            crossings = Crossings(planned, part, departs)
+            note_first(begins, part)
             self.lost[number] = tuple(self.sums_of(crossings))
             lane, at = passages.column[crossings.slot], (crossings.line - 1 - start) // interval
             alone = (crossings.stood == 0) & (crossings.alone > 0)
@@ -130,6 +169,12 @@ class Crossed:
             self.lane_links = np.union1d(self.lane_links, crossings.slot.astype(np.int64) * SLOTS + crossings.following)
             columns = {"line": crossings.line, "slot": crossings.slot, "before": crossings.stood_before}
             self.log.add({**columns, "stood": crossings.stood > 0})
+        self.waiting_more = Entries(self.movements, plans, departs).grown(begins, start, interval)
+
+    def entering_more(self, number: int) -> dict[Movement, int]:
+        """By movement how many more wait to enter the network, to go there, at the end of an interval than at its
+        begin."""
+        return {self.movements.edge_pair(one): count for one, count in self.waiting_more.get(number, {}).items()}
 
     def sums_of(self, crossings: Crossings) -> Iterator[Array]:
         """Of crossings, by movement: its number, how many, their mean delay, seconds of standing and stops of all; then
@@ -160,3 +205,11 @@ class Crossed:
         for movement, slot, count in zip(*columns[4:], strict=True):
             lanes[names[movement]][slot // 2, slot % 2] = count
         return lost, lanes
+
+
+def note_first(begins: Array, passages: Columns) -> None:
+    """Notes of some passages the begins of those vehicles, by their numbers, that have none or a later one."""
+    owner = passages["owner"]
+    later = (begins[owner] == 0) | (begins[owner] > passages["begin"])
+    order = np.argsort(-passages["begin"][later], kind="stable")
+    begins[owner[later][order]] = passages["begin"][later][order]

@@ -7,7 +7,7 @@ from itertools import accumulate
 from math import atan2, degrees
 from typing import Any
 
-from streetsim.model.mapping import Map, Place, Shape
+from streetsim.model.mapping import Map, MapTurn, Place, Shape
 from streetsim.model.runs import TimedCommand
 from streetsim.model.service import PRIORITY, ROUNDABOUT, SIGNALS
 
@@ -28,6 +28,7 @@ class Approach:
     # Links of each edge before, the nearest first, turning back apart.
     edges_before: list[list[int]] = field(default_factory=list)
     whole_metres: float = 0.0  # metres, with the edges before
+    rooms: dict[Place, float] = field(default_factory=dict)  # metres of its lanes, each as far back as it goes
 
     @property
     def all_links(self) -> list[int]:
@@ -56,6 +57,7 @@ def approaches_of(mapping: Map) -> dict[str, Approach]:
             approaches[source.edge].movements[target.edge] = turn_name(source.shape, target.shape)
     with_turns = {edge: approach for edge, approach in approaches.items() if approach.movements}
     set_edges_before(mapping, with_turns, lit | junctions | rings.keys())
+    set_rooms(mapping, with_turns)
     return with_turns
 
 
@@ -101,6 +103,34 @@ def set_edges_before(mapping: Map, approaches: Mapping[str, Approach], junctions
             approach.edges_before.append(mapping.links_of[sooner])
             approach.whole_metres += mapping.links[mapping.links_of[sooner][0]].metres
             edge, passed_edges = sooner, passed_edges | {sooner}
+
+
+def set_rooms(mapping: Map, approaches: Mapping[str, Approach]) -> None:
+    """Sets the rooms of new approaches, whose edges before are set. A lane goes back through these as far as a lane of
+    the edge before leads to it alone, or leads to it as the first from the right that goes straight on: the others of
+    those are pockets, which end there."""
+    leads_to: defaultdict[Place, list[Place]] = defaultdict(list)
+    comes_from: defaultdict[Place, list[Place]] = defaultdict(list)
+    for turn in mapping.turns:
+        if not turn.added:
+            leads_to[turn.link, turn.lane].append((turn.next, turn.next_lane))
+            comes_from[turn.next, turn.next_lane].append((turn.link, turn.lane))
+    for approach in approaches.values():
+        straight = {(turn.link, turn.lane) for turn in mapping.turns if goes_straight(mapping, turn, approach)}
+        before = {link for links in approach.edges_before for link in links}
+        for lane_key in approach.lanes:
+            at, approach.rooms[lane_key] = lane_key, approach.metres
+            while sources := [one for one in comes_from[at] if one[0] in before]:
+                beside = {other for source in sources for other in leads_to[source]}
+                if at != min(beside, key=lambda one: (one not in straight, one)):
+                    break
+                at = sources[0]
+                approach.rooms[lane_key] += mapping.links[at[0]].metres
+
+
+def goes_straight(mapping: Map, turn: MapTurn, approach: Approach) -> bool:
+    """Whether a turn from an approach goes straight on."""
+    return turn.link in approach.links and approach.movements[mapping.links[turn.next].edge] == "T" and not turn.added
 
 
 def movements_that_stop(mapping: Map) -> set[tuple[str, str]]:

@@ -29,7 +29,9 @@ class Interval:
     lost: dict[Movement, Losses] = field(default_factory=dict)
     lanes: dict[Movement, dict[Place, int]] = field(default_factory=dict)  # vehicles by lane
     queues: dict[Place, list[float]] = field(default_factory=dict)  # metres of the queue in each cycle
-    uses: dict[Place, float] = field(default_factory=dict)  # v/c, from 0; above 1 where more want to pass than can
+    uses: dict[Place, float] = field(default_factory=dict)  # who passed as a share of who could, 0 to 1
+    wishes: dict[Place, float] = field(default_factory=dict)  # who wished to pass and is there, times those who passed
+    entering_more: dict[Movement, int] = field(default_factory=dict)  # who waits to enter at its end, less at its begin
     flows: dict[Place, float] = field(default_factory=dict)  # saturation flow, vehicles an hour
 
 

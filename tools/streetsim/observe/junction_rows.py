@@ -2,26 +2,43 @@
 import contextlib
 from collections import defaultdict
 from collections.abc import Iterable, Mapping, Sequence
+from dataclasses import dataclass, replace
 
-from streetsim.model.mapping import Place
+from streetsim.model.doubts import ALL, APPROACH, MOVEMENT, SPREAD, Doubt, DoubtsByPlace, why_of
+from streetsim.model.mapping import Map, Place
 from streetsim.model.names import Names, open_named
 from streetsim.model.service import fills, level, percentile
 from streetsim.model.tables import APPROACHES, JUNCTIONS, MOVEMENTS, Entry
 from streetsim.observe.junction_layout import Approach
 from streetsim.observe.junction_measures import Interval, Losses, weighted_mean_losses
 
+NEARLY_FULL = 0.9  # v/c of a movement from which on its delay and queue may be other than in SUMO
 MOVEMENT_SHARE = 0.05  # of a movement's vehicles, from which on a lane counts for its queue
 Queues = Mapping[Place, tuple[float, float, float]]  # by lane what queue_figures has
 
 
+@dataclass(slots=True)
+class MovementRow:
+    """A movement of an approach in an interval: its row but for the doubt, and what its approach is reckoned from."""
+
+    target: str  # the next edge
+    lost: Losses
+    ratio: float  # v/c, 0 where its capacity is not known
+    lanes: list[Place]  # that count for its queue
+    cells: Entry
+
+
 class JunctionTables:
     """The rows of the three tables, by interval; what nobody used in an interval has none. filled: the edges of the
-    approaches that a queue filled in any interval."""
+    approaches that a queue filled in any interval; found: the doubts of rows by their own values."""
 
-    def __init__(self, approaches: Mapping[str, Approach], full: Mapping[str, float]) -> None:
-        """approaches: by edge, as `approaches_of` gives them; full: by junction with lanes that are nearly full by the
-        demand, their greatest demand as a share of what passes here (Fullness.junctions)."""
-        self.full = full
+    def __init__(
+        self, approaches: Mapping[str, Approach], mapping: Map, doubts: Iterable[Doubt] = (), cut: Iterable[str] = ()
+    ) -> None:
+        """approaches: by edge, as `approaches_of` gives them, of a map; doubts: with places; cut: edges of approaches
+        to which further edges lead that no table has."""
+        self.full, self.mapping = mapping.full.junctions(), mapping
+        self.doubts, self.cut = DoubtsByPlace(doubts), {*cut}
         self.by_junction: defaultdict[str, list[Approach]] = defaultdict(list)
         for approach in approaches.values():
             self.by_junction[approach.junction].append(approach)
@@ -30,6 +47,7 @@ class JunctionTables:
         self.approaches: list[Entry] = []
         self.junctions: list[Entry] = []
         self.filled: set[str] = set()
+        self.found: list[Doubt] = []
 
     def add(self, interval: Interval) -> None:
         """Adds the rows of an interval to all three tables."""
@@ -38,50 +56,85 @@ class JunctionTables:
             added = [self.add_approach(interval, queues, approach) for approach in approaches]
             measures = [values for values in added if values]
             if measures:
-                parts, longest, ratios = zip(*measures, strict=True)
+                parts, longest, ratios, doubts = zip(*measures, strict=True)
                 lost, control = weighted_mean_losses(parts), approaches[0].control
                 full = f"{self.full[junction]:.2f}" if junction in self.full else ""
-                junction_columns = f"{max(longest):.1f}", f"{max(ratios):.2f}", level(lost.delay, control), full
+                doubt = spread_doubt(zip(parts, doubts, strict=True))
+                junction_columns = f"{max(longest):.1f}", f"{max(ratios):.2f}", level(lost.delay, control), full, doubt
                 head = interval.begin, interval.end, junction, control
                 self.junctions.append((*head, *loss_columns(lost, interval), *junction_columns))
 
     def add_approach(
         self, interval: Interval, queues: Queues, approach: Approach
-    ) -> tuple[Losses, float, float] | None:
+    ) -> tuple[Losses, float, float, str] | None:
         """Adds the rows of an approach and of its movements; gives (what its vehicles lost, metres of its longest
-        queue, the greatest v/c of its movements); None where nobody used it."""
+        queue, the greatest v/c of its movements, its doubt); None where nobody used it."""
         used = [pair for pair in self.movements_of[approach.edge] if (approach.edge, pair[0]) in interval.lost]
         if not used:
             return None
-        ratios = [self.add_movement(interval, queues, approach, *pair) for pair in used]
-        lost = weighted_mean_losses(interval.lost[approach.edge, target] for target, _ in used)
+        rows = [self.movement_row(interval, queues, approach, *pair) for pair in used]
+        lost, ratio = weighted_mean_losses(row.lost for row in rows), max(row.ratio for row in rows)
         lane_queues = [queues[lane_key] for lane_key in approach.lanes]
         head = interval.begin, interval.end, approach.junction, approach.control, approach.edge
-        ratio_columns = f"{max(ratios):.2f}", level(lost.delay, approach.control)
         queued = queue_columns(lane_queues, approach.whole_metres)
-        if fills(float(queued[2]), float(queued[3])):
+        fills_it = fills(float(queued[2]), float(queued[3]))
+        if fills_it:
             self.filled.add(approach.edge)
+        own = DoubtsByPlace(self.own_doubts(interval, approach, rows, fills_it))
+        doubts = [self.movement_doubt(interval, approach, row, own) for row in rows]
+        self.movements += [(*row.cells, doubt) for row, doubt in zip(rows, doubts, strict=True)]
+        place = (interval.begin, interval.end), approach.junction, approach.edge
+        whole = why_of([*self.doubts.of_approach(*place), *own.of_approach(*place)])
+        doubt = whole or spread_doubt(zip((row.lost for row in rows), doubts, strict=True))
+        ratio_columns = f"{ratio:.2f}", level(lost.delay, approach.control), doubt
         self.approaches.append((*head, *loss_columns(lost, interval), *queued, *ratio_columns))
-        return lost, max((greatest for _, greatest, _ in lane_queues), default=0.0), max(ratios)
+        return lost, max((greatest for _, greatest, _ in lane_queues), default=0.0), ratio, doubt
 
-    def add_movement(self, interval: Interval, queues: Queues, approach: Approach, target: str, name: str) -> float:
-        """Adds the row of a movement of an approach, to the edge target; name: L, T, R or U. Gives its v/c, 0 where its
-        capacity is not known."""
+    def own_doubts(
+        self, interval: Interval, approach: Approach, rows: Iterable[MovementRow], fills_it: bool
+    ) -> list[Doubt]:
+        """What the rows of an approach say against themselves, which is noted: movements whose v/c is NEARLY_FULL or
+        more, and a queue that fills the approach (fills_it) and goes on in edges that no table has."""
+        at = approach.junction, approach.edge
+        usual = Doubt(MOVEMENT, *at, "", ALL, begin=interval.begin, end=interval.end)
+        found = [
+            replace(usual, target=row.target, why=f"v/c {row.ratio:.2f}", size=row.ratio, vehicles=row.lost.vehicles)
+            for row in rows
+            if row.ratio >= NEARLY_FULL
+        ]
+        if fills_it and approach.edge in self.cut:
+            why = "its queue goes on in the edges before, which no table has"
+            found.append(replace(usual, kind=APPROACH, why=why))
+        self.found += found
+        return found
+
+    def movement_doubt(self, interval: Interval, approach: Approach, row: MovementRow, own: DoubtsByPlace) -> str:
+        """What speaks against a movement's row, of all doubts and of the approach's own."""
+        lanes = [self.mapping.lane_name(*lane_key) for lane_key in row.lanes]
+        place = (interval.begin, interval.end), approach.junction, approach.edge, row.target, lanes
+        return why_of([*self.doubts.of_movement(*place), *own.of_movement(*place)])
+
+    def movement_row(
+        self, interval: Interval, queues: Queues, approach: Approach, target: str, name: str
+    ) -> MovementRow:
+        """The row of a movement of an approach, to the edge target; name: L, T, R or U."""
         lost, lanes = interval.lost[approach.edge, target], interval.lanes[approach.edge, target]
         count = max(1, sum(lanes.values()))
         hours = (interval.end - interval.begin) / 3600
         # A lane passes as many of the movement as it does, over how far it is used.
         uses = interval.uses
         capacity = sum(vehicles / hours / uses[lane_key] for lane_key, vehicles in lanes.items() if uses[lane_key])
-        ratio = lost.vehicles / hours / capacity if capacity else 0.0
+        wished = sum(vehicles * max(1.0, interval.wishes.get(lane_key, 1.0)) for lane_key, vehicles in lanes.items())
+        wished += max(0, interval.entering_more.get((approach.edge, target), 0))
+        ratio = wished / hours / capacity if capacity else 0.0
         flow = sum(vehicles * interval.flows[lane_key] for lane_key, vehicles in lanes.items()) / count
-        used = [queues[lane_key] for lane_key, vehicles in lanes.items() if vehicles >= MOVEMENT_SHARE * count]
+        used = [lane_key for lane_key, vehicles in lanes.items() if vehicles >= MOVEMENT_SHARE * count]
+        room = min((approach.rooms.get(lane_key, approach.whole_metres) for lane_key in used), default=0.0)
         head = interval.begin, interval.end, approach.junction, approach.control, approach.edge, target, name
         flow_columns = f"{flow:.0f}", f"{capacity:.0f}" if capacity else "", f"{ratio:.2f}"
-        letter = level(lost.delay, approach.control, ratio)
-        columns = *loss_columns(lost, interval), *queue_columns(used, approach.whole_metres)
-        self.movements.append((*head, *columns, *flow_columns, letter))
-        return ratio
+        letter, spills = level(lost.delay, approach.control, ratio), spill_columns(interval, approach, used)
+        columns = *loss_columns(lost, interval), *queue_columns([queues[lane_key] for lane_key in used], room)
+        return MovementRow(target, lost, ratio, used, (*head, *columns, *flow_columns, letter, *spills))
 
     def write(self, folder: str, names: Names, intervals: Iterable[Interval]) -> None:
         """Adds intervals, and writes the rows of each to movements.csv, approaches.csv and junctions.csv in a folder,
@@ -102,6 +155,37 @@ class JunctionTables:
                     rows.clear()
 
 
+def spread_doubt(parts: Iterable[tuple[Losses, str]]) -> str:
+    """The doubt of what some parts make up together, by what their vehicles lost and the doubts of each: theirs, where
+    those that are doubted lost SPREAD of all that is lost, else none."""
+    parts = list(parts)
+    lost = [part.vehicles * part.delay for part, _ in parts]
+    doubted = sum(seconds for seconds, (_, doubt) in zip(lost, parts, strict=True) if doubt)
+    if doubted < SPREAD * sum(lost) or not doubted:
+        return ""
+    return "; ".join(dict.fromkeys(text for _, doubt in parts for text in doubt.split("; ") if text))
+
+
+def spill_columns(interval: Interval, approach: Approach, lanes: Sequence[Place]) -> tuple[str, str]:
+    """The columns full_percent and blocked_percent of a movement, by the lanes that count for its queue: of the cycles
+    of the worst of these the share in which it is full as far back as it goes, and that in which the queue of a lane
+    beside it that goes on further back blocks its begin; the second is empty where none does."""
+    full, blocked = 0.0, list[float]()
+    for lane_key in lanes:
+        queues, room = interval.queues[lane_key], approach.rooms.get(lane_key, approach.whole_metres)
+        full = max(full, share_of(fills(queue, room) for queue in queues))
+        for beside in approach.lanes:
+            if approach.rooms.get(beside, 0.0) > room:
+                blocked.append(share_of(fills(queue, room) for queue in interval.queues[beside]))
+    return f"{100 * full:.0f}", f"{100 * max(blocked):.0f}" if blocked else ""
+
+
+def share_of(holds: Iterable[bool]) -> float:
+    """The share of some that hold, 0 of none."""
+    found = list(holds)
+    return sum(found) / len(found) if found else 0.0
+
+
 def loss_columns(lost: Losses, interval: Interval) -> tuple:
     """The columns LOST of a row (vehicles, an hour, delay, its error, standing, stops); as every second was looked at,
     the error is left empty."""
@@ -118,6 +202,6 @@ def queue_figures(queues: Sequence[float]) -> tuple[float, float, float]:
 def queue_columns(lanes: Iterable[tuple[float, float, float]], metres: float) -> tuple:
     """The columns QUEUED of a row (50 %, 95 %, greatest, room), of the lane whose queues have the greatest 95 % value,
     of equal ones that of the greatest queue, and then of the greatest 50 % value; lanes: of each as queue_figures has
-    them; metres: the approach's length, which is the room."""
+    them; metres: the room."""
     often, greatest, half = max(lanes, default=(0.0, 0.0, 0.0))
     return tuple(f"{value:.1f}" for value in (half, often, greatest, metres))

@@ -5,13 +5,14 @@ from __future__ import annotations
 import itertools
 import pickle
 import zlib
-from collections.abc import Iterable
+from collections.abc import Iterable, Sequence
 
 from streetsim.base.arrays import Array, numpy as np
 from streetsim.base.report import first_few
 from streetsim.control.bus_fleet import StopOutcome, dwells
 from streetsim.kernel.loop import Kernel
 from streetsim.kernel.seconds import Seconds
+from streetsim.model.doubts import Doubt, joined
 from streetsim.model.names import Names
 from streetsim.observe.crossings import Crossed
 from streetsim.observe.junction_facing import junctions_with_facing_streets
@@ -66,15 +67,18 @@ class Junctions(Passages):
         if self.begun_interval:
             self.keep_interval()
 
-    def write(self, folder: str, stops: Iterable[StopOutcome]) -> tuple[list[str], list[str]]:
-        """Writes movements.csv, approaches.csv and junctions.csv into the folder of a run; stops: what became of them.
-        Gives (sentences for the terminal; doubts: why they are not to be trusted). Fault where one cannot be
-        written."""
+    def write(
+        self, folder: str, stops: Iterable[StopOutcome], doubts: Sequence[Doubt]
+    ) -> tuple[list[str], list[str], list[Doubt]]:
+        """Writes movements.csv, approaches.csv and junctions.csv into the folder of a run; stops: what became of them;
+        doubts: with places. Gives (sentences for the terminal; why the tables are not to be trusted; the doubts of rows
+        by their own values). Fault where one cannot be written."""
         kernel = self.kernel
         run, mapping, start = kernel.run, kernel.map, kernel.start
         crossed = Crossed(self, kernel.plans, self.interval, dwells(stops))
         calculator = UtilisationCalculator(self, self.shown_plans, crossed, run.load.command["dawdle"])
-        tables = JunctionTables(self.approaches, mapping.full.junctions())
+        cut_short = approaches_cut_short(mapping, self.approaches)
+        tables = JunctionTables(self.approaches, mapping, doubts, cut_short)
         shown = map(pickle.loads, map(zlib.decompress, self.packed_intervals))
         intervals = itertools.starmap(calculator.interval_measures, enumerate(shown))
         tables.write(folder, Names(mapping), intervals)
@@ -82,9 +86,8 @@ class Junctions(Passages):
         if facing := junctions_with_facing_streets(mapping, plans, (self.until - start) / 3600):
             where = "where minor streets wait for each other"
             messages.append(f"junctions: delays are too small {where}: {first_few(facing)}")
-        cut = tables.filled.intersection(approaches_cut_short(mapping, self.approaches))
-        beyond, doubts = queues_beyond_messages(sorted(cut))
-        return messages + beyond, doubts
+        beyond, texts = queues_beyond_messages(sorted(tables.filled.intersection(cut_short)))
+        return messages + beyond, texts, list(joined(tables.found))
 
 
 def queues_beyond_messages(approaches: list[str]) -> tuple[list[str], list[str]]:

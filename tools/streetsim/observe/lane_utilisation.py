@@ -20,6 +20,7 @@ from streetsim.observe.shown_intervals import ShownInterval
 
 GROUP_GAP = 8  # seconds without a vehicle end a group that leaves a queue
 QUEUE = 8  # vehicles of a queue from which on its headways count
+ALWAYS = 0.95  # of the green with somebody there who has stood: what passes then is all that can
 
 
 class LaneGreens(NamedTuple):
@@ -110,7 +111,8 @@ class UtilisationCalculator:
         return LaneGreens(*(np.concatenate(arrays) for arrays in zip(*parts, strict=True)))
 
     def add_uses(self, interval: Interval, number: int, shown_interval: ShownInterval) -> None:
-        """Adds the v/c of lanes, 0 where nobody passed or nothing was green. Those by whom a queue grew are in it."""
+        """Adds who passed lanes as a share of who could, and who wished to as a multiple of who passed, each 0 where
+        nobody passed or nothing was green; and who waits to enter."""
         greens = self.greens_in(shown_interval)
         counts = [len(lanes) for lanes in self.passages.lanes.values()]
         node = np.repeat(np.arange(len(shown_interval.spans)), counts)  # by lane
@@ -124,14 +126,19 @@ class UtilisationCalculator:
         parts = greens.has_green * seconds, greens.has_green * shown_interval.waiting, greens.has_green & ~before
         green, waiting, begins = (np.add.reduceat(part, firsts, dtype=np.int64) for part in parts)
         count, alone = (sums.sums_of(number)[self.lanes] for sums in (self.crossed.passes, self.crossed.alone))
-        by_green = count / (self.flow * np.maximum(1.0, green - self.lost * begins) / 3600)
-        ratio = np.where(greens.same_green, by_green, self.by_busy_seconds(alone, waiting, green))
-        ratio *= 1 + grown(shown_interval, greens.has_green, firsts, lasts) / np.maximum(1, count)
-        interval.uses = dict(zip(self.lane_keys, np.where((count > 0) & (green > 0), ratio, 0.0).tolist(), strict=True))
+        by_green = np.minimum(1.0, count / (self.flow * np.maximum(1.0, green - self.lost * begins) / 3600))
+        share = np.where(greens.same_green, by_green, self.by_busy_seconds(alone, waiting, green))
+        share = np.where(waiting >= ALWAYS * green, 1.0, share)
+        wish = 1 + grown(shown_interval, greens.has_green, firsts, lasts) / np.maximum(1, count)
+        shares, wishes = (np.where((count > 0) & (green > 0), part, 0.0).tolist() for part in (share, wish))
+        interval.uses = dict(zip(self.lane_keys, shares, strict=True))
+        interval.wishes = dict(zip(self.lane_keys, wishes, strict=True))
+        interval.entering_more = self.crossed.entering_more(number)
         interval.flows = dict(zip(self.lane_keys, self.flow.tolist(), strict=True))
 
     def by_busy_seconds(self, alone: Array, waiting: Array, green: Array) -> Array:
-        """v/c, 0 to 1, of lanes without a signal, or whose vehicles do not all have the same green: the share of green
+        """Who passed as a share, 0 to 1, of who could, of lanes without a signal, or whose vehicles do not all have the
+        same green: the share of green
         seconds with a vehicle on the lane that has stood (waiting), and a headway for each that passes while there is
         none (alone)."""
         return np.minimum(1.0, (waiting + alone * 3600 / self.flow) / np.maximum(1, green))

@@ -154,6 +154,10 @@ class Passages(Observer):
         part["line"] = np.where(part["line"] == 0, part["end"], part["line"])
         self.log.add(part)
 
+    def begins_under_way(self) -> Array:
+        """By vehicle the clock at which its passage that is under way began, 0 where none is."""
+        return np.where(self.under_way["edge"] != MISSING, self.under_way["begin"], 0).astype(np.int64)
+
     def ended_passages(self, interval: int, dwells_of: Mapping[int, Sequence[Dwell]]) -> Iterator[tuple[int, Columns]]:
         """(number from 0, passages that ended, in the order in which they did) of each interval of so many seconds that
         has any: ENDED_FIELDS, and `dwell`, seconds at stops of its own, which are in neither stops nor stood. Each is

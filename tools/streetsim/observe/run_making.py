@@ -5,7 +5,7 @@ from __future__ import annotations
 import contextlib
 import json
 import os
-from collections import defaultdict
+from collections import Counter, defaultdict
 from collections.abc import Iterable, Iterator, Sequence
 from dataclasses import asdict, dataclass, field, replace
 from functools import partial
@@ -21,12 +21,13 @@ from streetsim.control import works_figures
 from streetsim.control.bus_fleet import StopOutcome
 from streetsim.control.settings import Settings
 from streetsim.control.steering import Steering
-from streetsim.control.works_crowding import crowded_works
+from streetsim.control.works_crowding import crowded_works, told_of_crowded
 from streetsim.control.works_watched import doubts_of
 from streetsim.kernel.loop import Kernel, Observer, SentLine
 from streetsim.kernel.progress import ProgressReports, ReportProgress
 from streetsim.kernel.serving import serving_program
 from streetsim.model import tables, trust
+from streetsim.model.doubts import Doubt, doubt_rows
 from streetsim.model.folder import NAME, POLLS
 from streetsim.model.mapping import Map
 from streetsim.model.names import Names, write_named
@@ -37,6 +38,9 @@ from streetsim.model.stops import MISSED, OTHER_LANE, vehicle_classes_of
 from streetsim.model.tables import Entry, write_table
 from streetsim.observe.counts import Counts
 from streetsim.observe.detectors import Detectors
+from streetsim.observe.doubted_places import (
+    doubts_of_import, doubts_of_rescues, doubts_of_streets, doubts_of_works_seen,
+)
 from streetsim.observe.giving_way_rounds import Yielding, giving_way, with_lines
 from streetsim.observe.junctions import Junctions
 from streetsim.observe.polls import Polls, RowsWriter
@@ -84,6 +88,8 @@ class Figures:
     notes: list[str]  # sentences for the terminal, on what is not as asked for or not in the tables
     summary: str  # what its last line says
     doubts: list[str]  # why it is not to be trusted
+    places: list[Doubt]  # and where
+    last_line: str  # both in words
     by_class: str = ""  # of a run with stops or priority, the trips of each class of vehicles
 
 
@@ -187,23 +193,26 @@ def figures_of(
     stops, clock = steering.stops(), kernel.clock
     notes = [*settings.lights.notes(), *settings.buses.notes(), *stop_notes(stops, mapping)]
     notes += run_notes(run_tables, clock)
+    listed = settings.lights.listed_lights(mapping)
+    crowded = crowded_works(run, mapping, steering.closures)
+    places = [*doubts_of_places(run_tables, yielding, kernel, listed), *crowded]
     beyond: list[str] = []
     if run_tables.junctions is not None:
-        more, beyond = run_tables.junctions.write(folder, stops)
-        notes += more
+        more, beyond, of_rows = run_tables.junctions.write(folder, stops, places)
+        notes, places = [*notes, *more], [*places, *of_rows]
     trips = list(run_tables.trips.rows(steering.rescue.count, stops))
     run_tables.write(folder, trips, clock)
     driven, rescues = trust.trips_at(clock, run.start(), trips), steering.rescue.count.total()
-    listed, censuses = settings.lights.listed_lights(mapping), list(run_tables.summary.censuses())
+    censuses = list(run_tables.summary.censuses())
     doubts = [
         *trust.doubts(driven, rescues, censuses, run, mapping, listed),
         *trust.crowding_doubts(driven.vehicles, yielding.crowded),
         *beyond,
         *doubts_of(run_tables.works.watched, mapping),
-        *crowded_works(run, mapping, steering.closures),
+        *told_of_crowded(crowded),
     ]
     given_run = with_lines(given_run, list(lit_lines(kernel.sent_lines, mapping)))
-    write_setting(options, given_run, run_tables, yielding, doubts, folder, clock)
+    write_setting(options, given_run, run_tables, yielding, (doubts, places), folder, clock)
     parts = driven.in_words(), f"{rescues:,} rescues", yielding.summary(), steering.ending.end_reason
     return Figures(
         vehicles=driven.vehicles,
@@ -213,8 +222,23 @@ def figures_of(
         notes=notes,
         summary=", ".join(filter(None, parts)),
         doubts=doubts,
+        places=places,
+        last_line=trust.last_line(doubts, places, mapping),
         by_class=class_trips_line(trips, mapping) if settings.buses.visits or settings.buses.lights_ahead else "",
     )
+
+
+def doubts_of_places(
+    run_tables: RunTables, yielding: Yielding, kernel: Kernel, listed: Sequence[str]
+) -> Iterator[Doubt]:
+    """The doubts of a run with their places, but for those of its junction tables and of who comes to works. listed:
+    lights that SUMO times by detectors and that show their listed seconds."""
+    mapping = run_tables.mapping
+    yield from doubts_of_import(mapping)
+    yield from doubts_of_streets(mapping, yielding.crowded, listed)
+    edges = (mapping.links[one.slot // 2].edge for one in kernel.vehicles.takeouts)
+    yield from doubts_of_rescues(mapping, Counter(edges))
+    yield from doubts_of_works_seen(run_tables.works.watched, mapping)
 
 
 def summary_row(census: Census) -> Entry:
@@ -263,11 +287,11 @@ def stop_notes(stops: Sequence[StopOutcome], mapping: Map) -> Iterator[str]:
 
 
 def write_setting(
-    options: RunOptions, given_run: Run, run_tables: RunTables, yielding: Yielding, doubts: Sequence[str], folder: str,
-    clock: int,
+    options: RunOptions, given_run: Run, run_tables: RunTables, yielding: Yielding,
+    doubts: tuple[Sequence[str], Sequence[Doubt]], folder: str, clock: int,
 ) -> None:
     """Writes setting.json: what a run was made of. given_run: the run without the signals by which its vehicles give
-    way; doubts: why it is not to be trusted, empty where it is; clock: at the end."""
+    way; doubts: why it is not to be trusted, and those with places; clock: at the end."""
     command, settings = given_run.load.command, run_tables.settings
     made_of = {"run": os.path.basename(given_run.path), "seed": command.get("seed", 0), "start": given_run.start()}
     made_of.update(until=clock, rescue=settings.rescue, vehicles=len(given_run.enters))
@@ -279,7 +303,8 @@ def write_setting(
         "every": run_tables.every,
         "period": settings.period,
         "yielding": asdict(yielding),
-        "not_trusted": doubts,
+        "not_trusted": doubts[0],
+        "doubts": doubt_rows(doubts[1]),
         "made": made_of,
         **({"listed": options.listed} if options.listed else {}),
     }

@@ -15,7 +15,6 @@ KEY = (
     "L, T, R, U: left, straight on, right, back. Queues: what half of the cycles and what 95 % of them do not exceed, "
     "and the greatest, of the room. Bars: the length of an edge, and in it the same queues, dark, light and a line."
 )
-FULL = "Queues and delays may be other than in SUMO here."
 MOST_MOVEMENTS = 25  # of changes on the page
 
 
@@ -33,7 +32,7 @@ def junction_table(rows: Sequence[RowChange], names: Names, detailed: int) -> st
     for place, ranked in enumerate(rows):
         title = escape(title_of(ranked.key[0], names))
         linked = f'<a href="#{anchor(ranked.key[0])}">{title}</a>' if place < detailed else title
-        cells = [linked + full_mark(ranked.row)]
+        cells = [linked + doubt_mark(ranked.row)]
         cells.append(f"{ranked.row.means['vehicles_per_hour']:,.0f}")
         level = letter_mark(ranked.row.letter())
         if not two:
@@ -48,16 +47,15 @@ def junction_table(rows: Sequence[RowChange], names: Names, detailed: int) -> st
     return table(["junction", "vehicles/h", "delay, s", "level of service", "greatest v/c"], table_rows)
 
 
-def full_mark(row: ResultRow) -> str:
-    """A mark, as HTML, behind a junction whose lanes are nearly full by the demand; empty for others."""
-    full = row.means.get("nearly_full")
-    return f' <span class="small" title="{FULL}">nearly full ({full:.2f})</span>' if full else ""
+def doubt_mark(row: ResultRow) -> str:
+    """A mark, as HTML, behind what is doubted, with the reason; empty for what is not."""
+    return f' <span class="doubted">doubted: {escape(row.doubt)}</span>' if row.doubt else ""
 
 
-def full_lanes(runs: Runs, name: str) -> str:
-    """A sentence on the lanes of a junction that are nearly full by the demand, as HTML; empty where there are none."""
-    told = "; ".join(one.in_words() for one in runs.first_folder.mapping.full.lanes if one.junction == name)
-    return f'<p class="small">Nearly full by the demand: {escape(told)}. {FULL}</p>' if told else ""
+def doubted_places(runs: Runs, name: str) -> str:
+    """The doubts of a junction and of what belongs to it, as HTML; empty where there are none."""
+    told = [one.told(runs.names) for one in runs.places if one.junction == name]
+    return f'<p class="doubted">Doubted: {escape("; ".join(told))}.</p>' if told else ""
 
 
 def movement_changes(rows: Sequence[RowChange], names: Names, drawn: bool) -> str:
@@ -73,7 +71,8 @@ def movement_changes(rows: Sequence[RowChange], names: Names, drawn: bool) -> st
         levels = f"{letter_mark(ranked.row_before.letter())} to {letter_mark(ranked.row.letter())}"
         numbers = f"{ranked.change.mean_before:.1f}", f"{ranked.change.mean_after:.1f}", change_told(ranked.change)
         shown = f'<span class="ids">{escape(ids)}</span>'
-        table_rows.append([escape(names.movement(*ranked.key[1:])), shown, *numbers, levels])
+        called = escape(names.movement(*ranked.key[1:])) + doubt_mark(ranked.row)
+        table_rows.append([called, shown, *numbers, levels])
     if not table_rows:
         said = f"No movement changes {how_sure(drawn)} by so much that one notices"
         return f"<p>{said}, and none is worse than D.</p>"
@@ -88,7 +87,8 @@ def said_of_changes(seeds: int, drawn: bool) -> str:
     drawn: whether departures were."""
     said = "One seed alone tells nothing of chance: use --seeds 1-5"
     if seeds > 1:
-        said = f"Differences are of the same seeds, ± is the {interval_name(drawn)}, and changes beyond it are bold"
+        name = interval_name(drawn, "mean change")
+        said = f"Differences are of the same seeds, ± is the {name}, and changes beyond it are bold"
     return (
         f'<p class="small">{said}. Control delay, seconds. First those that '
         f"change by {NOTICED_SECONDS:.0f} s or in their level of service {how_sure(drawn)}, or are worse than D.</p>"
@@ -113,7 +113,7 @@ def detail(runs: Runs, name: str, interval: tuple[int, int]) -> str:
         f'<section class="whole"><h3 id="{anchor(name)}">{escape(title_of(name, called))}: {junction.delay:.1f} s '
         f'{letter_mark(junction.letter())}, {values["vehicles_per_hour"]:,.0f} vehicles an hour, '
         f'{escape(junction.control)}</h3>{by_time(runs, name)}'
-        f'{full_lanes(runs, name)}'
+        f'{doubted_places(runs, name)}'
         f'{table(head, rows, names=3)}<div class="picture">{queue_picture(queues)}</div></section>'
     )
 
@@ -138,7 +138,7 @@ def movement_row(row: ResultRow, names: Names) -> list[str]:
     queues = f'<span class="ids">{", ".join(lengths)} of {means["storage_m"]:.0f}</span>'
     ids = f'<span class="ids">{escape(" to ".join(row.key[1:]))}</span>'
     return [
-        *(escape(names.movement(*row.key[1:])), ids, row.movement),
+        *(escape(names.movement(*row.key[1:])) + doubt_mark(row), ids, row.movement),
         *(f"{means['vehicles_per_hour']:.0f}", f"{row.delay:.1f}", letter_mark(row.letter()), f"{means['v_c']:.2f}"),
         *(f"{means['stopped_delay_s']:.1f}", stops, queues),
     ]

@@ -6,7 +6,7 @@ from html import escape
 from itertools import chain, repeat
 from pathlib import Path
 
-from streetsim.base.seeds import mean_and_day, mean_and_half_width
+from streetsim.base.seeds import mean_and_half_width
 from streetsim.model.service import COLOURS, WHITE_LETTERS
 from streetsim.report.plan_differences import PlanDifference
 
@@ -46,13 +46,13 @@ def bullets(texts: Iterable[str]) -> str:
     return f"<ul>{''.join(f'<li>{escape(text)}</li>' for text in texts)}</ul>"
 
 
-def mean_told(seed_values: Iterable[float], drawn: bool) -> str:
-    """The mean of values of several seeds with one decimal, and the half of its 95 % interval where there are several,
-    of a day where departures were drawn; 'none' for no value."""
+def mean_told(seed_values: Iterable[float]) -> str:
+    """The mean of values of several seeds with one decimal, and the half of its 95 % interval where there are several;
+    'none' for no value."""
     seed_values = list(seed_values)
     if not seed_values:
         return "none"
-    mean, half = (mean_and_day if drawn else mean_and_half_width)(seed_values)
+    mean, half = mean_and_half_width(seed_values)
     return f"{mean:.1f}" + (f" ± {half:.1f}" if half is not None else "")
 
 

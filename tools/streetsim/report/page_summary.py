@@ -6,42 +6,29 @@ from statistics import fmean
 
 from streetsim.base.report import HEAVY
 from streetsim.base.words import time_of_day
+from streetsim.model.doubts import places_told
 from streetsim.model.loaded_lanes import forecast_doubts, loaded_lanes
 from streetsim.model.replications import told_of_days
 from streetsim.model.service import AT_PRIORITY, AT_SIGNALS, COLOURS
 from streetsim.report import page_works
-from streetsim.report.forecast_errors import (
-    GROWTH, LANE, SPLIT, WAVE, ForecastError, error_told, errors_told, is_calibrated,
-)
-from streetsim.report.light_timings import timings_of
-from streetsim.report.page_choice import NOTICED_SECONDS, RowChange, changes_that_stand_out, ranked_changes
+from streetsim.report.forecast_errors import error_told, errors_told, is_calibrated
+from streetsim.report.page_choice import NOTICED_SECONDS, RowChange, changes_that_stand_out
 from streetsim.report.page_drawings import letter_mark, service_keys, service_map
 from streetsim.report.page_map import map_figure
 from streetsim.report.page_markup import bullets, change_told, mean_told, table
-from streetsim.report.page_words import change_in_words, count_in_words, counted_noun, how_sure, interval_name
+from streetsim.report.page_verdict import (
+    Interval, LEAST_HOURLY, are_drawn, change_verdict, doubts_of, kind_of_change, ranked_rows, state_verdict,
+)
+from streetsim.report.page_words import counted_noun, how_sure
 from streetsim.report.plan_costs import NOTICED, Means, PlanCosts, costs_of, means_by_class
-from streetsim.report.plan_differences import difference_of, mean_delays
+from streetsim.report.plan_differences import difference_of
 from streetsim.report.run_tables import Runs
 
-Interval = tuple[int, int]  # begin and end, seconds
 MOST_GROUPS = 6  # flows in the table of trips
 LONG = 160  # letters of a warning on the first page
 BUS = "bus"  # SUMO's class, which is told first
 CALLED = {BUS: "buses", "passenger": "cars"}  # others have SUMO's name
-GROWN = 1.05  # times as many vehicles: from there on a forecast is one of growth
-LEAST_HOURLY = 20  # vehicles an hour of a movement that is called the worst
-
-
-def ranked_rows(plans: Sequence[Runs], interval: Interval, table_: str = "junctions") -> list[RowChange]:
-    """What is told of each row of one table in the interval that is interval: of the last plan, beside the first where
-    there are two; in the order of ranked_changes. table_: junctions, approaches or movements."""
-    rows = [runs.rows.get((table_, *interval), {}) for runs in plans]
-    return ranked_changes(rows[-1], rows[0] if len(plans) == 2 else None, are_drawn(plans))
-
-
-def are_drawn(plans: Sequence[Runs]) -> bool:
-    """Whether the departures of all runs of the plans were drawn by their seeds."""
-    return all(runs.is_drawn for runs in plans)
+MOST_PLACES = 8  # doubted, of each plan on the first page
 
 
 def common_seeds(plans: Sequence[Runs]) -> int:
@@ -82,51 +69,13 @@ def verdict(plans: Sequence[Runs], interval: Interval) -> str:
     untrusted = [runs.name for runs in plans if doubts_of(runs)]
     told = f"Not to be trusted: {' and '.join(untrusted)} (why: below)."
     mark = f'<p class="doubt">{escape(told)}</p>' if untrusted else ""
-    return f'{mark}<p class="verdict">{escape(said)}</p>'
+    return f'{mark}<p class="verdict">{escape(said)}</p>{doubted_line(plans)}'
 
 
-def doubts_of(runs: Runs) -> list[str]:
-    """Why the runs of a plan are not to be trusted, each with its seed; empty where they are."""
-    return [f"seed {seed}: {doubt}" for seed, folder in runs.folders.items() for doubt in folder.doubts]
-
-
-def change_verdict(plans: Sequence[Runs], interval: Interval) -> str:
-    """What the second of two plans changes for trips and delays, as plain text."""
-    drawn = are_drawn(plans)
-    trip = difference_of(*(runs.mean_trips() for runs in plans), drawn=drawn)
-    delay = difference_of(*(mean_delays(runs.rows["junctions", *interval].values()) for runs in plans), drawn=drawn)
-    trip_text, name = "Nothing can be said of trips, as nobody arrived.", plans[1].name
-    if trip:
-        means = f"{trip.mean_after:.1f} s on average, and {trip.mean_before:.1f} s with '{plans[0].name}'"
-        trip_text = f"With '{name}' a trip takes {means}: {change_in_words(trip)}."
-    if not delay:
-        return f"{trip_text} No junction has vehicles with both plans."
-    means = f"{delay.mean_after:.1f} s, and {delay.mean_before:.1f} s before"
-    delay_text = f"{trip_text} A vehicle's mean delay at a junction is {means}: {change_in_words(delay)}"
-    if delay.half is None:
-        return f"{delay_text}."
-    rows = ranked_rows(plans, interval)
-    changed = [change > 0 for change in changes_that_stand_out(rows).values()]
-    less, more = (count_in_words(changed.count(up)) if up in changed else "none" for up in (False, True))
-    junctions = counted_noun(len(rows), "junction")
-    return f"{delay_text}; at {less} of {junctions} it is less {how_sure(drawn)}, at {more} more."
-
-
-def state_verdict(runs: Runs, interval: Interval) -> str:
-    """How long trips and delays are with one plan, how many junctions are worse than D, and the worst, plain text."""
-    delays = mean_delays(runs.rows["junctions", *interval].values())
-    rows = ranked_rows([runs], interval)
-    bad, worst = sum(one.is_bad for one in rows), max(rows, key=lambda one: (one.row.letter(), one.row.delay))
-    trip = f"A trip takes {mean_told(runs.mean_trips().values(), runs.is_drawn)} s on average"
-    summary = f"{trip}, and a vehicle's delay at a junction is {mean_told(delays.values(), runs.is_drawn)} s"
-    summary += f" (±: {interval_name(runs.is_drawn)})." if len(runs.folders) > 1 else "."
-    letter, name = worst.row.letter(), runs.names.junction_told(worst.key[0])
-    if len(rows) == 1:
-        return f"{summary} {name} has level of service {letter}."
-    if not bad:
-        return f"{summary} Every junction has level of service {letter} or better; the worst is {name}."
-    have = f"{'has' if bad == 1 else 'have'} a level of service worse than D; the worst is {letter}, at {name}"
-    return f"{summary} {count_in_words(bad).capitalize()} of {counted_noun(len(rows), 'junction')} {have}."
+def doubted_line(plans: Sequence[Runs]) -> str:
+    """The worst doubted places of each plan, as HTML; empty where there are none."""
+    told = [f"{runs.name}: {places_told(runs.places, runs.first_folder.mapping)}." for runs in plans if runs.places]
+    return "".join(f'<p class="doubt">{escape(text)}</p>' for text in told)
 
 
 def service_and_works_map(runs: Runs, interval: Interval, rows: Sequence[RowChange] = (), detailed: int = 0) -> str:
@@ -197,7 +146,7 @@ def class_row(sides: Sequence[Mapping[int, Means]], drawn: bool) -> list[str]:
     for name in ("trip", "delay"):
         values = [{seed: getattr(own, name) for seed, own in side.items()} for side in sides]
         if len(sides) == 1:
-            cells.append(mean_told(values[0].values(), drawn))
+            cells.append(mean_told(values[0].values()))
             continue
         one = difference_of(*values, drawn=drawn)
         cells += [f"{one.mean_before:.1f}", f"{one.mean_after:.1f}", change_told(one)] if one else ["-", "-", "-"]
@@ -272,9 +221,13 @@ def doubted(plans: Sequence[Runs], further_doubts: Sequence[str] = ()) -> str:
     """What is doubted, as an HTML list; further_doubts: what else speaks against the runs, each as plain text."""
     texts = []
     for runs in plans:
-        doubts = doubts_of(runs)
+        doubts, places, names = doubts_of(runs), runs.places, runs.names
         texts += [f"{runs.name} is not to be trusted: {doubt}" for doubt in doubts]
-        if not doubts:
+        texts += [f"{runs.name}: doubted at {one.told(names)}." for one in places[:MOST_PLACES]]
+        if len(places) > MOST_PLACES:
+            left = counted_noun(len(places) - MOST_PLACES, "further place")
+            texts.append(f"{runs.name}: {left}: column doubt of its tables of junctions.")
+        if not doubts and not places:
             texts.append(f"{runs.name}: nothing that a run checks of itself speaks against it.")
     texts += [*further_doubts, *growth_doubts(plans)]
     if len(plans) == 2 and (kind := kind_of_change(plans[0], plans[1])):
@@ -290,20 +243,6 @@ def doubted(plans: Sequence[Runs], further_doubts: Sequence[str] = ()) -> str:
         texts.append(f"{told} (appendix){'; the first' if len(heavy) > 1 else ''}: {first}.")
     texts.append("These are numbers of a simulation: the street may do otherwise, and nobody here changes the way.")
     return bullets(texts) + (errors_told() if len(plans) == 2 else "")
-
-
-def kind_of_change(runs_before: Runs, runs_after: Runs) -> ForecastError | None:
-    """Of which kind a forecast is: works, more vehicles, other greens or other offsets, the first that there is; None
-    where none of them is."""
-    if page_works.works_rows(runs_after.first_folder) and not page_works.works_rows(runs_before.first_folder):
-        return LANE
-    if runs_after.vehicles > GROWN * runs_before.vehicles:
-        return GROWTH
-    pairs = [(one, timings_of(runs_after).get(name)) for name, one in timings_of(runs_before).items()]
-    known = [(one, other) for one, other in pairs if other]
-    if any(one.phases != other.phases for one, other in known):
-        return SPLIT
-    return WAVE if any(one.offset != other.offset for one, other in known) else None
 
 
 def growth_doubts(plans: Sequence[Runs]) -> list[str]:

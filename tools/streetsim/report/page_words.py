@@ -20,22 +20,21 @@ def less_or_more(change: float) -> str:
 
 
 def how_sure(drawn: bool) -> str:
-    """What a change is whose interval leaves no doubt of its sign: sure, of another day too, where departures were
-    drawn; where they were listed, nothing is."""
+    """What a change is whose interval of the mean leaves no doubt of its sign: sure, where departures were drawn; where
+    they were listed, nothing is of another day."""
     return "for sure" if drawn else "beyond the chance of dawdling"
 
 
-def interval_name(drawn: bool) -> str:
-    """Of what the 95 % interval of several seeds is; drawn: whether departures were."""
-    return f"95 % interval of {'a day' if drawn else 'dawdling alone'}"
+def interval_name(drawn: bool, of: str = "mean") -> str:
+    """Of what the 95 % interval of several seeds is that decides; drawn: whether departures were; of: what the values
+    are."""
+    return f"95 % interval of the {of}{'' if drawn else ' by dawdling alone'}"
 
 
-def interval_in_words(difference: PlanDifference) -> str:
+def span_in_words(change: float, half: float) -> str:
     """The 95 % interval of a change in seconds: '17.7 to 18.1 s less', or 'from 0.3 s less to 0.5 s more' where 0 is in
-    it; empty for one seed."""
-    if difference.half is None:
-        return ""
-    low, high = difference.change - difference.half, difference.change + difference.half
+    it; half: half its width."""
+    low, high = change - half, change + half
     if high < 0:
         return f"{-high:.1f} to {-low:.1f} s less"
     if low > 0:
@@ -43,11 +42,19 @@ def interval_in_words(difference: PlanDifference) -> str:
     return f"from {abs(low):.1f} s less to {high:.1f} s more"
 
 
+def intervals_in_words(difference: PlanDifference) -> str:
+    """Both 95 % intervals of a change in seconds, by their names; empty for one seed."""
+    if difference.half is None:
+        return ""
+    told = f"{interval_name(difference.day is not None, 'mean change')}: "
+    told += span_in_words(difference.change, difference.half)
+    of_day = "" if difference.day is None else f"; of one day: {span_in_words(difference.change, difference.day)}"
+    return told + of_day
+
+
 def change_in_words(difference: PlanDifference) -> str:
     """How great a change in seconds is and how sure, or that it is not shown to differ."""
     if difference.half is None:
         return f"{less_or_more(difference.change)} (of one run, which says nothing of chance)"
-    if difference.stands_out():
-        change = less_or_more(difference.change)
-        return f"{change} ({interval_name(difference.of_days)}: {interval_in_words(difference)})"
-    return f"not shown to differ ({interval_name(difference.of_days)}: {interval_in_words(difference)})"
+    change = less_or_more(difference.change) if difference.stands_out() else "not shown to differ"
+    return f"{change} ({intervals_in_words(difference)})"

@@ -1,13 +1,14 @@
 """What reports, maps and exports read: the folders of a run, one for each seed, and their junction tables."""
 import os
 from collections import defaultdict
-from collections.abc import Collection, Mapping
+from collections.abc import Collection, Mapping, Sequence
 from dataclasses import dataclass, field
 from statistics import fmean
 from typing import Any
 
 from streetsim.base.files import Fault
 from streetsim.base.report import first_few
+from streetsim.model.doubts import Doubt, doubts_by_seed
 from streetsim.model.folder import NAME, Folder, read_folder, seeds_in
 from streetsim.model.names import Names
 from streetsim.model.replications import is_drawn
@@ -19,7 +20,7 @@ KEYS = {"movements": ("junction", "approach", "to"), "approaches": ("junction", 
 MEASURES = (
     *("vehicles", "vehicles_per_hour", "control_delay_s", "stopped_delay_s", "stops_per_vehicle"),
     *("queue_50_m", "queue_95_m", "queue_max_m", "storage_m", "v_c", "capacity_per_hour"),
-    "nearly_full",
+    *("nearly_full", "full_percent", "blocked_percent"),
 )
 
 
@@ -32,11 +33,17 @@ class ResultRow:
     movement: str  # L, T, R or U; empty of an approach or a junction
     means: dict[str, float]  # measure: mean over the seeds that have it
     by_seed: dict[int, dict[str, float]]  # seed: {measure: value}
+    doubt: str = ""  # why it is not sure, of half of the runs or more; empty where it is
 
     @property
     def delay(self) -> float:
         """Mean control delay over the seeds, seconds a vehicle."""
         return self.means["control_delay_s"]
+
+    @property
+    def vehicles_lost(self) -> float:
+        """Seconds that all its vehicles together lose in an hour."""
+        return self.delay * self.means["vehicles_per_hour"]
 
     def letter(self) -> str:
         """Its level of service by its mean delay, A to F; of a movement F also where v/c is above 1."""
@@ -73,6 +80,11 @@ class Runs:
     def vehicles(self) -> float:
         """How many vehicles a run had, in the mean over the seeds."""
         return fmean(folder.vehicles for folder in self.folders.values())
+
+    @property
+    def places(self) -> list[Doubt]:
+        """The doubts of its runs with their places, of each place the worst, the worst first."""
+        return doubts_by_seed({seed: folder.places for seed, folder in self.folders.items()})
 
     def mean_trips(self) -> dict[int, float]:
         """{seed: mean trip in seconds of those who arrived}; seeds in which nobody did are left out."""
@@ -144,6 +156,7 @@ def add_rows(runs: Runs, table: str) -> None:
     Measures that are empty in the table are left out."""
     # By (begin, end): {(key, control, movement): {seed: measures}}.
     measures_of: defaultdict[tuple[int, int], dict[Any, Any]] = defaultdict(dict)
+    doubts_of: defaultdict[object, list[str]] = defaultdict(list)  # by interval and key
     for seed, folder in runs.folders.items():
         place = f"{folder.path}/{table}.csv"
         if not os.path.exists(place):
@@ -151,12 +164,26 @@ def add_rows(runs: Runs, table: str) -> None:
         for row in read_table(place, TABLES[table]):
             key = tuple(row[name] for name in KEYS[table]), row["control"], row.get("movement", "")
             numbers = {name: float(row[name]) for name in MEASURES if row.get(name)}
-            measures_of[int(row["begin"]), int(row["end"])].setdefault(key, {})[seed] = numbers
+            interval = int(row["begin"]), int(row["end"])
+            measures_of[interval].setdefault(key, {})[seed] = numbers
+            if row["doubt"]:
+                doubts_of[interval, key].append(row["doubt"])
     for (begin, end), rows in measures_of.items():
         runs.rows[table, begin, end] = {
-            key: ResultRow(key, control, movement, means_over_seeds(by_seed), by_seed)
-            for (key, control, movement), by_seed in rows.items()
+            own[0]: ResultRow(
+                own[0], own[1], own[2], means_over_seeds(by_seed), by_seed,
+                of_most(doubts_of[(begin, end), own], by_seed),
+            )
+            for own, by_seed in rows.items()
         }
+
+
+def of_most(doubts: Sequence[str], seeds: Collection[int]) -> str:
+    """The doubt of a row by those of the runs that have one: the first of them, and in how many runs there are some
+    where not in all; empty where less than half of the runs have one."""
+    if 2 * len(doubts) < len(seeds) or not doubts:
+        return ""
+    return doubts[0] if len(doubts) == len(seeds) else f"{doubts[0]} (in {len(doubts)} of {len(seeds)} runs)"
 
 
 def means_over_seeds(seeds: Mapping[int, Mapping[str, float]]) -> dict[str, float]:

@@ -12,7 +12,7 @@ from streetsim.base.files import Fault
 from streetsim.base.seeds import mean_and_half_width
 from streetsim.control.works_asked import works_of
 from streetsim.control.works_closures import closures_of
-from streetsim.control.works_crowding import crowded_works
+from streetsim.control.works_crowding import crowded_works, told_of_crowded
 from streetsim.control.works_watched import in_runs
 from streetsim.model import trust
 from streetsim.search.route_closing import (
@@ -67,7 +67,7 @@ class Diverted:
         )
         works = [works_of(text, mapping) for text in self.search.town.works]
         yield from in_runs([outcome.at_works for outcome in outcomes])
-        yield from crowded_works(run, mapping, closures_of(run, until))
+        yield from told_of_crowded(crowded_works(run, mapping, closures_of(run, until)))
         if works:
             ends = [(until, when_all_arrived(outcome.arrivals, run.start())) for outcome in outcomes]
             yield from trust.works_doubts([(site.lane, site.begin) for site in works], ends)

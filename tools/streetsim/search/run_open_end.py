@@ -6,6 +6,7 @@ from streetsim.base.client import NoReply, ProgramEnded
 from streetsim.base.files import Fault
 from streetsim.control.settings import Settings
 from streetsim.control.steering import Steering
+from streetsim.control.works_figures import longest_queue, worst_quarter
 from streetsim.control.works_watched import doubts_of
 from streetsim.kernel.loop import Kernel
 from streetsim.kernel.program import Program
@@ -53,4 +54,8 @@ def outcome_of(program: str, run: Run, mapping: Map, settings: Settings) -> Outc
     worst = max(summary.censuses(), key=lambda census: census.waiting)
     at_works, waiting = tuple(doubts_of(works.watched, mapping)), (worst.waiting, worst.clock)
     ended = steering.ending.end_reason
-    return Outcome(digest, arrived, seconds, kernel.clock, *waiting, ended, all_arrived_at=gone_at, at_works=at_works)
+    return Outcome(
+        digest, arrived, seconds, kernel.clock, *waiting, ended, all_arrived_at=gone_at, at_works=at_works,
+        works_passed=sum(len(one.passings) for one in works.watched), works_queue=longest_queue(works.watched),
+        works_quarter=worst_quarter(works.watched),
+    )

@@ -66,6 +66,9 @@ class Outcome:
     lines: int = 0  # signals by which they do
     all_arrived_at: int | None = None  # the clock at which all had arrived; None where some have not
     at_works: tuple[str, ...] = ()  # what speaks against the run, by what was seen before its works
+    works_passed: int = 0  # vehicles that came past the begin of works
+    works_queue: tuple[float, int] = 0.0, 0  # metres of the longest queue before works, and its clock
+    works_quarter: tuple[float, int] = 0.0, 0  # of the quarter of an hour with the greatest mean delay that, its begin
 
 
 def session_of(program: str, run: Run, until: int, without: Collection[int] = frozenset(), **load: int) -> PreparedRun:

@@ -142,7 +142,7 @@ def write_found_bounds(output: str, out: str, ground: BoundsGround, found_bounds
         write_table(f"{folder}/lights.csv", LIGHTS, bound_rows(ground.given_bounds, best))
         write_search(folder, rows, found_bounds.search, doubts, ground.town.session.program)
         with whole_file(output) as file:
-            file.write(bounds_text(ground.town.mapping, best))
+            file.write(bounds_text(ground.town.mapping, best, doubts=doubts))
     return tell_bounds(found_bounds, rows, doubts)
 
 

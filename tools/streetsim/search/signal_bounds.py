@@ -12,6 +12,7 @@ from streetsim.base.files import Json, quoteattr
 from streetsim.control.actuated_kept import programs_at_begin
 from streetsim.control.actuated_lights import ActuatedLights, Driven, driven_of
 from streetsim.control.nema_lights import DrivenRings, digits
+from streetsim.model.doubts import DOUBTED
 from streetsim.model.mapping import Map
 from streetsim.search.run_giving_way import outcome_giving_way
 from streetsim.search.run_prepared import Outcome, PreparedRun
@@ -217,21 +218,25 @@ def green_by(place: int, least_seconds: int, most_seconds: int, lowest: int) -> 
     return change
 
 
-def bounds_text(mapping: Map, bounded: Mapping[str, Bounds], program: str = PROGRAM) -> str:
+def bounds_text(
+    mapping: Map, bounded: Mapping[str, Bounds], program: str = PROGRAM, doubts: Sequence[str] = ()
+) -> str:
     """The programs of some actuated and NEMA lights of a map with other bounds, as the text of an additional file.
-    program: the programID of each."""
+    program: the programID of each; doubts: as of additional_of."""
     at_begin = programs_at_begin(mapping.programs)
     programs = []
     for name, bounds in sorted(bounded.items()):
         new_program = kept_with(at_begin[name], bounds)
         about = f'type="{new_program["kind"]}" programID="{program}" offset="{new_program["offset"]:g}"'
         programs.append((name, about, program_elements(new_program)))
-    return additional_of(programs)
+    return additional_of(programs, doubts)
 
 
 def program_elements(program: Json) -> Iterator[str]:
     """The parameters and phases of a program, of what a map keeps of it, as elements of an additional file."""
     for key, value in program["parameters"].items():
+        if key == DOUBTED:
+            continue
         yield f"<param key={quoteattr(key)} value={quoteattr(value)}/>"
     for at, phase in enumerate(program["phases"]):
         more = ring_words(*program["timing"][at]) if program.get("timing") else []

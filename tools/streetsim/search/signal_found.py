@@ -105,7 +105,7 @@ def write_found(
             for name, drawn in (("before", town.plan), ("after", plan)):
                 draw_plan(target, corridor, town, drawn, f"{folder}/{name}.png")
         with whole_file(target.plan) as file:
-            file.write(plan_text(town.lights, plan))
+            file.write(plan_text(town.lights, plan, doubts=doubts))
 
 
 def write_search(

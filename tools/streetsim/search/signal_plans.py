@@ -11,6 +11,7 @@ from typing import TypeVar
 
 from streetsim.base import limits
 from streetsim.base.files import quoteattr
+from streetsim.model.doubts import DOUBTED
 from streetsim.sumo.constraints import PEDESTRIANS, Constraint, constraints_of
 from streetsim.sumo.net import STATIC, LightProgram
 
@@ -169,19 +170,26 @@ def why_kept(name: str, program: LightProgram, fixed: Collection[str], timed: Co
     return None
 
 
-def additional_of(programs: Iterable[tuple[str, str, Iterable[str]]]) -> str:
+def additional_of(programs: Iterable[tuple[str, str, Iterable[str]]], doubts: Sequence[str] = ()) -> str:
     """The text of an additional file with the programs of lights, as SUMO and streetsim-import take it; of each (light,
-    its attributes but the light's name as one text, the elements inside)."""
-    parts = ["<additional>\n"]
+    its attributes but the light's name as one text, the elements inside). doubts: why what made them is not to be
+    trusted, which stands in a comment for readers, and with each light for streetsim-import; SUMO passes over both."""
+    parts, told = ["<additional>\n"], []
+    if doubts:
+        parts.append(f"    <!-- not to be trusted: {'; '.join(doubts).replace('--', '- -')} -->\n")
+        told = [f"<param key={quoteattr(DOUBTED)} value={quoteattr('; '.join(doubts))}/>"]
     for light, attributes, inner in programs:
-        elements = "".join(f"        {element}\n" for element in inner)
+        elements = "".join(f"        {element}\n" for element in [*told, *inner])
         parts.append(f"    <tlLogic id={quoteattr(light)} {attributes}>\n{elements}    </tlLogic>\n")
     return "".join([*parts, "</additional>\n"])
 
 
-def plan_text(lights: Mapping[str, PlannedLight], plan: Mapping[str, PlannedTiming], program: str = PROGRAM) -> str:
+def plan_text(
+    lights: Mapping[str, PlannedLight], plan: Mapping[str, PlannedTiming], program: str = PROGRAM,
+    doubts: Sequence[str] = (),
+) -> str:
     """A plan as the text of an additional file, a whole program for each of its lights, with what its phases must keep.
-    lights: by name, for the states and that; program: the programID of each."""
+    lights: by name, for the states and that; program: the programID of each; doubts: as of additional_of."""
     programs = []
     for name, timing in sorted(plan.items()):
         light = lights[name]
@@ -192,7 +200,7 @@ def plan_text(lights: Mapping[str, PlannedLight], plan: Mapping[str, PlannedTimi
         phases = zip(timing.durations, light.states, constraints, strict=True)
         inner += [f'<phase duration="{duration}" state="{state}"{kept_words(one)}/>' for duration, state, one in phases]
         programs.append((name, f'type="static" programID="{program}" offset="{timing.offset}"', inner))
-    return additional_of(programs)
+    return additional_of(programs, doubts)
 
 
 def kept_words(constraint: Constraint) -> str:

@@ -4,7 +4,8 @@ from collections.abc import Iterator, Mapping, Sequence
 from dataclasses import dataclass
 from statistics import fmean, stdev
 
-from streetsim.base.seeds import mean_and_day, paired, paired_day, runs_needed, unpaired_half_width
+from streetsim.base.seeds import mean_and_day, mean_and_half_width, paired, paired_day, runs_needed, unpaired_half_width
+from streetsim.model.doubts import OF_WORKS
 from streetsim.model.tables import Entry
 from streetsim.search.run_prepared import Outcome
 from streetsim.search.study_variants import Study
@@ -16,13 +17,20 @@ RUNS = (
 DIFFERENCES = (
     *("variant", "mean_trip_s", "difference", "half_width_95_paired", "half_width_95_unpaired", "runs"),
     *("runs_needed_paired", "runs_needed_unpaired", "half_width_95_day", "half_width_95_mean_of_day", "not_trusted"),
+    "doubted",
+)
+
+WINDOWS_FILE = "windows.csv"
+WINDOWS = (
+    *("variant", "begin", "end", "vehicle_hours", "half_width_95", "vehicles_that_pass", "queue_max_m", "queue_at"),
+    *("worst_quarter_at", "worst_quarter_delay_s", "doubt"),
 )
 
 
 @dataclass(frozen=True, slots=True)
 class VariantDifference:
-    """A row of differences.csv but for not_trusted: a variant's mean trip and its difference to the base's, with half
-    widths of the 95 % interval; seconds. None for what the base, or one seed, does not have."""
+    """A row of differences.csv but for not_trusted and doubted: a variant's mean trip and its difference to the base's,
+    with half widths of the 95 % interval; seconds. None for what the base, or one seed, does not have."""
 
     variant: str
     mean: float
@@ -78,3 +86,27 @@ def differences(
 def cell_values(row: Entry) -> Entry:
     """A row as it is written: None as an empty text, a float with three decimals; all else stays."""
     return tuple("" if value is None else f"{value:.3f}" if isinstance(value, float) else value for value in row)
+
+
+def window_rows(study: Study, outcomes_by_variant: Mapping[str, Sequence[Outcome]]) -> Iterator[Entry]:
+    """The rows of windows.csv, as WINDOWS has the columns, one for each variant with works beside the base: the
+    vehicle-hours that all trips take more, in the mean over the seeds, with the half width of its 95 % interval, those
+    who pass the works, the greatest queue of all runs, and the worst quarter in the mean."""
+    base = outcomes_by_variant[study.base]
+    for name, outcomes in outcomes_by_variant.items():
+        variant = study.variants[name]
+        if name == study.base or not variant.works:
+            continue
+        # Departures that are drawn alike have the same vehicles with and without works.
+        hours = [(one.seconds - other.seconds) / 3600 for one, other in zip(outcomes, base, strict=True)]
+        mean, half = mean_and_half_width(hours)
+        longest = max(outcomes, key=lambda one: one.works_queue[0])
+        quarters = [one.works_quarter for one in outcomes]
+        worst = max(quarters, key=lambda one: one[0])
+        doubt = "; ".join(dict.fromkeys(one.why for one in variant.places if one.kind == OF_WORKS))
+        yield (
+            name, min(begin for _, begin in variant.works), variant.works_end, f"{mean:.1f}",
+            "" if half is None else f"{half:.1f}", f"{fmean(one.works_passed for one in outcomes):.0f}",
+            f"{longest.works_queue[0]:.0f}", longest.works_queue[1], worst[1],
+            f"{fmean(one[0] for one in quarters):.0f}", doubt,
+        )

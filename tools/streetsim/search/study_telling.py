@@ -1,14 +1,17 @@
 """What streetsim-study says of its runs: differences, a picture of them, ends, and why a variant is not to be trusted.
 Results are, by variant, the outcomes of its runs in the order of the seeds."""
 from bisect import bisect_right
-from collections.abc import Iterator, Mapping, Sequence
+from collections.abc import Collection, Iterable, Iterator, Mapping, Sequence
 from statistics import fmean
 
 from streetsim.base.colours import LINE
+from streetsim.base.words import time_of_day
 from streetsim.control.ending import ALL_ARRIVED
 from streetsim.control.works_watched import in_runs
 from streetsim.model import trust
+from streetsim.model.doubts import places_told
 from streetsim.model.replications import told_of_days
+from streetsim.model.tables import Entry
 from streetsim.report.forecast_errors import error_lines
 from streetsim.report.picture_files import pyplot_if_installed, save_picture
 from streetsim.search.run_prepared import Outcome
@@ -43,7 +46,7 @@ def draw_differences(study: Study, rows: Sequence[VariantDifference], path: str)
 def intervals_of(row: VariantDifference) -> Sequence[tuple[float | None, float, str]]:
     """What the picture shows of a difference: half widths of intervals, how thick, and of what they are."""
     if row.day is not None:
-        return (row.day, 4.0, "a day"),
+        return (row.day, 1.2, "one day"), (row.paired, 4.0, "the mean change")
     return (row.unpaired, 1.2, "dawdling alone, unpaired"), (row.paired, 4.0, "dawdling alone, paired")
 
 
@@ -85,19 +88,38 @@ def tell_ends(study: Study, outcomes_by_variant: Mapping[str, Sequence[Outcome]]
         print(f"runs ended at {until} s: {ALL_ARRIVED}")
 
 
-def tell_differences(rows: Sequence[VariantDifference]) -> None:
-    """Prints for each variant its mean trip, and the difference to the base with its 95 % interval; and how many paired
-    runs the wanted precision needs, where that is more than were made; nothing of these where 2^20 are too few."""
+def tell_differences(rows: Sequence[VariantDifference], doubted: Collection[str]) -> None:
+    """Prints for each variant whether it is better or worse than the base, its mean trip, and the difference to the
+    base with its 95 % intervals; and how many paired runs the wanted precision needs, where that is more than were
+    made; nothing of these where 2^20 are too few. doubted: variants that are not to be trusted."""
     for row in rows:
-        line = f"{row.variant}: mean trip {row.mean:.1f} s"
+        line = f"{row.variant}: {answer(row, doubted)}mean trip {row.mean:.1f} s"
         if row.difference is not None:
             line += f", {row.difference:+.2f} s"
-        if row.paired is not None:
-            half, what = (row.paired, "dawdling alone") if row.day is None else (row.day, "a day")
-            line += f" ± {half:.2f} (95 % interval of {what}, {row.runs} paired runs)"
+        if row.paired is not None and row.difference is not None:
+            how = " by dawdling alone" if row.day is None else f", of one day ± {row.day:.2f}"
+            line += f" ± {row.paired:.2f} (95 % interval of the mean change{how}; {row.runs} paired runs)"
         if row.needed_paired is not None and row.needed_paired > row.runs:
             line += f"; the wanted precision needs {row.needed_paired:,} runs"
         print(line)
+
+
+def answer(row: VariantDifference, doubted: Collection[str]) -> str:
+    """Whether a variant is better or worse than the base, or that this is undecided, before a colon; empty of the base
+    and of one seed. doubted: as of tell_differences."""
+    if row.difference is None or row.paired is None:
+        return ""
+    word = "undecided" if abs(row.difference) <= row.paired else "better" if row.difference < 0 else "worse"
+    if row.variant in doubted:
+        return "undecided, as doubted: " if word == "undecided" else f"undecided, as doubted (here {word}): "
+    return f"{word}: "
+
+
+def places_lines(study: Study) -> Iterator[str]:
+    """The worst doubted places of each variant, a line each."""
+    for name, variant in study.variants.items():
+        if variant.places:
+            yield f"{name}: {places_told(variant.places, variant.mapping)}"
 
 
 def tell_how_sure(study: Study) -> None:
@@ -116,3 +138,14 @@ def tell_giving_way(outcomes_by_variant: Mapping[str, Sequence[Outcome]]) -> Non
     if any(outcome.lines for outcome in outcomes):
         junctions, lines = max(outcome.junctions for outcome in outcomes), fmean(outcome.lines for outcome in outcomes)
         print(f"{junctions:,} junctions without a light give way by some {lines:,.0f} signal lines in each run")
+
+
+def windows_told(rows: Iterable[Entry]) -> Iterator[str]:
+    """The rows of windows.csv as lines for the terminal, the least vehicle-hours first; nothing of none."""
+    ranked = sorted(rows, key=lambda row: float(row[3]))
+    for name, begin, end, hours, half, passed, metres, at, quarter, delay, doubt in ranked:
+        begins, ends, longest, worst = (time_of_day(int(clock)) for clock in (begin, end, at, quarter))
+        more = f"{float(hours):+,.0f} vehicle-hours{f' ± {float(half):,.0f}' if half else ''}"
+        queue = f"longest queue {metres} m at {longest}, worst quarter from {worst}: {delay} s to pass"
+        doubted = f"; doubted: {doubt}" if doubt else ""
+        yield f"works of {name}, {begins} to {ends}: {more}, {passed} pass, {queue}{doubted}"

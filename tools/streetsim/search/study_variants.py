@@ -19,28 +19,33 @@ from streetsim.control.bus_priority import prioritised
 from streetsim.control.ending import after_departures
 from streetsim.control.settings import Settings
 from streetsim.control.works_asked import all_works
+from streetsim.control.works_closures import closures_of
+from streetsim.control.works_crowding import crowded_works, told_of_crowded
 from streetsim.control.works_movements import LOST
 from streetsim.control.works_sites import WorksOptions, lanes_to_join, with_works
 from streetsim.model import trust
+from streetsim.model.doubts import Doubt
 from streetsim.model.fullness import FullLane
 from streetsim.model.loaded_lanes import forecast_doubts, loaded_lanes
 from streetsim.model.mapping import Map, read_map
 from streetsim.model.replications import DRAWN, LISTED, drawn
 from streetsim.model.runs import Run, with_load
+from streetsim.observe.doubted_places import doubt_of_lane
 from streetsim.search.route_studied import Wished, run_on_found_ways
 from streetsim.search.run_giving_way import giving_session
 from streetsim.search.run_prepared import PreparedRun
+from streetsim.search.study_windows import with_windows
 from streetsim.search.signal_lines import LightLines, full_lanes_under, read_plans
 from streetsim.search.signal_plans import light_and_timing
 from streetsim.search.signal_town import Reading, lights_of, read_run_and_map
 from streetsim.sumo.constraints import broken_in
-from streetsim.sumo.net import lights_not_static
+from streetsim.sumo.net import doubted_plans, lights_not_static
 
 MOST_VARIANTS, MOST_DOTS = 1_000, 200  # of a study; in a line of its file
 KEYS = {"run", "map", "until", "seeds", "base", "rounds", "merge", "lights", "lost", "stops", "variant"}
 KEYS |= {"priority", "seen", "departures"}
 VARIANT = {"run", "map", "plans", "close", "merge", "lights", "lost", "works_limit", "stops", "dawdle", "route"}
-VARIANT |= {"knowing", "priority", "seen"}
+VARIANT |= {"knowing", "priority", "seen"}  # and close_at, which with_windows takes out
 RANGES = {"dawdle": (range(1001), ""), "works_limit": (limits.KMH, " km/h"), "seen": (range(1, MOST_SEEN + 1), " s")}
 EITHER = {"merge": ("turns", "none"), "lights": ("actuated", "listed"), "stops": ("made", "none")}  # words of a key
 DEPARTURES = DRAWN, LISTED
@@ -57,6 +62,9 @@ class Variant:
     doubts: list[str]  # what speaks against its runs before any is made
     works: list[tuple[str, int]]  # lanes, and when works on them begin
     loaded: dict[str, FullLane]  # by lane, those that the demand nearly fills
+    places: list[Doubt]  # what speaks against its runs, with places
+    works_end: int  # when the last of its works end; 0: there are none
+    mapping: Map
 
     def cars(self, at: int) -> int:
         """How many vehicles depart before the end with the seed at a place."""
@@ -78,11 +86,13 @@ class Study:
     drawn: bool = False  # departures, by each seed
 
 
-def read_study(path: str, simulator: str, rounds: int | None = None, departures: str | None = None) -> Study:
+def read_study(
+    path: str, simulator: str, rounds: int | None = None, departures: str | None = None, close_at: Sequence[int] = ()
+) -> Study:
     """The study of a TOML file, whose paths are read from the file's folder. Variants with route = true have their ways
     searched now, by runs; what is done is told on standard error. simulator: path of the program; rounds, departures:
-    in place of those in the file, None: those. Fault where the file, or one that it names, cannot be read or is
-    wrong."""
+    in place of those in the file, None: those; close_at: clocks at which all works begin, in turn, as with_windows.
+    Fault where the file, or one that it names, cannot be read or is wrong."""
     with reading(path), open_text(path) as file:
         try:
             text = file.read(LONGEST + 1)
@@ -98,6 +108,8 @@ def read_study(path: str, simulator: str, rounds: int | None = None, departures:
     variants = study_table["variant"]
     if not isinstance(variants, dict) or not all(isinstance(item, dict) for item in variants.values()) or not variants:
         raise Fault(f"{path}: variants are tables [variant.NAME]")
+    with naming(path):
+        study_table["variant"] = variants = with_windows(variants, close_at)
     if len(variants) > MOST_VARIANTS:
         raise Fault(f"{path}: {len(variants):,} variants are more than {MOST_VARIANTS:,}")
     base = study_table.get("base", next(iter(variants)))
@@ -210,10 +222,11 @@ def read_variant(
     notes += [*lights.notes(), *buses.notes()]
     print(*(f"{variant_label}: {text}" for text in notes), sep="\n", end="\n" if notes else "", file=sys.stderr)
     nodes: frozenset[int] = frozenset()
-    signals, sensing, full = b"", lights.listed_lights(mapping), None
+    signals, sensing, full, doubted = b"", lights.listed_lights(mapping), None, mapping.doubted_plans
     if "plans" in variant:
         plans = list(map(beside, variant["plans"]))
-        signals, sensing, full = signals_of(Reading(run_path, map_path, plans, until, simulator, 0, ()), run, mapping)
+        plan_files = Reading(run_path, map_path, plans, until, simulator, 0, ())
+        signals, sensing, full, doubted = signals_of(plan_files, run, mapping)
         nodes = frozenset(node for _, node in mapping.signals)
     merging = variant.get("merge", study.get("merge")) != "none"
     settings = Settings(until, open_end=not ends, merging=merging, lights=lights, buses=buses)
@@ -223,10 +236,14 @@ def read_variant(
         run_settings = replace(settings, lights=lights, buses=buses)
         sessions.append(giving_session(simulator, drawn_run, drawn_map, run_settings, study["rounds"], nodes))
         due.append(trust.free_arrivals(drawn_run, drawn_map))
-    doubts = [*route_doubts, *trust.length_doubts(until, run, mapping)]
+    doubts = [*route_doubts, *trust.length_doubts(until, run, mapping), *trust.plan_doubts(doubted)]
     doubts += trust.actuated_doubts(until, run, mapping, sensing)
     begins = [(site.lane, site.begin) for site in works]
-    return Variant(sessions, signals, due, doubts, begins, loaded_lanes(mapping, full))
+    full_lanes = mapping.full.lanes if full is None else full
+    crowded = crowded_works(run, mapping, closures_of(run, until))
+    doubts += told_of_crowded(crowded)
+    places, works_end = [*map(doubt_of_lane, full_lanes), *crowded], max((site.end for site in works), default=0)
+    return Variant(sessions, signals, due, doubts, begins, loaded_lanes(mapping, full), places, works_end, mapping)
 
 
 def replications(run: Run, mapping: Map, study: Json, path: str) -> Iterator[tuple[Run, Map]]:
@@ -297,10 +314,12 @@ def check_priority(variant_label: str, merged: Json) -> None:
         raise Fault(f"{variant_label}: priority and plans: lights that wait for buses do not show plans")
 
 
-def signals_of(plan_files: Reading, run: Run, mapping: Map) -> tuple[bytes, list[str], list[FullLane]]:
+def signals_of(
+    plan_files: Reading, run: Run, mapping: Map
+) -> tuple[bytes, list[str], list[FullLane], dict[str, str]]:
     """(signal lines of all lights under a variant's plans; names of those that SUMO times by detectors; lanes that are
-    nearly full at lights under these plans). plan_files: the paths; run, mapping: read of these. Fault where a plan
-    cannot be read, or none has a program for a light."""
+    nearly full at lights under these plans; why plans of lights are not to be trusted). plan_files: the paths; run,
+    mapping: read of these. Fault where a plan cannot be read, or none has a program for a light."""
     net = read_plans(plan_files.plans, mapping)
     timed = {name: light_and_timing(name, net.programs[name]) for name in lights_of(plan_files, mapping, net)}
     promised = ((name, net.programs[name], light.constraints) for name, (light, _) in timed.items())
@@ -309,4 +328,4 @@ def signals_of(plan_files: Reading, run: Run, mapping: Map) -> tuple[bytes, list
     print(*(f"{path}: {text}" for text in broken), sep="\n", end="\n" if broken else "", file=sys.stderr)
     plan = {name: timing for name, (_, timing) in timed.items()}
     lines = LightLines(net, run, mapping).signal_lines(plan, {name: light for name, (light, _) in timed.items()})
-    return lines, lights_not_static(net, timed), full_lanes_under(net, run, mapping)
+    return lines, lights_not_static(net, timed), full_lanes_under(net, run, mapping), doubted_plans(net)

@@ -15,7 +15,7 @@ from streetsim.sumo.demand import DemandVehicle, enters, kinds_of
 from streetsim.sumo.detectors import detectors_on_cells
 from streetsim.sumo.full import fullness
 from streetsim.sumo.merges import merges_of
-from streetsim.sumo.net import STATIC, SumoNet, lights_not_static
+from streetsim.sumo.net import STATIC, SumoNet, doubted_plans, lights_not_static
 from streetsim.sumo.network import Network, Options
 from streetsim.sumo.paces import Paces
 from streetsim.sumo.programs import fixed_programs, kept_programs, lights_of_riders
@@ -82,6 +82,7 @@ def converted(
     sensing = (light for light, program in programs_shown(net, days) if light in days and program.kind != STATIC)
     network.actuated = list(dict.fromkeys([*lights_not_static(net, (light for light, _ in signals)), *sensing]))
     network.switches = sorted((clock, light, program) for light, day in days.items() for clock, program in day)
+    network.doubted_plans = doubted_plans(net)
     network.programs = kept_programs(net, network, lights, flows)
     network.fixed = fixed_programs(net, network, lights, flows, lights_of_riders(entered, driven, types, network))
     giving_way = {giver.node for giver in network.yields}
@@ -140,6 +141,7 @@ def map_of(network: Network, lights: list[tuple[str, int]], names: list[str], re
         starts=network.starts,
         reserved=network.reserved,
         timings=network.timings,
+        doubted_plans=network.doubted_plans,
     )
 
 

@@ -23,6 +23,8 @@ FULL, FULL_IN_TURN = 0.8, 1.0
 WAYS = {"l": LEFT_TURN, "r": RIGHT_TURN, "t": TURNAROUND}  # by SUMO's directions; others are STRAIGHT
 Movements = Mapping[str, Mapping[int, CrossingMovement]]  # by junction and request, as `movements` gives them
 LaneAndPairs = tuple[FullLane, Collection[EdgePair]]  # and the edge pairs of those who pass it
+Times = tuple[int, int]  # begin and end, seconds
+WHOLE = 0, 0  # times of the whole demand
 
 
 class OnWay(Protocol):
@@ -45,9 +47,9 @@ def fullness(
     SUMO do not see who turns ahead. of_demand: the movements by the flows of the whole demand."""
     ways, limits_of = ways_of(net), {link.edge: link.limit for link in network.links}
     worst: dict[str, LaneAndPairs] = {}
-    parts = ((flows, movements(net, limits_of, flows)) for flows in flows_of_parts(vehicles))
-    for flows, part_movements in chain([(hourly_flows(vehicles), of_demand)], parts):
-        note_worst(worst, chain(full_at_lights(part_movements, ways), full_merges(merges, flows)))
+    parts = ((times, flows, movements(net, limits_of, flows)) for times, flows in flows_of_parts(vehicles))
+    for times, flows, part_movements in chain([(WHOLE, hourly_flows(vehicles), of_demand)], parts):
+        note_worst(worst, chain(full_at_lights(part_movements, ways), full_merges(merges, flows)), times)
     return count_passing(worst, vehicles)
 
 
@@ -55,8 +57,8 @@ def full_lanes_at_lights(net: SumoNet, vehicles: Sequence[OnWay], limits_of: Map
     """The nearly full lanes at lights under the programs of a network, as `fullness` finds them. limits_of: cells a
     step, by edge."""
     ways, worst = ways_of(net), dict[str, LaneAndPairs]()
-    for flows in chain([hourly_flows(vehicles)], flows_of_parts(vehicles)):
-        note_worst(worst, full_at_lights(movements(net, limits_of, flows), ways))
+    for times, flows in chain([(WHOLE, hourly_flows(vehicles))], flows_of_parts(vehicles)):
+        note_worst(worst, full_at_lights(movements(net, limits_of, flows), ways), times)
     return [one for one, _ in worst.values()]
 
 
@@ -65,11 +67,15 @@ def ways_of(net: SumoNet) -> dict[EdgePair, str]:
     return {(one.source, one.target): WAYS.get(one.direction.lower(), STRAIGHT) for one in net.connections}
 
 
-def note_worst(worst: dict[str, LaneAndPairs], full_lanes: Iterable[LaneAndPairs]) -> None:
-    """Keeps of each lane what is fullest of what was known and what was found."""
+def note_worst(worst: dict[str, LaneAndPairs], full_lanes: Iterable[LaneAndPairs], times: Times) -> None:
+    """Keeps of each lane what is fullest of what was known and what was found at some times, and from when to when it
+    was nearly full."""
     for full_lane, pairs in full_lanes:
-        if full_lane.lane not in worst or worst[full_lane.lane][0].demand < full_lane.demand:
-            worst[full_lane.lane] = full_lane, pairs
+        known, (begin, end) = worst.get(full_lane.lane), times
+        if known and known[0].end:
+            begin, end = min(known[0].begin, begin), max(known[0].end, end)
+        fullest = (full_lane, pairs) if known is None or known[0].demand < full_lane.demand else known
+        worst[full_lane.lane] = replace(fullest[0], begin=begin, end=end), fullest[1]
 
 
 def full_at_lights(movements_at: Movements, ways: Mapping[EdgePair, str]) -> Iterator[LaneAndPairs]:
@@ -78,13 +84,15 @@ def full_at_lights(movements_at: Movements, ways: Mapping[EdgePair, str]) -> Ite
         yield from full_at_light(name, at_junction.values(), ways)
 
 
-def flows_of_parts(vehicles: Sequence[OnWay]) -> Iterator[Flows]:
-    """The flows of the parts of a demand that are looked at alone, beside the whole."""
+def flows_of_parts(vehicles: Sequence[OnWay]) -> Iterator[tuple[Times, Flows]]:
+    """The flows of the parts of a demand that are looked at alone, beside the whole, and their times."""
     parts: defaultdict[int, list[OnWay]] = defaultdict(list)
     for vehicle in vehicles:
         parts[int(vehicle.depart // PART_SECONDS)].append(vehicle)
     if len(parts) > 1:
-        yield from (hourly_flows(own) for own in parts.values() if len(own) >= LEAST_PART * len(vehicles))
+        for number, own in sorted(parts.items()):
+            if len(own) >= LEAST_PART * len(vehicles):
+                yield (number * PART_SECONDS, (number + 1) * PART_SECONDS), hourly_flows(own)
 
 
 def full_at_light(

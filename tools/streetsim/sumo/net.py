@@ -9,6 +9,7 @@ from streetsim.base.files import (
     Fault, FilePath, Json, at_least_zero, attribute, element_told, elements, number, optional, seconds,
 )
 from streetsim.base.report import Report
+from streetsim.model.doubts import DOUBTED
 from streetsim.sumo.bus_stops import BusStop
 from streetsim.sumo.detectors import SumoDetector
 
@@ -412,6 +413,12 @@ def more_of(program: Element) -> tuple[str, ...]:
 def lights_not_static(net: SumoNet, lights: Iterable[str]) -> list[str]:
     """The names of lights, among some that have a program, whose program in force is not static."""
     return [light for light in dict.fromkeys(lights) if net.programs[light].kind != STATIC]
+
+
+def doubted_plans(net: SumoNet) -> dict[str, str]:
+    """By light, of those whose program was made by a search that is not to be trusted, why it is not."""
+    programs = net.programs.items()
+    return {light: why for light, program in programs if (why := program.parameters.get(DOUBTED))}
 
 
 def connections_of(net: SumoNet) -> dict[str, list[NetConnection]]:

@@ -146,6 +146,7 @@ class Network:
         self.actuated: list[str] = []  # lights that SUMO times by detectors
         self.programs: list[Json] = []  # of these, as programs.kept_programs has them
         self.timings: list[Json] = []  # of all lights, as timings.timings_of has them, written
+        self.doubted_plans: dict[str, str] = {}  # by light, of those of searches that are not to be trusted, why
         self.full = Fullness()  # lanes that are nearly full by the demand
         self.starts: SlowStarts | None = None  # at lights
         self.reserved: ReservedLanes | None = None  # of classes beside the first

@@ -1,0 +1,54 @@
+"""The doubts of a run with their places: of the import, and of what was seen while it went."""
+from collections.abc import Iterable, Iterator, Mapping
+
+from streetsim.control.works_watched import LONG, Watched
+from streetsim.model.doubts import ADDED, ALL, APPROACH, JUNCTION, LANE, OF_WORKS, QUEUES, Doubt
+from streetsim.model.fullness import MERGING, FullLane
+from streetsim.model.mapping import Map
+
+LEAST_RESCUES = 2  # at one edge, from which on it is doubted
+
+
+def doubt_of_lane(lane: FullLane) -> Doubt:
+    """The doubt of a lane that is nearly full by the demand."""
+    kind, edge = (APPROACH, lane.source) if lane.way == MERGING else (LANE, lane.lane.rpartition("_")[0])
+    why = f"demand {lane.demand:.2f} of what passes"
+    times = lane.begin, lane.end, lane.demand, lane.vehicles
+    return Doubt(kind, lane.junction, edge, why, ALL, lane.lane if kind == LANE else "", lane.target, *times)
+
+
+def doubts_of_import(mapping: Map) -> Iterator[Doubt]:
+    """The doubts of lanes that are nearly full by the demand."""
+    yield from map(doubt_of_lane, mapping.full.lanes)
+
+
+def doubts_of_streets(mapping: Map, crowded: Mapping[str, int], listed: Iterable[str]) -> Iterator[Doubt]:
+    """The doubts of streets that give way without a light and were nearly full (crowded: by edge the vehicles that pass
+    it then), and of junctions whose lights SUMO times by detectors and that show their listed seconds (listed)."""
+    for edge, vehicles in crowded.items():
+        node = mapping.nodes[mapping.links[mapping.links_of[edge][0]].end][0]
+        yield Doubt(APPROACH, node, edge, "it gives way and was nearly full", ALL, vehicles=vehicles)
+    lights = {*listed}
+    for node in dict.fromkeys(mapping.nodes[node][0] for light, node in mapping.signals if light in lights):
+        yield Doubt(JUNCTION, node, "", "its light is actuated in SUMO and shows its listed seconds here", ALL)
+
+
+def doubts_of_rescues(mapping: Map, rescues: Mapping[str, int]) -> Iterator[Doubt]:
+    """The doubts of edges from which vehicles were taken that stood too long; rescues: by edge how many."""
+    for edge, count in rescues.items():
+        if count >= LEAST_RESCUES:
+            node = mapping.nodes[mapping.links[mapping.links_of[edge][0]].end][0]
+            why = f"{count:,} rescues of vehicles that stood too long"
+            yield Doubt(APPROACH, node, edge, why, ALL, vehicles=count)
+
+
+def doubts_of_works_seen(watched: Iterable[Watched], mapping: Map) -> Iterator[Doubt]:
+    """The doubts of works by what was seen before them."""
+    for works in watched:
+        edge, times = mapping.links[works.closure.link].edge, (works.closure.begin, works.closure.end)
+        if works.long:
+            why = f"{len(works.long):,} stood for more than {LONG} s in one cell"
+            yield Doubt(OF_WORKS, "", edge, why, ADDED, "", "", *times, vehicles=len(works.long))
+        if works.left_network is not None:
+            why = "the queue left the network: who waits beyond is in no queue or delay"
+            yield Doubt(OF_WORKS, "", edge, why, QUEUES, "", "", works.left_network, times[1])
