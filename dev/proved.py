@@ -1,7 +1,8 @@
-"""The record of what was proved, from which alone ./package packs: what the gate's run itself said, with the sums of
-the sources and of the files that it made.
+"""The record of what was proved: what the gate's run itself said, with the sums of the sources and of the files that it
+made. By it alone the tools know a proved program, and ./package packs.
 
-./test writes it once the whole gate has passed.
+./test writes it once the whole gate has passed, and ./build once the program is proved, without the gate's summary:
+that is not enough to pack.
 """
 from __future__ import annotations
 
@@ -22,12 +23,17 @@ HEAD = "What was proved of streetsim {version}, as the gate's own run left it."
 FILES = "SHA-256 of the files, below /usr (Debian's package) or the environment (the wheel):"
 
 
+INSTALLED = "share/streetsim/proved.json"  # the record in a package, as streetsim.base.places has it
+
+
 def record_of(top: Path) -> Path:
     return top / "out/proved.json"
 
 
 def forget(top: Path) -> None:
-    record_of(top).unlink(missing_ok=True)
+    """Leaves of the record which programs were proved earlier."""
+    if record_of(top).exists():
+        write(top, {"files": {}})
 
 
 def files_of(top: Path) -> dict[str, Path]:
@@ -45,8 +51,29 @@ def read(top: Path) -> Record:
 
 
 def note(top: Path, said: Sequence[str]) -> None:
-    """Writes the record of a run of the gate that passed, by what it said; the program is there."""
-    made = made_record(top, said, keep_functions(top, said))
+    """Writes the record of a run of the whole gate that passed, by what it said; the program is there."""
+    write(top, made_record(top, said, keep_functions(top, said)))
+
+
+def note_build(top: Path, said: Sequence[str] = ()) -> None:
+    """As `note`, of the program alone: no edits were refused, so nothing can be packed of it."""
+    write(top, made_record(top, said, keep_functions(top, said)) | {"summary": ""})
+
+
+def knows(top: Path) -> bool:
+    """Whether the record names the program that is there."""
+    return built.sum_of_file(built.program(top)) in sums_in(read(top))
+
+
+def sums_in(record: Record) -> list[str]:
+    """The sums of the programs that a record names, the last one first."""
+    return list(dict.fromkeys([*record.get("files", {}).values(), *record.get("earlier", [])]))
+
+
+def write(top: Path, made: Record) -> None:
+    """Writes a record, which names beside its own files the programs that were proved earlier."""
+    earlier = [total for total in sums_in(read(top)) if total not in made["files"].values()]
+    made = made | {"earlier": earlier}
     record_of(top).parent.mkdir(exist_ok=True)
     beside = record_of(top).with_suffix(f".{os.getpid()}")
     beside.write_text(json.dumps(made, indent=1) + "\n")
@@ -112,6 +139,11 @@ def why_not(top: Path) -> str | None:
         if not path.is_file() or built.sum_of_file(path) != record["files"].get(name):
             return f"{path.relative_to(top)} is not the file that was proved: ./test makes it"
     return None
+
+
+def installed_text(record: Record) -> str:
+    """The record as a package has it: of the programs in it alone."""
+    return json.dumps({name: record[name] for name in ("kit", "sources", "files")}, indent=1) + "\n"
 
 
 def page(record: Record, version: str, commit: str) -> str:

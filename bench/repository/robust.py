@@ -3,6 +3,7 @@ notices."""
 
 import ast
 import contextlib
+import http.client
 import json
 import os
 import random
@@ -16,6 +17,7 @@ import time
 from concurrent.futures import ThreadPoolExecutor
 from dataclasses import dataclass
 from pathlib import Path
+from urllib.parse import urlsplit
 
 import shared
 from repository.pages import EXAMPLES, SECTIONS, walk
@@ -531,3 +533,68 @@ def main_mutants(argv: list[str]) -> int | None:
     print(*sorted(change.in_words(tops[0]) for change in lived), sep="\n")
     if args.keep:
         keep(args.keep, [entry for change in work if (entry := change.entry(tops[0]))])
+
+
+LIVE_PAUSE = 30.0  # seconds between two looks at the memory of a live page
+STEPS_AT_ONCE = 1000  # of a page that plays
+
+
+def memory_of(pid):
+    """The bytes that a process holds in memory, with those of the processes that it began."""
+    children = [path.read_text().split() for path in Path(f"/proc/{pid}/task").glob("*/children")]
+    pids = [pid, *(int(child) for some in children for child in some)]
+    texts = [Path(f"/proc/{one}/status").read_text() for one in pids]
+    return sum(int(re.search(r"^VmRSS:\s*(\d+) kB", text, re.MULTILINE)[1]) << 10 for text in texts)
+
+
+def page_memory(folder, program, seconds):
+    """The memory of a live page, by seconds, that plays as fast as it can with nobody looking."""
+    words = [TOP / "tools/streetsim-live", "zero.jsonl", "--map", "zero.map.json", "--no-open", "--program", program]
+    memory, begin, looked = [], time.monotonic(), 0.0
+    with subprocess.Popen([*map(str, words)], cwd=folder, stdout=subprocess.PIPE, text=True) as process:
+        try:
+            address = process.stdout.readline().strip()
+            link = http.client.HTTPConnection("127.0.0.1", urlsplit(address).port, timeout=600)
+            asked = [("begin", "")]
+            while (now := time.monotonic() - begin) < seconds:
+                verb, body = asked.pop() if asked else ("step", json.dumps({"steps": STEPS_AT_ONCE}))
+                link.request("POST", f"{urlsplit(address).path}bench/{verb}", body)
+                answer = link.getresponse()
+                if answer.status != 200:
+                    raise SystemExit(f"the page answers {answer.read()[:200]!r}")
+                answer.read()
+                if not memory or now - looked >= LIVE_PAUSE:
+                    looked = now
+                    memory.append((now, memory_of(process.pid)))
+        finally:
+            process.terminate()
+    return memory
+
+
+def main_ends(argv: list[str]) -> int | None:
+    """How commands end by a signal at a random moment, and what memory a live page takes while nobody looks.
+
+    Takes three hours on four processors.
+
+    Each command is started N times for a short work on the corridor, and ended by a random signal within --most
+    seconds. What is wrong is told: one that does not end within half a minute, a traceback, a process or half a file
+    that is left, a last line that says something else. Then a live page of the corridor plays for --seconds as fast as
+    it can, and its memory is told by time, with that of its program. The status is 1 where anything was wrong.
+    """
+    from random_ends import WORKS, end_commands, prepare
+
+    parser = shared.parser_of(main_ends)
+    parser.add_argument("--count", metavar="N", type=int, default=300, help="starts of each command (default 300)")
+    parser.add_argument("--most", metavar="S", type=float, default=2.0, help="latest moment (default 2 s)")
+    parser.add_argument("--seconds", metavar="S", type=float, default=3600, help="of the live page (default 3600)")
+    parser.add_argument("--seed", type=int, default=1)
+    args = parser.parse_args(argv)
+    os.environ["STREETSIM_PROGRAM"] = args.program
+    done, faults = end_commands([*WORKS], args.count * len(WORKS), args.seed, float("inf"), args.most)
+    print(f"{done.total():,} starts of {len(done)} commands, {len(faults)} of them wrong", *faults, sep="\n")
+    with tempfile.TemporaryDirectory() as folder:
+        prepare(Path(folder))
+        memory = page_memory(folder, args.program, args.seconds)
+    for seconds, size in memory:
+        print(f"live page, {seconds:,.0f} s: {size / 1e6:,.1f} MB")
+    return 1 if faults else 0

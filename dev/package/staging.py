@@ -47,6 +47,7 @@ def stage(tree: Path, prefix: Path, version: str, commit: str) -> None:
     programs(tree, prefix)
     examples(tree, prefix)
     write(proved.page(proved.read(tree), version, commit), prefix / "share/doc/streetsim/PROVED")
+    write(proved.installed_text(proved.read(tree)), prefix / proved.INSTALLED)
     every = asking.ask_all((prefix / "bin/streetsim", *asking.tools(tree)))
     for said in every:
         write(manuals.page(said, version), prefix / f"share/man/man1/{said.name}.1")

@@ -369,7 +369,8 @@ class SideBySide:
         context = get_context("fork")
         pipes = [context.Pipe() for _ in range(count)]
         self.ends = [parent_end for parent_end, _ in pipes]
-        self.processes = [context.Process(target=serve_environment, args=(make, child_end)) for _, child_end in pipes]
+        ends = [end for pipe in pipes for end in pipe]
+        self.processes = [context.Process(target=serve_environment, args=(make, end, ends)) for _, end in pipes]
         for process, (_, child_end) in zip(self.processes, pipes, strict=True):
             process.start()
             child_end.close()
@@ -473,8 +474,12 @@ def joined_figures(figures: Sequence[Mapping[str, object]]) -> dict[str, Array]:
     return joined | {f"_{name}": np.ones(len(figures), bool) for name in joined}
 
 
-def serve_environment(make: Callable[[], object], end: Connection) -> None:
-    """Makes an environment and does what comes through a pipe, until None comes or it is closed."""
+def serve_environment(make: Callable[[], object], end: Connection, ends: Sequence[Connection]) -> None:
+    """Makes an environment and does what comes through a pipe, until None comes or it is closed. ends: of the pipes of
+    all, which this process has too: they are closed, as a pipe else stays open when the process before it ends."""
+    for other in ends:
+        if other is not end:
+            other.close()
     env = make()
     try:
         while (call := end.recv()) is not None:
@@ -482,7 +487,7 @@ def serve_environment(make: Callable[[], object], end: Connection) -> None:
                 end.send(getattr(env, call[0])(*call[1], **call[2]))
             except Exception as fault:  # noqa: BLE001  which is the caller's
                 end.send(fault)
-    except EOFError:
-        pass
+    except (EOFError, OSError):
+        pass  # who asked has ended
     finally:
         env.close()  # type: ignore[attr-defined]

@@ -12,6 +12,7 @@ TOOLS = Path(__file__).resolve().parents[1]
 DATA = Path(__file__).resolve().parent / "data"
 SCENARIOS = Path("/usr/share/sumo/tools/sumolib/scenario/scenarios/RealWorld")
 sys.path[:0] = [str(TOOLS), str(TOOLS.parent / "dev")]
+from streetsim.base.program import Proof, proof_of  # noqa: E402
 
 BUILT = TOOLS.parent / "crates/street_sim/out/street_sim"
 # Tests that start no program, as ./test --quick runs them.
@@ -19,6 +20,9 @@ QUICK = bool(os.environ.get("STREETSIM_QUICK"))
 os.environ.setdefault("STREETSIM_CACHE", "off")  # no import of a test is kept, but in tests of that
 PROGRAM = None if QUICK else os.environ.get("STREETSIM_PROGRAM") or (str(BUILT) if BUILT.exists() else None)
 needs_simulator = unittest.skipIf(PROGRAM is None, "no simulator: build streetsim, or set STREETSIM_PROGRAM")
+
+PROVED = PROGRAM is not None and proof_of(str(Path(PROGRAM).resolve())) is Proof.PROVED
+needs_proved = unittest.skipUnless(PROVED, "a program that is not known to be proved, whose pages are not sealed")
 
 
 def needs_package(name, found):

@@ -13,7 +13,7 @@ import zipfile
 import zlib
 from pathlib import Path
 
-from support import PROGRAM, TOOLS, Case, needs_simulator
+from support import PROGRAM, TOOLS, Case, needs_proved
 from streetsim.base.files import Fault
 from streetsim.cli import check, import_, report, run
 from streetsim.report import page_seal as sealing
@@ -35,13 +35,12 @@ def quietly(main, *words):
     return status, told.getvalue()
 
 
+@needs_proved
 class Page(Case):
     """A sealed page with each kind of picture: a map, queues, a corridor, counts and timing sheets."""
 
     @classmethod
     def setUpClass(cls):
-        if PROGRAM is None:
-            raise unittest.SkipTest("no simulator: build streetsim, or set STREETSIM_PROGRAM")
         made = tempfile.TemporaryDirectory()
         cls.addClassCleanup(made.cleanup)
         cls.home = Path(made.name)
@@ -148,7 +147,6 @@ PAGES = {
 }
 
 
-@needs_simulator
 class Pages(Page):
     def setUp(self):
         super().setUp()
@@ -306,7 +304,6 @@ def both(content):
     return content["plans"][0]["words"], content["plans"][0]["again"]
 
 
-@needs_simulator
 class Seals(Page):
     def forged(self, forge):
         """The page with another seal, which is whole, and with it the rows and sums that the page shows."""

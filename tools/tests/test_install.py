@@ -17,7 +17,7 @@ from unittest.mock import patch
 from support import DATA, MAP, NUMBERED, PROGRAM, TOOLS, Case, lane, needs_package, needs_simulator, net, shown_run
 from streetsim.base.files import Fault
 from streetsim.base import program
-from streetsim.base.program import BUILT, MARK, UNPROVED, find_program, is_unproved
+from streetsim.base.program import BUILT, MARK, UNPROVED, find_program, is_marked
 
 COMMANDS = (
     "calibrate", "check", "compare", "demand", "example", "export", "import", "live", "open", "play", "plot",
@@ -225,13 +225,25 @@ class WhichProgram(Case):
             self.assertEqual(find_program(), proved)
 
     def test_a_program_without_proofs_is_told_once_wherever_it_was_copied_to(self):
-        copy, proved = self.program(self.folder / "copy"), self.program(self.folder / "proved")
+        copy, other = self.program(self.folder / "copy"), self.program(self.folder / "other")
         with open(copy, "ab") as file:
             file.write(MARK)
-        self.assertEqual((is_unproved(copy), is_unproved(proved), is_unproved("none")), (True, False, False))
+        self.assertEqual((is_marked(copy), is_marked(other), is_marked("none")), (True, False, False))
         with redirect_stderr(StringIO()) as said:
-            self.assertEqual((find_program(copy), find_program(copy), find_program(proved)), (copy, copy, proved))
-        self.assertEqual((said.getvalue().count("NOT PROVED"), said.getvalue().count("\n")), (1, 1))
+            self.assertEqual((find_program(copy), find_program(copy), find_program(other)), (copy, copy, other))
+        first, second = said.getvalue().splitlines()
+        self.assertIn("NOT PROVED", first)
+        self.assertIn("not known to be proved", second)
+
+    def test_a_command_says_at_its_end_that_nothing_is_known_of_a_program(self):
+        """So that a fault is one line; a script in Python is told at once."""
+        other = self.program(self.folder / "other")
+        with patch.object(program, "AT_END", []), redirect_stderr(StringIO()) as said:
+            with patch.dict(sys.modules, {"streetsim.cli.commands": program}):
+                self.assertEqual(find_program(other), other)
+                self.assertEqual(said.getvalue(), "")
+                program.tell_at_end()
+        self.assertRegex(said.getvalue(), r"^streetsim: not known to be proved: no record names this program: .*\n$")
 
     def test_who_has_no_repository_is_to_ask_for_a_package(self):
         """In a clone, and for a program in one, `./build` is named; of what is installed it is not."""
@@ -242,9 +254,11 @@ class WhichProgram(Case):
             made = self.program(self.folder / place / "program")
             (self.folder / "clone").mkdir(exist_ok=True)
             (self.folder / "clone/build").touch()
+            with open(made, "ab") as file:
+                file.write(MARK)
             prefix = None if top else self.folder
             with redirect_stderr(StringIO()) as said, patch.object(program, "PREFIX", prefix):
-                program.warn_unproved(Path(made))
+                program.warn_of_proof(Path(made))
             self.assertEqual(said.getvalue(), f"streetsim: NOT PROVED: this program was built without proofs: {told}\n")
 
     def test_a_run_without_a_program_ends_at_once(self):

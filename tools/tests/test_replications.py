@@ -5,7 +5,7 @@ from collections import Counter
 from statistics import fmean, pvariance, stdev
 
 from doors import lit
-from support import MAP, NUMBERED, PROGRAM, Case, needs_simulator
+from support import MAP, NUMBERED, PROGRAM, Case, needs_proved, needs_simulator
 from streetsim.base.files import Fault
 from streetsim.base.seeds import mean_and_day, mean_and_half_width
 from streetsim.cli.running import mean_trip_line
@@ -151,6 +151,7 @@ class Commands(Case):
         self.assertIn("of another day nothing is sure", told[-1])
         self.assertEqual(self.trips("listed/seed-1"), self.trips("single"))
 
+    @needs_proved
     def test_drawn_runs_are_made_again_from_what_their_folder_keeps(self):
         self.given()
         self.made("several", "--seeds", "1-2", "--junctions")

@@ -13,7 +13,7 @@ from pathlib import Path
 from types import SimpleNamespace
 
 from support import DATA as SAMPLES
-from support import MAP, PROGRAM, TOOLS, Case, needs_simulator
+from support import MAP, PROGRAM, TOOLS, Case, needs_proved
 from streetsim.base.files import Fault
 from streetsim.cli.check import remake_page
 from streetsim.report import page_seal as sealing
@@ -137,13 +137,12 @@ class Missing(Case):
             sealed_plan(read_folders(str(self.folder)), 1)
 
 
+@needs_proved
 class Sealed(Case):
     """A page of the corridor's two plans, two seeds each, that was made once for all tests."""
 
     @classmethod
     def setUpClass(cls):
-        if PROGRAM is None:
-            raise unittest.SkipTest("no simulator: build streetsim, or set STREETSIM_PROGRAM")
         made = tempfile.TemporaryDirectory()
         cls.addClassCleanup(made.cleanup)
         cls.home = Path(made.name)
@@ -241,7 +240,6 @@ WORDS = {
 }
 
 
-@needs_simulator
 class Changes(Sealed):
     @classmethod
     def setUpClass(cls):
@@ -277,7 +275,6 @@ class Changes(Sealed):
         self.assertGreaterEqual(len(DIGITS) + len(WORDS), 40)
 
 
-@needs_simulator
 class Whole(Sealed):
     def test_from_another_clone_and_folder_with_four_workers(self):
         other = self.folder / "elsewhere/tools"
@@ -403,7 +400,6 @@ class Whole(Sealed):
             list(sealing.sealed_files(found, page))
 
 
-@needs_simulator
 class Folders(Sealed):
     def copy(self):
         shutil.copytree(self.home / "zero", self.folder / "copy")

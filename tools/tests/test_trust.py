@@ -2,9 +2,11 @@
 import json
 import unittest
 from collections import namedtuple
+from unittest.mock import patch
 
 from support import MAP, NUMBERED, PROGRAM, RED, Case, needs_simulator
-from streetsim.model import trust
+from streetsim.base.program import UNKNOWN_NOTE, Proof
+from streetsim.model import folder, trust
 from streetsim.model.folder import NAME, Folder
 from streetsim.model.mapping import TOLD_INVENTED, map_from
 from streetsim.model.runs import Line, Run
@@ -19,11 +21,15 @@ def row(depart, arrival="", free=10.0):
 
 class Told(unittest.TestCase):
     def test_what_each_page_says_at_its_head(self):
-        """That the program is without proofs, and that vehicles are invented, whose names begin so."""
+        """That the program is not known to be proved, and that vehicles are invented, whose names begin so."""
         for cars, invented in ((["v", "invented.7"], [TOLD_INVENTED]), (["v", "w.invented."], [])):
             mapping = map_from("", {**MAP, "cars": cars})
             folders = [Folder("out", mapping, [], 0, 0, 900, made) for made in ({}, {"unproved": "NOT PROVED"})]
-            self.assertEqual([one.notes for one in folders], [invented, ["NOT PROVED", *invented]])
+            self.assertEqual(
+                [one.notes for one in folders], [[UNKNOWN_NOTE, *invented], ["NOT PROVED", *invented]]
+            )
+            with patch.object(folder, "proof_of_digest", {"a5": Proof.PROVED}.get):
+                self.assertEqual(Folder("out", mapping, [], 0, 0, 900, {"program": "a5"}).notes, invented)
 
 
 class Marks(unittest.TestCase):

@@ -8,10 +8,10 @@ import unittest
 from importlib.util import find_spec
 from pathlib import Path
 
-from support import PROGRAM, TOOLS, Case, needs_package, needs_simulator
+from support import PROGRAM, TOOLS, Case, needs_package, needs_proved, needs_simulator
 
 from streetsim.base.files import read_json
-from streetsim.base.program import MARK, UNPROVED_NOTE, find_program
+from streetsim.base.program import MARK, UNKNOWN_NOTE, UNPROVED_NOTE, find_program
 from streetsim.model import trust
 
 CORRIDOR = TOOLS / "examples/corridor"
@@ -19,12 +19,11 @@ CORRIDOR = TOOLS / "examples/corridor"
 
 class Settings(Case):
     def test_what_a_search_or_a_study_leaves_says_so_too(self):
-        unproved = {"not_trusted": [], "unproved": UNPROVED_NOTE}
-        for content, wanted in ((b"program" + MARK, unproved), (b"", {"not_trusted": []})):
+        for content, note in ((b"program" + MARK, UNPROVED_NOTE), (b"program", UNKNOWN_NOTE)):
             program = self.folder / f"program-{len(content)}"
             program.write_bytes(content)
             trust.write_doubts(str(self.folder), [], str(program))
-            self.assertEqual(read_json(self.folder / "setting.json", ()), wanted)
+            self.assertEqual(read_json(self.folder / "setting.json", ()), {"not_trusted": [], "unproved": note})
 
 
 @needs_simulator
@@ -68,6 +67,7 @@ class Unproved(Case):
         self.tool("plot", "arrivals", self.out, "-o", self.folder / "a.svg")
         self.assertIn("NOT PROVED", (self.folder / "a.svg").read_text())
 
+    @needs_proved
     def test_seeds_that_were_taken_away_are_not_sealed(self):
         words = "--map", self.folder / "c.map.json", "--program", PROGRAM, "--junctions", 900, "--until", 600
         seeds = self.folder / "seeds"

@@ -19,7 +19,7 @@ GROUPS = {  # the words of all commands by what they are of, as their options ar
     "Streets and road works": "close joint lost merge works-limit slow sign knowing edges both rescue",
     "Lights and buses": "lights fixed priority seen stops",
     "Model": "dawdle change zone seed residence buffer permissive classes turns sizes ignore-route-errors",
-    "Program and machine": "program workers jobs cluster keep remote-port num-clients large-files",
+    "Program and machine": "program proved workers jobs cluster keep remote-port num-clients large-files",
 }
 OTHER_WORDS, HELP = "Other words", "Help"
 GROUP_OF = {word: title for title, words in GROUPS.items() for word in words.split()}

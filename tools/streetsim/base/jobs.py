@@ -18,6 +18,7 @@ Outcome = TypeVar("Outcome")
 SendProgress = Callable[[Any], object]  # takes any value that says how far a work is
 OnProgress = Callable[[int, Any], object]  # takes the index of an task, from 0, and what its work told
 Running = dict["Connection", tuple[int, "BaseProcess"]]  # by the pipe that it tells to: index of its task, process
+PR_SET_PDEATHSIG = 1  # of Linux' prctl
 CORES = len(os.sched_getaffinity(0))  # that this process may use
 
 
@@ -63,16 +64,27 @@ def start_process(work: Callable[[Task, SendProgress], object], index: int, task
 
 
 def work_and_send(work: Callable[[Task, SendProgress], object], task: Task, pipe: Connection) -> None:
-    """Runs inside the process: SIGTERM and SIGHUP end it at once, Ctrl-C is left to the process that began it; sends
-    what the work tells, and its result or a Fault, to the pipe."""
-    signal.signal(signal.SIGINT, signal.SIG_IGN)
-    for number in (signal.SIGTERM, signal.SIGHUP):
-        signal.signal(number, signal.SIG_DFL)
+    """Runs inside the process: sends what the work tells, and its result or a Fault, to the pipe."""
+    end_with_parent()
     signal.pthread_sigmask(signal.SIG_UNBLOCK, END_SIGNALS)  # which start_process held back
     try:
         pipe.send(("done", work(task, lambda value: pipe.send(("told", value)))))
     except Fault as fault:
         pipe.send(("fault", str(fault)))
+
+
+def end_with_parent() -> None:
+    """Runs first in a process of a pool: SIGTERM and SIGHUP end it at once, Ctrl-C is left to the process that began
+    it, and the kernel ends it as soon as the thread that began it has ended, however that was."""
+    import ctypes
+    from multiprocessing import parent_process
+
+    signal.signal(signal.SIGINT, signal.SIG_IGN)
+    for number in (signal.SIGTERM, signal.SIGHUP):
+        signal.signal(number, signal.SIG_DFL)
+    ctypes.CDLL(None).prctl(PR_SET_PDEATHSIG, signal.SIGKILL)
+    if (parent := parent_process()) is not None and parent.pid != os.getppid():
+        os._exit(1)  # it ended before
 
 
 def receive_messages(running: Running, outcomes: dict[int, Outcome], on_progress: OnProgress) -> None:

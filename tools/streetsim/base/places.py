@@ -8,6 +8,7 @@ INSTALLED = PACKAGE.parent.name in ("dist-packages", "site-packages") and len(PA
 PREFIX = PACKAGE.parents[3] if INSTALLED else None
 TOP = PACKAGE.parents[1]
 SESSIONS = "sessions"  # the name of the examples that are sessions of the program itself
+RECORD = "share/streetsim/proved.json" if INSTALLED else "out/proved.json"  # of what was proved, from PREFIX or TOP
 PROGRAM = "libexec/streetsim/streetsim"  # the simulator, from the prefix
 PICTURES = (".png",)  # what examples have for the pages
 

@@ -10,6 +10,7 @@ from collections.abc import Sequence
 from streetsim.base import program
 from streetsim.base.files import Fault, refuse_foreign, refuse_unwritable, whole_folder
 from streetsim.base.jobs import side_by_side
+from streetsim.base.program import program_digest
 from streetsim.base.progress import Slow, WorkProgress
 from streetsim.base.report import Report
 from streetsim.base.seeds import seeds_of
@@ -18,7 +19,7 @@ from streetsim.cli import demand as demanding
 from streetsim.cli.given_words import given_words
 from streetsim.cli.import_ import add_options, options_of
 from streetsim.cli.defaults import complete_outputs, name_of_network, args_and_options
-from streetsim.cli.words import add_check, add_files, add_network, add_out
+from streetsim.cli.words import add_check, add_files, add_network, add_out, add_program
 from streetsim.demand.calibration_criteria import criteria_of
 from streetsim.demand.calibration_field import (
     FieldDay, counts_as_demand, read_lanes, read_queues, read_times, refuse_unknown,
@@ -29,7 +30,7 @@ from streetsim.demand.calibration_page import (
     CALIBRATED, FITTED_DAY, LAST_FILE, OTHER_DAY, UNCALIBRATED, Calibration, JudgedDay, criteria_lines, sum_of_input,
     write_calibration, write_drivers,
 )
-from streetsim.model.sources import Sources, program_digest
+from streetsim.model.sources import Sources
 from streetsim.sumo.driver_words import street_class
 from streetsim.sumo.links import link_of
 from streetsim.sumo.net import SumoNet, read_net
@@ -66,7 +67,7 @@ def parser() -> Parser:
     add_out(tool_parser, "output folder (default: NET-drivers, here)")
     add_rounds(tool_parser)
     add_jobs(tool_parser)
-    tool_parser.add_argument("--program", help=program.HELP)
+    add_program(tool_parser)
     add_options(tool_parser)
     return tool_parser
 

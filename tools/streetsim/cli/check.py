@@ -11,6 +11,7 @@ from functools import partial
 
 from streetsim.base import program
 from streetsim.base.files import Fault, drop_output, reading
+from streetsim.base.program import program_digest
 from streetsim.base.progress import Slow
 from streetsim.base.unpacking import TooMuch, lifted
 from streetsim.base.words import Parser, add_jobs
@@ -21,7 +22,6 @@ from streetsim.cli.report import remake_text
 from streetsim.cli.study import ORIGIN_FILE
 from streetsim.cli.words import add_simulator
 from streetsim.model.folder import LIGHTS
-from streetsim.model.sources import program_digest
 from streetsim.report.folder_differences import ComparedNumbers, folder_differences
 from streetsim.report.page_elements import Mismatch, numbers_in, page_mismatches
 from streetsim.report.page_seal import COUNTS, NAMES, Seal, seal_of, sealed_files
@@ -100,7 +100,8 @@ def check_page(args: argparse.Namespace) -> int:
     runs = sum(len(plan["seeds"]) for plan in seal.content["plans"])
     same_program = all(plan["program"] == program_digest(args.program) for plan in seal.content["plans"])
     program_text = "the program that made it" if same_program else "another program than the one that made it"
-    again = f"{runs} run{'s' * (runs != 1)} made again by {program_text}"
+    proof = program.proof_words(args.program)
+    again = f"{runs} run{'s' * (runs != 1)} made again by {program_text}, which is {proof}"
     good = f"each of the {numbers_in(page_anew):,} numbers on the page is that of a run ({again})"
     return tell_result(args.target, mismatches, good, note)
 
@@ -167,5 +168,6 @@ def check_folder(args: argparse.Namespace, study: bool) -> int:
         with silent():
             folder_anew = (remake_study if study else remake_folder)(args, f"{temporary}/out")
         mismatches = [Mismatch(*difference) for difference in folder_differences(args.target, folder_anew, counts)]
-    good = f"each of the {counts.numbers:,} numbers in {counts.files} files is that of a run"
+    again = f"made again by a program that is {program.proof_words(args.program)}"
+    good = f"each of the {counts.numbers:,} numbers in {counts.files} files is that of a run ({again})"
     return tell_result(args.target, mismatches, good)

@@ -34,17 +34,21 @@ def run_command(module: str, package: str = "cli") -> "NoReturn":
     for number in (*END_SIGNALS, *([signal.SIGINT] if hears else [])):
         if signal.getsignal(number) is not signal.SIG_IGN:
             signal.signal(number, end_at_once)
+    signal.pthread_sigmask(signal.SIG_UNBLOCK, (*END_SIGNALS, signal.SIGINT))  # which the script held back
     from streetsim.base.files import interrupt, run_tool
+    from streetsim.base.program import tell_at_end
     from streetsim.cli.defaults import tell_completed
 
     main = import_module(f"streetsim.{package}.{module}").main
 
     def run_main(arguments: list[str]) -> int:
-        """Takes Ctrl-C over, runs the tool, and says where it wrote what no word named; gives its status."""
+        """Takes Ctrl-C over, runs the tool, and says where it wrote what no word named, and whether its program is not
+        known to be proved; gives its status."""
         if hears:
             signal.signal(signal.SIGINT, interrupt)
         status = main(arguments)
         tell_completed()
+        tell_at_end()
         return status
 
     run_tool(run_main)

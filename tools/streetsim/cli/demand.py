@@ -11,7 +11,9 @@ from streetsim.base.report import Report
 from streetsim.base.words import Parser, add_lost, add_rounds, integer_within, names_in, paths_in, share_of
 from streetsim.cli.defaults import complete_outputs, name_of_network, args_and_options
 from streetsim.cli.import_ import add_options, options_of
-from streetsim.cli.words import add_attribute, add_files, add_made_run, add_network, add_out, refuse_half_run
+from streetsim.cli.words import (
+    add_attribute, add_files, add_made_run, add_network, add_out, add_program, refuse_half_run,
+)  # fmt: skip
 from streetsim.demand import demanding, making
 from streetsim.demand.demanding import DemandInputs
 from streetsim.demand.fitting import ERROR
@@ -38,7 +40,7 @@ def parser() -> Parser:
     )
     add_out(tool_parser, "output folder (default: NET-fitted, here)")
     add_made_run(tool_parser, "vehicles")
-    tool_parser.add_argument("--program", help=program.HELP)
+    add_program(tool_parser)
     add_options(tool_parser)
     return tool_parser
 

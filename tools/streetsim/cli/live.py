@@ -8,8 +8,7 @@ from pathlib import Path
 
 from streetsim.base import limits
 from streetsim.base.files import Fault, refuse_equal
-from streetsim.base.program import BUILT, find_program
-from streetsim.base.places import TOP
+from streetsim.base.program import find_program
 from streetsim.base.words import Parser, add_lights, add_rounds, add_run, integer_within, names_in
 from streetsim.cli.defaults import complete_run
 from streetsim.cli.run import add_buses, add_merge, add_rescue
@@ -87,10 +86,9 @@ def main(arguments: list[str]) -> int:
         refuse_equal(outputs, (args.run, args.map))
     run, mapping = read_with_map(args.run, args.map)
     program = find_program(args.program)
-    proved = Path(program).resolve() == TOP / BUILT
     names, rounds = tuple(names_in(args.joint)), args.rounds if mapping.yields else 0
     joining = Joining(
-        run, mapping, args.map, program, partial(page_settings, args), proved, names, rounds, args.workers,
+        run, mapping, args.map, program, partial(page_settings, args), names, rounds, args.workers,
         args.departures or LISTED,
     )
     page_run, messages = joining.page_run()

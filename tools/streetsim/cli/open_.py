@@ -9,13 +9,12 @@ from collections.abc import Sequence
 from importlib import import_module
 from pathlib import Path
 
-from streetsim.base import program
 from streetsim.base.files import Fault, checked_output_path, note_kept, open_bytes, reading
 from streetsim.base.progress import Slow
 from streetsim.base.report import Report
 from streetsim.base.words import Parser, integer_within
 from streetsim.cli.defaults import COMPLETED, is_configuration, map_beside, plan_files, stem_of
-from streetsim.cli.words import add_clock
+from streetsim.cli.words import add_clock, add_program
 from streetsim.demand.invented import write_invented
 from streetsim.model.folder import NAME, seeds_in
 from streetsim.model.mapping import read_map
@@ -65,7 +64,7 @@ def parser() -> Parser:
         help="write no page but serve one that runs the simulation, until Ctrl-C",
     )
     tool_parser.add_argument("--no-open", action="store_true", help="start no browser")
-    tool_parser.add_argument("--program", help=program.HELP)
+    add_program(tool_parser)
     return tool_parser
 
 

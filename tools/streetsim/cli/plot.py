@@ -5,7 +5,7 @@ from streetsim.base import limits, program
 from streetsim.base.files import Fault, checked_output_path
 from streetsim.base.words import Parser, integer_within, names_in
 from streetsim.cli.defaults import complete_outputs, stem_of
-from streetsim.cli.words import add_clock
+from streetsim.cli.words import add_clock, add_program
 from streetsim.model.folder import read_folder
 from streetsim.report import picture_maps
 from streetsim.report.picture_files import Figure, Pyplot, load_pyplot, picture_format, save_picture
@@ -95,7 +95,7 @@ def add_diagram(tool_parser: argparse.ArgumentParser) -> None:
         "--limit", type=integer_within(1, limits.LIMIT), default=limits.LIMIT,
         help="speed limit on the circular street of --ring, cells a step (default %(default)s)",
     )
-    tool_parser.add_argument("--program", help=f"{program.HELP}, for the ring")
+    add_program(tool_parser, ", for the ring")
 
 
 def dawdles(text: str) -> list[int]:

@@ -5,6 +5,7 @@ from collections.abc import Sequence
 
 from streetsim.base import limits, program
 from streetsim.base.files import Fault, refuse_foreign, refuse_unwritable
+from streetsim.base.program import program_digest
 from streetsim.base.progress import Slow, Stopping
 from streetsim.base.report import Report
 from streetsim.base.seeds import seeds_of
@@ -18,7 +19,6 @@ from streetsim.cli.words import (
     add_check, add_clock, add_machines, add_made_run, add_network, add_out, refuse_half_run, seeds_to_check,
 )
 from streetsim.model import trust
-from streetsim.model.sources import program_digest
 from streetsim.search.route_diverting import check_works, give_ways_of_file
 from streetsim.search.route_job import (
     LONGEST_TRIP, Job, RouteFiles, RouteWorks, search_routes, tell_found, tell_stops, write_found,

@@ -16,7 +16,7 @@ from streetsim.observe.sumo_kinds import KINDS, kinds_of
 
 OF_WORKS = ("close", "joint", "lost", "works_limit")  # words that the lines that a folder keeps have in them
 # Words that say where, on what and with which seeds a run is made.
-ELSEWHERE = ("run", "map", "out", "force", "program", "workers", "jobs", "seeds", "keep")
+ELSEWHERE = ("run", "map", "out", "force", "program", "proved", "workers", "jobs", "seeds", "keep")
 
 
 def parser() -> argparse.ArgumentParser:

@@ -32,7 +32,7 @@ from streetsim.search.study_windows import clocks_of
 LAST_FILE = "differences.csv"
 ORIGIN_FILE = "made.json"  # by what a study is made again
 # Words that say where and on what a study is made, and change no number of it.
-ELSEWHERE = ("study", "out", "force", "program", "jobs", "cluster")
+ELSEWHERE = ("study", "out", "force", "program", "proved", "jobs", "cluster")
 
 
 def parser() -> Parser:

@@ -1,6 +1,7 @@
 """Words that several commands take: functions that add one or a few to a command's parser, and that read the seeds and
 other values that these words give."""
 import argparse
+import os
 from collections.abc import Sequence
 
 from streetsim.base import limits, program
@@ -73,21 +74,35 @@ def add_departures(parser: argparse.ArgumentParser, usual: str) -> None:
     )
 
 
+class NamedRecord(argparse.Action):
+    """Puts a record of what was proved elsewhere into the environment, where this process and its children find it."""
+
+    def __call__(self, parser: object, namespace: argparse.Namespace, values: object, option: object = None) -> None:
+        setattr(namespace, self.dest, values)
+        os.environ[program.ELSEWHERE] = str(values)
+
+
+def add_program(parser: argparse.ArgumentParser, for_what: str = "") -> None:
+    """Adds --program, the path of the program, and --proved, a record that names it; for_what: behind the help."""
+    parser.add_argument("--program", help=f"{program.HELP}{for_what}")
+    parser.add_argument("--proved", metavar="FILE", action=NamedRecord, help=program.RECORD_HELP)
+
+
 def add_simulator(parser: argparse.ArgumentParser) -> None:
-    """Adds the words of the program that runs: its path (--program) and how many workers it has."""
-    parser.add_argument("--program", help=program.HELP)
+    """Adds the words of the program that runs: as add_program, and how many workers it has."""
+    add_program(parser)
     parser.add_argument(
         "--workers", type=integer_within(1, 64), default=1, help="threads of the simulator (default %(default)s)"
     )
 
 
 def add_machines(parser: argparse.ArgumentParser) -> None:
-    """Adds the words that say where runs are parser: --jobs, --cluster, --program."""
+    """Adds the words that say where runs are made: --jobs, --cluster, and those of add_program."""
     add_jobs(parser)
     parser.add_argument(
         "--cluster", metavar="HOST:PORT", help="make the runs on the workers of this dask.distributed scheduler"
     )
-    parser.add_argument("--program", help=program.HELP)
+    add_program(parser)
 
 
 def add_check(parser: argparse.ArgumentParser, default: str, help_text: str) -> None:

@@ -24,6 +24,7 @@ from streetsim.live.world import PageRun
 HOST = "127.0.0.1"
 MOST_BODY = 1 << 20  # bytes of one request; a line of the program has no more
 HEARD_EVERY = 1.0  # seconds between the bytes by which the bridge notices that its page is gone
+PATIENCE = 60.0  # seconds that a connection may say nothing
 MOST_PASSED_OVER = 4 * MOST_BODY  # bytes of a refused body that are still read
 PASSED_OVER_FOR = 2.0  # seconds that the bridge waits for them
 Join = Callable[[Iterable[str]], tuple[bytes, PageRun]]  # the page and its run with some lanes joint
@@ -118,6 +119,7 @@ class Handler(BaseHTTPRequestHandler):
     # An answer goes out at once and in one piece: the system else holds the second piece back for 40 ms.
     disable_nagle_algorithm = True
     wbufsize = -1
+    timeout = PATIENCE
     server: Bridge
     unread = 0  # bytes of the request's body that were not read yet
 
@@ -196,7 +198,7 @@ class Handler(BaseHTTPRequestHandler):
             self.keep_open(name)
             return None
         else:
-            answer = getattr(server.session, verb)(**read_request(verb, body, server.session.page_run))
+            answer = getattr(server.session, verb)(**read_request(verb, body, server.session))
         return answer, "application/octet-stream"
 
     def keep_open(self, name: str) -> None:
@@ -246,22 +248,24 @@ class Handler(BaseHTTPRequestHandler):
         """Writes nothing: requests are not logged."""
 
 
-def read_request(verb: str, body: bytes, page_run: PageRun) -> Json:
+def read_request(verb: str, body: bytes, session: PageSession) -> Json:
     """What a page sends with a verb of REQUEST_FIELDS, by name; Refusal where it is of another form, or out of its
-    bounds in the run of the page (page_run). What the program refuses is left to it."""
+    bounds in the session. What the program refuses is left to it."""
     try:
         arguments = json.loads(body)
         kinds = REQUEST_FIELDS[verb]
         if arguments.keys() != kinds.keys() or not all(is_a(arguments[name], kind) for name, kind in kinds.items()):
             raise ValueError("other names or kinds of values")
-        check_bounds(verb, arguments, page_run)
+        check_bounds(verb, arguments, session)
     except (ValueError, LookupError, TypeError, AttributeError, RecursionError) as fault:
         raise Refusal(HTTPStatus.BAD_REQUEST, f"{verb} is not of its form: {fault}") from None
     return dict(arguments)
 
 
-def check_bounds(verb: str, arguments: Json, page_run: PageRun) -> None:
-    """ValueError, or another of the errors of a wrong form, where arguments of a verb are out of their bounds."""
+def check_bounds(verb: str, arguments: Json, session: PageSession) -> None:
+    """ValueError, or another of the errors of a wrong form, where arguments of a verb are out of their bounds: nobody
+    goes back to a clock that has not come, which would take as long as the way there."""
+    page_run = session.page_run
     if verb == "works":
         works, link = arguments["wish"], page_run.mapping.links[arguments["wish"]["link"]]
         numbers = [works["link"], works["begin"], works["end"], works["from"], *works["lanes"]]
@@ -273,9 +277,10 @@ def check_bounds(verb: str, arguments: Json, page_run: PageRun) -> None:
     elif verb == "ask":
         is_within = all(command["cmd"] in QUESTIONS for command in arguments["commands"])
     else:
-        most = {"steps": limits.STEPS, "clock": limits.CLOCK, "which": 1, "node": len(page_run.mapping.nodes) - 1}
+        most = {"steps": limits.STEPS, "clock": session.clock, "which": 1, "node": len(page_run.mapping.nodes) - 1}
         numbers_by_name = {name: value for name, value in arguments.items() if is_a(value, int)}
         is_within = all(0 <= value <= most.get(name, limits.CLOCK) for name, value in numbers_by_name.items())
+        is_within = is_within and numbers_by_name.get("steps", 1) > 0
     if not is_within:
         raise ValueError("a value is out of its bounds")
 

@@ -22,7 +22,6 @@ class Joining:
     map_path: FilePath
     program: str  # which runs it, and makes the rounds
     make_settings: Callable[[Run, Map], Settings]  # of a run
-    proved: bool = False  # whether the program is the one that ./build made
     names: tuple[str, ...] = ()  # of the lanes and edges that are joint beside those of the import
     rounds: int = 0  # by which vehicles give way without a light
     workers: int = 1  # of the program
@@ -51,7 +50,7 @@ class Joining:
 
     def page(self, page_run: PageRun) -> bytes:
         """The page of a run; Fault as of live_page."""
-        return live_page(page_run, self.map_path, self.proved)
+        return live_page(page_run, self.map_path)
 
     def join(self, names: Iterable[str]) -> tuple[bytes, PageRun]:
         """(the page, its run) with further lanes or edges (names) joint; after a Fault all is as before."""

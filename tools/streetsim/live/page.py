@@ -79,11 +79,11 @@ def turn_kind(mapping: Map, turn: MapTurn) -> str:
     return TURN_WORDS[turn_name(mapping.links[turn.link].shape, mapping.links[turn.next].shape)]
 
 
-def page_data(page_run: PageRun, map_path: FilePath = "", proved: bool = False) -> Json:
+def page_data(page_run: PageRun, map_path: FilePath = "") -> Json:
     """What the page knows of a run beside what it is told: links, nodes, turns (a list each), cars (names), sizes
     (cells, by the numbers of vehicles with more than one), start, dawdle (0 to 1), signals (the commands of its own for
     lights), yields (how many), giving (nodes) and claim (a text). map_path: to find the imported network, empty: not
-    looked for; proved: its program is the one that ./build made and proved."""
+    looked for."""
     run, mapping = page_run.run, page_run.mapping
     streets, areas = streets_and_areas(mapping, map_path) if map_path else ({}, {})
     sizes = {number: line.command.get("size", 1) for number, line in enumerate(run.enters)}
@@ -96,7 +96,7 @@ def page_data(page_run: PageRun, map_path: FilePath = "", proved: bool = False) 
         "cars": mapping.cars, "sizes": {number: size for number, size in sizes.items() if size > 1},
         "start": run.start(), "dawdle": run.load.command.get("dawdle", 0) / 1000,
         "signals": [command for _, command in run.signals() if command["node"] not in page_run.givers],
-        "yields": len(mapping.yields), "giving": sorted(page_run.givers), "claim": claim_of(page_run, proved),
+        "yields": len(mapping.yields), "giving": sorted(page_run.givers), "claim": claim_of(page_run),
     }
 
 
@@ -105,9 +105,9 @@ def pack_text(value: bytes) -> str:
     return base64.b64encode(gzip.compress(value, mtime=0)).decode()
 
 
-def live_page(page_run: PageRun, map_path: FilePath = "", proved: bool = False) -> bytes:
+def live_page(page_run: PageRun, map_path: FilePath = "") -> bytes:
     """The page as bytes, which asks the bridge; arguments as of page_data. Fault where it is larger than MOST_BYTES."""
-    data = json.dumps(page_data(page_run, map_path, proved), separators=(",", ":")).encode()
+    data = json.dumps(page_data(page_run, map_path), separators=(",", ":")).encode()
     parts = {
         "@DATA@": pack_text(data),
         "/*SCRIPTS*/": "\n".join(path.read_text(encoding="utf-8") for path in SCRIPTS),

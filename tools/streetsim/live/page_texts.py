@@ -1,16 +1,20 @@
 """The sentences of a page: what it is, and what its changes gained."""
-from streetsim.base.program import is_unproved
+from streetsim.base.program import Proof, proof_of, proof_words
 from streetsim.base.report import first_few
 from streetsim.live.world import PageRun, World
 
 LEAST_DIFFERENCE_S = 0.05  # seconds a trip that are told as a difference
 
 
-def claim_of(page_run: PageRun, proved: bool) -> str:
-    """What a page of a run is; proved: whether its program is the one that ./build made."""
-    unknown = "A program of which this page does not know whether it is proved"
-    unproved = "NOT PROVED: a program without proofs (./build --unproved)"
-    sentences = ["The proved program" if proved else unproved if is_unproved(page_run.program) else unknown]
+def claim_of(page_run: PageRun) -> str:
+    """What a page of a run is, and what is known of the proofs of its program."""
+    proof = proof_of(page_run.program)
+    programs = {
+        Proof.PROVED: "The proved program",
+        Proof.UNPROVED: "NOT PROVED: a program without proofs (./build --unproved)",
+        Proof.UNKNOWN: f"A program that is {proof_words(page_run.program)}",
+    }
+    sentences = [programs[proof]]
     sentences[:0] = [f"{page_run.mapping.invented}."] if page_run.mapping.invented else []
     sentences[-1] += " on this machine answers; the bridge and this page's script are tested, not proved."
     if page_run.givers:

@@ -19,6 +19,8 @@ from streetsim.model.runs import Command, TimedCommand
 
 SLOW = 0.1  # seconds that a second of traffic may take where two are run by themselves
 SHARE = 8  # of the last measurement in the pace, an eighth
+LOOK = 0.05  # seconds between two looks whether a call has ended
+PATIENCE = 0.5  # seconds for a call to end whose programs were killed
 
 
 class PageSession:
@@ -29,6 +31,8 @@ class PageSession:
         self.page_run, self.files, self.lock = page_run, session_files, threading.RLock()
         self.current: World | None = None
         self.unchanged: World | None = None  # as it was without changes
+        self.coming: World | None = None  # that is run anew
+        self.has_ended = False
         self.changes: list[Json] = []  # {text, made: clock, commands: [{clock, command}]}, in the order of their making
         self.wants_unchanged: bool | None = None  # whether somebody wants the traffic as it was
         self.shows_unchanged = False  # on a map
@@ -40,7 +44,7 @@ class PageSession:
         """The traffic as it is, for one call alone; Fault where nothing runs. After a fault within the call nothing
         runs any more, as nobody knows how far it came."""
         with self.lock:
-            if self.current is None:
+            if self.current is None or self.has_ended:
                 raise Fault("nothing is running: reload the page")
             try:
                 yield self.current
@@ -48,11 +52,19 @@ class PageSession:
                 self.stop()
                 raise
 
+    @property
+    def clock(self) -> int:
+        """The clock of the traffic as it is, also while a call is under way; the run's first one where none runs."""
+        world = self.current
+        return self.page_run.run.start() if world is None else world.clock
+
     # ---- beginning, anew or where it was left
 
     def begin(self) -> bytes:
         """Begins the run, or the session that is kept where it was left; gives the message that tells all."""
         with self.lock:
+            if self.has_ended:
+                raise Fault("the bridge has ended")
             self.wants_unchanged, self.shows_unchanged, self.node = None, False, None
             if self.files is None:
                 self.run_to([], self.page_run.run.start())
@@ -65,7 +77,7 @@ class PageSession:
         """Runs all anew to a clock, with some changes; where it fails nothing runs."""
         self.stop_current()
         later = [sent for change in changes for sent in commands_of(change)]
-        world = World(self.page_run, later, self.node)
+        world = self.coming = World(self.page_run, later, self.node)
         try:
             world.go_on(clock)
             if self.files is not None:
@@ -74,6 +86,8 @@ class PageSession:
         except BaseException:
             world.close()
             raise
+        finally:
+            self.coming = None
         self.current, self.changes = world, list(changes)
         if self.unchanged is not None and self.unchanged.clock != clock:
             self.stop_unchanged()
@@ -97,7 +111,16 @@ class PageSession:
             self.stop_unchanged()
 
     def close(self) -> None:
-        """Ends both, and gives the files of a session that is kept free."""
+        """Ends both, and gives the files of a session that is kept free. A call that is under way ends, as its programs
+        do; one that does not end in PATIENCE seconds ends with this process."""
+        self.has_ended, until = True, time.monotonic() + PATIENCE
+        while not self.lock.acquire(timeout=LOOK):
+            for world in (self.current, self.unchanged, self.coming):
+                if world is not None:
+                    world.program.process.kill()
+            if time.monotonic() > until:
+                return
+        self.lock.release()
         self.stop()
         if self.files is not None:
             self.files.close()

@@ -9,7 +9,7 @@ class World {
 
   // told: a part of a message; rows: its vehicles, each its number, lane, cell (below 0 behind the lane's end) and speed.
   take(told, rows) {
-    if (told.first === 0) this.points = [];
+    this.points.length = told.first;
     if (told.whole) { this.owners = []; this.plans.clear(); this.shown.clear(); }
     const isNext = !told.whole && told.clock === this.clock + 1;
     const { clock, arrived, coming, waiting, detectors, closed } = told;

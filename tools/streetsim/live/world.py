@@ -18,7 +18,7 @@ from streetsim.live.hand import Hand
 from streetsim.live.ledger import Ledger
 from streetsim.live.logged_program import LoggedProgram
 from streetsim.model.mapping import Map
-from streetsim.model.runs import Command, Run, TimedCommand
+from streetsim.model.runs import Command, Line, Run, TimedCommand
 
 
 @dataclass(frozen=True)
@@ -62,6 +62,11 @@ class World:
         self.program = LoggedProgram(page_run.program, page_run.workers)
         controllers, observers = [*steering.controllers, self.hand], [self.ledger]
         self.kernel = Kernel(self.program, page_run.run, page_run.mapping, controllers, observers)
+        # By node the last plan that the run or the page has set, and what detectors have its light show since.
+        self.plans: dict[int, Command] = {}
+        self.shown: dict[int, Command] = {}
+        self.untold_plans, self.untold_shown = set[int](), set[int]()
+        self.note_signals((line, True) for line in page_run.run.first)
         self.forget_sent()
         try:
             self.kernel.begin(limits.CLOCK)
@@ -75,8 +80,29 @@ class World:
         return self.kernel.clock
 
     def go_on(self, clock: int) -> None:
-        """Makes the run on to a clock."""
-        self.kernel.go_on(clock)
+        """Makes the run on to a clock, or to the last one."""
+        target = min(clock, limits.CLOCK)
+        self.kernel.go_on(min(target, self.clock + limits.STEPS))
+        while self.clock < target:
+            self.take_sent()
+            self.kernel.go_on(min(target, self.clock + limits.STEPS))
+
+    def take_sent(self) -> None:
+        """Notes the plans among the lines that were sent, and forgets these: a long run takes no memory for them."""
+        self.note_signals((sent.line, sent.passed_on) for sent in self.kernel.sent_lines)
+        self.kernel.sent_lines.clear()
+
+    def note_signals(self, sent: Iterable[tuple[Line, bool]]) -> None:
+        """Notes the plans among lines that were sent, each with whether it is of the run or the page."""
+        for line, is_plan in sent:
+            command = line.command
+            if command["cmd"] == "signal" and command["node"] not in self.page_run.givers:
+                node = command["node"]
+                (self.plans if is_plan else self.shown)[node] = command
+                (self.untold_plans if is_plan else self.untold_shown).add(node)
+                if is_plan:
+                    self.shown.pop(node, None)
+                    self.untold_shown.discard(node)
 
     def close(self) -> None:
         """Ends the program."""
@@ -94,7 +120,8 @@ class World:
 
     def forget_sent(self) -> None:
         """Has the next message tell all, as to a page that knows nothing."""
-        self.lines_sent = self.cars_sent = self.points_sent = -1
+        self.cars_sent = self.points_sent = self.every_sent = -1
+        self.untold_plans, self.untold_shown = {*self.plans}, {*self.shown}
 
     def message(self) -> Json:
         """What a page is to know of the last second beside its rows: all, or what is new since the last message."""
@@ -102,7 +129,8 @@ class World:
         whole = self.cars_sent < 0
         plans, shown_signals = self.signals()
         cars, self.cars_sent = max(0, self.cars_sent), kernel.vehicles.entered
-        points, self.points_sent = max(0, self.points_sent), len(ledger.points)
+        points = max(0, self.points_sent) if ledger.every == self.every_sent else 0
+        self.points_sent, self.every_sent = len(ledger.points), ledger.every
         page_message: dict[str, Any] = {
             "whole": whole, "first": points, "clock": clock, "arrived": kernel.last_second.arrived_count,
             "coming": int(np.count_nonzero(~ledger.has_departed)),
@@ -120,19 +148,11 @@ class World:
     def signals(self) -> tuple[list[Command], list[Command]]:
         """(the plans that the run or the page has set, what detectors have lights show) since the last message; the
         last of each node alone."""
-        kernel, is_first = self.kernel, self.lines_sent < 0
-        sent = [(line, True) for line in kernel.run.first] if is_first else []
-        sent += [(line_sent.line, line_sent.passed_on) for line_sent in kernel.sent_lines[max(0, self.lines_sent) :]]
-        self.lines_sent = len(kernel.sent_lines)
-        plans: dict[int, Command] = {}
-        shown_signals: dict[int, Command] = {}
-        for line, is_plan in sent:
-            command = line.command
-            if command["cmd"] == "signal" and command["node"] not in self.page_run.givers:
-                (plans if is_plan else shown_signals)[command["node"]] = command
-                if is_plan:
-                    shown_signals.pop(command["node"], None)
-        return [*plans.values()], [*shown_signals.values()]
+        self.take_sent()
+        plans = [self.plans[node] for node in sorted(self.untold_plans)]
+        shown = [self.shown[node] for node in sorted(self.untold_shown)]
+        self.untold_plans, self.untold_shown = set(), set()
+        return plans, shown
 
     def waiting(self) -> list[list[int]]:
         """[slot, how many] of the lanes that vehicles wait to enter, who wished to by now."""

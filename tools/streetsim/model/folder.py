@@ -6,6 +6,7 @@ from collections.abc import Iterator, Sequence
 from dataclasses import dataclass, field
 
 from streetsim.base.files import Fault, Json, open_text, read_json, reading
+from streetsim.base.program import UNKNOWN_NOTE, Proof, proof_of_digest
 from streetsim.base.unpacking import LINE, STREAMED, lines_of, refuse_crowded
 from streetsim.model import tables
 from streetsim.model.doubts import Doubt, doubts_from
@@ -39,12 +40,13 @@ class Folder:
 
     @property
     def unproved(self) -> str:
-        """What is to be said of a run of a program without proofs; empty of any other."""
-        return str(self.setting.get("unproved", ""))
+        """What is to be said of a run of a program that is not known to be proved; empty of any other."""
+        known = proof_of_digest(self.setting.get("program")) is Proof.PROVED
+        return str(self.setting.get("unproved", "" if known else UNKNOWN_NOTE))
 
     @property
     def notes(self) -> list[str]:
-        """What each page of the run has at its head: that its program is without proofs, its demand invented."""
+        """What each page of the run has at its head: that its program is not known to be proved, or demand invented."""
         return [text for text in (self.unproved, self.mapping.invented) if text]
 
     @property

@@ -1,5 +1,4 @@
 """The files of an import, which its map names, so that a run can be imported anew with other options; SHA-256 sums."""
-import functools
 import hashlib
 import os
 from collections.abc import Iterable
@@ -65,12 +64,3 @@ def sum_of_lines(lines: Iterable[str]) -> str:
     for line in lines:
         digest.update(line.encode() + b"\n")
     return digest.hexdigest()
-
-
-@functools.cache
-def program_digest(path: str) -> str | None:
-    """The SHA-256, in hex, of a file's bytes, reckoned once in a process; None where it cannot be read."""
-    try:
-        return sum_of(path)
-    except Fault:
-        return None

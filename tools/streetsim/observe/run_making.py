@@ -15,7 +15,7 @@ from statistics import fmean
 
 from streetsim.base.client import Census
 from streetsim.base.files import Json, whole_file
-from streetsim.base.program import proof_note
+from streetsim.base.program import proof_note, program_digest
 from streetsim.base.report import COLUMNS, first_few
 from streetsim.control import works_figures
 from streetsim.control.bus_fleet import StopOutcome
@@ -33,7 +33,6 @@ from streetsim.model.mapping import Map
 from streetsim.model.names import Names, write_named
 from streetsim.model.rows import NAME as ROWS
 from streetsim.model.runs import Line, Run
-from streetsim.model.sources import program_digest
 from streetsim.model.stops import MISSED, OTHER_LANE, vehicle_classes_of
 from streetsim.model.tables import Entry, write_table
 from streetsim.observe.counts import Counts

@@ -43,7 +43,7 @@ def sealed_again(plans: Sequence[Runs], stated_seal: Seal, page: str, other_path
     for runs, plan in zip(plans, stated_seal.content["plans"], strict=True):
         for folder in runs.folders.values():
             folder.setting |= {"program": plan["program"] or None, "words": plan["words"]}
-            folder.setting.pop("unproved", None)  # of what runs again now: no such page is sealed
+            folder.setting["unproved"] = ""  # no page has more to say of it: it was sealed
     new_seal, _ = seal_for(plans, stated_seal.content["words"], page, other_paths)
     known = stated_seal.content["files"]
     equal = {name for name, sum_ in new_seal.content["files"].items() if known.get(name) == sum_}
@@ -55,7 +55,8 @@ def sealed_again(plans: Sequence[Runs], stated_seal: Seal, page: str, other_path
 
 
 def refuse_unsealable(runs: Runs) -> None:
-    """Fault for runs of a program without proofs, and where runs of seeds that were made are gone."""
+    """Fault for runs of a program that is not known here to be proved, and where runs of seeds that were made are
+    gone."""
     for folder in runs.folders.values():
         if folder.unproved:
             raise Fault(f"{folder.path}: {folder.unproved}: a page of it is not sealed; ./build makes a proved one")

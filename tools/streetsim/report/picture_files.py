@@ -13,6 +13,7 @@ Figure = Any
 Axes = Any
 Lines = Any
 Image = Any
+MOST_LETTERS = 160  # of a line of text
 DPI, COLOURS = 95, 64  # of a PNG: dots an inch, colours that are kept, and as many means of others
 DATES = {"svg": {"Date": None}, "pdf": {"CreationDate": None}}  # without: equal runs give equal bytes
 
@@ -36,7 +37,7 @@ def load_pyplot() -> Pyplot:
     from matplotlib import pyplot
 
     pyplot.rcParams.update({"font.size": 9, "svg.hashsalt": "streetsim", "grid.color": "#dddddd"})
-    pyplot.rcParams.update({"axes.grid": True, "axes.axisbelow": True})
+    pyplot.rcParams.update({"axes.grid": True, "axes.axisbelow": True, "text.parse_math": False})
     return pyplot
 
 
@@ -49,9 +50,10 @@ def picture_format(path: str) -> str:
 
 
 def save_picture(figure: Figure, path: str) -> None:
-    """Writes a picture in the format of its name, whole or not at all; a PNG with few colours, which keeps it small.
-    Fault for a name with another ending than png, svg or pdf, or where it cannot be written."""
+    """Writes a picture in the format of its name, whole or not at all, long texts short; a PNG with few colours, which
+    keeps it small. Fault for a name with another ending than png, svg or pdf, or where it cannot be written."""
     ending = picture_format(path)
+    shorten_texts(figure)
     with whole_path(path) as half:
         if ending != "png":
             figure.savefig(half, format=ending, bbox_inches="tight", facecolor="white", metadata=DATES[ending])
@@ -61,6 +63,32 @@ def save_picture(figure: Figure, path: str) -> None:
         raw = io.BytesIO()
         figure.savefig(raw, dpi=DPI, bbox_inches="tight", facecolor="white")
         with_few_colours(Image.open(raw).convert("RGB")).save(half, format="PNG", optimize=True)
+
+
+def shorten_texts(figure: Figure) -> None:
+    """Makes texts and labels short that would make the picture wider than any picture may be, as long names do."""
+    from matplotlib.axis import Axis
+    from matplotlib.text import Text
+
+    for axis in figure.findobj(Axis):
+        labels = [label.get_text() for label in axis.get_ticklabels()]
+        if any(map(is_long, labels)):
+            axis.set_ticks(axis.get_ticklocs(), list(map(short_text, labels)))
+    for text in figure.findobj(Text):
+        if is_long(text.get_text()):
+            text.set_text(short_text(text.get_text()))
+
+
+def is_long(text: str) -> bool:
+    """Whether a line of a text is too long for a picture."""
+    return any(len(line) > MOST_LETTERS for line in text.split("\n"))
+
+
+def short_text(text: str) -> str:
+    """A text whose long lines lack their middles."""
+    half = MOST_LETTERS // 2
+    lines = text.split("\n")
+    return "\n".join(f"{line[:half]} .. {line[-half:]}" if len(line) > MOST_LETTERS else line for line in lines)
 
 
 def with_few_colours(image: Image) -> Image:

@@ -45,9 +45,9 @@ def player_data(folder: Folder, first_second: int, last_second: int) -> Json:
 
 
 def name_with_notes(folder: Folder) -> str:
-    """The folder's name, with NOT PROVED and invented demand behind it where it is so."""
-    said = ("NOT PROVED", folder.unproved), ("invented demand", folder.mapping.invented)
-    notes = [text for text, is_so in said if is_so]
+    """The folder's name; behind it what is said of its program's proofs, and of invented demand, where it is so."""
+    said = folder.unproved.partition(":")[0], "invented demand" if folder.mapping.invented else ""
+    notes = [text for text in said if text]
     return os.path.basename(os.path.normpath(folder.path)) + (f" ({', '.join(notes)})" if notes else "")
 
 

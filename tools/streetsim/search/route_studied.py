@@ -4,10 +4,11 @@ from collections.abc import Iterable, Iterator, Sequence
 from dataclasses import dataclass, replace
 
 from streetsim.base.jobs import CORES
+from streetsim.base.program import program_digest
 from streetsim.base.report import Report
 from streetsim.model.mapping import Map
 from streetsim.model.runs import Run
-from streetsim.model.sources import program_digest, sources_of
+from streetsim.model.sources import sources_of
 from streetsim.search.route_closing import Shutting
 from streetsim.search.route_diverting import Diverted, closing_of, search_by_share
 from streetsim.search.route_loading import read_town

@@ -5,12 +5,12 @@ from dataclasses import replace
 from functools import partial
 
 from streetsim.base.files import Fault
+from streetsim.base.program import program_digest
 from streetsim.control.settings import Settings
 from streetsim.control.works_closures import closures_of
 from streetsim.kernel.serving import serving_program
 from streetsim.model.mapping import Map
 from streetsim.model.runs import Line, Run, with_load
-from streetsim.model.sources import program_digest
 from streetsim.observe.giving_way_rounds import Yielding, gaps_of, with_lines
 from streetsim.search.run_open_end import outcome_of
 from streetsim.search.run_prepared import Giving, Outcome, PreparedRun, outcome, session_of, vehicle_seconds

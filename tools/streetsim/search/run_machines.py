@@ -10,7 +10,6 @@ import logging
 import multiprocessing
 import os
 import re
-import signal
 import tempfile
 import warnings
 import zipfile
@@ -20,7 +19,8 @@ from pathlib import Path
 from typing import Any, Protocol
 
 from streetsim.base.files import Fault
-from streetsim.model.sources import program_digest
+from streetsim.base.jobs import end_with_parent
+from streetsim.base.program import program_digest
 
 PATIENCE = 10  # seconds for a cluster to answer
 TRIES = 3  # to make its workers ready
@@ -131,12 +131,10 @@ def end_pool(executor: Executor) -> None:
 
 
 def hold_sessions(sessions: Sequence[HasProgram]) -> None:
-    """Runs first in each process of the pool: puts the sessions into its SESSIONS. The process ignores Ctrl-C, which
-    the main process handles, and ends by SIGTERM and SIGHUP."""
+    """Runs first in each process of the pool: puts the sessions into its SESSIONS, and has it end as end_with_parent
+    says."""
     SESSIONS[:] = sessions
-    signal.signal(signal.SIGINT, signal.SIG_IGN)
-    for number in (signal.SIGTERM, signal.SIGHUP):
-        signal.signal(number, signal.SIG_DFL)
+    end_with_parent()
 
 
 @contextlib.contextmanager

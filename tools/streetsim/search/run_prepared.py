@@ -18,11 +18,11 @@ from operator import itemgetter
 
 from streetsim.base.client import words_of
 from streetsim.base.files import Fault
+from streetsim.base.program import program_digest
 from streetsim.control.actuated_lights import NONE_DRIVEN, ActuatedLights
 from streetsim.control.bus_planned import NONE, Planned
 from streetsim.model.mapping import Map
 from streetsim.model.runs import Line, Run
-from streetsim.model.sources import program_digest
 
 OFTEN = 10  # seconds between counts
 MINUTE = 60  # seconds between looks at who waits to enter
