@@ -393,7 +393,7 @@ class Tool(Searching):
         self.assertRegex(
             told,
             r"mean trip [\d.]+ s as given, [\d.]+ s as found: -[\d.]+ s ± [\d.]+ "
-            r"\(95 % interval of dawdling alone, 3 seeds",
+            r"\(95 % interval of the mean change by dawdling alone, 3 seeds",
         )
         self.assertRegex(told, r"\ncycle 80 s as given, \d+ s as found")
         self.assertEqual([row["light"] for row in self.table("lights.csv")], ["J1", "J4", "J5"])

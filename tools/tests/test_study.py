@@ -95,7 +95,7 @@ class Tables(Studies):
             )
         self.assertRegex(
             told,
-            r"given: mean trip [\d.]+ s\nwave: mean trip [\d.]+ s, [-+][\d.]+ s ± [\d.]+ \(95 % interval of "
+            r"given: mean trip [\d.]+ s\nwave: better: mean trip [\d.]+ s, [-+][\d.]+ s ± [\d.]+ \(95 % interval of "
             r"the mean change by dawdling alone; 4 paired runs\); the wanted",
         )
         self.assertIn("so nothing is sure of another day\nbeside chance, forecasts were off by", told)

@@ -14,7 +14,7 @@ from streetsim.demand.reading import read_counts
 from streetsim.demand.seen import passed_in
 from streetsim.demand.writing import LAST_FILE, write_judged
 from streetsim.model import trust
-from streetsim.model.folder import read_folder
+from streetsim.model.folder import Folder, read_folder
 from streetsim.model.replications import is_drawn
 from streetsim.report.beside_sumo import (
     compare_edges, compare_trips, edge_values_of, read_edges, read_tripinfo, trip_times_of,
@@ -81,6 +81,7 @@ def with_sumo(path: str, files: list[str]) -> int:
             lines += compare_edges(edges, sumo, folder.period, len(folder.mapping.links_of))
             common = common and any(key in sumo for key in edges)
     print(*lines, *folder.notes, sep="\n")
+    tell_doubts(folder)
     if not common:
         print("nothing is common to both", file=sys.stderr)
     return 0 if common else 1
@@ -94,8 +95,7 @@ def with_times(path: str, files: list[str]) -> int:
         comparisons = compared_times(folder, read_compared(files, notes))
     print(*notes, sep="\n", end="\n" if notes else "", file=sys.stderr)
     print(*lines_of_times(comparisons), sep="\n")
-    if folder.doubts:
-        print(trust.verdict(folder.doubts))
+    tell_doubts(folder)
     return 0 if are_close(comparisons) else 1
 
 
@@ -113,6 +113,11 @@ def with_counts(path: str, files: list[str], attribute: str | None, out_path: st
                 write_judged(out_folder, fit)
                 draw_fit(out_folder, fit, folder.mapping.links, "passed in the run")
     print(*fit.lines(), *folder.notes, sep="\n")
-    if folder.doubts:
-        print(trust.verdict(folder.doubts))
+    tell_doubts(folder)
     return 0 if fit.meets_criteria else 1
+
+
+def tell_doubts(folder: Folder) -> None:
+    """Prints why a run is not to be trusted, and its worst doubted places, where there are any."""
+    if line := trust.last_line(folder.doubts, folder.places, folder.mapping):
+        print(line)

@@ -188,7 +188,7 @@ def job_of(args: argparse.Namespace) -> Job:
     if until <= last:
         raise Fault(f"--until {until}: the last trip departs at {last:,} s")
     closed = [works for text in args.close for works in names_in(text)]
-    check_works(closed, args.sign, trips.trips, town, until)
+    town.joint = check_works(closed, args.sign, trips.trips, town, until)
     return Job(
         town,
         trips,

@@ -13,6 +13,7 @@ from streetsim.base.seeds import mean_and_half_width
 from streetsim.control.works_asked import works_of
 from streetsim.control.works_closures import closures_of
 from streetsim.control.works_crowding import crowded_works, told_of_crowded
+from streetsim.control.works_sites import lanes_to_join
 from streetsim.control.works_watched import in_runs
 from streetsim.model import trust
 from streetsim.search.route_closing import (
@@ -103,8 +104,10 @@ def give_ways_of_file(trips: Sequence[Trip], routed_trips: Trips, graph: Graph, 
         trip.path = routed.path
 
 
-def check_works(texts: Sequence[str], signs: Sequence[str], trips: Sequence[Trip], town: RouteTown, until: int) -> None:
-    """Refuses by a Fault, before anything runs, works (texts, as --close takes them) that have another form or name no
+def check_works(
+    texts: Sequence[str], signs: Sequence[str], trips: Sequence[Trip], town: RouteTown, until: int
+) -> tuple[str, ...]:
+    """Gives the lanes that works make joint, so that runs without them have these joint too. Refuses by a Fault, before anything runs, works (texts, as --close takes them) that have another form or name no
     lane or metres of the network, end by the start or begin at until (a clock in seconds) or later, signs on unknown
     edges, and trips that begin on an edge while it is shut (shut_edges). Which trips end there is known only after the
     runs without works."""
@@ -120,6 +123,7 @@ def check_works(texts: Sequence[str], signs: Sequence[str], trips: Sequence[Trip
     for trip in trips:
         if any(begin <= trip.depart < end for begin, end in shut.get(trip.origin, ())):
             raise Fault(f"trip {trip.name!r} {why_edge_stops((trip.origin,), 0, town.graph)}")
+    return tuple(lanes_to_join(works, mapping))
 
 
 def closing_of(shutting: Shutting, graph: Graph, search: RouteSearch, judged: JudgedRoutes) -> Closing:

@@ -42,12 +42,17 @@ class RouteTown:
         self.graph: Graph = graph_of_net(net)
         self.minor = Minor(self.graph, net)
         self.works: tuple[str, ...] = ()  # as streetsim-run --close takes them
+        self.joint: tuple[str, ...] = ()  # lanes that are joint in each run, with works and without
         self.lost = "lead"  # what those do who lose their only lane by them, of works_movements.LOST
 
     @property
     def dawdle(self) -> float:
         """The chance, 0 to 1, that a vehicle goes on by a cell less in a step."""
         return self.options.dawdle / 1000
+
+    def own_options(self) -> Options:
+        """The options of the import of each run."""
+        return replace(self.options, joint=(*self.options.joint, *self.joint))
 
     def loaded(self, trips: Sequence[Trip], doubted: bool = False) -> LoadedRun:
         """The run of trips that have ways, with the town's works. Permissive greens and the choice of lanes follow the
@@ -65,7 +70,8 @@ class RouteTown:
         link with a lane beside it, and the links beside led lanes get their turns. doubted: as of `loaded`. Fault where
         the network has no such lane, a trip is skipped, or a limit of the program is passed."""
         report = Report()
-        options = replace(self.options, joint=(*self.options.joint, *joint), led=(*self.options.led, *led))
+        options = replace(self.own_options(), led=(*self.options.led, *led))
+        options = replace(options, joint=tuple(dict.fromkeys((*options.joint, *joint))))
         vehicles = vehicles_from_trips(trips, self.graph)
         network, lights, commands, names = converted(self.net, self.types, vehicles, options, report, doubted)
         if report.skipped:
@@ -110,7 +116,7 @@ def write_loaded(loaded: LoadedRun, town: RouteTown, routes: str, run_path: str,
     import would lose, so that its map names no files of one. Fault where a file cannot be read or written."""
     if not town.works:
         files, report = replace(town.files, routes=[routes]), Report()
-        imported = convert(files.net, files.additional, files.routes, town.options, report)
+        imported = convert(files.net, files.additional, files.routes, town.own_options(), report)
         write_run(run_path, map_path, imported, report, files)
         return
     write_run_of(loaded.run, loaded.mapping, run_path, map_path)

@@ -9,15 +9,17 @@ from statistics import fmean
 from streetsim.base.files import whole_file, whole_folder
 from streetsim.base.seeds import paired
 from streetsim.model import trust
+from streetsim.model.doubts import Doubt, places_told
 from streetsim.model.folder import read_folder
 from streetsim.model.freeflow import FreeFlow
 from streetsim.model.tables import Entry, write_table
+from streetsim.observe.doubted_places import doubt_of_lane
 from streetsim.observe.run_making import RunOptions, make_run
 from streetsim.report.picture_files import load_pyplot, save_picture
 from streetsim.report.picture_plots import Corridor, draw_corridor
 from streetsim.search.run_prepared import Outcome
 from streetsim.search.signal_in_sumo import Verified
-from streetsim.search.signal_lines import LightLines
+from streetsim.search.signal_lines import LightLines, full_lanes_under
 from streetsim.search.signal_plans import Plan, plan_text
 from streetsim.search.signal_search import PlanSearch
 from streetsim.search.signal_town import SignalTown
@@ -156,7 +158,15 @@ def tell_found(
         print("stopped: the best plan found so far is written")
     print(trips_told(rows[0], search))
     print(cycles_told(town.plan, search))
-    return tell_verdict(rows[0], search, doubts, sumo)
+    places = doubted_places(town, search.best[1])
+    return tell_verdict(rows[0], search, doubts, sumo, places_told(places, town.mapping))
+
+
+def doubted_places(town: SignalTown, plan: Plan) -> list[Doubt]:
+    """The doubts of lanes that are nearly full under a plan."""
+    lines = LightLines(town.lines.net, town.run, town.mapping)
+    lines.signal_lines(plan, town.lights)
+    return [doubt_of_lane(lane) for lane in full_lanes_under(lines.net, town.run, town.mapping)]
 
 
 def cycles_told(given_plan: Plan, search: PlanSearch) -> str:
@@ -184,20 +194,23 @@ def trips_told(row: BeforeAfter, search: PlanSearch) -> str:
     took."""
     return (
         f"mean trip {row.mean_before:.1f} s as given, {row.mean_after:.1f} s as found: {row.change_told()} "
-        f"(95 % interval of dawdling alone, {row.runs} seeds that the search did not see); "
+        f"(95 % interval of the mean change by dawdling alone, {row.runs} seeds that the search did not see); "
         f"{search.simulations:,} simulations{budget_ended(search)}"
     )
 
 
-def tell_verdict(row: BeforeAfter, search: PlanSearch, doubts: Sequence[str], sumo: Verified | None) -> int:
+def tell_verdict(
+    row: BeforeAfter, search: PlanSearch, doubts: Sequence[str], sumo: Verified | None, places: str = ""
+) -> int:
     """Prints SUMO's figures, where it was run (None: it was not), and the last line; gives the exit status: 0 where
     what was found is shown to be better wherever it was run, else 1. row: the first of before-after.csv; doubts: why
-    the result is not to be trusted, empty where it is."""
+    the result is not to be trusted, empty where it is; places: the worst doubted places, in words."""
     if sumo:
         print(sumo.summary())
     changes = {"here": (row.difference, row.half), **({"in SUMO": sumo.difference_and_half()} if sumo else {})}
     worse = [where for where, (mean, width) in changes.items() if mean + width >= 0]
-    if text := "; ".join(filter(None, (verdict(changes, worse, search), trust.verdict(doubts) if doubts else ""))):
+    texts = verdict(changes, worse, search), trust.verdict(doubts) if doubts else "", places
+    if text := "; ".join(filter(None, texts)):
         print(text)
     return 1 if worse else 0
 

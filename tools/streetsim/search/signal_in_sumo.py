@@ -52,7 +52,7 @@ class Verified:
         moved = f", {self.teleports[0]:,} and {self.teleports[1]:,} teleports" if any(self.teleports) else ""
         return (
             f"in SUMO {fmean(self.means_before):.1f} s as given, {fmean(self.means_after):.1f} s as found: "
-            f"{difference:+.1f} s ± {half:.1f} (95 % interval, the same {len(self.means_before)} seeds{moved})"
+            f"{difference:+.1f} s ± {half:.1f} (95 % interval of the mean change, the same {len(self.means_before)} seeds{moved})"
         )
 
 

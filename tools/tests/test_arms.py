@@ -1,0 +1,139 @@
+"""A junction as engineers draw it, and the answers of pages."""
+import re
+import unittest
+from dataclasses import replace
+
+import support  # noqa: F401, which puts the tools on the path
+from streetsim.model.folder import Folder
+from streetsim.model.mapping import Map, MapLink, MapNode, MapSignal, MapTurn
+from streetsim.report.page_arms import arms_of, junction_picture, lanes_of, right_of
+from streetsim.report.page_verdict import answer, doubted_share, levels_of, worst_interval, worst_movement
+from streetsim.report.plan_differences import PlanDifference
+from streetsim.report.run_tables import ResultRow, Runs
+
+WHEN = 0, 900
+SIGNALS = "signals"
+
+
+def crossing(side=1):
+    """A street from the west to the east through a light, of two lanes each way, and one to the north; side: 1 where
+    one drives on the right."""
+    off = 3.0 * side
+    shapes = {
+        "in": [(-100, -off), (0, -off)], "out": [(0, -off), (100, -off)], "back": [(0, off), (-100, off)],
+        "up": [(off, 0), (off, 100)],
+    }
+    ends = {"in": (0, 1), "out": (1, 2), "back": (1, 0), "up": (1, 3)}
+    lanes = {"in": [0, 1], "out": [0], "back": [0], "up": [0]}
+    links = [MapLink(name, lanes[name], *ends[name], 10, 2, 100.0, shape) for name, shape in shapes.items()]
+    turns = [MapTurn(0, lane, following, 0, "L", 0, added) for lane, following, added in (
+        (0, 1, False), (1, 3, False), (1, 1, True),
+    )]
+    nodes = [MapNode(name, 0.0, 0.0, 1) for name in "WCEN"]
+    return Map(nodes, links, turns, [MapSignal("L", 1)], [], {}, [])
+
+
+def row(key, movement="", delay=20.0, doubt="", hourly=100.0):
+    """A row of a table."""
+    means = {"control_delay_s": delay, "vehicles_per_hour": hourly, "vehicles": hourly / 4, "v_c": 0.5}
+    means |= {"queue_95_m": 50.0, "storage_m": 100.0}
+    return ResultRow(key, SIGNALS, movement, means, {1: means, 2: means}, doubt)
+
+
+def runs_of(mapping, *movements, name="a"):
+    """Runs of two seeds with rows of one junction in one interval; its delay is that of the first movement."""
+    folder = Folder("x", mapping, [], 0, 0, 900)
+    delay, doubt = movements[0].delay, movements[0].doubt
+    rows = {
+        ("movements", *WHEN): {one.key: one for one in movements},
+        ("approaches", *WHEN): {("C", "in"): row(("C", "in"), delay=delay, doubt=doubt)},
+        ("junctions", *WHEN): {("C",): row(("C",), delay=delay, doubt=doubt)},
+    }
+    return Runs(name, {1: folder, 2: folder}, rows)
+
+
+STRAIGHT, LEFT = row(("C", "in", "out"), "T"), row(("C", "in", "up"), "L", 90.0, hourly=40.0)
+
+
+class Pictures(unittest.TestCase):
+    def test_lanes_and_their_movements(self):
+        """Turns that the import added are none."""
+        self.assertEqual(lanes_of(crossing(), "in", [STRAIGHT, LEFT]), ["T", "L"])
+
+    def test_the_side_on_which_one_drives(self):
+        for side in (1, -1):
+            runs = runs_of(crossing(side), STRAIGHT, LEFT)
+            self.assertEqual(right_of(crossing(side), arms_of(runs, "C", WHEN)), side)
+
+    def test_what_stands_at_an_arm(self):
+        runs = runs_of(crossing(), replace(STRAIGHT, doubt="full"), LEFT)
+        picture = junction_picture(runs, "C", WHEN)
+        texts = re.findall("<text[^>]*>([^<]*)</text>", picture)
+        self.assertEqual(texts, [
+            "T", "L", "from the west", "L 40/h 90 s F", "T 100/h 20 s B doubted", "95 % queue 50 of 100 m",
+            "20 s B doubted",
+        ])
+        # Bands of 26 pixels for the greatest flow, and of 0.4 of it; half of the arm is full.
+        self.assertEqual(re.findall('stroke-width="([^"]*)"', picture), ["26.0", "10.4"])
+        self.assertEqual(junction_picture(runs, "E", WHEN), "")
+
+
+class Answers(unittest.TestCase):
+    def plans(self, doubt=""):
+        mapping = crossing()
+        return [runs_of(mapping, replace(STRAIGHT, doubt=doubt), name="a"), runs_of(mapping, STRAIGHT, name="b")]
+
+    def test_better_worse_or_undecided(self):
+        """The interval of the mean decides, and that of a day does not."""
+        for change, half, told in (
+            (-5.0, 2.0, "Better."), (5.0, 2.0, "Worse."), (-1.0, 2.0, "Undecided."),
+            (-5.0, None, "Undecided: one run of each says nothing of chance (streetsim-run --seeds 1-5)."),
+        ):
+            one = PlanDifference(50.0, 50.0 + change, change, half, 99.0)
+            self.assertEqual(answer(self.plans(), one, one, WHEN), told)
+        self.assertEqual(answer(self.plans(), None, None, WHEN), "Undecided: nobody arrived with both plans.")
+
+    def test_of_all_and_of_the_worst_time(self):
+        plans = self.plans()
+        for runs in plans:
+            runs.rows["junctions", 900, 1800] = runs.rows["junctions", *WHEN]
+        better, worse = (PlanDifference(50.0, 50.0 + one, one, 1.0) for one in (-5.0, 5.0))
+        told = answer(plans, better, worse, WHEN)
+        self.assertEqual(told, "Better for all, worse in the worst time, from 0:00 to 0:15.")
+        told = answer(plans, better, better, WHEN)
+        self.assertEqual(told, "Better for all, and in the worst time, from 0:00 to 0:15.")
+        slow = row(("C",), delay=70.0)
+        plans[1].rows["junctions", 900, 1800] = {("C",): slow}
+        self.assertEqual(worst_interval(plans), (900, 1800))
+
+    def test_what_is_doubted_is_undecided(self):
+        one = PlanDifference(50.0, 45.0, -5.0, 2.0)
+        plans = self.plans("full")
+        self.assertEqual(doubted_share(plans[0], WHEN), 1.0)
+        self.assertEqual(
+            answer(plans, one, one, WHEN), "Undecided, as what decides is doubted with 'a'; here it is better."
+        )
+        plans = self.plans()
+        plans[1].folders[1].doubts.append("locked")
+        self.assertIn("Undecided, as what decides is doubted with 'b'", answer(plans, one, one, WHEN))
+
+    def test_levels_that_are_doubted_are_not_called_sure(self):
+        sure, doubted = self.plans()[0], self.plans("full")[0]
+        self.assertEqual(levels_of(sure, WHEN), "Junction C has level of service B.")
+        self.assertEqual(levels_of(doubted, WHEN), "Levels of service of one of one junction are doubted.")
+        doubted.rows["junctions", *WHEN]["E",] = row(("E",))
+        told = "Every other junction has level of service B or better; the worst is Junction E. Levels of service of one "
+        self.assertIn(told, levels_of(doubted, WHEN))
+
+    def test_the_worst_movement(self):
+        [told] = worst_movement([runs_of(crossing(), STRAIGHT, replace(LEFT, doubt="full"))], WHEN)
+        self.assertEqual(
+            told, "The worst movement, from the west to the north at Junction C, waits 90 s (F); this is doubted: full."
+        )
+        few = replace(LEFT, means={**LEFT.means, "vehicles_per_hour": 8.0})
+        [told] = worst_movement([runs_of(crossing(), STRAIGHT, few)], WHEN)
+        self.assertIn("from the west to the east", told)
+
+
+if __name__ == "__main__":
+    unittest.main()
