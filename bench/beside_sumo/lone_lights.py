@@ -24,6 +24,7 @@ from streetsim.report.beside_sumo import Trip, read_tripinfo, trip_times_of
 Shares = tuple[float, float, float]  # that turn left, go straight on, turn right
 GREENS = ((10, 60), (22, 60), (35, 80), (50, 90), (57, 90))  # green and cycle, seconds
 AGAINST = (300, 500, 700)  # vehicles an hour, where nothing else is said
+TWO_LANES = (400, 700, 1000)  # on two lanes
 YELLOW = 3
 FULL, FULL_LEFTS = 1300, 900  # vehicles an hour that are more than can pass
 
@@ -38,11 +39,13 @@ class Street:
     green: int
     cycle: int
     turn_lane: bool = False
+    lanes: int = 1  # that go through, each way
 
     def junction(self, number: int) -> Junction:
         full = FULL_LEFTS if self.turn_lane else FULL
         flows = streams("w", full, self.own_shares), streams("e", self.against, self.others_shares)
-        return Junction(f"j{number}", "wens", "traffic_light", *flows, lanes=1 + self.turn_lane, exit_lanes=1)
+        lanes = {"lanes": self.lanes + self.turn_lane, "exit_lanes": self.lanes}
+        return Junction(f"j{number}", "wens", "traffic_light", *flows, **lanes)
 
     def with_greens(self, program: Program) -> Program:
         """Its seconds of green in a program."""
@@ -61,13 +64,15 @@ def lefts(*shares: float) -> list[Shares]:
 
 def streets(
     owns: Sequence[Shares], others: Shares = (0.0, 1.0, 0.0), against: Sequence[int] = AGAINST,
-    greens: Sequence[tuple[int, int]] = GREENS, turn_lane: bool = False,
+    greens: Sequence[tuple[int, int]] = GREENS, turn_lane: bool = False, lanes: int = 1,
 ) -> list[Street]:
-    return [Street(own, hourly, others, *green, turn_lane) for own, hourly, green in product(owns, against, greens)]
+    every = product(owns, against, greens)
+    return [Street(own, hourly, others, *green, turn_lane, lanes) for own, hourly, green in every]
 
 
 ROWS = {
     "turn lane, all turn left": streets([(1.0, 0.0, 0.0)], turn_lane=True),
+    "turn lane against two lanes": streets([(1.0, 0.0, 0.0)], against=TWO_LANES, turn_lane=True, lanes=2),
     "shared lane, 10, 30 and 60 % left": streets(lefts(0.1, 0.3, 0.6)),
     "shared lane, 20 % against turn left": streets(lefts(0.12, 0.25), (0.2, 0.8, 0.0), (300, 500), GREENS[1:4]),
     "shared lane, 30 % against turn right": streets(lefts(0.25), (0.0, 0.7, 0.3), (300, 500), GREENS[1:4]),
