@@ -122,7 +122,7 @@ class Answers(unittest.TestCase):
         self.assertEqual(levels_of(sure, WHEN), "Junction C has level of service B.")
         self.assertEqual(levels_of(doubted, WHEN), "Levels of service of one of one junction are doubted.")
         doubted.rows["junctions", *WHEN]["E",] = row(("E",))
-        told = "Every other junction has level of service B or better; the worst is Junction E. Levels of service of one "
+        told = "Every other junction has level of service B or better; the worst is Junction E. Levels of service of "
         self.assertIn(told, levels_of(doubted, WHEN))
 
     def test_the_worst_movement(self):

@@ -15,7 +15,7 @@ from streetsim.control.settings import Settings
 from streetsim.control.works_asked import AskedWorks as Wanted, clock_of, really_closed, sites_of, works_of
 from streetsim.control.works_closures import Closure, closures_of
 from streetsim.control.works_crowding import (
-    PASSES, crowded_works, passes_beside, told_of_crowded, told_of_crowding,
+    PASSES, PASSES_BEHIND_LIGHT, crowded_works, passes_beside, told_of_crowded, told_of_crowding,
 )
 from streetsim.control.works_figures import Period, capacity_of, length_at, periods_of, works_rows
 from streetsim.control.works_movements import lost_movements, told_of_lost, without_led_turns
@@ -389,13 +389,13 @@ class Crowding(unittest.TestCase):
         """Works that begin 150 m behind the light at the begin of a street of 300 m, and 900 m behind another one."""
         mapping = mapped(link("a", cells=120), link("b", begin=1, end=2), turns=[turn(0, 0, 1)])
         works = Closure(1, 0, 20, 30, 0, 3600)
-        for node, passes in ((1, 900 + 210 * 30 / 120), (0, PASSES), (2, PASSES)):
+        for node, passes in ((1, PASSES_BEHIND_LIGHT), (0, PASSES), (2, PASSES)):
             mapping.signals = [MapSignal("L", node)]
             self.assertEqual(passes_beside(mapping, works)[0], passes)
         mapping.signals = [MapSignal("L", 1)]
-        run = run_of([[0, 1]] * 900)
+        run = run_of([[0, 1]] * 1200)
         for at, line in enumerate(run.enters):
-            line.command["depart"] = at * 4
+            line.command["depart"] = at * 3
         [one] = crowded_works(run, mapping, [works])
         self.assertIn("of what the open lane passes, 150 m behind a light, in the worst hour", one.why)
         self.assertGreater(one.size, 0.9)

@@ -10,11 +10,11 @@ from streetsim.model.doubts import ADDED, OF_WORKS, Doubt
 from streetsim.model.freeflow import FreeFlow
 from streetsim.model.mapping import Map
 from streetsim.model.runs import Run
-from streetsim.sumo.merges import END_FLOWS, end_flow
 
 PASSES = 1_600  # vehicles an hour of one open lane beside works
-# Metres behind a light up to which SUMO's vehicles pass works as they do the end of a lane there (END_FLOWS).
-BEHIND_LIGHT = 400.0
+# Metres behind a light up to which fewer of SUMO's vehicles pass works, as they come in groups, and how many do: on a
+# street with a light 150 m before them 1,200 an hour pass without a queue and 1,500 do not.
+BEHIND_LIGHT, PASSES_BEHIND_LIGHT = 400.0, 1_300
 # Share of that, from which on what works add may be far from SUMO's: 6 to 304 s in four drawn networks.
 NEARLY = 0.75
 HOUR, QUARTER = 3600, 900  # seconds
@@ -64,8 +64,7 @@ def told_of_crowded(doubts: Iterable[Doubt]) -> Iterator[str]:
 
 
 def passes_beside(mapping: Map, closure: Closure) -> tuple[float, str]:
-    """(vehicles an hour that pass an open lane beside works in SUMO, words that say why it is less than PASSES): up to
-    BEHIND_LIGHT behind a light as at the end of a lane."""
+    """(vehicles an hour that pass an open lane beside works in SUMO, words that say why it is less than PASSES)."""
     lit, metres = {node for _, node in mapping.signals}, closure.metres(mapping)[0]
     links, edges = [closure.link], {mapping.links[closure.link].edge}
     while metres <= BEHIND_LIGHT and not any(mapping.links[link].begin in lit for link in links):
@@ -77,8 +76,7 @@ def passes_beside(mapping: Map, closure: Closure) -> tuple[float, str]:
         metres += mapping.links[links[0]].metres
     if metres > BEHIND_LIGHT:
         return PASSES, ""
-    passes = min(end_flow(metres), END_FLOWS[-1][1])
-    return passes, f", {metres:.0f} m behind a light,"
+    return PASSES_BEHIND_LIGHT, f", {metres:.0f} m behind a light,"
 
 
 def too_many(run: Run, mapping: Map, closures: Sequence[Closure]) -> str:

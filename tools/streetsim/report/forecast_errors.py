@@ -41,7 +41,8 @@ def is_calibrated(mapping: Map) -> bool:
 def error_told(kind: ForecastError, calibrated: bool) -> str:
     """By how much forecasts of a kind were off, as a sentence; calibrated: whether the base is."""
     base, share = ("a calibrated", kind.calibrated) if calibrated else ("an uncalibrated", kind.uncalibrated)
-    of = f"were off by {100 * share:.0f} % of the change on {kind.streets} streets"
+    size = "more than the change itself" if share > 1 else f"{100 * share:.0f} % of the change"
+    of = f"were off by {size} on {kind.streets} streets"
     advice = ": streetsim-calibrate first" if not calibrated and kind.calibrated < kind.uncalibrated else ""
     return f"For {kind.kind}, forecasts with {base} base {of}{advice}."
 

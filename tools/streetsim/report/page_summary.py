@@ -17,7 +17,7 @@ from streetsim.report.page_drawings import letter_mark, service_keys, service_ma
 from streetsim.report.page_map import map_figure
 from streetsim.report.page_markup import bullets, change_told, mean_told, table
 from streetsim.report.page_verdict import (
-    Interval, LEAST_HOURLY, are_drawn, change_verdict, doubts_of, kind_of_change, ranked_rows, state_verdict,
+    Interval, LEAST_HOURLY, are_drawn, change_verdict, doubts_of, is_doubted, kind_of_change, ranked_rows, state_verdict,
 )
 from streetsim.report.page_words import counted_noun, how_sure
 from streetsim.report.plan_costs import NOTICED, Means, PlanCosts, costs_of, means_by_class
@@ -92,11 +92,11 @@ def service_and_works_map(runs: Runs, interval: Interval, rows: Sequence[RowChan
         row.key[0]: (row.letter(), f"{called(row.key[0])}: {row.delay:.1f} s, {row.letter()}", row.key[0] in linked)
         for row in runs.rows["junctions", *interval].values()
     }
-    signs = changes_that_stand_out(rows)
+    signs = changes_that_stand_out(one for one in rows if not is_doubted(one))
     closed = page_works.closed_shapes(runs)
     picture = service_map(runs.first_folder.mapping, approaches, junctions, signs, closed)
     marks = f"; &#9650; waits more and &#9660; less than before, {how_sure(runs.is_drawn)}"
-    marks += f"; small: by less than {NOTICED_SECONDS:g} s"
+    marks += f"; small: by less than {NOTICED_SECONDS:g} s; none where it is doubted"
     caption = f"{escape(runs.name)}: approaches and junctions by level of service{marks if signs else ''}"
     keys = service_keys({letter for letter, _ in approaches.values()}, bool(closed))
     return map_figure(picture, caption + levels_told(), keys)
@@ -202,7 +202,8 @@ def worst_movements(movements: Sequence[RowChange], runs: Runs) -> list[str]:
 
     worst = max(busy, key=lambda movement: movement.row.delay)
     level, hourly = worst.row.letter(), f"{worst.row.means['vehicles_per_hour']:.0f} vehicles an hour"
-    texts = [f"Longest delay: {called(worst)}, {worst.row.delay:.0f} s, level of service {level}, {hourly}."]
+    told = f"{called(worst)}, {worst.row.delay:.0f} s, level of service {level}, {hourly}{doubt_told(worst)}"
+    texts = [f"Longest delay: {told}."]
     losing = [
         (movement.change, movement)
         for movement in busy
@@ -211,10 +212,15 @@ def worst_movements(movements: Sequence[RowChange], runs: Runs) -> list[str]:
     if losing:
         change, most = max(losing, key=lambda pair: pair[0].change)
         told = f"{change.mean_after:.0f} s instead of {change.mean_before:.0f} s ({change.in_words()} s)"
-        texts.append(f"Loses most: {called(most)}, {told}.")
+        texts.append(f"Loses most: {called(most)}, {told}{doubt_told(most)}.")
     elif any(movement.change and movement.change.half is not None for movement in busy):
         texts.append(f"No movement loses {how_sure(runs.is_drawn)}.")
     return texts
+
+
+def doubt_told(one: RowChange) -> str:
+    """What doubts a row, as the end of a sentence; empty where nothing does."""
+    return f"; this is doubted: {one.row.doubt}" if one.row.doubt else ""
 
 
 def doubted(plans: Sequence[Runs], further_doubts: Sequence[str] = ()) -> str:

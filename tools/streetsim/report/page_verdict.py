@@ -1,6 +1,6 @@
 """The answer of a report, a councillor's words first: better, worse or undecided, for all, in the worst quarter of an
 hour, and for the worst movement; of works the vehicle-hours, those who pass, and the queue."""
-from collections.abc import Iterator, Sequence
+from collections.abc import Collection, Iterator, Sequence
 from statistics import fmean
 
 from streetsim.base.words import time_of_day
@@ -96,10 +96,10 @@ def doubted_share(runs: Runs, interval: Interval) -> float:
     return sum(row.vehicles_lost for row in rows if row.doubt) / lost if lost else 0.0
 
 
-def worst_interval(plans: Sequence[Runs]) -> Interval:
-    """Of the intervals that all plans have the one in which vehicles lose most at junctions, with the plan in which
-    they lose most."""
-    common = set.intersection(*({*runs.intervals()} for runs in plans))
+def worst_interval(plans: Sequence[Runs], among: Collection[Interval] = ()) -> Interval:
+    """Of the intervals that all plans have, or of some of these (among), the one in which vehicles lose most at
+    junctions, with the plan in which they lose most."""
+    common = among or set.intersection(*({*runs.intervals()} for runs in plans))
 
     def lost(interval: Interval) -> float:
         """Seconds an hour."""
