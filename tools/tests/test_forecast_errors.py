@@ -9,7 +9,7 @@ from support import TOOLS
 from streetsim.report.forecast_errors import (
     ERRORS, GROWTH, LANE, PAGE, SPLIT, WAVE, error_lines, error_told, errors_table, is_calibrated,
 )
-from streetsim.report.page_summary import kind_of_change
+from streetsim.report.page_verdict import kind_of_change
 
 
 class Errors(unittest.TestCase):
@@ -36,9 +36,10 @@ class Errors(unittest.TestCase):
 
     def test_a_sentence_of_the_kind_that_fits(self):
         """A calibration is advised where it makes such forecasts better."""
-        said = "For a closed lane, forecasts with {} base were off by {} % of the change on 6 streets{}."
-        self.assertEqual(error_told(LANE, False), said.format("an uncalibrated", 148, ": streetsim-calibrate first"))
-        self.assertEqual(error_told(LANE, True), said.format("a calibrated", 13, ""))
+        said = "For a closed lane, forecasts with {} base were off by {} on 6 streets{}."
+        more = "an uncalibrated", "more than the change itself", ": streetsim-calibrate first"
+        self.assertEqual(error_told(LANE, False), said.format(*more))
+        self.assertEqual(error_told(LANE, True), said.format("a calibrated", "13 % of the change", ""))
         self.assertNotIn("streetsim-calibrate", error_told(WAVE, False))
 
     def test_what_a_calibration_gave(self):
@@ -58,7 +59,7 @@ class Errors(unittest.TestCase):
             plans.append(SimpleNamespace(vehicles=vehicles, first_folder=works[1], lights={"L": changed}))
             with (
                 mock.patch("streetsim.report.page_works.works_rows", lambda first: [{}] * first),
-                mock.patch("streetsim.report.page_summary.timings_of", lambda runs: runs.lights),
+                mock.patch("streetsim.report.page_verdict.timings_of", lambda runs: runs.lights),
             ):
                 self.assertEqual(kind_of_change(*plans), kind)
 
