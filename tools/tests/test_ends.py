@@ -7,6 +7,7 @@ import subprocess
 import sys
 import time
 import unittest
+from importlib.util import find_spec
 from pathlib import Path
 from types import SimpleNamespace
 from unittest.mock import patch
@@ -14,7 +15,7 @@ from urllib.parse import urlsplit
 
 from pages import LiveCase
 from random_ends import WORKS, end_commands
-from support import PROGRAM, QUICK, TOOLS, Case, needs_simulator
+from support import PROGRAM, QUICK, TOOLS, Case, needs_package, needs_simulator
 from streetsim.base import limits
 from streetsim.live import ledger
 from streetsim.live.bridge import Refusal, read_request
@@ -22,6 +23,7 @@ from streetsim.live.ledger import Ledger
 from streetsim.live.logged_program import MOST_IN_MEMORY, SentLog
 from streetsim.live.session import PageSession
 from streetsim.live.world import World
+from streetsim.report.picture_files import load_pyplot, save_picture, short_text
 
 SOON = 10.0  # seconds in which what ends has to be gone, on a machine that has much else to do
 # Each begins two processes that would stay for an hour, and says so.
@@ -230,6 +232,32 @@ class Kept(unittest.TestCase):
         self.assertLessEqual(len(ledger_now.points), ledger.MOST_POINTS)
         self.assertGreater(len(ledger_now.points), ledger.MOST_POINTS / 2 - 1)
         self.assertEqual(ledger_now.points_from(0)[-1][0], 3_599_999)
+
+
+class Names(Case):
+    @needs_package("python3-matplotlib", find_spec("matplotlib"))
+    def test_a_picture_with_names_without_end(self):
+        """A title, marks, labels on an axis, also a second one, and texts of 10,000 letters, some of them formulas."""
+        pyplot = load_pyplot()
+        self.addCleanup(pyplot.close, "all")
+        for letter in ("x", "$", "$\\frac{"):
+            figure, (above, below) = pyplot.subplots(2)
+            text = (letter * 10_000)[:10_000]
+            above.plot([1, 2], [1, 2], label=text)
+            above.legend()
+            above.set(title=f"From {text} to the end", xlabel=text)
+            above.annotate(text, (1, 2))
+            below.set_yticks([0, 1], [text, "short"])
+            below.secondary_yaxis("right").set_yticks([0, 1], ["short", f"{text} end"])
+            for ending in ("png", "svg", "pdf"):
+                save_picture(figure, str(self.folder / f"x.{ending}"))
+            drawn = (self.folder / "x.svg").read_text()
+            self.assertNotIn(text[:500], drawn)
+            self.assertLess(len(drawn), 200_000)
+
+    def test_short_texts_stay(self):
+        self.assertEqual(short_text("Junction 7\nin town"), "Junction 7\nin town")
+        self.assertEqual(short_text(f"{'a' * 100}{'b' * 100}\nc"), f"{'a' * 80} .. {'b' * 80}\nc")
 
 
 if __name__ == "__main__":

@@ -260,6 +260,8 @@ class Packed(Case):
                 words = ["zero.jsonl", "--map", "map.json", "--until", 4500, "--out", "zero"]
                 told = self.do([prefix / "bin/streetsim-run", *words], folder, **more)
                 self.assertEqual(told, shown_run())
+                made = json.loads((folder / "zero/setting.json").read_text())["made"]
+                self.assertNotIn("unproved", made)  # the record that is installed names the program
 
     @needs_sumo
     @needs_package("python3-matplotlib", find_spec("matplotlib"))

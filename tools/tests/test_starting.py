@@ -42,6 +42,20 @@ class Starting(Case):
                     told = f"streetsim-{name}: ended by {called}: nothing was written\n"
                     self.assertEqual((*command.communicate(timeout=60), command.returncode), ("", told, 128 + number))
 
+    def test_a_signal_before_any_module_of_the_tools_is_read_ends_each_with_one_line(self):
+        """While Python reads what the site has for all programs."""
+        self.write("sitecustomize.py", SLOW.replace("WAIT", "0.5"))
+        variables = {**os.environ, "PYTHONPATH": str(self.folder), "PYTHONDONTWRITEBYTECODE": "1"}
+        pipes = {"stdout": subprocess.PIPE, "stderr": subprocess.PIPE, "text": True}
+        heard = {"preexec_fn": lambda: signal.signal(signal.SIGINT, signal.SIG_DFL)}
+        for name in COMMANDS:
+            begun = [TOOLS / f"streetsim-{name}"]
+            with self.subTest(name), subprocess.Popen(begun, env=variables, **pipes, **heard) as command:
+                self.assertEqual(command.stdout.readline(), "reading\n")
+                command.send_signal(signal.SIGINT)
+                told = f"streetsim-{name}: ended by Ctrl-C: nothing was written\n"
+                self.assertEqual((*command.communicate(timeout=60), command.returncode), ("", told, 130))
+
     def test_a_command_in_the_background_hears_none(self):
         command = self.begun("compare", 0.5, preexec_fn=lambda: signal.signal(signal.SIGINT, signal.SIG_IGN))
         command.send_signal(signal.SIGINT)

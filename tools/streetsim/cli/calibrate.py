@@ -184,7 +184,7 @@ def calibrate_street(args: argparse.Namespace, options: list[str], folder: str) 
         other_street = street_runs(args, validation_day, [other_demand])
         days.append(judged_day(args, OTHER_DAY, validation_day, other_street, named_drivers, check))
     sums = {path: sum_of_input(path) for path in inputs_of(args)}
-    digest = program_digest(args.program) or "unknown"
+    digest = f"{program_digest(args.program) or 'unknown'}, {program.proof_words(args.program)}"
     shares = options_of(args).shares
     return Calibration(solution, days, args.seeds, args.check_seeds, digest, shares, notes, sums)
 
