@@ -58,7 +58,7 @@ pub fn serve_input<'a, R: Threads + Wait + Sync + Input + Print + AllocGlobal + 
     };
     // After a fault it holds the replies to the lines that came in the last read.
     let _ = writer.flush();
-    let taped = keep_tape(rt, alloc, desk, pass, options.tape);
+    let taped = keep_tape(rt, alloc, desk, pass, options.tape, &[]);
     served.and(taped)
 }
 
@@ -117,7 +117,8 @@ pub fn serve_scripts<'a, R: Threads + Wait + Sync + Print + AllocGlobal + Files<
         options.scripts.as_slice(),
         &mut writer,
     )?;
-    let taped = keep_tape(rt, alloc, desk, pass, options.tape);
+    let scripts = options.scripts.as_slice();
+    let taped = keep_tape(rt, alloc, desk, pass, options.tape, scripts);
     served.and(taped)
 }
 

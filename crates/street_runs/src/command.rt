@@ -127,7 +127,8 @@ pub(crate) fn streetsim<'a>(alloc: Global) -> Result<Command<'a>, AllocError>
     let arguments = arguments(alloc)?;
     Command::new(alloc, "streetsim")
         .about(
-            "A traffic simulator. Without scripts it serves standard input: one command a line, one reply a line, all of JSON",
+            "A traffic simulator. Without scripts it serves standard input: one command a line, one reply a line, all of JSON. \
+             No file is both read and written, or written by two words",
         )
         .version(VERSION)
         .bin_name("streetsim")?

@@ -10,7 +10,10 @@ ghost use Rattle.street_stream.specs.Streams.{IsFlushed, IsFresh, IsPrompt};
 use crate::engines::staying_engine;
 use crate::kept_open::{Teller, open_kept};
 use crate::kept_records::{OpenFault, RecordedFault, keep_recorded};
-use crate::outputs::{STANDARD_INPUT, STANDARD_OUTPUT, is_same_file};
+use crate::log_file::LogFile;
+use crate::one_file::is_same_file;
+use crate::outputs::{STANDARD_INPUT, STANDARD_OUTPUT};
+use crate::places::Place;
 use crate::recorded::{RecordFile, has_failed};
 use crate::streams::hold_error;
 use crate::{ProgramFault, ProgramOptions};
@@ -44,18 +47,22 @@ pub fn serve_kept<
 >(rt: &R, options: &ProgramOptions<'a>, name: &'a str) -> Result<(), ProgramFault<'a>>
     requires { IsInRange options.now }
 {
-    check_record(rt, options, name)?;
     let _held = hold_error(rt);
-    let mut file = open_kept(rt, name, !options.unsynced)?;
+    let (file, place) = open_kept(rt, name)?;
     // The file of the session is there by now: so a second name of it is seen to be one.
-    check_record(rt, options, name)?;
+    check_record(rt, options, &place)?;
+    let mut file = LogFile::new(rt, &place, file, !options.unsynced);
     let notes = Teller { rt, name };
     let mut reader = Counted::new(rt.reader());
     let mut writer = Counted::new(io::writer(rt));
     let workers = options.workers;
     let alloc = rt.alloc();
     if let Some(record) = options.record_file {
-        let opener = RecordFile { rt, name: record };
+        let opener = RecordFile {
+            rt,
+            name: record,
+            place: &place,
+        };
         let (run, recorder) = keep_recorded(
             rt,
             alloc,
@@ -88,20 +95,25 @@ pub fn serve_kept<
     }
 }
 
-/// Sees that no record is asked for, or one that has another file than that of this name.
+/// Sees that no record is asked for, or one that has another file than that of this place and those beside it.
 ///
 /// # Errors
 ///
-/// `BadArguments` where both are one file.
+/// `BadArguments` where the record is one of these.
 fn check_record<'a, R: Files<File = File>>(
     rt: &R,
     options: &ProgramOptions<'_>,
-    name: &str,
+    place: &Place<'_>,
 ) -> Result<(), ProgramFault<'a>> {
-    match options.record_file {
-        Some(record) if is_same_file(rt, name, record) => Err(ProgramFault::BadArguments),
-        _ => Ok(()),
+    let Some(record) = options.record_file else {
+        return Ok(());
+    };
+    for name in place.names() {
+        if is_same_file(rt, name, record) {
+            return Err(ProgramFault::BadArguments);
+        }
     }
+    Ok(())
 }
 
 /// Goes on from the lines that a file has, from nothing loaded, by so many workers: what is written is what the machine says to the lines

@@ -1,29 +1,25 @@
 //! The file of a kept session is opened, and who is told of it. `kept.rt` calls it.
-ghost use Rattle.std.specs.Prelude.{◌≡◌, false, IfOk};
-
 use crate::ProgramFault;
-use crate::log_file::LogFile;
+use crate::one_file::{ERROR, INPUT, OUTPUT, is_named, is_stream};
 use crate::outputs::{STANDARD_ERROR, STANDARD_INPUT, STANDARD_OUTPUT, of_file};
-use crate::places::{Place, is_named};
+use crate::places::Place;
 use std::fs;
 use std::fs::{File, OpenOptions, TryLockError};
 use std::rt::Files;
 use street_line::{KeptNotices, RedoneLines};
 
-/// Opens the file of this name to be read and written behind its end, or makes it, and locks it.
+/// Opens the file of this name to be read and written behind its end, or makes it, and locks it. It returns the file, and where it
+/// stands.
 ///
 /// # Errors
 ///
 /// `Read` where something else than a file has the name, or it is standard input too; `InUse` where another program keeps a session
-/// there, or has just replaced it; `Write` where it can not be opened, made or locked, or is standard output or
-/// standard error too.
-pub(crate) fn open_kept<'r, 'a, R: AllocGlobal + Files<File = File>>(
-    rt: &'r R,
+/// there, or has just replaced it; `Write` where it can not be opened, made or locked, is standard output or
+/// standard error too, or a file beside it is a standard stream.
+pub(crate) fn open_kept<'a, R: AllocGlobal + Files<File = File>>(
+    rt: &R,
     name: &'a str,
-    syncs: bool,
-) -> Result<LogFile<'r, 'a, R>, ProgramFault<'a>>
-    ensures { IfOk result (λ file. file.has_failed ≡ false) }
-{
+) -> Result<(File, Place<'a>), ProgramFault<'a>> {
     let is_other = match fs::metadata(rt, name) {
         Ok(found) => !found.is_file(),
         Err(_) => false,
@@ -39,10 +35,11 @@ pub(crate) fn open_kept<'r, 'a, R: AllocGlobal + Files<File = File>>(
         .map_err(|error| of_file(&error, ProgramFault::Write(name)))?;
     let place = Place::of(rt, name)?;
     check_place(rt, &place, &file)?;
-    Ok(LogFile::new(rt, place, file, syncs))
+    Ok((file, place))
 }
 
-/// Locks an open file, and sees that it is neither standard input, standard output nor standard error, and that its name is still its own.
+/// Locks an open file, and sees that it is neither standard input, standard output nor standard error, nor are those beside it, and that its
+/// name is still its own.
 ///
 /// # Errors
 ///
@@ -55,14 +52,17 @@ fn check_place<'a, R: Files<File = File>>(
     let Ok(found) = file.metadata() else {
         return Err(ProgramFault::Write(place.told));
     };
-    if is_named(rt, "/dev/stdin", &found) {
+    if is_named(rt, INPUT, &found) {
         return Err(ProgramFault::Read(STANDARD_INPUT));
     }
-    if is_named(rt, "/dev/stdout", &found) {
+    if is_named(rt, OUTPUT, &found) {
         return Err(ProgramFault::Write(STANDARD_OUTPUT));
     }
-    if is_named(rt, "/dev/stderr", &found) {
+    if is_named(rt, ERROR, &found) {
         return Err(ProgramFault::Write(STANDARD_ERROR));
+    }
+    if is_stream(rt, place.fresh.as_str()) || is_stream(rt, place.lost.as_str()) {
+        return Err(ProgramFault::Write(place.told));
     }
     match file.try_lock() {
         Ok(()) if place.is_of(rt, &found) => Ok(()),

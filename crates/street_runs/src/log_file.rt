@@ -15,7 +15,7 @@ use street_stream::WriteAheadLog;
 #[derive(Drop)]
 pub(crate) struct LogFile<'r, 'a, R> {
     rt: &'r R,
-    place: Place<'a>,
+    place: &'r Place<'a>,
     file: File,
     syncs: bool,
     length: u64,
@@ -25,7 +25,12 @@ pub(crate) struct LogFile<'r, 'a, R> {
 
 impl<'r, 'a, R> LogFile<'r, 'a, R> {
     /// A file of which nothing has failed yet, and where it stands; `syncs` tells whether it is to outlive the machine.
-    pub(crate) fn new(rt: &'r R, place: Place<'a>, file: File, syncs: bool) -> LogFile<'r, 'a, R>
+    pub(crate) fn new(
+        rt: &'r R,
+        place: &'r Place<'a>,
+        file: File,
+        syncs: bool,
+    ) -> LogFile<'r, 'a, R>
         ensures { result.has_failed ≡ false }
     {
         LogFile {
@@ -54,7 +59,7 @@ impl<'r, 'a, R: Eprint + Files<File = File>> LogFile<'r, 'a, R> {
             self.save_behind(size, length)?;
         }
         if self.syncs {
-            match write_anew(self.rt, &self.place, &self.file, size)? {
+            match write_anew(self.rt, self.place, &self.file, size)? {
                 Some(file) => self.file = file,
                 None => self.cut_behind(size)?,
             }

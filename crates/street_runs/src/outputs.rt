@@ -9,12 +9,12 @@ ghost use Rattle.street_stream.specs.Streams.{HasFailed, IsFlushed, IsFresh};
 ghost use Rattle.street_tape.specs.Tapes.{tape_text};
 
 use crate::ProgramFault;
+use crate::one_file::{FileMark, is_one_of};
 use std::alloc::Global;
-use std::fs::File;
+use std::fs::{File, OpenOptions};
+use std::io;
 use std::io::Write;
-use std::os::unix::fs::MetadataExt;
 use std::rt::Files;
-use std::{fs, io};
 use street_desk::{Desk, Journal, Pass};
 use street_engine::Unwatched;
 use street_line::Counted;
@@ -83,7 +83,7 @@ pub fn print_text<W: Write>(
 }
 
 /// Ends the desk and writes its tape to a new file of this name, in the place of one that is there. With no name no tape is asked
-/// for, and none is written.
+/// for, and none is written. The scripts are those whose calls are on it.
 ///
 /// # Errors
 ///
@@ -94,6 +94,7 @@ pub fn keep_tape<'a, R: Files<File = File>>(
     desk: Desk<Unwatched>,
     pass: Pass<Unwatched>,
     name: Option<&'a str>,
+    scripts: &[&str],
 ) -> Result<(), ProgramFault<'a>>
     requires { pass.desk ≡ desk }
     ensures { IfErr result (IsTapeFault name.entry) }
@@ -101,7 +102,7 @@ pub fn keep_tape<'a, R: Files<File = File>>(
     let Some(name) = name else {
         return Ok(());
     };
-    let file = create_file(rt, name)?;
+    let file = create_file(rt, name, scripts)?;
     end_with_tape(alloc, desk, pass, &mut Counted::new(file), name)
 }
 
@@ -146,26 +147,57 @@ fn write_journal<'a, W: Write>(
     }
 }
 
-/// Makes a file of this name to be written, empty, in the place of one that is there.
+/// Makes a file of this name to be written, empty, in the place of one that is there; or opens the FIFO or the device of this name.
 ///
 /// # Errors
 ///
-/// `Write` with its name, or `OutOfMemory`.
+/// `Write` with its name, also where it is a standard stream or one of these others: it is then as it was, but for one that was made;
+/// or `OutOfMemory`.
 pub(crate) fn create_file<'a, R: Files<File = File>>(
     rt: &R,
     name: &'a str,
+    others: &[&str],
 ) -> Result<File, ProgramFault<'a>>
     ensures { IfErr result (IsFileFault (Write name.entry)) }
 {
-    File::create(rt, name).map_err(|error| of_file(&error, ProgramFault::Write(name)))
+    let streams = FileMark::of_streams(rt);
+    let file = match OpenOptions::new().write(true).create(true).open(rt, name) {
+        Ok(file) => file,
+        Err(error) => return Err(of_file(&error, ProgramFault::Write(name))),
+    };
+    match empty_file(rt, &file, &streams, others) {
+        Ok(true) => Ok(file),
+        Ok(false) => Err(ProgramFault::Write(name)),
+        Err(error) => Err(of_file(&error, ProgramFault::Write(name))),
+    }
 }
 
-/// Whether two names are those of one file. Where a name has no file yet, the names tell.
-pub(crate) fn is_same_file<R: Files<File = File>>(rt: &R, first: &str, second: &str) -> bool {
-    match (fs::metadata(rt, first), fs::metadata(rt, second)) {
-        (Ok(one), Ok(other)) => one.dev() == other.dev() && one.ino() == other.ino(),
-        _ => first == second,
+/// Empties an open file, and answers true; does nothing to what is no file. Answers false, and leaves it, where it is one of these
+/// streams, or has one of these names, too.
+///
+/// # Errors
+///
+/// That of the file.
+fn empty_file<R: Files<File = File>>(
+    rt: &R,
+    file: &File,
+    streams: &[Option<FileMark>],
+    others: &[&str],
+) -> io::Result<bool> {
+    let found = file.metadata()?;
+    let mark = FileMark::of(&found);
+    if is_one_of(mark, streams) {
+        return Ok(false);
     }
+    for other in others {
+        if is_one_of(mark, &[FileMark::named(rt, other)]) {
+            return Ok(false);
+        }
+    }
+    if mark.is_some() && found.len() > 0 {
+        file.set_len(0)?;
+    }
+    Ok(true)
 }
 
 /// Opens the file of this name to be read.

@@ -1,10 +1,10 @@
 //! Where the file of a kept session stands. `kept_open.rt` and `log_file.rt` call it.
 
 use crate::ProgramFault;
+use crate::one_file::is_named;
 use crate::outputs::of_file;
 use std::alloc::{AllocError, Global};
 use std::fs::{File, Metadata};
-use std::os::unix::fs::MetadataExt;
 use std::rt::Files;
 use std::{fs, io};
 
@@ -66,17 +66,14 @@ impl<'a> Place<'a> {
         File::open(rt, folder_of(self.file.as_str()))?.sync_all()
     }
 
+    /// Its names, and those of the files beside it.
+    pub(crate) fn names(&self) -> [&str; 3] {
+        [self.file.as_str(), self.fresh.as_str(), self.lost.as_str()]
+    }
+
     /// Whether its name is that of this open file.
     pub(crate) fn is_of<R: Files<File = File>>(&self, rt: &R, found: &Metadata) -> bool {
         is_named(rt, self.file.as_str(), found)
-    }
-}
-
-/// Whether what has this name is this open file.
-pub(crate) fn is_named<R: Files<File = File>>(rt: &R, name: &str, found: &Metadata) -> bool {
-    match fs::metadata(rt, name) {
-        Ok(named) => named.dev() == found.dev() && named.ino() == found.ino(),
-        Err(_) => false,
     }
 }
 

@@ -10,6 +10,7 @@ use crate::ProgramFault;
 use crate::engines::staying_engine;
 use crate::kept_records::{OpenFault, RecordOpener};
 use crate::outputs::{STANDARD_INPUT, STANDARD_OUTPUT, create_file};
+use crate::places::Place;
 use crate::streams::hold_streams;
 use std::alloc::Global;
 use std::fs::File;
@@ -43,7 +44,7 @@ pub fn serve_recorded<
         return Err(Starved.into());
     };
     let _held = hold_streams(rt);
-    let recorder = open_record(rt, alloc, name)?;
+    let recorder = open_record(rt, alloc, name, &[])?;
     let mut reader = Counted::new(rt.reader());
     let mut writer = Counted::new(output);
     let (run, recorder) = if workers == 1 {
@@ -62,7 +63,8 @@ pub fn serve_recorded<
     }
 }
 
-/// What writes a record to a new file of this name, in the place of one that is there, or to a FIFO, which waits for its reader.
+/// What writes a record to a new file of this name, in the place of one that is there, or to a FIFO, which waits for its reader. It
+/// may be none of these others.
 ///
 /// # Errors
 ///
@@ -71,21 +73,23 @@ fn open_record<'a, R: Files<File = File>>(
     rt: &R,
     alloc: Global,
     name: &'a str,
+    others: &[&str],
 ) -> Result<RecordWriter<File>, ProgramFault<'a>>
     ensures { IfOk result HasNothing }
 {
-    let file = create_file(rt, name)?;
+    let file = create_file(rt, name, others)?;
     match RecordWriter::new(alloc, file) {
         Ok(writer) => Ok(writer),
         Err(_) => Err(ProgramFault::OutOfMemory),
     }
 }
 
-/// A file, or a FIFO, that a record is to be written to, by its name.
+/// A file, or a FIFO, that a record is to be written to, by its name, beside a session that is kept in this place.
 #[derive(Drop)]
 pub(crate) struct RecordFile<'r, 'a, R> {
     pub(crate) rt: &'r R,
     pub(crate) name: &'a str,
+    pub(crate) place: &'r Place<'a>,
 }
 
 impl<'r, 'a, R: Files<File = File>> RecordOpener<File> for RecordFile<'r, 'a, R> {
@@ -95,7 +99,7 @@ impl<'r, 'a, R: Files<File = File>> RecordOpener<File> for RecordFile<'r, 'a, R>
 
     /// Makes the file anew, or opens the FIFO.
     fn open(&self, alloc: Global) -> Result<RecordWriter<File>, OpenFault> {
-        match open_record(self.rt, alloc, self.name) {
+        match open_record(self.rt, alloc, self.name, &self.place.names()) {
             Ok(writer) => Ok(writer),
             Err(ProgramFault::OutOfMemory) => Err(OpenFault::Starved),
             Err(_) => Err(OpenFault::Output),

@@ -1,6 +1,7 @@
 //! Standard streams that are closed when the program starts: the next file that is opened would else stand for one of them.
 //! Runs that open files call it first.
 
+use crate::one_file::{ERROR, INPUT, OUTPUT};
 use std::fs;
 use std::fs::{File, OpenOptions};
 use std::rt::Files;
@@ -15,12 +16,12 @@ pub(crate) struct Held {
 
 /// Takes the places of the standard streams that are closed. As with those, each read and each write of them fails.
 pub(crate) fn hold_streams<R: Files<File = File>>(rt: &R) -> Held {
-    let input = if is_open(rt, "/dev/stdin") {
+    let input = if is_open(rt, INPUT) {
         None
     } else {
         OpenOptions::new().write(true).open(rt, "/dev/null").ok()
     };
-    let output = hold(rt, "/dev/stdout");
+    let output = hold(rt, OUTPUT);
     let error = hold_error(rt);
     Held {
         input,
@@ -31,7 +32,7 @@ pub(crate) fn hold_streams<R: Files<File = File>>(rt: &R) -> Held {
 
 /// Takes the place of standard error where that is closed.
 pub(crate) fn hold_error<R: Files<File = File>>(rt: &R) -> Option<File> {
-    hold(rt, "/dev/stderr")
+    hold(rt, ERROR)
 }
 
 /// Takes the place of the stream of this name where it is closed, by what can not be written.

@@ -18,13 +18,16 @@ use std::sync::Wait;
 use std::thread::Threads;
 use std::{env, io};
 use street_runs::{
-    ProgramFault, ProgramOptions, STANDARD_ERROR, STANDARD_OUTPUT, WordsFault, options, reason,
-    replay_tape, serve_endless, serve_input, serve_kept, serve_recorded, serve_scripts,
-    upgrade_tape,
+    ProgramFault, ProgramOptions, STANDARD_ERROR, STANDARD_OUTPUT, WordsFault, check_files,
+    options, reason, replay_tape, serve_endless, serve_input, serve_kept, serve_recorded,
+    serve_scripts, upgrade_tape,
 };
 
 /// What is told where `--keep` and `--record` name one file, which the words alone do not show.
-const ONE_FILE: &str = "the arguments '--keep <FILE>' and '--record <FILE>' name one file";
+const KEPT_IS_RECORD: &str = "the arguments '--keep <FILE>' and '--record <FILE>' name one file";
+
+/// What is told where `--tape` names the file of a script.
+const TAPE_IS_SCRIPT: &str = "the argument '--tape <FILE>' and a script name one file";
 
 /// The program: does what the words of the command line ask for, and ends with status 0, or with that of the fault that it tells.
 fn main(rt: HostRuntime) -> ExitCode {
@@ -42,7 +45,10 @@ fn run<R: Threads + Wait + Sync + Input + Print + Eprint + AllocGlobal + Files<F
 ) -> ExitCode {
     match options(rt.alloc(), words) {
         Ok(options) => match carry_out(rt, &options) {
-            Err(ProgramFault::BadArguments) => tell_words(rt, ONE_FILE),
+            Err(ProgramFault::BadArguments) if options.tape.is_some() => {
+                tell_words(rt, TAPE_IS_SCRIPT)
+            }
+            Err(ProgramFault::BadArguments) => tell_words(rt, KEPT_IS_RECORD),
             run => end_with(rt, run),
         },
         Err(WordsFault::Help(help)) => {
@@ -88,7 +94,7 @@ fn tell_words(rt: &impl Eprint, why: &str) -> ExitCode
     status
 }
 
-/// Does what the words ask for: upgrades or replays a tape, or serves scripts or standard input, at a desk or without one, as a
+/// Does what the words ask for, where no file is both read and written: upgrades or replays a tape, or serves scripts or standard input, at a desk or without one, as a
 /// session that is kept, or with a record of the steps.
 fn carry_out<
     'a,
@@ -96,6 +102,7 @@ fn carry_out<
 >(rt: &R, options: &ProgramOptions<'a>) -> Result<(), ProgramFault<'a>>
     requires { IsInRange options.now }
 {
+    check_files(rt, options)?;
     if let Some(tape) = options.upgrade {
         return upgrade_tape(rt, tape);
     }
