@@ -70,6 +70,24 @@ class Studies(Case):
 
 
 class Tables(Studies):
+    def test_hours_for_works(self):
+        """Works of nine minutes at two times: what each adds to the trips of the base, and what is seen before them."""
+        variants = '[variant.given]\n[variant.works]\nclose = ["J1J2_0:100-200:60-600"]\n'
+        words = self.words(self.study(seeds="1-2", variants=variants), "--jobs", 1, "--close-at", "60,00:05")
+        told, _ = self.tool("study", *words)
+        rows, runs = self.table("windows.csv"), self.table("runs.csv")
+        self.assertEqual([(row["variant"], row["begin"], row["end"]) for row in rows], [
+            ("works 0:01", "60", "600"), ("works 0:05", "300", "840"),
+        ])
+        total = {(row["variant"], row["seed"]): int(row["total_s"]) for row in runs}
+        for row in rows:
+            more = fmean(total[row["variant"], seed] - total["given", seed] for seed in "12") / 3600
+            self.assertAlmostEqual(float(row["vehicle_hours"]), more, delta=0.051)
+            self.assertGreater(int(row["vehicles_that_pass"]), 0)
+            self.assertGreater(float(row["queue_max_m"]), 0)
+            self.assertLessEqual(int(row["begin"]), int(row["queue_at"]))
+            self.assertIn(f"{row['variant']}, 0:0", told)
+
     def test_differences(self):
         told, _ = self.tool("study", *self.words(self.study(), "--jobs", 1, "--precision", 0.01))
         runs = self.table("runs.csv")

@@ -145,7 +145,7 @@ def windows_told(rows: Iterable[Entry]) -> Iterator[str]:
     ranked = sorted(rows, key=lambda row: float(row[3]))
     for name, begin, end, hours, half, passed, metres, at, quarter, delay, doubt in ranked:
         begins, ends, longest, worst = (time_of_day(int(clock)) for clock in (begin, end, at, quarter))
-        more = f"{float(hours):+,.0f} vehicle-hours{f' ± {float(half):,.0f}' if half else ''}"
+        more = f"{float(hours):+,.1f} vehicle-hours{f' ± {float(half):,.1f}' if half else ''}"
         queue = f"longest queue {metres} m at {longest}, worst quarter from {worst}: {delay} s to pass"
         doubted = f"; doubted: {doubt}" if doubt else ""
-        yield f"works of {name}, {begins} to {ends}: {more}, {passed} pass, {queue}{doubted}"
+        yield f"{name}, {begins} to {ends}: {more}, {passed} pass, {queue}{doubted}"
