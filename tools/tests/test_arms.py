@@ -70,7 +70,7 @@ class Pictures(unittest.TestCase):
         picture = junction_picture(runs, "C", WHEN)
         texts = re.findall("<text[^>]*>([^<]*)</text>", picture)
         self.assertEqual(texts, [
-            "T", "L", "from the west", "L 40/h 90 s F", "T 100/h 20 s B doubted", "95 % queue 50 of 100 m",
+            "T", "L", "from the west", "L 40/h 90 s F", "T 100/h 20 s B doubted", "queue 50 of 100 m",
             "20 s B doubted",
         ])
         # Bands of 26 pixels for the greatest flow, and of 0.4 of it; half of the arm is full.

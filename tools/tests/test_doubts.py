@@ -3,7 +3,7 @@ import unittest
 from dataclasses import replace
 
 from doors import lit
-from support import MAP, Case
+from support import DATA, MAP, PROGRAM, Case, needs_simulator
 from streetsim.base.files import Fault
 from streetsim.base.report import Report
 from streetsim.model import trust
@@ -12,6 +12,7 @@ from streetsim.model.doubts import (
     doubts_from, joined, places_told, why_of, worst_first,
 )
 from streetsim.model.mapping import map_from
+from streetsim.model.tables import MOVEMENTS, read_table
 from streetsim.search.signal_plans import additional_of
 from streetsim.search.study_windows import clocks_of, moved, with_windows
 from streetsim.sumo.additional import read_additional
@@ -97,6 +98,29 @@ class Travels(Case):
             self.assertEqual(doubted_plans(net).get(light), found)
         told = list(trust.plan_doubts({"A": "why", "B": "why"}))
         self.assertEqual(told, ["the plans of 2 lights are of a search that is not to be trusted (why)"])
+
+
+@needs_simulator
+class AtAJunction(Case):
+    """The junction as an office has it: the left from the north, permissive, has 177 s in SUMO, and its approach 91."""
+
+    def test_the_left_that_spills_is_doubted(self):
+        """In the tables, in the setting, in the last line, and on the first page beside the answer."""
+        files = [DATA / name for name in ("office.net.xml.gz", "office.rou.xml.gz", "office-90.add.xml")]
+        run, mapped, out = (self.folder / name for name in ("o.jsonl", "o.map.json", "out"))
+        self.tool("import", files[0], files[2], "--routes", files[1], "-o", run, "--map", mapped)
+        words = "--until", 28_800, "--junctions", 3600, "--every", 0, "--out", out, "--program", PROGRAM
+        last = self.tool("run", run, "--map", mapped, *words)[0].splitlines()[-1]
+        rows = read_table(f"{out}/movements.csv", MOVEMENTS)
+        [left] = [row for row in rows if (row["begin"], row["approach"], row["movement"]) == ("25200", "Nin", "L")]
+        self.assertTrue(left["doubt"])
+        self.assertIn("Mill Road into Main Street, from the north", last)
+        self.assertIn("doubted most of all at", last)
+        page = self.folder / "page.html"
+        self.tool("report", out, "--interval", 25_200, "-o", page)
+        first = page.read_text().partition('id="junctions"')[0]
+        self.assertIn("Mill Road into Main Street, from the north, at ", first)
+        self.assertNotIn("nothing that a run checks of itself speaks against it", first)
 
 
 class Windows(unittest.TestCase):

@@ -148,7 +148,7 @@ def texts_of(runs: Runs, arm: Arm) -> Iterator[str]:
         lines.append((told + (" doubted" if row.doubt else ""), ""))
     if arm.row:
         queue, room = (arm.row.means.get(name, 0.0) for name in ("queue_95_m", "storage_m"))
-        lines.append((f"95 % queue {queue:.0f} of {room:.0f} m", ""))
+        lines.append((f"queue {queue:.0f} of {room:.0f} m", ""))
         lines.append((f"{arm.row.delay:.0f} s {arm.row.letter()}{' doubted' if arm.row.doubt else ''}", "bold"))
     across, high = cos(arm.turn), LINE * (len(lines) - 1)
     anchor = "start" if across > SIDEWAYS else "end" if across < -SIDEWAYS else "middle"
