@@ -96,7 +96,7 @@ class ByHand(Case):
         [row] = self.rows("tripinfo", "tripinfo")
         self.assertEqual([row[name] for name in ("id", "departLane", "arrivalLane")], ["v", "a_0", "b_0"])
         names = ("depart", "departDelay", "arrival", "duration", "waitingTime", "routeLength", "timeLoss")
-        self.assertEqual([float(row[name]) for name in names], [0, 0, 8, 8, 2, 150, 3])
+        self.assertEqual([float(row[name]) for name in names], [0, 0, 8, 8, 2, 142.5, 3])
         self.assertEqual(row["waitingCount"], "2")
 
     def test_a_stop_of_its_own(self):
@@ -125,15 +125,15 @@ class ByHand(Case):
         self.assertEqual([row["exitTimes"] for row in self.rows("vehroute", "route")], ["6.00 8.00", "-1"])
         self.assertEqual([row.get("arrival") for row in self.rows("vehroute", "vehicle")], ["8.00", None])
         trips = [(row["arrival"], row["routeLength"], row["vaporized"]) for row in self.rows("tripinfo", "tripinfo")]
-        self.assertEqual(trips, [("8.00", "150.00", ""), ("-1.00", "67.50", "end")])
+        self.assertEqual(trips, [("8.00", "142.50", ""), ("-1.00", "60.00", "end")])
 
     def test_statistics(self):
-        """One trip of 150 m and 8 s; the other vehicle has departed 2 s late, and nobody waits."""
+        """One trip of 142.5 m, from the end of its first cell, and 8 s; the other vehicle has departed 2 s late, and nobody waits."""
         [root] = self.rows("statistic", "statistics")
         [counts], [means] = self.rows("statistic", "vehicles"), self.rows("statistic", "vehicleTripStatistics")
         self.assertEqual(counts, {"loaded": "2", "inserted": "2", "running": "1", "waiting": "0"})
         names = ("count", "routeLength", "speed", "duration", "waitingTime", "timeLoss", "departDelay")
-        self.assertEqual([float(means[name]) for name in names], [1, 150, 18.75, 8, 2, 3, 0])
+        self.assertEqual([float(means[name]) for name in names], [1, 142.5, 17.81, 8, 2, 3, 0])
         self.assertEqual(means["departDelayWaiting"], "-1.00")
 
     def test_stops(self):

@@ -745,6 +745,29 @@ class Vehicles(Started):
         with self.assertRaisesRegex(traci.TraCIException, "state.json: a state of other routes"):
             traci.simulation.loadState(path)
 
+    def test_output_files_are_those_of_a_run_that_came_to_the_state(self):
+        """What was written after the state that is loaded is not in them; also in another run, and of detectors."""
+        words = ["sumo", "-n", self.write("x.net.xml", SIGNALLED), "-r", self.write("x.rou.xml", ROUTES), "-W"]
+        words += ["-a", self.write("x.add.xml", AREAS)]
+        path, kinds, told = str(self.folder / "state.json"), ("fcd", "tripinfo", "vehroute", "statistic"), []
+        for how in ("straight", "back", "loaded"):
+            files = [self.folder / f"{how}.{kind}" for kind in kinds]
+            outputs = [word for kind, file in zip(kinds, files) for word in (f"--{kind}-output", str(file))]
+            with redirect_stderr(StringIO()):
+                traci.start([*words, *outputs])
+            if how == "back":
+                self.steps(20)
+                traci.simulation.saveState(path)
+                traci.trafficlight.setRedYellowGreenState("L", "rr")
+                self.steps(70)
+            if how != "straight":
+                traci.simulation.loadState(path)
+            traci.simulationStep(150)
+            traci.close()
+            told.append([file.read_bytes() for file in [*files, self.folder / "x"]])
+        self.assertEqual(told[1:], [told[0]] * 2)
+        self.assertIn(b'<timestep time="149.00">', told[0][0])
+
     def test_a_state_that_was_changed_by_hand_is_a_fault(self):
         self.start()
         self.steps(2)

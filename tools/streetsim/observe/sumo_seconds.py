@@ -38,7 +38,7 @@ class TripUnderWay:
     depart: int  # the second in which it departed
     first_position: Spot
     last_position: Spot
-    metres: float = 0.0  # of the links that it has been on, and of SUMO's lanes in the junctions between
+    metres: float = 0.0  # of its links and SUMO's lanes in the junctions between, from the front of the first cell on
     links: list[int] = field(default_factory=list)  # that it has been on
     exits: list[int] = field(default_factory=list)  # the clocks at which it left those before the last
     free: float = 0.0  # seconds of these where nobody is in the way, without the last junction
@@ -127,6 +127,7 @@ class Follower:
             trip = self.trips[car] = TripUnderWay(name, wished, second.clock - 1, spot, spot, kind=kind)
             second.departed.append(car)
             self.add_link(trip, spot.link)
+            trip.metres -= self.mapping.links[spot.link].metres / self.mapping.links[spot.link].cells
         elif previous is None or previous.link != spot.link or (previous.cell is None and spot.cell is not None):
             if previous is not None and previous.cell is not None:
                 second.teleported[car] = previous

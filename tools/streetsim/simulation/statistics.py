@@ -46,7 +46,8 @@ def statistics_of(session: TraciSession) -> Statistics:
     for number in numbers:
         plan, stops = fleet.plans[number], stood.get(number, ())
         depart = int(view.departure[number])
-        seconds, metres = int(view.arrival[number]) - depart, float(travelled[number]) + links[plan[-1]].metres
+        seconds, first_cell = int(view.arrival[number]) - depart, links[plan[0]].metres / links[plan[0]].cells
+        metres = float(travelled[number]) + links[plan[-1]].metres - first_cell
         free = sum(alone.on_link(link, link) for link in plan) + sum(alone.across(link) for link in plan[:-1])
         rows["RouteLength"].append(metres)
         rows["Speed"].append(metres / seconds)
