@@ -1,5 +1,6 @@
 """Names that people know: of a network's streets and of a file of one's own, in the map, tables, page and export."""
 import csv
+import gzip
 import json
 import unittest
 
@@ -8,8 +9,7 @@ from streetsim.live.facts import streets_and_areas
 from streetsim.model.folder import read_folder
 from streetsim.model.mapping import read_map
 from streetsim.model.names import Names, read_own, wind
-from streetsim.model.tables import QUEUES, write_table
-from streetsim.report.player import player_data
+from streetsim.report.player import played
 from streetsim.report.run_series import junction_name_on_path, longest_queues
 
 # A cross, y to the north: Hill Street from the north to the south, Market Street to the east, no name to the west.
@@ -140,10 +140,13 @@ class Written(Crossing):
         names = Names(folder.mapping)
         self.assertEqual(junction_name_on_path(names, "M", ["n", "s"]), "Market Street")
         self.assertEqual(junction_name_on_path(names, "W", ["n", "s"]), "W")
-        rows = [(10, "n", 0, 2, 15.0, "stop line", ""), (10, "w", 0, 2, 9.0, "stop line", "")]
-        write_table(f"{self.out}/queues.csv", QUEUES, rows)
-        self.assertEqual([lane for lane, _ in longest_queues(folder, 9)[0]], ["Hill Street n_0", "w_0"])
-        shown = [link["name"] for link in player_data(folder, 0, 100)["links"]]
+        links = folder.mapping.links
+        lanes = [[link, 0, [[0, links[link].cells - 1, 0]], [], []] for [link] in map(folder.mapping.links_of.get, "nw")]
+        (self.out / "rows.bin").unlink()
+        with gzip.open(self.out / "lanes.jsonl.gz", "wt") as file:
+            file.write(json.dumps({"clock": 10, "lanes": lanes}))
+        self.assertEqual({lane for lane, _ in longest_queues(folder, 9)[0]}, {"Hill Street n_0", "w_0"})
+        shown = [link["name"] for link in played(folder, 0, 100).data["links"]]
         self.assertEqual(sorted(shown), ["Hill Street", "Hill Street", "Market Street", "i", "w"])
 
     def test_the_page(self):

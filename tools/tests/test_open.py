@@ -93,7 +93,7 @@ class Open(Case):
         commands = [line for line in told.splitlines() if line.startswith("$ ")]
         self.assertEqual(commands[:2], [
             "$ streetsim-import corridor.net.xml.gz --routes corridor.rou.xml",
-            "$ streetsim-run corridor.jsonl --junctions 900 --every 1 --until 1200",
+            "$ streetsim-run corridor.jsonl --junctions 900 --until 1200",
         ])  # fmt: skip
         self.assertRegex(told.splitlines()[-1], r"^corridor\.html: [\d,]+ bytes$")
         text = self.page("corridor.html")
@@ -189,7 +189,7 @@ class Open(Case):
     @needs_sumo_tools
     def test_a_game_of_sumo_is_opened_by_its_configuration(self):
         told, _ = self.opens(GAMES / "cross.sumocfg")
-        self.assertIn("$ streetsim-run cross.jsonl --junctions 900 --every 1\n", told)
+        self.assertIn("$ streetsim-run cross.jsonl --junctions 900\n", told)
         summary = (self.folder / "cross-run/summary.csv").read_text().splitlines()
         self.assertEqual(summary[-1].split(",")[0], "180", "the end of the configuration")
         self.assertIn('id="player"', self.page("cross.html"))

@@ -11,10 +11,10 @@ from unittest import mock
 from support import DATA, MAP, PROGRAM, Case, needs_package, needs_simulator
 from streetsim.base.files import Fault
 from streetsim.model.folder import read_folder
-from streetsim.model.tables import COUNTS, PHASES, QUEUES, SUMMARY, TRIPS
+from streetsim.model.tables import COUNTS, PHASES, SUMMARY, TRIPS
 from streetsim.report import ring_diagram, run_series
 from streetsim.report.picture_greens import draw_greens, ended_greens
-from streetsim.report.player import player_data
+from streetsim.report.player import played
 
 CHROMIUM = shutil.which("chromium") or shutil.which("chromium-browser")
 DRAWS = (
@@ -43,11 +43,9 @@ class Given(Case):
             {"clock": 3, "lanes": [[0, 0, [[1, 1, 1]], [0], [[8, 9]]]]},
             {"clock": 4, "lanes": [[1, 0, [[0, 0, 1]], [], []]]},
         ]
+        self.polls = polls
         self.write_polls(polls)
         self.write("trips.csv", ",".join(TRIPS) + "\nv,0,30,30,4,26,2,0,arrived\nw,1,,,4,,2,0,cell\n")
-        rows = ("10,a,0,3,22.5", "20,a,0,1,7.5", "20,b,0,2,15")
-        lines = [",".join(QUEUES), *(f"{row},stop line," for row in rows)]
-        self.write("queues.csv", "".join(f"{line}\n" for line in lines))
         self.write(
             "counts.csv",
             ",".join(COUNTS)
@@ -58,6 +56,14 @@ class Given(Case):
     def write_polls(self, polls):
         with gzip.open(self.folder / "lanes.jsonl.gz", "wt") as file:
             file.writelines(json.dumps(poll) + "\n" for poll in polls)
+
+    def with_queues(self):
+        """Two polls more: three vehicles stand at the line of a, behind which one does behind a gap and one waits in
+        the buffer; then one, and on b, one of two cells and, behind it, one that has just come to stand."""
+        three = [[0, 9, 0], [1, 8, 0], [2, 7, 0], [3, 5, 0]]
+        two = [[1, 9, 0, 2], [2, 7, 0], [3, 6, 1]]
+        lanes = [[[0, 0, three, [4], []]], [[0, 0, [[0, 9, 0]], [], []], [1, 0, two, [], []]]]
+        self.write_polls([*self.polls, *({"clock": 5 + at, "lanes": one} for at, one in enumerate(lanes))])
 
 
 class Numbers(Given):
@@ -114,7 +120,10 @@ class Numbers(Given):
         self.assertEqual([round(value, 3) for value in run_series.densities(self.given)], [13.333, 3.333])
 
     def test_queues(self):
-        self.assertEqual(run_series.longest_queues(self.given, 1), ([("a_0", {10: 22.5, 20: 7.5})], 2))
+        self.assertEqual(run_series.longest_queues(self.given, 1), ([], 0))
+        self.with_queues()
+        self.assertEqual(run_series.longest_queues(self.given, 1), ([("a_0", {5: 22.5, 6: 7.5})], 2))
+        self.assertEqual(run_series.longest_queues(self.given, 2)[0][1], ("b_0", {6: 22.5}))
 
     def test_fundamental(self):
         # 15 % of the time a vehicle of 7.5 m: 20 a kilometre. The short last period and the empty lane are left out.
@@ -156,6 +165,7 @@ class Numbers(Given):
 @needs_matplotlib
 class Pictures(Given):
     def test_each_is_drawn(self):
+        self.with_queues()
         for kind, *words in (
             ("corridor", self.folder, "--edges", "a b", "--last", 40),
             ("map", self.folder),
@@ -174,6 +184,7 @@ class Pictures(Given):
                 self.assertLess(len(content), 110_000)
 
     def test_formats(self):
+        self.with_queues()
         for name, begin in (("x.svg", b"<?xml"), ("x.pdf", b"%PDF-"), ("x.PNG", b"\x89PNG")):
             self.tool("plot", "queues", self.folder, "-o", self.folder / name)
             content = (self.folder / name).read_bytes()
@@ -242,9 +253,9 @@ class Player(Given):
     def test_what_charts_show(self):
         """By hand, of the four polls; who has arrived is known where the summary has the clock."""
         points = [[1, 1, 1, None], [2, 2, 1, None], [3, 2, 0, None], [4, 1, 0, None]]
-        self.assertEqual(player_data(self.given, 0, 9)["chart"], points)
+        self.assertEqual(played(self.given, 0, 9).data["chart"], points)
         self.write("summary.csv", ",".join(SUMMARY) + "\n3,2,0,1,1,0,0\n4,2,0,1,0,1,0\n")
-        self.assertEqual([point[3] for point in player_data(self.given, 2, 4)["chart"]], [None, 0, 1])
+        self.assertEqual([point[3] for point in played(self.given, 2, 4).data["chart"]], [None, 0, 1])
 
     @needs_chromium
     def test_charts(self):

@@ -184,9 +184,9 @@ def is_additional(path: str) -> bool:
 
 
 def made_run(args: argparse.Namespace, run: str, program_words: Sequence[str]) -> str:
-    """Makes the run of a run file, with junction tables and each second polled; gives its folder, of its name, here."""
+    """Makes the run of a run file, with junction tables; gives its folder, of its name, here."""
     until = [] if args.until is None else ["--until", str(args.until)]
-    run_tool("run", [run, "--junctions", "900", "--every", "1", *until, *program_words])
+    run_tool("run", [run, "--junctions", "900", *until, *program_words])
     folder = f"{stem_of(run)}-run"
     note_kept(folder)
     return folder

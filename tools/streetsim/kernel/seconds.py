@@ -174,17 +174,3 @@ def by_number(numbers: Array) -> Array:
     if low.max() >= 1 << 16:
         order = order[np.argsort((low[order] >> 16).astype(np.uint16), kind="stable")]
     return order
-
-
-def groups_of(keys: Array) -> tuple[Array, Array]:
-    """(where each group of equal keys begins, by entry the number of its group)."""
-    begins = np.flatnonzero(np.append(True, keys[1:] != keys[:-1])[: len(keys)])
-    number = np.zeros(len(keys), np.int64)
-    number[begins[1:]] = 1
-    return begins, np.cumsum(number)
-
-
-def unbroken(holds: Array, begins: Array, group: Array) -> Array:
-    """By entry whether it and all before it in its group hold; begins, group: as of groups_of."""
-    broken = np.cumsum(~holds)
-    return broken == (broken[begins] - ~holds[begins])[group]

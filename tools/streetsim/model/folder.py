@@ -6,13 +6,14 @@ from collections.abc import Iterator, Sequence
 from dataclasses import dataclass, field
 
 from streetsim.base.files import Fault, Json, open_text, read_json, reading
+from streetsim.base.limits import CLOCK
 from streetsim.base.program import UNKNOWN_NOTE, Proof, proof_of_digest
 from streetsim.base.unpacking import LINE, STREAMED, lines_of, refuse_crowded
 from streetsim.model import tables
 from streetsim.model.doubts import Doubt, doubts_from
 from streetsim.model.mapping import Map, map_from
 from streetsim.model.rows import NAME as ROWS
-from streetsim.model.rows import frames_in
+from streetsim.model.rows import RowsPart, Stretches, frames_in, part_of_frame, parts_in
 from streetsim.model.runs import TimedCommand
 
 NAME = "setting.json"
@@ -66,9 +67,9 @@ class Folder:
         """The rows of edges.csv (tables.EDGES)."""
         return tables.read_table(f"{self.path}/edges.csv", tables.EDGES)
 
-    def queues(self) -> list[dict[str, str]]:
-        """The rows of queues.csv (tables.QUEUES)."""
-        return tables.read_table(f"{self.path}/queues.csv", tables.QUEUES)
+    def queues_before_works(self) -> list[dict[str, str]]:
+        """The rows of queues.csv (tables.QUEUES) of queues before works."""
+        return tables.read_table(f"{self.path}/queues.csv", tables.QUEUES, {"before": tables.BEFORE_WORKS})
 
     def works(self) -> list[dict[str, str]]:
         """The rows of works.csv (tables.WORKS); Fault where the run had no works."""
@@ -102,6 +103,25 @@ class Folder:
                 for line in lines_of(file, LINE):
                     refuse_crowded(line)
                     yield json.loads(line)
+
+    def polled_parts(
+        self, first_clock: int = 0, last_clock: int = CLOCK, every: int | None = None
+    ) -> Iterator[tuple[RowsPart, list[Stretches]]]:
+        """What stood on the lanes from a first to a last clock as columns, and by clock their closed stretches, as of
+        parts_in; every: clocks that are whole multiples of so many seconds, None: polls. Nothing where nothing was
+        polled; Fault where the file is not there."""
+        rows = f"{self.path}/{ROWS}"
+        if self.every and os.path.exists(rows):
+            yield from parts_in(rows, every or self.every, first_clock, last_clock)
+        else:
+            for frame in self.polls():
+                if first_clock <= frame["clock"] <= last_clock:
+                    closed = {2 * link + lane: stretches for link, lane, *_, stretches in frame["lanes"] if stretches}
+                    yield part_of_frame(frame), [closed]
+
+    def has_each_second(self) -> bool:
+        """Whether each second of the run is kept, beside polls."""
+        return bool(self.every) and os.path.exists(f"{self.path}/{ROWS}")
 
     def links_along(self, edges: Sequence[str]) -> list[list[int]]:
         """For each edge of a path, in its order, the numbers of its links; Fault where the map has no such edge."""

@@ -2,19 +2,18 @@
 import contextlib
 import csv
 from collections import Counter
-from collections.abc import Callable, Container, Iterable, Iterator, Mapping, Sequence
+from collections.abc import Container, Iterable, Mapping, Sequence
 from math import atan2, pi
 
 from streetsim.base.files import Fault, FilePath, open_text, reading
 from streetsim.base.unpacking import lines_of
 from streetsim.model.mapping import Map
-from streetsim.model.tables import Entry, Write, open_table, unguarded
+from streetsim.model.tables import Entry, Namer, TableWriter, open_table, unguarded
 
 WINDS = ("east", "north-east", "north", "north-west", "west", "south-west", "south", "south-east")
 MOST_STREETS = 3  # in a junction's name
 COLUMNS = ("id", "name")  # of a file of one's own names
 EDGES, JUNCTIONS = "edges", "junctions"  # the kinds of names that a map keeps
-SUFFIX = "_name"  # how the column of names beside one of ids is called
 
 
 class Names:
@@ -90,7 +89,7 @@ class Names:
         links = self.mapping.links_of[edge]
         return self.mapping.links[links[len(links) // 2]].shape
 
-    def columns(self) -> dict[str, Callable[[str], str]]:
+    def columns(self) -> dict[str, Namer]:
         """For each column of edges or junctions in tables, what gives the name of an id, empty where it has none."""
         streets = dict.fromkeys(("edge", "approach", "from", "to"), self.street)
         return {**streets, "junction": self.junction}
@@ -102,26 +101,19 @@ def wind(begin: Sequence[float], end: Sequence[float]) -> str:
     return WINDS[round(turn * len(WINDS)) % len(WINDS)]
 
 
-@contextlib.contextmanager
-def open_named(path: FilePath, header: Sequence[str], names: Names) -> Iterator[Write]:
+def open_named(
+    path: FilePath, header: Sequence[str], names: Names
+) -> contextlib.AbstractContextManager[TableWriter]:
     """As `open_table`; where the map has names, beside each column of `Names.columns` stands one of names, with _name
     at its end."""
-    columns = {at: names.columns()[name] for at, name in enumerate(header) if name in names.columns() and names}
-    head = [text for at, name in enumerate(header) for text in ([name, name + SUFFIX] if at in columns else [name])]
-
-    def with_names(row: Iterable[object]) -> list[object]:
-        """A row with its names."""
-        cells = ([cell, columns[at](str(cell))] if at in columns else [cell] for at, cell in enumerate(row))
-        return [one for those in cells for one in those]
-
-    with open_table(path, head) as write:
-        yield (lambda rows: write(map(with_names, rows))) if columns else write
+    columns = names.columns() if names else {}
+    return open_table(path, header, {at: columns[name] for at, name in enumerate(header) if name in columns})
 
 
 def write_named(path: FilePath, header: Sequence[str], rows: Iterable[Entry], names: Names) -> None:
     """Writes a table as `open_named` does."""
-    with open_named(path, header, names) as write:
-        write(rows)
+    with open_named(path, header, names) as table:
+        table.write_rows(rows)
 
 
 def read_own(path: FilePath, mapping: Map) -> None:

@@ -2,18 +2,22 @@
 import contextlib
 import csv
 import re
-from collections.abc import Callable, Iterable, Iterator, Sequence
-from functools import lru_cache
+from collections.abc import Callable, Iterable, Iterator, Mapping, Sequence
 from itertools import chain, islice
 from math import isfinite
+from types import MappingProxyType
 from typing import Any
 
-from streetsim.base.files import Fault, FilePath, open_text, reading, whole_file
+from streetsim.base.array_groups import texts_by_number
+from streetsim.base.files import Fault, FilePath, TextFile, open_text, reading, whole_file
 from streetsim.base.unpacking import lines_of
 
 Entry = tuple[Any, ...]  # a row of a table
-Write = Callable[[Iterable[Iterable[object]]], object]  # writes rows
-AT_ONCE = 4_000  # rows whose texts are looked at together
+Column = Any  # the cells of a column: an array of NumPy, or a sequence
+Namer = Callable[[str], str]  # gives the name of an id, empty where it has none
+SUFFIX = "_name"  # how the column of names beside one of ids is called
+AT_ONCE = 10_000  # rows that are looked at together
+ENDS_CELL = re.compile('[,"\n]')
 # Texts that a spreadsheet may run: =, +, @, a tab or a line feed at the begin, or - before what is neither a number nor
 # plain names, as -12345#0 of OpenStreetMap; and those that would be taken for guarded ones.
 RUN = re.compile(r"'*(?:[=@\t\n]|\+(?![\d.]+$)|-(?![\w#.: -]*$))")
@@ -58,37 +62,74 @@ APPROACHES = ("begin", "end", "junction", "control", "approach", *LOST, *QUEUED,
 JUNCTIONS = ("begin", "end", "junction", "control", *LOST, "queue_max_m", "v_c", "los", "nearly_full", "doubt")
 
 
+class TableWriter:
+    """Writes the rows of a table to an open file, by their columns."""
+
+    def __init__(self, file: TextFile, namers: Mapping[int, Namer]) -> None:
+        """file: behind the header; namers: by place of a column what gives the name of each of its cells, which stands
+        behind it in a column of names."""
+        self.file, self.namers = file, namers
+
+    def write_rows(self, rows: Iterable[Iterable[object]]) -> None:
+        """Writes rows, which are taken one by one."""
+        left = iter(rows)
+        while part := list(islice(left, AT_ONCE)):
+            self.write_columns(list(zip(*part, strict=True)))
+
+    def write_columns(self, columns: Sequence[Column]) -> None:
+        """Writes rows by their columns, of equal lengths: arrays of NumPy, or cells of any kind."""
+        for begin in range(0, len(columns[0]), AT_ONCE):
+            parts = (cells_of(column[begin : begin + AT_ONCE]) for column in columns)
+            texts = chain.from_iterable(self.texts_with_names(at, part) for at, part in enumerate(parts))
+            self.file.write("".join(f"{row}\n" for row in map(",".join, zip(*texts, strict=True))))
+
+    def texts_with_names(self, at: int, column: Column) -> Iterator[Sequence[str]]:
+        """The texts of a column, by its place, and behind them those of its column of names, if it has one."""
+        yield texts_of(column)
+        if at in self.namers:
+            name_of = {cell: self.namers[at](str(cell)) for cell in set(column)}
+            yield texts_of([name_of[cell] for cell in column])
+
+
+def cells_of(column: Column) -> Column:
+    """The cells of a column, as objects of Python; floating numbers of NumPy as texts, of equal ones made once."""
+    if not hasattr(column, "tolist"):
+        return column
+    return texts_by_number(column, str) if column.dtype.kind == "f" else column.tolist()
+
+
+def texts_of(column: Column) -> Sequence[str]:
+    """The cells of a column as a CSV file has them: numbers as they are, and of texts each looked at once, as hardly
+    any needs a guard or quotes."""
+    kinds = set(map(type, column))
+    if kinds <= {int, float, bool}:
+        return list(map(str, column))
+    texts = column if kinds == {str} else ["" if cell is None else str(cell) for cell in column]
+    changed = {text: cell for text in set(texts) if (cell := quoted(guarded(text))) != text}
+    return [changed.get(text, text) for text in texts] if changed else texts
+
+
+def quoted(text: str) -> str:
+    """A text as a cell of a CSV file, in quotes where it would end the cell."""
+    return '"{}"'.format(text.replace('"', '""')) if ENDS_CELL.search(text) else text
+
+
 @contextlib.contextmanager
-def open_table(path: FilePath, header: Sequence[str]) -> Iterator[Write]:
-    """A function that writes rows of a table, as CSV, which is whole when the block ends. Fault, and the file as it
-    was, where it cannot be written."""
+def open_table(
+    path: FilePath, header: Sequence[str], namers: Mapping[int, Namer] = MappingProxyType({})
+) -> Iterator[TableWriter]:
+    """What writes a table, as CSV, which is whole when the block ends. Fault, and the file as it was, where it cannot
+    be written. namers: as of TableWriter."""
+    names = ([name, name + SUFFIX] if at in namers else [name] for at, name in enumerate(header))
     with whole_file(path) as file:
-        writer = csv.writer(file, lineterminator="\n")
-        writer.writerow(header)
-        yield lambda rows: writer.writerows(guarded_rows(rows))
+        file.write(",".join(chain.from_iterable(names)) + "\n")
+        yield TableWriter(file, namers)
 
 
-def guarded_rows(rows: Iterable[Iterable[object]]) -> Iterator[Iterable[object]]:
-    """Rows whose texts are guarded. Of many rows each text is looked at once, as hardly any needs it."""
-    left = (tuple(row) for row in rows)
-    while part := list(islice(left, AT_ONCE)):
-        texts = (cell for cell in set(chain.from_iterable(part)) if isinstance(cell, str))
-        if all(guarded(text) == text for text in texts):
-            yield from part
-        else:
-            yield from map(guarded_row, part)
-
-
-def guarded_row(row: Iterable[object]) -> list[object]:
-    """A row whose texts are guarded."""
-    return [guarded(cell) if isinstance(cell, str) else cell for cell in row]
-
-
-@lru_cache(1 << 14)
-def guarded(cell: str) -> str:
+def guarded(text: str) -> str:
     """A text that no spreadsheet runs: what it might (RUN) has an apostrophe before it. A carriage return, which would
-    end the row for some readers, becomes a blank. Names come in many rows."""
-    text = cell.replace("\r", " ")
+    end the row for some readers, becomes a blank."""
+    text = text.replace("\r", " ")
     return f"'{text}" if RUN.match(text) else text
 
 
@@ -99,34 +140,67 @@ def unguarded(text: str) -> str:
 
 def write_table(path: FilePath, header: Sequence[str], rows: Iterable[Iterable[object]]) -> None:
     """Writes a table as `open_table` does."""
-    with open_table(path, header) as write:
-        write(rows)
+    with open_table(path, header) as table:
+        table.write_rows(rows)
 
 
-def read_table(path: FilePath, header: Sequence[str]) -> list[dict[str, str]]:
+def read_table(
+    path: FilePath, header: Sequence[str], wanted: Mapping[str, str] = MappingProxyType({})
+) -> list[dict[str, str]]:
     """The rows of a CSV table, as texts by column. Last columns of `header` that the table does not have, as tables of
     earlier versions, are empty; further columns, as those of names, are given too. Fault where it cannot be read, where
     an earlier column is absent, more than half of them are, or one is there twice, and for a row that is shorter or
-    longer, or has a text where a number belongs."""
+    longer, or has a text where a number belongs. wanted: the texts by column of those rows that are given, of all where
+    it is empty."""
     with reading(path), open_text(path) as file:
-        rows = csv.DictReader(lines_of(file))
-        found = rows.fieldnames or ()
-        absent = [name for name in header if name not in found]
-        if absent != [*header[len(header) - len(absent) :]] or 2 * len(absent) > len(header) or has_twice(found):
+        rows = csv.reader(lines_of(file))
+        names = next(rows, [])
+        absent = [name for name in header if name not in names]
+        if absent != [*header[len(header) - len(absent) :]] or 2 * len(absent) > len(header) or has_twice(names):
             raise Fault(f"{path}: expected the columns {', '.join(header)}")
-        entries, numbers = [], [name for name in header if name not in TEXTS and name in found]
-        for row in rows:
-            if None in row or None in row.values():
-                raise Fault(f"{path}: line {rows.line_num}: expected {len(found)} cells")
-            if wrong := next((name for name in numbers if not is_number(row[name])), None):
-                raise Fault(f"{path}: line {rows.line_num}: {wrong} = {row[wrong]!r} is no number")
-            entries.append(dict.fromkeys(absent, "") | {name: unguarded(text) for name, text in row.items()})
+        lacking = dict.fromkeys(absent, "")
+        places = [(names.index(name), text) for name, text in wanted.items()]
+        numbers = [at for at, name in enumerate(names) if name in header and name not in TEXTS]
+        entries: list[dict[str, str]] = []
+        numbered = ((rows.line_num, row) for row in rows if row)
+        while part := list(islice(numbered, AT_ONCE)):
+            columns = checked_columns(path, names, numbers, part)
+            rows_there = zip(*map(texts_without_guards, columns), strict=True)
+            rows_wanted = (row for row in rows_there if all(row[at] == text for at, text in places))
+            entries += (lacking | dict(zip(names, row)) for row in rows_wanted)
         return entries
 
 
 def has_twice(names: Sequence[str]) -> bool:
     """Whether a name is there more than once."""
     return len({*names}) < len(names)
+
+
+def checked_columns(
+    path: FilePath, names: Sequence[str], numbers: Sequence[int], part: Sequence[tuple[int, list[str]]]
+) -> list[tuple[str, ...]]:
+    """The columns of some rows of a table, each behind the number of the line at which it ends; Fault for the first row
+    that is shorter or longer, or has a text where a number belongs. names: of the columns; numbers: places of those of
+    numbers."""
+    if all(len(row) == len(names) for _, row in part):
+        columns = list(zip(*(row for _, row in part)))
+        if all(map(is_number, set(chain.from_iterable(columns[at] for at in numbers)))):
+            return columns
+    line, row = next(
+        (line, row)
+        for line, row in part
+        if len(row) != len(names) or not all(is_number(row[at]) for at in numbers)
+    )
+    if len(row) != len(names):
+        raise Fault(f"{path}: line {line}: expected {len(names)} cells")
+    wrong = next(at for at in numbers if not is_number(row[at]))
+    raise Fault(f"{path}: line {line}: {names[wrong]} = {row[wrong]!r} is no number")
+
+
+def texts_without_guards(column: Sequence[str]) -> Sequence[str]:
+    """The texts of a column as they were before they were guarded."""
+    changed = {text: unguarded(text) for text in set(column) if text[:1] == "'"}
+    return [changed.get(text, text) for text in column] if changed else column
 
 
 def is_number(text: str) -> bool:

@@ -6,10 +6,11 @@ from collections.abc import Iterator, Mapping, Sequence
 from itertools import pairwise
 from math import fsum
 
+from streetsim.base.array_groups import groups_of
 from streetsim.base.arrays import Array, numpy as np
 from streetsim.control.bus_fleet import Dwell
 from streetsim.kernel.plans import Plans
-from streetsim.kernel.seconds import SLOTS, by_number, groups_of
+from streetsim.kernel.seconds import SLOTS, by_number
 from streetsim.model.mapping import Place
 from streetsim.observe.counts import PeriodSums
 from streetsim.observe.junction_layout import movements_that_stop

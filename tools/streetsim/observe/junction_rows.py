@@ -150,8 +150,8 @@ class JunctionTables:
             ]
             for interval in intervals:
                 self.add(interval)
-                for write, rows in tables:
-                    write(rows)
+                for table, rows in tables:
+                    table.write_rows(rows)
                     rows.clear()
 
 

@@ -4,9 +4,10 @@ from __future__ import annotations
 
 from collections.abc import Iterator
 
+from streetsim.base.array_groups import groups_of
 from streetsim.base.arrays import Array, numpy as np
 from streetsim.kernel.loop import Kernel, Observer
-from streetsim.kernel.seconds import Seconds, by_number, groups_of
+from streetsim.kernel.seconds import Seconds, by_number
 from streetsim.model.freeflow import FreeFlow
 from streetsim.observe.giving_way_gaps import StopLinePassings
 

@@ -6,10 +6,11 @@ from collections import defaultdict
 from collections.abc import Iterable, Iterator, Mapping, Sequence
 from typing import Any
 
+from streetsim.base.array_groups import groups_of, unbroken
 from streetsim.base.arrays import Array, numpy as np
 from streetsim.control.bus_fleet import Dwell
 from streetsim.kernel.loop import Kernel, Observer
-from streetsim.kernel.seconds import SLOTS, Seconds, groups_of, unbroken
+from streetsim.kernel.seconds import SLOTS, Seconds
 from streetsim.observe.junction_layout import approaches_of
 from streetsim.observe.log import Columns, Log, by_period
 

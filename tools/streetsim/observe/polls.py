@@ -1,18 +1,16 @@
 """rows.bin and lanes.jsonl.gz: what stands on the lanes in each second, and at polls."""
 from __future__ import annotations
 
-from collections.abc import Collection, Iterator, Mapping
+from collections.abc import Collection, Iterator
 from typing import IO
 
 from streetsim.base.arrays import Array, numpy as np
 from streetsim.base.files import TextFile
 from streetsim.kernel.loop import ClosedCells, Kernel, Observer
-from streetsim.kernel.seconds import SLOTS, Seconds, groups_of
+from streetsim.kernel.seconds import Seconds
 from streetsim.model.mapping import Place
-from streetsim.model.rows import CLOSED_COLUMNS, packed
+from streetsim.model.rows import CLOSED_COLUMNS, RowsPart, Stretches, frame_texts_in, packed
 from streetsim.observe.queues import find_polled_slots
-
-Stretches = dict[int, list[tuple[int, int]]]  # closed ones, by slot
 
 
 class ClosedLanes:
@@ -109,42 +107,11 @@ class Polls(Observer):
     def see(self, seconds: Seconds) -> None:
         """Takes some seconds."""
         polled = seconds.clocks % self.every == 0
+        polled[0] = False
         rows = np.flatnonzero(seconds.rows_in_seconds(polled) & self.polled_slots[seconds.slot])
-        second, slot = seconds.second[rows], seconds.slot[rows]
-        begins, _ = groups_of(second * SLOTS + slot)
-        slots, lanes = slot[begins].tolist(), lane_texts(seconds, rows, begins)
-        at = np.searchsorted(second[begins], np.arange(len(polled) + 1)).tolist()
-        for number in np.flatnonzero(polled).tolist():
-            if number:
-                clock, rows_of_clock = int(seconds.clocks[number]), slice(*at[number : number + 2])
-                closed = self.closed.stretches_at(clock)
-                shown = [f"{lane}[]]" for lane in lanes[rows_of_clock]]
-                if closed:
-                    texts = dict(zip(slots[rows_of_clock], lanes[rows_of_clock], strict=True))
-                    shown = list(with_closed(texts, closed))
-                self.file.write(f'{{"clock":{clock},"lanes":[{",".join(shown)}]}}\n')
-
-
-def lane_texts(seconds: Seconds, rows: Array, begins: Array) -> list[str]:
-    """The text of each lane up to its closed stretches; rows: of the lanes, of which each begins at one of begins."""
-    columns = seconds.owner, seconds.cell, seconds.speed, seconds.size
-    car, cell, speed, size = (column[rows].tolist() for column in columns)
-    texts = [
-        str(c) if x < 0 else f"[{c},{x},{v}]" if n == 1 else f"[{c},{x},{v},{n}]"
-        for c, x, v, n in zip(car, cell, speed, size, strict=True)
-    ]
-    ends = np.append(begins, len(rows))[1:]
-    waits = np.append(0, np.cumsum(~seconds.on[rows]))
-    waits = waits[ends] - waits[begins]
-    return [
-        f"[{s >> 1},{s & 1},[{','.join(texts[a : b - w])}],[{','.join(texts[b - w : b])}],"
-        for s, a, b, w in zip(seconds.slot[rows[begins]].tolist(), begins.tolist(), ends.tolist(), waits.tolist())
-    ]
-
-
-def with_closed(lanes: Mapping[int, str], closed: Stretches) -> Iterator[str]:
-    """The texts of lanes, by slot, with those where nothing but closed stretches is, rising."""
-    for slot in sorted({*lanes, *closed}):
-        text = lanes.get(slot, f"[{slot >> 1},{slot & 1},[],[],")
-        stretches = ",".join(f"[{first},{last}]" for first, last in closed.get(slot, ()))
-        yield f"{text}[{stretches}]]"
+        counts = np.bincount(seconds.second[rows], minlength=len(polled))[polled]
+        columns = (seconds.owner, seconds.slot, seconds.cell, seconds.speed, seconds.size)
+        first_rows, clocks = np.append(0, np.cumsum(counts)), seconds.clocks[polled]
+        part = RowsPart(clocks, first_rows, *(column[rows] for column in columns))
+        closed_at = [self.closed.stretches_at(clock) for clock in clocks.tolist()]
+        self.file.writelines(f"{text}\n" for text in frame_texts_in(part, closed_at))

@@ -3,11 +3,13 @@ from __future__ import annotations
 
 from collections.abc import Collection, Iterator
 
+from streetsim.base.array_groups import rounded
 from streetsim.base.arrays import Array, numpy as np
 from streetsim.base.client import Census
 from streetsim.kernel.loop import Kernel, Observer
-from streetsim.kernel.seconds import SLOTS, Seconds, groups_of, unbroken
+from streetsim.kernel.seconds import Seconds
 from streetsim.model.mapping import Place
+from streetsim.model.standing import LaneRows, standing_at_stop_lines
 from streetsim.model.tables import STOP_LINE, Entry
 from streetsim.observe.log import Log
 from streetsim.observe.trips import TripsTable
@@ -26,8 +28,8 @@ class Queues(Observer):
     def begin(self, kernel: Kernel) -> None:
         """Nobody stands."""
         self.kernel = kernel
-        self.length = np.repeat([link.cells for link in kernel.map.links], 2)
-        self.polled_slots = find_polled_slots(self.polled, len(self.length))
+        self.cells = np.array([link.cells for link in kernel.map.links], np.int64)
+        self.polled_slots = find_polled_slots(self.polled, 2 * len(self.cells))
 
     def see(self, seconds: Seconds) -> None:
         """Takes some seconds."""
@@ -35,31 +37,28 @@ class Queues(Observer):
             return
         is_polled = seconds.rows_in_seconds(seconds.clocks % self.every == 0)
         rows = np.flatnonzero(is_polled & seconds.on & self.polled_slots[seconds.slot])
-        slot, second, size = seconds.slot[rows], seconds.second[rows], seconds.size[rows].astype(np.int64)
-        begins, group = groups_of(second * SLOTS + slot)
-        before = np.cumsum(size) - size
-        before -= before[begins][group]
-        stands = (seconds.speed[rows] == 0) & (seconds.cell[rows] == self.length[slot] - 1 - before)
-        stands = unbroken(stands, begins, group)
-        count = np.bincount(group[stands], minlength=len(begins))
-        covered = np.bincount(group[stands], size[stands], len(begins)).astype(np.int64)
-        occupied = np.flatnonzero(count)
-        slots, clocks = slot[begins[occupied]], seconds.clocks[second[begins[occupied]]]
-        covered = np.minimum(covered[occupied], self.length[slots])
-        self.log.add({"clock": clocks, "slot": slots, "vehicles": count[occupied], "covered": covered})
+        columns = (seconds.second, seconds.slot, seconds.cell, seconds.speed, seconds.size)
+        queues = standing_at_stop_lines(LaneRows(*(column[rows] for column in columns)), self.cells)
+        clocks = seconds.clocks[queues.at]
+        self.log.add({"clock": clocks, "slot": queues.slot, "vehicles": queues.vehicles, "covered": queues.covered})
+
+    def columns(self) -> Iterator[tuple[Array, ...]]:
+        """The columns of queues.csv at stop lines, in parts: clock, edge, SUMO's index of the lane, vehicles, metres
+        that they cover, before what, empty; by clock and lane."""
+        links = self.kernel.map.links
+        edges = np.array([link.edge for link in links], object)
+        lanes = np.array([(link.lanes[0], link.lanes[-1]) for link in links]).reshape(-1)
+        cell_metres = np.array([link.cell_metres for link in links])
+        for part in self.log.parts:
+            link, rows = part["slot"] // 2, len(part["slot"])
+            metres = rounded(part["covered"] * cell_metres[link], 1)
+            head = part["clock"], edges[link], lanes[part["slot"]], part["vehicles"]
+            yield *head, metres, np.full(rows, STOP_LINE, object), np.full(rows, "", object)
 
     def rows(self) -> Iterator[Entry]:
-        """The rows of queues.csv at stop lines, (clock, edge, SUMO's index of the lane, vehicles, metres that they
-        cover, before what, empty), by clock and lane."""
-        links = self.kernel.map.links
-        texts_known: dict[tuple[int, int], tuple[str, int, float]] = {}
-        for part in self.log.parts:
-            for clock, slot, count, covered in zip(*(column.tolist() for column in part.values()), strict=True):
-                if (slot, covered) not in texts_known:
-                    link = links[slot // 2]
-                    texts_known[slot, covered] = link.edge, link.lanes[slot % 2], round(covered * link.cell_metres, 1)
-                edge, lane, metres = texts_known[slot, covered]
-                yield clock, edge, lane, count, metres, STOP_LINE, ""
+        """The rows of these columns."""
+        for columns in self.columns():
+            yield from zip(*(column.tolist() for column in columns), strict=True)
 
 
 class Summary(Observer):

@@ -30,7 +30,7 @@ from streetsim.model import tables, trust
 from streetsim.model.doubts import Doubt, doubt_rows
 from streetsim.model.folder import NAME, POLLS
 from streetsim.model.mapping import Map
-from streetsim.model.names import Names, write_named
+from streetsim.model.names import Names, open_named, write_named
 from streetsim.model.rows import NAME as ROWS
 from streetsim.model.runs import Line, Run
 from streetsim.model.stops import MISSED, OTHER_LANE, vehicle_classes_of
@@ -146,9 +146,12 @@ class RunTables:
         write_named(f"{folder}/edges.csv", tables.EDGES, self.counts.edge_rows(), names)
         write_table(f"{folder}/detectors.csv", tables.LOOPS, self.detectors.loop_rows())
         write_table(f"{folder}/areas.csv", tables.AREAS, self.detectors.area_rows())
-        before_works = list(self.works.queue_rows())
-        queues = merge(self.queues.rows(), before_works, key=itemgetter(0)) if before_works else self.queues.rows()
-        write_named(f"{folder}/queues.csv", tables.QUEUES, queues, names)
+        with open_named(f"{folder}/queues.csv", tables.QUEUES, names) as table:
+            if before_works := list(self.works.queue_rows()):
+                table.write_rows(merge(self.queues.rows(), before_works, key=itemgetter(0)))
+            else:
+                for columns in self.queues.columns():
+                    table.write_columns(columns)
         write_table(f"{folder}/summary.csv", tables.SUMMARY, map(summary_row, self.summary.censuses()))
         of_segments = self.segments.segment_rows(self.settings.period)
         write_named(f"{folder}/segments.csv", tables.SEGMENTS, of_segments, names)

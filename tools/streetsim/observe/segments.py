@@ -5,10 +5,11 @@ from collections.abc import Iterable, Iterator, Sequence
 from dataclasses import dataclass
 from itertools import pairwise
 
+from streetsim.base.array_groups import groups_of
 from streetsim.base.arrays import Array
 from streetsim.base.arrays import numpy as np
 from streetsim.kernel.loop import Kernel, Observer
-from streetsim.kernel.seconds import Seconds, by_number, groups_of
+from streetsim.kernel.seconds import Seconds, by_number
 from streetsim.model.tables import Entry
 from streetsim.observe.log import Log, by_period
 

@@ -5,10 +5,11 @@ from collections import defaultdict
 from collections.abc import Iterator
 from typing import Any
 
+from streetsim.base.array_groups import groups_of
 from streetsim.base.arrays import numpy as np
 from streetsim.control.buses import Buses
 from streetsim.kernel.loop import Kernel, Observer
-from streetsim.kernel.seconds import Seconds, groups_of
+from streetsim.kernel.seconds import Seconds
 from streetsim.observe.sumo_writing import Outputs
 from streetsim.observe.trips import vehicle_names
 

@@ -71,8 +71,10 @@ def works_rows(folder: Folder) -> list[dict[str, str]]:
 def note_queues(folder: Folder, seen_works: Sequence[SeenWorks]) -> None:
     """Adds to `queues` of each place of works the metres of the queue before it at each poll of a run while they last;
     0 where none is listed."""
-    rows = (row for row in folder.queues() if row["before"] == tables.BEFORE_WORKS)
-    queues = {(row["edge"], row["lane"], row["from_m"], int(row["time"])): float(row["metres"]) for row in rows}
+    queues = {
+        (row["edge"], row["lane"], row["from_m"], int(row["time"])): float(row["metres"])
+        for row in folder.queues_before_works()
+    }
     for works in seen_works:
         edge, lane, begin, _ = works.place_key
         for time in poll_clocks(folder, *works.span()):

@@ -48,16 +48,16 @@ def refuse_undrawn(folder: Folder, edges: Sequence[str], first_second: int, last
     refuse_broken(folder, edges)
     if first_second >= last_second:
         raise Fault(f"--first {first_second} is not before --last {last_second}")
-    if folder.every > 5:
+    if run_series.track_step(folder) > run_series.MOST_STEP:
         raise Fault(f"{folder.path} was polled every {folder.every} s: a corridor needs streetsim-run --every 1 (to 5)")
-    if not any(first_second <= poll["clock"] <= last_second for poll in folder.polls()):
+    if not any(len(part.clocks) for part, _ in folder.polled_parts(first_second, last_second)):
         raise Fault(f"{folder.path}: nothing was polled from {first_second} to {last_second} s")
 
 
 def draw_corridor(pyplot: Pyplot, folder: Folder, corridor: Corridor) -> Figure:
     """Where each vehicle is along a path (metres) over time (seconds), the way back below. Fault where the edges make
-    no path, first is not before last, lanes were not polled every 5 s or oftener, nothing was polled from first to last
-    (both included), or (both) there is no way back."""
+    no path, first is not before last, lanes were not looked at every 5 s or oftener, nothing was polled from first to
+    last (both included), or (both) there is no way back."""
     refuse_undrawn(folder, corridor.edges, corridor.first_second, corridor.last_second)
     ways = [corridor.edges, *([run_series.way_back(folder, corridor.edges)] if corridor.both_ways else [])]
     figure, panels = pyplot.subplots(len(ways), figsize=(10, 6 if len(ways) == 1 else 9.5), squeeze=False)

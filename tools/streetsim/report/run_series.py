@@ -2,21 +2,27 @@
 edges in the order of driving, raise Fault where the map has no such edge, and all where a table or the polls that they
 read are missing."""
 from bisect import bisect_right
-from collections import Counter, defaultdict
-from collections.abc import Iterable, Iterator, Sequence
-from itertools import pairwise
+from collections import Counter
+from collections.abc import Iterable, Iterator, Mapping, Sequence
+from itertools import pairwise, starmap
 from math import floor, inf, log10
+from typing import Any
 
 from streetsim.base import limits
+from streetsim.base.array_groups import rounded
+from streetsim.base.arrays import Array, numpy as np
 from streetsim.base.files import Fault
-from streetsim.model import tables
 from streetsim.model.folder import Folder
 from streetsim.model.names import Names
+from streetsim.model.rows import RowsPart
 from streetsim.model.runs import Command
+from streetsim.model.standing import LaneRows, standing_at_stop_lines
 from streetsim.model.timing import spans_of
 
+MOST_STEP = 5  # seconds of a piece of a vehicle's way
 Spot = tuple[float, float]  # second and metres
 TrackPiece = tuple[Spot, Spot, int, float]  # begin and end, speed in cells a step, metres of the vehicle's cells
+Fronts = dict[int, Sequence[Any]]  # by vehicle metres from a path's begin, speed, and metres of its cells
 
 
 def links_and_length(folder: Folder, edges: Sequence[str]) -> tuple[dict[int, tuple[float, float, int]], float]:
@@ -31,27 +37,37 @@ def links_and_length(folder: Folder, edges: Sequence[str]) -> tuple[dict[int, tu
 
 
 def trajectories(folder: Folder, edges: Sequence[str], first_second: int, last_second: int) -> list[TrackPiece]:
-    """Pieces of the ways of vehicles' fronts along a path, each from one poll to the next, from a first to a last
-    second (included), in metres from the path's begin, with the speed at the later poll; a vehicle that went back, or
-    that one of both polls does not have on a cell of the path, is left out for that piece."""
+    """Pieces of the ways of vehicles' fronts along a path, each of track_step seconds, from a first to a last second
+    (included), in metres from the path's begin, with the speed at its end; a vehicle that went back, or that was not on
+    a cell of the path at both ends, is left out for that piece."""
     placed, _ = links_and_length(folder, edges)
+    is_on_path = np.isin(np.arange(len(folder.mapping.links)), [*placed])
     track_pieces: list[TrackPiece] = []
-    cars_before: dict[int, tuple[int, float, int, float]] = {}
-    for poll in folder.polls():
-        clock, cars_now = poll["clock"], {}
-        if not first_second <= clock <= last_second:
-            continue
-        for link, _lane, cells, _buffer, _closed in poll["lanes"]:
-            if link in placed:
-                begin, metres, count = placed[link]
-                for car, cell, speed, *size in cells:
-                    long = (size[0] if size else 1) * metres / count
-                    cars_now[car] = clock, begin + (cell + 1) * metres / count, speed, long
-        for car, (_, place, speed, long) in cars_now.items():
-            if car in cars_before and cars_before[car][1] <= place:
-                track_pieces.append(((cars_before[car][0], cars_before[car][1]), (clock, place), speed, long))
-        cars_before = cars_now
+    fronts: Fronts = {}
+    for part, _ in folder.polled_parts(first_second, last_second, track_step(folder)):
+        on_path = part.of(part.on & is_on_path[part.link])
+        for clock, fronts_there in zip(part.clocks.tolist(), fronts_along(on_path, placed), strict=True):
+            for car, (place, speed, long) in fronts_there.items():
+                if car in fronts and fronts[car][0] <= place:
+                    track_pieces.append(((earlier, fronts[car][0]), (clock, place), speed, long))
+            fronts, earlier = fronts_there, clock
     return track_pieces
+
+
+def track_step(folder: Folder) -> int:
+    """The seconds of a piece of a vehicle's way: those between polls, and one where these are too far apart and each
+    second is kept."""
+    return 1 if folder.every > MOST_STEP and folder.has_each_second() else folder.every
+
+
+def fronts_along(part: RowsPart, placed: Mapping[int, tuple[float, float, int]]) -> Iterator[Fronts]:
+    """Where the vehicles of links of a path are, by each clock of a part; placed: as of links_and_length."""
+    places = np.array([placed.get(link, (0.0, 0.0, 1)) for link in range(max(placed) + 1)])
+    begin, metres, count = places[part.link].T
+    place, long = begin + (part.cell + 1) * metres / count, part.size * metres / count
+    columns = [column.tolist() for column in (part.vehicle, place, part.speed, long)]
+    for here in starmap(slice, pairwise(part.first_rows.tolist())):
+        yield {car: front for car, *front in zip(*(column[here] for column in columns), strict=True)}
 
 
 def long_vehicle_strips(track_pieces: Iterable[TrackPiece]) -> Iterator[tuple[Spot, Spot, Spot, Spot]]:
@@ -166,32 +182,44 @@ def edge_ends_along(folder: Folder, edges: Sequence[str]) -> list[tuple[float, i
 def densities(folder: Folder) -> list[float]:
     """Mean vehicles a kilometre and lane of each link over all polls, by its number, of those on its cells (not in the
     junction behind); 0 where its lanes were not polled, Fault where none were."""
-    standing: Counter[int] = Counter()
-    polls = 0
-    for poll in folder.polls():
-        polls += 1
-        for link, _lane, cells, _buffer, _closed in poll["lanes"]:
-            standing[link] += len(cells)
+    links = folder.mapping.links
+    standing, polls = np.zeros(len(links), np.int64), 0
+    for part, _ in folder.polled_parts():
+        polls += len(part.clocks)
+        standing += np.bincount(part.link[part.on], minlength=len(links))
     if not polls:
         raise Fault(f"{folder.path}: nothing was polled")
     return [
-        standing[number] / polls / len(link.lanes) / (link.cells * link.cell_metres / 1000)
-        for number, link in enumerate(folder.mapping.links)
+        count / polls / len(link.lanes) / (link.cells * link.cell_metres / 1000)
+        for count, link in zip(standing.tolist(), links, strict=True)
     ]
 
 
 def longest_queues(folder: Folder, most_lanes: int) -> tuple[list[tuple[str, dict[int, float]]], int]:
-    """The lanes with the longest queues at stop lines, the longest first, most_lanes at most: (lane's id after its
-    street's name, {clock: metres}); and how many lanes have queues at all."""
-    by_lane: defaultdict[str, dict[int, float]] = defaultdict(dict)
-    names = Names(folder.mapping)
-    for row in folder.queues():
-        if row["before"] == tables.STOP_LINE:
-            by_lane[f"{row['edge']}_{row['lane']}"][int(row["time"])] = float(row["metres"])
-    ranked = sorted(by_lane.items(), key=lambda item: (-max(item[1].values()), item[0]))
-    longest = ranked[:most_lanes]
-    called = ((f"{names.street(name.rpartition('_')[0])} {name}".lstrip(), queue) for name, queue in longest)
-    return list(called), len(ranked)
+    """The lanes with the longest queues at stop lines at polls, the longest first, most_lanes at most: (lane's id after
+    its street's name, {clock: metres}); and how many lanes have queues at all."""
+    mapping, names = folder.mapping, Names(folder.mapping)
+    cells = np.array([link.cells for link in mapping.links], np.int64)
+    queues = [queues_in(part, cells) for part, _ in folder.polled_parts()]
+    clocks, slots, covered = (np.concatenate(columns) for columns in zip(*queues)) if queues else np.zeros((3, 0), int)
+    metres = rounded(covered * np.array([link.cell_metres for link in mapping.links])[slots // 2], 1)
+    longest = np.zeros(2 * len(cells))
+    np.maximum.at(longest, slots, metres)
+    ranked = sorted(set(slots.tolist()), key=lambda slot: (-longest[slot], mapping.lane_name(*divmod(slot, 2))))
+    found = []
+    for slot in ranked[:most_lanes]:
+        called = f"{names.street(mapping.links[slot // 2].edge)} {mapping.lane_name(*divmod(slot, 2))}".lstrip()
+        here = slots == slot
+        found.append((called, dict(zip(clocks[here].tolist(), metres[here].tolist(), strict=True))))
+    return found, len(ranked)
+
+
+def queues_in(part: RowsPart, cells: Array) -> tuple[Array, Array, Array]:
+    """(clocks, lanes, cells covered) of the queues at stop lines at each clock of a part, where there are any. cells:
+    of each link."""
+    on = part.of(part.on)
+    queues = standing_at_stop_lines(LaneRows(on.at, on.slot, on.cell, on.speed, on.size), cells)
+    return part.clocks[queues.at], queues.slot, queues.covered
 
 
 def counted_densities_and_flows(folder: Folder, edges: Sequence[str]) -> list[tuple[float, float]]:
@@ -210,29 +238,30 @@ def middle_densities_and_flows(folder: Folder, edges: Sequence[str]) -> list[tup
     """(vehicles a kilometre, vehicles an hour) of the middle third of each lane by itself, of each whole period with
     traffic there: means over its polls of the vehicles there and of their speeds, added up, over its length as if each
     cell had 7.5 m (Edie's definitions). edges: those wanted, all where it is empty; Fault where nothing was polled."""
-    links = folder.mapping.links
+    links, start = folder.mapping.links, folder.setting.get("start", 0)
+    thirds = np.array([middle_third(link.cells) if not edges or link.edge in edges else (0, 0) for link in links])
     polls: Counter[int] = Counter()
-    sums_of_lane: defaultdict[tuple[int, int, int], list[int]] = defaultdict(lambda: [0, 0])
-    wanted_links = {place for place, link in enumerate(links) if not edges or link.edge in edges}
-    start = folder.setting.get("start", 0)
-    for poll in folder.polls():
-        period = (poll["clock"] - 1 - start) // folder.period
-        polls[period] += 1
-        for link, lane, cells, *_ in poll["lanes"]:
-            first_cell, last_cell = middle_third(links[link].cells)
-            there = [entry[2] for entry in cells if first_cell <= entry[1] < last_cell] if link in wanted_links else []
-            if there:
-                sums = sums_of_lane[period, link, lane]
-                sums[0] += len(there)
-                sums[1] += sum(there)
+    sums: Counter[tuple[int, int]] = Counter()
+    speeds: Counter[tuple[int, int]] = Counter()
+    clock = start
+    for part, _ in folder.polled_parts():
+        periods = (part.clocks - 1 - start) // folder.period
+        polls.update(periods.tolist())
+        first_cell, last_cell = thirds[part.link].T
+        middle = part.of((first_cell <= part.cell) & (part.cell < last_cell))
+        keys = list(zip(periods[middle.at].tolist(), middle.slot.tolist()))
+        sums.update(keys)
+        for key, speed in zip(keys, middle.speed.tolist(), strict=True):
+            speeds[key] += speed
+        clock = int(part.clocks[-1]) if len(part.clocks) else clock
     if not polls:
         raise Fault(f"{folder.path}: nothing was polled")
-    whole, densities_and_flows = (folder.setting.get("until", poll["clock"]) - start) // folder.period, []
-    for (period, link, _), (vehicles, speeds) in sorted(sums_of_lane.items()):
+    whole, densities_and_flows = (folder.setting.get("until", clock) - start) // folder.period, []
+    for (period, slot), vehicles in sorted(sums.items()):
         if period < whole:
-            first_cell, last_cell = middle_third(links[link].cells)
+            first_cell, last_cell = thirds[slot // 2].tolist()
             looks = polls[period] * (last_cell - first_cell)
-            densities_and_flows.append((vehicles / looks / limits.CELL_METRES * 1000, speeds / looks * 3600))
+            densities_and_flows.append((vehicles / looks / limits.CELL_METRES * 1000, speeds[period, slot] / looks * 3600))
     return densities_and_flows
 
 

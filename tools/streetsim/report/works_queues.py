@@ -3,6 +3,7 @@ from collections import Counter
 from collections.abc import Sequence
 from dataclasses import dataclass
 
+from streetsim.base.arrays import numpy as np
 from streetsim.base.files import Fault
 from streetsim.model import tables
 from streetsim.model.folder import Folder
@@ -45,7 +46,9 @@ class WorksPlace:
 
 def works_places_of(folder: Folder) -> list[WorksPlace]:
     """The works of a run, in the order of its table works.csv; Fault where it had none, or ended before them."""
-    vehicles_seen = Counter(link for poll in folder.polls() for link, _, cells, *_ in poll["lanes"] for _ in cells)
+    vehicles_seen = Counter[int]()
+    for part, _ in folder.polled_parts():
+        vehicles_seen.update(part.link[part.on].tolist())
     grouped: dict[tuple[str, ...], list[dict[str, str]]] = {}
     for row in folder.works():
         grouped.setdefault((row["edge"], row["lane"], row["from_m"], row["to_m"]), []).append(row)
@@ -63,8 +66,8 @@ def works_place_of(folder: Folder, rows: Sequence[dict[str, str]], vehicles_seen
     begin, end = float(rows[0]["from_m"]), float(rows[0]["to_m"])
     lengths = {
         int(row["time"]): float(row["metres"])
-        for row in folder.queues()
-        if row["before"] == tables.BEFORE_WORKS and all(row[name] == rows[0][name] for name in PLACE_COLUMNS)
+        for row in folder.queues_before_works()
+        if all(row[name] == rows[0][name] for name in PLACE_COLUMNS)
     }
     capacity = min((row["capacity_per_hour"] for row in rows if row["capacity_per_hour"]), key=float, default="")
     if (place := folder.mapping.place_of(f"{edge}_{lane}")) is None:
@@ -91,13 +94,13 @@ def note_standing(folder: Folder, works_places: Sequence[WorksPlace]) -> None:
     """Adds to each place who stands on a cell before its works while they last (both clocks included), at each poll, on
     all lanes of the way to it. Fault where the polls cannot be read."""
     links = folder.mapping.links
-    for poll in folder.polls():
-        clock = poll["clock"]
-        by_link: dict[int, list[int]] = {}
-        for link, _, cells, *_ in poll["lanes"]:
-            by_link.setdefault(link, []).extend(cell for _, cell, speed, *_ in cells if not speed)
-        for place in (one for one in works_places if one.begin <= clock <= one.end):
+    for part, _ in folder.polled_parts():
+        standing = part.of(part.on & (part.speed == 0))
+        clocks, links_of_rows = standing.clocks[standing.at], standing.link
+        for place in works_places:
+            is_during = (place.begin <= clocks) & (clocks <= place.end)
             for piece in place.way:
                 size = links[piece.link].metres / links[piece.link].cells
-                away = (piece.far - (cell + 1) * size for cell in by_link.get(piece.link, ()))
-                place.standing += [(clock, metres) for metres in away if 0 <= metres]
+                rows = np.flatnonzero(is_during & (links_of_rows == piece.link))
+                away = piece.far - (standing.cell[rows] + 1) * size
+                place.standing += [spot for spot in zip(clocks[rows].tolist(), away.tolist()) if 0 <= spot[1]]
