@@ -1,17 +1,19 @@
 """The commands: each runs the main function of a tool's module. Those of an installation and those beside this package
-begin here."""
+begin here. What a command needs is imported when it is known what it is asked for."""
 import gc
 import os
 import signal
 import sys
 from functools import partial
-from importlib import import_module
-from types import FrameType
+
+from streetsim import VERSION
 
 TYPE_CHECKING = False  # of what mypy alone reads, as the module typing takes a while
 if TYPE_CHECKING:
+    from types import FrameType
     from typing import NoReturn
 
+NAMES = {"command": "sumo"}  # of the commands that are not called as their module
 END_SIGNALS = (signal.SIGTERM, signal.SIGHUP)
 # New objects after which Python looks for those that hold each other: hardly any of the tools' do.
 BEFORE_A_LOOK = 50_000
@@ -25,9 +27,23 @@ def end_at_once(number: int, _frame: "FrameType | None") -> None:
     os._exit(128 + number)
 
 
+def print_version(name: str) -> None:
+    """Prints the version of a command and ends the process, where this is all that it is asked for; where it cannot be
+    written nothing, as the command then tells it."""
+    try:
+        os.write(1, f"{name} {VERSION}\n".encode())
+    except OSError:
+        return
+    os._exit(0)
+
+
 def run_command(module: str, package: str = "cli") -> "NoReturn":
     """Imports a tool's module, by its name in a package, runs it, and ends the process with its status. A signal that
     comes before that ends the command as end_at_once says."""
+    if sys.argv[1:] == ["--version"]:
+        print_version(f"streetsim-{NAMES.get(module, module.rstrip('_'))}")
+    from importlib import import_module
+
     gc.set_threshold(BEFORE_A_LOOK)
     # A command that a script has put into the background does not hear interrupts, and one of nohup no SIGHUP.
     hears = signal.getsignal(signal.SIGINT) is signal.default_int_handler

@@ -116,7 +116,9 @@ def by_greens(sharing: Sequence[CrossingMovement], wish: float) -> float:
     """Vehicles an hour that a lane lets pass, of wish that want to (above 0), if nobody waited for gaps: where only
     some of its movements have green, those before the first vehicle of another one; LEAST_PASSING at least."""
     cycle, each = sharing[0].cycle, sum(one.flow * one.headway for one in sharing) / wish
-    held = [sum(one.flow for one in sharing if not one.green >> second & 1) / wish for second in range(cycle)]
+    greens = list(zip(*(f"{one.green:0{cycle}b}"[::-1] for one in sharing)))  # by second, of each movement 0 or 1
+    held_by = {green: sum(one.flow for one, on in zip(sharing, green) if on == "0") / wish for green in set(greens)}
+    held = [held_by[green] for green in greens]
     queues = ((share, len(list(seconds)) / each) for share, seconds in groupby(held))
     vehicles = sum(until_first(queue, share) if share else queue for share, queue in queues)
     return max(LEAST_PASSING, vehicles * 3600 / cycle)

@@ -1,6 +1,6 @@
 """Makes streetsim's nodes, links and turns of a SUMO network."""
 from collections import Counter, defaultdict
-from collections.abc import Iterable, Iterator, Mapping, Sequence
+from collections.abc import Callable, Iterable, Iterator, Mapping, Sequence
 from dataclasses import dataclass, replace
 from itertools import pairwise
 from types import MappingProxyType
@@ -73,6 +73,20 @@ class Turn:
     inside: float = 0.0  # metres of the lanes in the junction
 
 
+class ChangeCosts(dict[tuple[int, int], float]):
+    """By a link and a next one what it costs to go there, as far as it was asked for."""
+
+    def __init__(self, cost_of: Callable[[int, int], float]) -> None:
+        """cost_of: gives it, by both links."""
+        super().__init__()
+        self.cost_of = cost_of
+
+    def __missing__(self, pair: tuple[int, int]) -> float:
+        """The cost of a pair that is not known yet."""
+        cost = self[pair] = self.cost_of(*pair)
+        return cost
+
+
 class Network:
     """Nodes, links and turns in the making; links and nodes go by number, their position in the load."""
 
@@ -119,6 +133,7 @@ class Network:
         self.lanes_to: defaultdict[tuple[int, int], list[int]] = defaultdict(list)
         for source, lane, behind in sorted(self.turns):
             self.lanes_to[source, behind].append(lane)
+        self.changes = ChangeCosts(self.change_cost)
         self.open_by_class: dict[tuple[str, str], list[int]] = {}  # links of an edge, as open_links gives them
         self.leads = {(link, self.links[following].edge) for link, _, following in self.turns}
         self.unlike = self.edges_with_shared_targets() & {edge for edge, _ in self.waiting}
@@ -223,6 +238,7 @@ class Network:
             self.turns[link, lane, following] = self.turn(link, next_lane, nearest, True)
             self.lanes_to[link, following].append(lane)
         self.joined.add((link, following))
+        self.changes.pop((link, following), None)
 
     def open_beside_works(self) -> None:
         """Where a link has no lanes but ones that are to be closed, and its edge has other links, gives these the turns
@@ -271,12 +287,12 @@ class Network:
 
     def cheapest(self, links: Sequence[Sequence[int]], vclass: str) -> tuple[int, ...]:
         """The plan of least cost of a vehicle of a class, by one of some links for each of its edges."""
-        best: list[tuple[float, tuple[int, ...]]] = [(self.cost(link, vclass), (link,)) for link in links[0]]
+        best: list[tuple[float, tuple[int, ...]]]
+        best, changes = [(own, (link,)) for link, own in self.costs(links[0], vclass)], self.changes
         for some in links[1:]:
             further = []
-            for link in some:
-                own = self.cost(link, vclass)
-                cost, path = min([(cost + own + self.change_cost(path[-1], link), path) for cost, path in best])
+            for link, own in self.costs(some, vclass):
+                cost, path = min([(cost + own + changes[path[-1], link], path) for cost, path in best])
                 further.append((cost, (*path, link)))
             best = further
         return min(best)[1]
@@ -294,13 +310,15 @@ class Network:
         wrong = (edge, target) in self.waiting and (link, target) not in self.leads
         return WRONG_LANE if wrong else MISSING_TURN
 
-    def cost(self, link: int, vclass: str) -> float:
-        """The cost of a link to a vehicle of a class: for what each of its lanes carries so far, against the mean of
-        its edge's links, and where it is open to more classes than others of the edge."""
-        (weight, lanes, links), use, users = self.crowding_of_links[link], self.use, self.users[link]
-        total = sum([use[other] for other in links])
-        crowding = weight * use[link] / lanes * len(links) / total if total else 0.0
-        return crowding + (OTHERS_LANE if users is not None and vclass not in users else 0.0)
+    def costs(self, links: Sequence[int], vclass: str) -> Iterator[tuple[int, float]]:
+        """Links of an edge, each with its cost to a vehicle of a class: for what each of its lanes carries so far,
+        against the mean of its edge's links, and where it is open to more classes than others of the edge."""
+        use, (weight, _, group) = self.use, self.crowding_of_links[links[0]]
+        total = sum([use[other] for other in group])
+        for link in links:
+            lanes, users = self.crowding_of_links[link][1], self.users[link]
+            crowding = weight * use[link] / lanes * len(group) / total if total else 0.0
+            yield link, crowding + (OTHERS_LANE if users is not None and vclass not in users else 0.0)
 
     def load_command(self) -> Command:
         """The load command of this network."""
