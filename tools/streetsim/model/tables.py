@@ -154,7 +154,7 @@ def read_table(
     it is empty."""
     with reading(path), open_text(path) as file:
         rows = csv.reader(lines_of(file))
-        names = next(rows, [])
+        names: list[str] = next(rows, [])
         absent = [name for name in header if name not in names]
         if absent != [*header[len(header) - len(absent) :]] or 2 * len(absent) > len(header) or has_twice(names):
             raise Fault(f"{path}: expected the columns {', '.join(header)}")

@@ -148,7 +148,8 @@ class RunTables:
         write_table(f"{folder}/areas.csv", tables.AREAS, self.detectors.area_rows())
         with open_named(f"{folder}/queues.csv", tables.QUEUES, names) as table:
             if before_works := list(self.works.queue_rows()):
-                table.write_rows(merge(self.queues.rows(), before_works, key=itemgetter(0)))
+                rows: Iterable[Entry] = merge(self.queues.rows(), before_works, key=itemgetter(0))
+                table.write_rows(rows)
             else:
                 for columns in self.queues.columns():
                     table.write_columns(columns)

@@ -43,7 +43,7 @@ def trajectories(folder: Folder, edges: Sequence[str], first_second: int, last_s
     placed, _ = links_and_length(folder, edges)
     is_on_path = np.isin(np.arange(len(folder.mapping.links)), [*placed])
     track_pieces: list[TrackPiece] = []
-    fronts: Fronts = {}
+    earlier, fronts = first_second, dict[int, Sequence[Any]]()
     for part, _ in folder.polled_parts(first_second, last_second, track_step(folder)):
         on_path = part.of(part.on & is_on_path[part.link])
         for clock, fronts_there in zip(part.clocks.tolist(), fronts_along(on_path, placed), strict=True):
