@@ -1,6 +1,6 @@
 -- The names that contracts and proofs cite most, passed on from one place. Declares nothing.
 pub use Rattle.street_base.specs.Apart.{AreDisjoint, weight}
-pub use Rattle.street_base.specs.Census.{IsFormed, IsSound, IsSoundState, IsWhole, has_ended, in_lane, in_lanes, one_if}
+pub use Rattle.street_base.specs.Census.{IsFormed, IsSoundTraffic, IsSoundState, IsWhole, has_ended, in_lane, in_lanes, one_if}
 pub use Rattle.street_base.specs.Closing.{closed_cells, marked, stretch_from, with_marks}
 unfoldable pub use Rattle.street_base.specs.Closing.{stretches, with_closure}
 pub use Rattle.street_base.specs.Departure.{departs, is_before, with_departure}
@@ -26,7 +26,7 @@ pub use Rattle.street_base.specs.Machine.{advance_refusal, answered, bad_network
 pub use Rattle.street_base.specs.Machine.{end_of, enter_refusal, entry_of, first_of, is_number, is_past, lane_refusal, lane_tests, place_refusal}
 pub use Rattle.street_base.specs.Machine.{plan_links, read_refusal, refusal, remaining_ids, signal_refusal, vehicle_reply, told_cell, told_rows}
 pub use Rattle.street_base.specs.Machine.{vehicle_refusal, with_waiting}
-unfoldable pub use Rattle.street_base.specs.Machine.{entered, loaded, seen, seen_in}
+unfoldable pub use Rattle.street_base.specs.Machine.{entered, loaded, whereabouts_on_lanes, whereabouts_in}
 pub use Rattle.street_base.specs.Motion.{Drive, driven_on, speed_after}
 unfoldable pub use Rattle.street_base.specs.Motion.{comer, comes_to, leaver, leaves, motion, motion_gap, moved}
 pub use Rattle.street_base.specs.Network.{end_node, is_place, link_at, link_of, names_link, no_link, node_of, places, serves, turn}

@@ -24,21 +24,12 @@ pub struct Told {
 }
 
 /// What a replay of a tape answers.
+#[derive(Drop)]
 pub struct Retold {
     /// The lines of reply to its calls.
     pub replies: Vec<u8>,
     /// The reply to a count after them.
     pub count: Reply,
-}
-
-impl Drop for Retold {
-    /// Drops its parts.
-    fn drop(self) {
-        let Retold {
-            replies: _,
-            count: _,
-        } = self;
-    }
 }
 
 /// Replays a tape on a new engine, and then counts.

@@ -24,15 +24,9 @@ pub struct Entry {
 }
 
 /// The calls of a desk, in the order in which they had the turn.
+#[derive(Drop)]
 pub struct Journal {
     entries: Vec<Entry>,
-}
-
-impl Drop for Journal {
-    /// Drops the calls.
-    fn drop(self) {
-        let Journal { entries: _ } = self;
-    }
 }
 
 impl Model for Journal {

@@ -7,7 +7,7 @@ use Rattle.std.proofs.lemmas.List.Elements.{filter_map-append}
 use Rattle.street_base.specs.declared.net.NetSpec.{NetSpec}
 use Rattle.street_base.specs.declared.reply.End.{End}
 use Rattle.street_base.specs.declared.names.Place.{Place}
-use Rattle.street_base.specs.Prelude.{places, Vehicle, is_on_last, Traffic, in_lanes, has_ended, one_if, IsSound, changed, driven, arrival, arrivals, leaver_of, with_arrivals, step, released, departed}
+use Rattle.street_base.specs.Prelude.{places, Vehicle, is_on_last, Traffic, in_lanes, has_ended, one_if, IsSoundTraffic, changed, driven, arrival, arrivals, leaver_of, with_arrivals, step, released, departed}
 use Rattle.street_base.proofs.FormLemmas.{shape-of, changed-formed}
 use Rattle.street_base.proofs.ArrivalLemmas.{arrived, driven-lanes}
 use Rattle.street_tile.specs.Prelude.{TileView, AreTiles, Each, all_places, all_arrived}
@@ -68,7 +68,7 @@ tiles-arrived g (x ∷ xs) (y ∷ ys) e h =
     ∙ ap (λ (ns : List ℕ). filter_map g (all_places xs) ++ ns) (h 0 x (omega arith))
     ∙ sym (filter_map-append g (all_places xs) x.own.places)
 
-module _ (net : NetSpec) (xs ys : List TileView) (tiles : AreTiles net xs) (long : length ys ≡ length xs) (m : Traffic) (on : m.network ≡ net) (sound : IsSound m)
+module _ (net : NetSpec) (xs ys : List TileView) (tiles : AreTiles net xs) (long : length ys ≡ length xs) (m : Traffic) (on : m.network ≡ net) (sound : IsSoundTraffic m)
     (all : Each (λ x y. y.arrived ≡ filter_map (λ p. arrival (leaver_of (changed m) p)) x.own.places) xs ys) where
   often-all : (n : ℕ) → often n (all_arrived ys) ≡ sum_by (λ p. arrived n (leaver_of (changed m) p)) (places (changed m).network)
   often-all n =

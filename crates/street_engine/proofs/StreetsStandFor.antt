@@ -7,7 +7,7 @@ use Rattle.street_base.specs.declared.net.NetSpec.{NetSpec}
 use Rattle.street_base.specs.declared.reply.End.{End}
 use Rattle.street_base.specs.declared.reply.End.TheVariants.{Taken}
 use Rattle.street_base.specs.declared.names.Place.{Place}
-use Rattle.street_base.specs.Prelude.{is_place, link_at, node_of, places, SignalPlan, Traffic, Detector, lane_at, each_lane, in_lane, one_if, IsWhole, IsSound, with_marks, with_closure, signalled, taken_out, metered, most_detectors, last_clock, released, departed, changed, driven, step, with_arrivals, noted, entered, entry_of, plan_links, with_waiting}
+use Rattle.street_base.specs.Prelude.{is_place, link_at, node_of, places, SignalPlan, Traffic, Detector, lane_at, each_lane, in_lane, one_if, IsWhole, IsSoundTraffic, with_marks, with_closure, signalled, taken_out, metered, most_detectors, last_clock, released, departed, changed, driven, step, with_arrivals, noted, entered, entry_of, plan_links, with_waiting}
 use Rattle.street_base.proofs.EnterLemmas.{entered-sound}
 use Rattle.street_base.proofs.CommandLemmas.{closure-sound, taken_out-sound}
 use Rattle.street_base.proofs.StepLemmas.{step-sound}
@@ -15,7 +15,7 @@ use Rattle.street_base.proofs.PlaceLemmas.{places-listed}
 use Rattle.street_base.proofs.ReleaseCountLemmas.{in_lanes-places}
 use Rattle.street_base.proofs.FormLemmas.{shape-of}
 use Rattle.street_lanes.specs.Prelude.{IsLane}
-use Rattle.street_tile.specs.Prelude.{TileView, AreTiles, AllStand, StandsFor as TileStands, Each, at_place, without, planned, MetersStand, AllMetersStand, detectors_on, Steps, TilesView, TilesStandFor, TilesGo, TilesKeep, HaveStepped, NobodyArrived, SameButArrived, all_arrived}
+use Rattle.street_tile.specs.Prelude.{TileView, AreTiles, AllStand, TileStandsFor, Each, at_place, without, planned, MetersStand, AllMetersStand, detectors_on, Steps, TilesView, TilesStandFor, TilesGo, TilesKeep, HaveStepped, NobodyArrived, SameButArrived, all_arrived}
 use Rattle.street_tile.proofs.Ones.{sum-one}
 use Rattle.street_tile.proofs.Stepped.{stepped-kept}
 use Rattle.street_engine.specs.declared.sites.DetectorSite.{DetectorSite}
@@ -63,7 +63,7 @@ same-signals : {net after : NetSpec} → after ≡ net → (k : ℕ) → k ≡ l
 same-signals same k is = is ∙ ap (λ (n : NetSpec). length n.nodes) (sym same)
 
 -- the number that is given next is on no lane
-nowhere-next : (m : Traffic) → IsSound m → (p : Place) → p.lane < (link_at m.network p.link).lanes → in_lane (length m.ends) (lane_at m p) ≡ 0
+nowhere-next : (m : Traffic) → IsSoundTraffic m → (p : Place) → p.lane < (link_at m.network p.link).lanes → in_lane (length m.ends) (lane_at m p) ≡ 0
 nowhere-next m sound p within =
     let number = length m.ends in
     let whole = sound.whole number in
@@ -223,7 +223,7 @@ noted-stand net xs ys m long each s = record {
   each = λ k d l.
       let within : k < length xs = omega arith in
       let t = s.each k d within in
-      subst (λ (p : TileView). TileStands p m) (sym (each k d within)) (record { clock = t.clock; lanes = t.lanes; none_loose = t.none_loose; signals = t.signals });
+      subst (λ (p : TileView). TileStandsFor p m) (sym (each k d within)) (record { clock = t.clock; lanes = t.lanes; none_loose = t.none_loose; signals = t.signals });
 }
 
 noted-meters : (xs ys : List TileView) (m : Traffic) → length ys ≡ length xs → Each (λ x y. y ≡ record x { arrived = [] }) xs ys → AllMetersStand xs m → AllMetersStand ys m

@@ -9,7 +9,7 @@ use Rattle.street_base.specs.declared.reply.Whereabouts.{Whereabouts}
 use Rattle.street_base.specs.declared.reply.Whereabouts.TheVariants.{Ended}
 use Rattle.street_base.specs.declared.reply.Reply.TheVariants.{Taken, Vehicle as TellVehicle, Refused, Starved as StarvedReply}
 use Rattle.street_base.specs.declared.reply.Outcome.TheVariants.{Whole, Starved}
-use Rattle.street_base.specs.Prelude.{Traffic, taken_out, end_of, vehicle_refusal, seen, vehicle_reply, MayStarveUnder}
+use Rattle.street_base.specs.Prelude.{Traffic, taken_out, end_of, vehicle_refusal, whereabouts_on_lanes, vehicle_reply, MayStarveUnder}
 use Rattle.street_engine.specs.Prelude.{StreetsView, StreetsStandFor, StreetsGo, Serves}
 use Rattle.street_engine.proofs.Serves.{same-ends, streets-refused, streets-starving, streets-done, streets-told}
 
@@ -44,18 +44,18 @@ module _ (s : StreetsView) (car : ℕ) where
 
     pub vehicle-ended : (end : End) → slice_index_or s.ends car None ≡ Some end → Serves (Some s) (AskVehicle car) (TellVehicle car (Ended end)) Whole (Some s)
     vehicle-ended end gone = streets-told s (AskVehicle car) _ (λ m. refl) (λ m stands.
-        (known m stands, sym (ap (λ (o : Option End). option_map_or (λ found. TellVehicle car found) (option_or (option_map (λ e. Ended e) o) (seen m car)) (Refused NoVehicle)) (ended m stands ∙ gone))))
+        (known m stands, sym (ap (λ (o : Option End). option_map_or (λ found. TellVehicle car found) (option_or (option_map (λ e. Ended e) o) (whereabouts_on_lanes m car)) (Refused NoVehicle)) (ended m stands ∙ gone))))
 
     module _ (going : slice_index_or s.ends car None ≡ None) where
-      told-seen : (m : Traffic) → StreetsStandFor s m → (found : Option Whereabouts) → found ≡ seen m car → vehicle_reply m car ≡ option_map_or (λ w. TellVehicle car w) found (Refused NoVehicle)
+      told-seen : (m : Traffic) → StreetsStandFor s m → (found : Option Whereabouts) → found ≡ whereabouts_on_lanes m car → vehicle_reply m car ≡ option_map_or (λ w. TellVehicle car w) found (Refused NoVehicle)
       told-seen m stands found e =
-          ap (λ (o : Option End). option_map_or (λ w. TellVehicle car w) (option_or (option_map (λ e. Ended e) o) (seen m car)) (Refused NoVehicle)) (ended m stands ∙ going)
+          ap (λ (o : Option End). option_map_or (λ w. TellVehicle car w) (option_or (option_map (λ e. Ended e) o) (whereabouts_on_lanes m car)) (Refused NoVehicle)) (ended m stands ∙ going)
           ∙ ap (λ (o : Option Whereabouts). option_map_or (λ w. TellVehicle car w) o (Refused NoVehicle)) (sym e)
 
-      pub vehicle-found : (w : Whereabouts) → ((m : Traffic) → StreetsStandFor s m → Some w ≡ seen m car) → Serves (Some s) (AskVehicle car) (TellVehicle car w) Whole (Some s)
+      pub vehicle-found : (w : Whereabouts) → ((m : Traffic) → StreetsStandFor s m → Some w ≡ whereabouts_on_lanes m car) → Serves (Some s) (AskVehicle car) (TellVehicle car w) Whole (Some s)
       vehicle-found w found = streets-told s (AskVehicle car) _ (λ m. refl) (λ m stands. (known m stands, sym (told-seen m stands (Some w) (found m stands))))
 
-      pub vehicle-nowhere : ((m : Traffic) → StreetsStandFor s m → None ≡ seen m car) → Serves (Some s) (AskVehicle car) (Refused NoVehicle) Whole (Some s)
+      pub vehicle-nowhere : ((m : Traffic) → StreetsStandFor s m → None ≡ whereabouts_on_lanes m car) → Serves (Some s) (AskVehicle car) (Refused NoVehicle) Whole (Some s)
       vehicle-nowhere nowhere = streets-told s (AskVehicle car) _ (λ m. refl) (λ m stands. (known m stands, sym (told-seen m stands None (nowhere m stands))))
 
       pub vehicle-starved : Serves (Some s) (AskVehicle car) StarvedReply Starved (Some s)

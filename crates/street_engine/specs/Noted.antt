@@ -5,17 +5,17 @@ use Rattle.street_base.specs.declared.command.Command.{Command}
 use Rattle.street_base.specs.declared.command.Command.TheVariants.{Advance}
 use Rattle.street_base.specs.declared.reply.Reply.{Reply}
 use Rattle.street_base.specs.declared.reply.Reply.TheVariants.{Clock, Short as ShortReply}
-use Rattle.street_base.specs.Prelude.{IsSound, State, Traffic, blocks, step}
+use Rattle.street_base.specs.Prelude.{IsSoundTraffic, State, Traffic, blocks, step}
 use Rattle.street_tile.specs.Prelude.{HaveStepped}
 use Rattle.street_engine.specs.Streets.{StreetsView, StreetsStandFor}
 use Rattle.street_engine.specs.Refines.{EngineView, StandsFor}
 
--- that the streets have just made the step from traffic m, which was sound (`IsSound`): they stand for the next state,
+-- that the streets have just made the step from traffic m, which was sound (`IsSoundTraffic`): they stand for the next state,
 -- and each tile holds the rows of those who arrived from its lanes
 pub record HasStepped (x : StreetsView) (m : Traffic) : Type 0 where
   pub stands : StreetsStandFor x (step m)
   pub tiles : HaveStepped x.tiles m
-  pub sound : IsSound m
+  pub sound : IsSoundTraffic m
 
 -- the traffic before each of n steps from m, in their order, m first; none where n is 0
 abbrev pub befores : ℕ → Traffic → List Traffic

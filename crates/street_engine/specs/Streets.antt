@@ -1,7 +1,7 @@
 -- What contracts see of the traffic on a loaded network, and when it stands for traffic of the machine.
 use Rattle.std.specs.Prelude.{ℕ, ◌≡◌, ◌≤◌, List, [], length, Option, Some}
 use Rattle.street_base.specs.declared.reply.End.{End}
-use Rattle.street_base.specs.Prelude.{last_clock, node_of, SignalPlan, signalled, entered, plan_links, Traffic, IsSound}
+use Rattle.street_base.specs.Prelude.{last_clock, node_of, SignalPlan, signalled, entered, plan_links, Traffic, IsSoundTraffic}
 use Rattle.street_node.specs.Prelude.{ShowsAs}
 use Rattle.street_tile.specs.Prelude.{TilesView, TilesStandFor, NobodyArrived, no_network}
 use Rattle.street_engine.specs.declared.sites.DetectorSite.{DetectorSite}
@@ -30,7 +30,7 @@ pub record IsTrafficOf (x : StreetsView) (m : Traffic) : Type 0 where
   pub clock : x.clock ≡ m.clock
   pub ends : x.ends ≡ m.ends
   pub tiles : TilesStandFor x.tiles m
-  pub sound : IsSound m
+  pub sound : IsSoundTraffic m
   pub signals : length m.signals ≡ length x.tiles.network.nodes
   pub sites : AreDetectorSites x.tiles.network x.sites m.detectors
 

@@ -3,7 +3,7 @@
 ghost use Rattle.std.specs.Prelude.{◌≡◌, ℕ, ◌+◌, ◌<◌, ◌≤◌, List, length, slice_get, slice_index_or, min, Some, None, option_map, IfOk, IfErr, OnOk, OnErr};
 ghost use Rattle.street_base.specs.Prelude.{last_clock, most_workers, most_plan, most_vehicles, most_period, most_detectors, link_at};
 ghost use Rattle.street_base.specs.Prelude.{network_fault, Traffic, lane_at, step, steps, with_closure, taken_out, metered};
-ghost use Rattle.street_base.specs.Prelude.{loaded, plan_links, closed_after, seen, shown_lane, shown_rows, census, head_after, rows_of_step};
+ghost use Rattle.street_base.specs.Prelude.{loaded, plan_links, closed_after, whereabouts_on_lanes, shown_lane, shown_rows, census, head_after, rows_of_step};
 ghost use Rattle.street_net.specs.Prelude.{TellsFault};
 ghost use Rattle.street_lanes.specs.Prelude.{IsLane};
 ghost use Rattle.street_engine.specs.Prelude.{HasStepped, StreetsStandFor, StreetsGo, StreetsAdmit, StreetsSignal, MakesSteps, ToldOf};
@@ -32,6 +32,7 @@ pub struct Streets {
     sites: Vec<DetectorSite>,
 }
 
+// Written out, as an engine's is.
 impl Drop for Streets {
     /// Drops its parts.
     fn drop(self) {
@@ -221,7 +222,7 @@ impl Streets {
     /// # Errors
     /// Memory for the plan was refused.
     pub fn find(&self, alloc: Global, number: CarNo) -> Result<Option<Whereabouts>, Starved>
-        ensures { IfOk result (λ found. (m : Traffic) → StreetsStandFor self.now m → found ≡ seen m number) }
+        ensures { IfOk result (λ found. (m : Traffic) → StreetsStandFor self.now m → found ≡ whereabouts_on_lanes m number) }
     {
         self.tiles.find(alloc, number)
     }

@@ -6,7 +6,7 @@
 //!
 //! [`team_steps`] makes the locks, [`steps_with_locks`] the mailboxes and the blocks, [`steps_in_scope`] the threads, and the steps are
 //! those of [`Streets::steps_with`], by whoever lends.
-ghost use Rattle.std.specs.Prelude.{◌≡◌, ℕ, ◌+◌, ◌^◌, ◌<◌, ◌≤◌, slice_get, Some};
+ghost use Rattle.std.specs.Prelude.{◌≡◌, ℕ, ◌+◌, ◌^◌, ◌<◌, ◌≤◌, slice_get, vec_len, Some};
 ghost use Rattle.street_base.specs.Prelude.{last_clock, most_workers, steps};
 ghost use Rattle.street_engine.specs.Prelude.{StreetsView, StreetsGo, HaveRun, ToldOf};
 
@@ -93,6 +93,7 @@ fn steps_in_scope<
     sink: S,
     shift: Shift,
 ) -> ShiftResult<B, S>
+    requires mailboxes { shift.threads ≤ vec_len shared.now.mailboxes }
     requires locks { (k : ℕ) (l : _) → slice_get locks.now k ≡ Some l → l.id ≡ K.lock k }
     requires team { B.begun.tiles.network ≡ K.net }
     requires begun { streets ≡ B.begun }
@@ -104,7 +105,8 @@ fn steps_in_scope<
         thread::scope_env(),
         rt,
         move |scope| -> ShiftResult<B, S>
-            requires { ((k : ℕ) (l : _) → slice_get locks.now k ≡ Some l → l.id ≡ K.lock k)
+            requires { (shift.threads ≤ vec_len shared.now.mailboxes)
+                × ((k : ℕ) (l : _) → slice_get locks.now k ≡ Some l → l.id ≡ K.lock k)
                 × (B.begun.tiles.network ≡ K.net) × (streets ≡ B.begun)
                 × (B.begun.clock + shift.steps ≤ last_clock) × (shift.steps ≡ B.most) × (B.sink ≡ Some sink) }
         {

@@ -11,7 +11,7 @@ use Rattle.street_base.specs.declared.net.NetSpec.{NetSpec}
 use Rattle.street_base.specs.declared.reply.Whereabouts.{Whereabouts}
 use Rattle.street_base.specs.declared.reply.Whereabouts.TheVariants.{Buffer, Waiting as Waits}
 use Rattle.street_base.specs.declared.names.Place.{Place}
-use Rattle.street_base.specs.Prelude.{link_at, Vehicle, vehicle_of, Cells, vehicle_at, LaneState, Queued, Waiting, weight, in_lane, is_before, put_in_order, in_order, remaining_ids, told_cell, seen_in}
+use Rattle.street_base.specs.Prelude.{link_at, Vehicle, vehicle_of, Cells, vehicle_at, LaneState, Queued, Waiting, weight, in_lane, is_before, put_in_order, in_order, remaining_ids, told_cell, whereabouts_in}
 use Rattle.street_gap.specs.declared.closures.Stretch.{Stretch}
 use Rattle.street_yard.specs.Prelude.{Yard, YardEntry, entry_at, car_of, IsWhole, cell_at, vehicle_with, key_at, cells_at, IsFalling}
 use Rattle.street_yard.proofs.YardLemmas.{cell_is}
@@ -221,14 +221,14 @@ module _ (net : NetSpec) (place : Place) (number : ℕ) (s : LaneState) where
 
   -- somebody has the number, and where he alone has it this is what is seen
   abbrev pub IsSeen : Whereabouts → Type 0
-  IsSeen told = (0 < in_lane number s) × (in_lane number s ≤ 1 → seen_in net place number s ≡ Some told)
+  IsSeen told = (0 < in_lane number s) × (in_lane number s ≤ 1 → whereabouts_in net place number s ≡ Some told)
 
   seen-as : (told : Whereabouts) → IsTold seen_cell seen_queue seen_wait number s told → IsSeen told
-  unfolding seen_in
+  unfolding whereabouts_in
   seen-as told r = r
 
-  seen-nowhere : in_lane number s ≡ 0 → seen_in net place number s ≡ None
-  unfolding seen_in
+  seen-nowhere : in_lane number s ≡ 0 → whereabouts_in net place number s ≡ None
+  unfolding whereabouts_in
   seen-nowhere none = told-none seen_cell seen_queue seen_wait number s none
 
   module _ (y : Yard) (closures : List (List Stretch)) (extents : List Extent) (n : ℕ) (sound : IsLaidOut y closures extents) (inside : n < length extents) (whole : IsWhole y) (st : IsLaneOf (lane_in y closures extents n) s) where
@@ -244,7 +244,7 @@ module _ (net : NetSpec) (place : Place) (number : ℕ) (s : LaneState) where
       found-waiting : IsSought y (waiting_list n) number (Some key) → IsSeen (told_waiting net place car)
       found-waiting found = seen-as (told_waiting net place car) (by-waiting y closures extents n sound inside whole s st number key car held seen_cell seen_queue seen_wait found)
 
-    found-nowhere : IsFound y n number None → (in_lane number s ≡ 0) × (seen_in net place number s ≡ None)
+    found-nowhere : IsFound y n number None → (in_lane number s ≡ 0) × (whereabouts_in net place number s ≡ None)
     found-nowhere none = (let zero_there = sym (none-there y closures extents n sound inside number whole none s st) in (zero_there, seen-nowhere zero_there))
 
 -- ---- which vehicle it is
@@ -270,7 +270,7 @@ module _ (x : Inside) (v : Lanes) (is : seen x ≡ v) (sound : IsSound x) (n : �
   -- what is answered is what is seen of who alone has the number, and tells whether somebody has it
   abbrev pub IsAnswer : Option Whereabouts → Type 0
   IsAnswer found = (s : LaneState) → LaneStands (lane_of v n) s
-      → (in_lane number s ≤ 1 → found ≡ seen_in net (place_at v n) number s) × (found ≡ None → in_lane number s ≡ 0) × (IsSome found → 0 < in_lane number s)
+      → (in_lane number s ≤ 1 → found ≡ whereabouts_in net (place_at v n) number s) × (found ≡ None → in_lane number s ≡ 0) × (IsSome found → 0 < in_lane number s)
 
   pub answer-seen : (told found : Whereabouts) → found ≡ told → ((s : LaneState) → IsLaneOf (lane_in x.yard x.closures.items x.extents.items n) s → IsSeen net (place_at v n) number s told) → IsAnswer (Some found)
   answer-seen told found e each s stands =

@@ -11,15 +11,9 @@ use std::marker::Model;
 use street_base::{CellNo, Place, Reply, Starved, Step};
 
 /// The detectors of a lane.
+#[derive(Drop)]
 pub struct Detectors {
     pub(crate) kind: Kind,
-}
-
-impl Drop for Detectors {
-    /// Drops each field.
-    fn drop(self) {
-        let Detectors { kind: _ } = self;
-    }
 }
 
 // Each step reads one for each lane, and nearly no lane has detectors: four of these fit a line of memory.

@@ -31,25 +31,13 @@ pub struct Rows {
 }
 
 /// What a cell's detector has noted, summed by periods: the running one and the last 32 full ones.
+#[derive(Drop)]
 pub struct Meter {
     site: MeterSite,
     period: u32,
     start: Step,
     running: RunningRow,
     rows: HeapCircularBuffer<MeterRow>,
-}
-
-impl Drop for Meter {
-    /// Drops each field.
-    fn drop(self) {
-        let Meter {
-            site: _,
-            period: _,
-            start: _,
-            running: _,
-            rows: _,
-        } = self;
-    }
 }
 
 impl Model for Meter {

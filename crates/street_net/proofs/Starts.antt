@@ -12,7 +12,7 @@ use Rattle.street_base.specs.Prelude.{most_turns, network_fault, is_bad_turn}
 use Rattle.street_base.specs.declared.names.Place.{Place}
 use Rattle.street_base.proofs.FirstBadLemmas.{first_bad-none}
 use Rattle.street_base.proofs.FaultLemmas.{link_of_below, turns-good}
-use Rattle.street_net.specs.Prelude.{seen_turn, is_from, turns_from, list_number, turn_rank, list_at, IsStart, IsTurnTable, AreTurnsFrom}
+use Rattle.street_net.specs.Prelude.{seen_turn, is_from, turns_from, list_number, turn_rank, turns_at, IsStart, IsTurnTable, AreTurnsFrom}
 use Rattle.street_net.proofs.GoodLinks.{joined, good-link, good-turn}
 use Rattle.street_net.proofs.TurnTable.{no_turn, from-list, from-other}
 use Rattle.street_net.proofs.Permutation.{filter-permutation, filter-map}
@@ -129,7 +129,7 @@ module _ (net : NetSpec) (faultless : network_fault net ≡ None) where
       ]
 
   -- the list of a lane holds the turns from it
-  pub turns-at : (starts : List ℕ) (turns : List Turn) → IsTurnTable net starts turns → (place : Place) → place.link < length net.links → place.lane < 2 → AreTurnsFrom net place (list_at starts turns (2 * place.link + place.lane))
+  pub turns-at : (starts : List ℕ) (turns : List Turn) → IsTurnTable net starts turns → (place : Place) → place.link < length net.links → place.lane < 2 → AreTurnsFrom net place (turns_at starts turns (2 * place.link + place.lane))
   turns-at starts turns table place inside lane_low =
       let list = 2 * place.link + place.lane in
       let start = get_or starts list 0 in
@@ -138,8 +138,8 @@ module _ (net : NetSpec) (faultless : network_fault net ≡ None) where
       let to : IsStart turns (list + 1) next = table.cut (list + 1) 0 (omega (arith, table.two_each)) in
       let test : Turn → Bool = λ t. list_number t == list in
       let all : filter test (map (seen_turn net) net.turns) ≡ turns_from net place net.turns = filter-map (seen_turn net) (is_from net place) test net.turns (from-number place lane_low) in
-      let cut : filter test turns ≡ list_at starts turns list = filter-between turns list start next from to in
+      let cut : filter test turns ≡ turns_at starts turns list = filter-between turns list start next from to in
       record {
-        same = subst (λ us. IsPermutation us (list_at starts turns list)) all (subst (IsPermutation (filter test (map (seen_turn net) net.turns))) cut (filter-permutation test (map (seen_turn net) net.turns) turns table.same));
+        same = subst (λ us. IsPermutation us (turns_at starts turns list)) all (subst (IsPermutation (filter test (map (seen_turn net) net.turns))) cut (filter-permutation test (map (seen_turn net) net.turns) turns table.same));
         rising = rising-between turns list start next from to table.rising;
       }

@@ -95,8 +95,8 @@ AreStarts starts turns = (list d : ℕ) → list < length starts → IsStart tur
 
 -- the turns of list number `list`, 2 * link + lane of the lane that they leave: the sorted turns from its start to
 -- before the start of the next list; no turn where there is no next start
-abbrev pub list_at : List ℕ → List Turn → ℕ → List Turn
-list_at starts turns list = between (slice_index_or starts list 0) (slice_index_or starts (list + 1) 0) turns
+abbrev pub turns_at : List ℕ → List Turn → ℕ → List Turn
+turns_at starts turns list = between (slice_index_or starts list 0) (slice_index_or starts (list + 1) 0) turns
 
 -- that the table has all turns of the load, links named by position, sorted by `turn_rank` (lane, then next link), and
 -- for each of two lanes a link the position where its turns begin; one start more says where the last lane's end

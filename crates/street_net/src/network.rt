@@ -16,6 +16,7 @@ use std::marker::Model;
 use street_base::{CellNo, LaneNo, LinkIx, Listing, NetSpec, NodeIx, Place, Speed, Turn};
 
 /// A network without faults, with constant-time look-ups of identifiers. Contracts see what it was loaded from.
+#[derive(Drop)]
 pub struct Network {
     spec: NetSpec,
     node_ids: IndexSet<u64>,
@@ -25,21 +26,6 @@ pub struct Network {
     turns: TurnTable,
     // Of each link, or of none: next links that its lanes serve.
     nexts: Vec<Pair>,
-}
-
-impl Drop for Network {
-    /// Drops each field.
-    fn drop(self) {
-        let Network {
-            spec: _,
-            node_ids: _,
-            link_ids: _,
-            briefs: _,
-            in_lanes: _,
-            turns: _,
-            nexts: _,
-        } = self;
-    }
 }
 
 impl Model for Network {

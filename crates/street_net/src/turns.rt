@@ -4,7 +4,7 @@
 ghost use Rattle.std.specs.Prelude.{◌≡◌, ◌+◌, ◌*◌, ◌<◌, ◌≤◌, length, map, true, None, IfOk};
 ghost use Rattle.std.specs.List.Sorted.{IsNonDecreasingBy};
 ghost use Rattle.street_base.specs.Prelude.{network_fault, joins, most_turns};
-ghost use Rattle.street_net.specs.Prelude.{ids_of_links, seen_turn, list_number, turn_rank, list_at, IsStart, AreStarts, IsTurnTable, FindsTurn};
+ghost use Rattle.street_net.specs.Prelude.{ids_of_links, seen_turn, list_number, turn_rank, turns_at, IsStart, AreStarts, IsTurnTable, FindsTurn};
 
 use crate::keys::find_link;
 use indexmap::IndexSet;
@@ -59,7 +59,7 @@ impl TurnTable {
     pub(crate) fn list(&self, list: usize) -> &[Turn]
         requires there { list + 1 < length self.now.starts.items }
         requires cut { AreStarts self.now.starts.items self.now.turns.items }
-        ensures { result.now ≡ list_at self.now.starts.items self.now.turns.items list }
+        ensures { result.now ≡ turns_at self.now.starts.items self.now.turns.items list }
     {
         let start = usize::from(self.starts[list]);
         let end = usize::from(self.starts[list + 1]);

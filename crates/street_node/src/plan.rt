@@ -16,22 +16,11 @@ use street_net::Network;
 
 /// The signal plan of a node: phases one after another, again and again. All times are in steps; the time in the cycle in step s
 /// is `(s + offset) % cycle`.
+#[derive(Drop)]
 pub struct SignalPlan {
     offset: Step,
     cycle: Step,
     phases: Vec<KeptPhase>,
-}
-
-// Written out, so that the check of a function that drops one sees this type alone, and nothing below it.
-impl Drop for SignalPlan {
-    /// Drops each field.
-    fn drop(self) {
-        let SignalPlan {
-            offset: _,
-            cycle: _,
-            phases: _,
-        } = self;
-    }
 }
 
 impl Model for SignalPlan {

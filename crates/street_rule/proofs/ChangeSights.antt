@@ -10,7 +10,7 @@ use Rattle.street_base.specs.Prelude.{Vehicle, next_link, Track, vehicle_at, rea
 use Rattle.street_base.proofs.CoverLemmas.{rear-le, free-uncovered, all-free}
 use Rattle.street_gap.specs.Prelude.{entrance_after, lesser}
 use Rattle.street_gap.proofs.Sights.{AllAbove-last, uncovered, obstacle-is, gap-behind-is, clear-of-key}
-use Rattle.street_rule.specs.Prelude.{gap_between, gap_up, gap_down, has_room, has_room_between, wishes_with, decision}
+use Rattle.street_rule.specs.Prelude.{change_gap_to, change_gap_ahead, change_gap_behind, has_room, has_room_between, wishes_with, decision}
 use Rattle.street_yard.proofs.FallingLists.{falling-below, falling-split, key_at-split, cells-length, seen-key, stands-key, covered-key}
 
 -- the track of a list, with these closed marks
@@ -29,11 +29,11 @@ blocked t low high z a b c = elim (cases_Bool (are_free t low high)) as (λ _. a
   | inr f ↦ f
 ]
 
-no-gap : (speed r x : ℕ) (e : Option ℕ) → r ≤ x → nat_lt (speed + 1) (gap_between (lesser (Some r) e) x) ≡ false
+no-gap : (speed r x : ℕ) (e : Option ℕ) → r ≤ x → nat_lt (speed + 1) (change_gap_to (lesser (Some r) e) x) ≡ false
 no-gap speed r x None h = le-ltb (speed + 1) (r - x - 1) (omega arith)
-no-gap speed r x (Some e) h = elim (cases_lt r e) as (λ _. nat_lt (speed + 1) (gap_between (lesser (Some r) (Some e)) x) ≡ false) [
-  | inl l ↦ ap (λ o. nat_lt (speed + 1) (gap_between o x)) (cond-true _ _ _ (lt-ltb r e l)) ∙ le-ltb (speed + 1) (r - x - 1) (omega arith)
-  | inr g ↦ ap (λ o. nat_lt (speed + 1) (gap_between o x)) (cond-false _ _ _ (le-ltb r e g)) ∙ le-ltb (speed + 1) (e - x - 1) (omega arith)
+no-gap speed r x (Some e) h = elim (cases_lt r e) as (λ _. nat_lt (speed + 1) (change_gap_to (lesser (Some r) (Some e)) x) ≡ false) [
+  | inl l ↦ ap (λ o. nat_lt (speed + 1) (change_gap_to o x)) (cond-true _ _ _ (lt-ltb r e l)) ∙ le-ltb (speed + 1) (r - x - 1) (omega arith)
+  | inr g ↦ ap (λ o. nat_lt (speed + 1) (change_gap_to o x)) (cond-false _ _ _ (le-ltb r e g)) ∙ le-ltb (speed + 1) (e - x - 1) (omega arith)
 ]
 
 nothing-ahead : (free_is shut : Bool) (a b c : Bool) → a ≡ false → free_is ≡ false → (shut && (a && b)) ≡ (free_is && c)
@@ -46,7 +46,7 @@ nothing-behind free_is true false b c e f = rw f refl
 nothing-behind free_is false a b c e f = rw f refl
 
 module _ (y : Yard) (n count : ℕ) (whole : IsWhole y) (lane : IsLane y n count) (up down : List ℕ) (split : list_at y n ≡ up ++ down) (x : ℕ) (above : AllAbove (cell_at y) x up) (below : IsFalling (cell_at y) (x + 1) down) (closed : List Bool) (len : length closed ≡ count) where
-  pub gap-ahead-is : MatchOption (last_or up None) (Unit {0}) (λ k. x < rear_at y k) → free_ahead (track y n count closed) x ≡ gap_up closed (option_map (rear_at y) (last_or up None)) x
+  pub gap-ahead-is : MatchOption (last_or up None) (Unit {0}) (λ k. x < rear_at y k) → free_ahead (track y n count closed) x ≡ change_gap_ahead closed (option_map (rear_at y) (last_or up None)) x
   gap-ahead-is clear = ap (λ r. unwrap_or (option_map (λ z. z - x - 1) r) 16) (obstacle-is y n count whole lane up down split x above clear below closed len)
 
   -- whether there is room beside, by the vehicles above x, and at it or below
@@ -64,7 +64,7 @@ module _ (y : Yard) (n count : ℕ) (whole : IsWhole y) (lane : IsLane y n count
         λ z a b. uncovered y n count whole lane up down split x above clear z (λ w c. falling-below (cell_at y) r down w under (omega arith)) (λ u is. (let h = clear_of u is in omega arith)) in
         let free : are_free (track y n count closed) r x ≡ is_open = free-where-open (track y n count closed) r (x + 1 - r) none ∙ sym open_is in
         let ahead = gap-ahead-is clear in
-        let behind : free_behind (track y n count closed) r ≡ gap_down (option_map (cell_at y) (first_or down None)) r = ap (λ o. unwrap_or o 16) (gap-behind-is y n count whole lane up down split r above_r clear_r under) in
+        let behind : free_behind (track y n count closed) r ≡ change_gap_behind (option_map (cell_at y) (first_or down None)) r = ap (λ o. unwrap_or o 16) (gap-behind-is y n count whole lane up down split r above_r clear_r under) in
         rw (free, ahead, behind) refl
       where
         clear-lower : (o : Option ℕ) → MatchOption o (Unit {0}) (λ k. x < rear_at y k) → MatchOption o (Unit {0}) (λ k. r < rear_at y k)
@@ -80,7 +80,7 @@ module _ (y : Yard) (n count : ℕ) (whole : IsWhole y) (lane : IsLane y n count
         let here : key_at (cell_at y) (list_at y n) (cell_at y u) ≡ Some u = ap (λ l. key_at (cell_at y) l (cell_at y u)) parts ∙ key_at-split (cell_at y) count us u down falls in
         let over : x < cell_at y u = AllAbove-last (cell_at y) x us u [] (subst (AllAbove (cell_at y) x) e above) in
         let covered = covered-key y n count whole lane.falls (cell_at y u) u x here reach (omega arith) in
-        let gap : nat_lt (speed + 1) (gap_up closed (option_map (rear_at y) (last_or up None)) x) ≡ false = ap (λ o. nat_lt (speed + 1) (gap_up closed (option_map (rear_at y) o) x)) last ∙ no-gap speed (rear_at y u) x (entrance_after closed x) reach in
+        let gap : nat_lt (speed + 1) (change_gap_ahead closed (option_map (rear_at y) (last_or up None)) x) ≡ false = ap (λ o. nat_lt (speed + 1) (change_gap_ahead closed (option_map (rear_at y) o) x)) last ∙ no-gap speed (rear_at y u) x (entrance_after closed x) reach in
         nothing-ahead (are_free (track y n count closed) r x) is_open _ _ _ gap (blocked (track y n count closed) r x x low (omega arith) covered)
 
     -- somebody stands beside the tail
@@ -95,7 +95,7 @@ module _ (y : Yard) (n count : ℕ) (whole : IsWhole y) (lane : IsLane y n count
         let same = stands.2 in
         let covered = covered-key y n count whole lane.falls (cell_at y v) v (cell_at y v) here (omega arith) (omega arith) in
         let under = (subst (IsFalling (cell_at y) (x + 1)) e below).0 in
-        let gap : nat_lt 5 (gap_down (option_map (cell_at y) (first_or down None)) r) ≡ false = ap (λ o. nat_lt 5 (gap_down (option_map (cell_at y) o) r)) first ∙ le-ltb 5 (r - cell_at y v - 1) (omega arith) in
+        let gap : nat_lt 5 (change_gap_behind (option_map (cell_at y) (first_or down None)) r) ≡ false = ap (λ o. nat_lt 5 (change_gap_behind (option_map (cell_at y) o) r)) first ∙ le-ltb 5 (r - cell_at y v - 1) (omega arith) in
         nothing-behind (are_free (track y n count closed) r x) is_open _ _ _ gap (blocked (track y n count closed) r x (cell_at y v) over (omega arith) covered)
 
     by-down : (d : List ℕ) → down ≡ d → MatchOption (last_or up None) (Unit {0}) (λ k. x < rear_at y k) → RoomIs
@@ -139,10 +139,10 @@ module _ (changing : Changing) (lane count : ℕ) (own_closed other_closed : Lis
         let parts = falling-split (cell_at y) count done key rest f in
         let from : IsFalling (cell_at y) (x + 1) (key ∷ rest) = ((let h : x < x + 1 = omega arith in h), parts.2) in
         let at : key_at (cell_at y) (list_at y own) x ≡ Some key = ap (λ l. key_at (cell_at y) l x) split ∙ key_at-split (cell_at y) count done key rest f in
-        let gap : free_ahead (track y own count own_closed) x ≡ gap_up own_closed ahead x =
-        gap-ahead-is y own count whole own_lane done (key ∷ rest) split x parts.0 from own_closed own_len (clear-of-key y own count key done rest whole own_lane split) ∙ ap (λ o. gap_up own_closed o x) (sym ahead_is) in
+        let gap : free_ahead (track y own count own_closed) x ≡ change_gap_ahead own_closed ahead x =
+        gap-ahead-is y own count whole own_lane done (key ∷ rest) split x parts.0 from own_closed own_len (clear-of-key y own count key done rest whole own_lane split) ∙ ap (λ o. change_gap_ahead own_closed o x) (sym ahead_is) in
         let size : length (cells_at y own count) ≡ count = cells-length y own count whole own_lane.falls in
-        let wish : wishes changing lane (track y own count own_closed) (track y other count other_closed) x v ≡ wishes_with changing lane count (gap_up own_closed ahead x) x v.speed (next_link v) = rw (gap, size) refl in
+        let wish : wishes changing lane (track y own count own_closed) (track y other count other_closed) x v ≡ wishes_with changing lane count (change_gap_ahead own_closed ahead x) x v.speed (next_link v) = rw (gap, size) refl in
         as-read at
         ∙ by_parts (are_free (track y other count other_closed) (rear x v) x) (wishes changing lane (track y own count own_closed) (track y other count other_closed) x v) (is_safe changing lane (track y own count own_closed) (track y other count other_closed) x v) (changing.may_change v.number)
         ∙ ap (λ w. w && (has_room (track y other count other_closed) x (rear x v) v.speed && changing.may_change v.number)) wish

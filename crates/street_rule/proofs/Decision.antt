@@ -9,7 +9,7 @@ use Rattle.street_yard.proofs.FallingLists.{falling-split}
 use Rattle.street_gap.specs.Prelude.{is_in, closed_marks, entrance_after, are_open, IsWithin, lesser, IsPosition}
 use Rattle.street_gap.specs.declared.closures.Stretch.{Stretch}
 use Rattle.street_gap.proofs.Marks.{closed_marks-length, closed_marks-at}
-use Rattle.street_rule.specs.Prelude.{RoadLane, IsRoadLane, track_of, gap_between, gap_up, has_room, has_room_between, wishes_with, decision}
+use Rattle.street_rule.specs.Prelude.{RoadLane, IsRoadLane, track_of, change_gap_to, change_gap_ahead, has_room, has_room_between, wishes_with, decision}
 use Rattle.street_rule.proofs.ChangeSights.{room-is}
 
 -- the vehicles below the last above fall from the cell on
@@ -32,9 +32,9 @@ room-beside y count lane cell rear speed above whole ok p low =
 
 -- the gap up to the obstacle ahead, and the room beside, on a lane of the road
 pub gap-by : (count : ℕ) (lane seen : RoadLane) (ahead obstacle : Option ℕ) (cell : ℕ) → seen ≡ lane → IsWithin lane.closed count
-    → ((n : ℕ) → IsWithin seen.closed n → obstacle ≡ lesser ahead (entrance_after (closed_marks seen.closed n) cell)) → gap_between obstacle cell ≡ gap_up (closed_marks lane.closed count) ahead cell
+    → ((n : ℕ) → IsWithin seen.closed n → obstacle ≡ lesser ahead (entrance_after (closed_marks seen.closed n) cell)) → change_gap_to obstacle cell ≡ change_gap_ahead (closed_marks lane.closed count) ahead cell
 gap-by count lane seen ahead obstacle cell same within is =
-    ap (λ o. gap_between o cell) (is count (subst (λ (l : RoadLane). IsWithin l.closed count) (sym same) within)) ∙ ap (λ (l : RoadLane). gap_up (closed_marks l.closed count) ahead cell) same
+    ap (λ o. change_gap_to o cell) (is count (subst (λ (l : RoadLane). IsWithin l.closed count) (sym same) within)) ∙ ap (λ (l : RoadLane). change_gap_ahead (closed_marks l.closed count) ahead cell) same
 
 pub room-by : (y : Yard) (count : ℕ) (lane seen : RoadLane) (cell rear speed : ℕ) (r : Bool) → seen ≡ lane → IsRoadLane y count lane
     → ((n : ℕ) → IsRoadLane y n seen → r ≡ has_room (track_of y n seen) cell rear speed) → r ≡ has_room (track_of y count lane) cell rear speed
@@ -55,13 +55,13 @@ field-is {A = A} get car o n e f = (let s : ◌≡◌ {A = Option A} (Some n) (S
 
 -- the decision by its parts: the wish, and room with the draw
 pub decided-by : (changing : Changing) (lane count : ℕ) (closed : List Bool) (ahead : Option ℕ) (other : Track) (y : Yard) (key : ℕ) (car : Car) (v : Vehicle) (cell tail speed gap : ℕ) (wish goes : Bool)
-    → car_of y key ≡ Some car → vehicle_with y key ≡ Some v → cell ≡ car.cell → tail ≡ car.cell - (car.size - 1) → speed ≡ car.speed → gap ≡ gap_up closed ahead cell → wish ≡ wishes_with changing lane count gap cell speed (next_link (vehicle_of car))
+    → car_of y key ≡ Some car → vehicle_with y key ≡ Some v → cell ≡ car.cell → tail ≡ car.cell - (car.size - 1) → speed ≡ car.speed → gap ≡ change_gap_ahead closed ahead cell → wish ≡ wishes_with changing lane count gap cell speed (next_link (vehicle_of car))
     → goes ≡ (wish && (has_room other cell tail speed && changing.may_change car.number)) → goes ≡ decision changing lane count closed ahead other (cell_at y key) v
 decided-by changing lane count closed ahead other y key car v cell tail speed gap wish goes is seen cell_here tail_here speed_here gap_is wish_is goes_is =
     goes_is
     ∙ ap (λ w. w && (has_room other cell tail speed && changing.may_change car.number)) (wish_is ∙ ap (λ g. wishes_with changing lane count g cell speed (next_link (vehicle_of car))) gap_is)
-    ∙ ap (λ r. wishes_with changing lane count (gap_up closed ahead cell) cell speed (next_link (vehicle_of car)) && (has_room other cell r speed && changing.may_change car.number)) tail_here
-    ∙ ap (λ x. wishes_with changing lane count (gap_up closed ahead x) x speed (next_link (vehicle_of car)) && (has_room other x (car.cell - (car.size - 1)) speed && changing.may_change car.number)) cell_here
-    ∙ ap (λ s. wishes_with changing lane count (gap_up closed ahead car.cell) car.cell s (next_link (vehicle_of car)) && (has_room other car.cell (car.cell - (car.size - 1)) s && changing.may_change car.number)) speed_here
+    ∙ ap (λ r. wishes_with changing lane count (change_gap_ahead closed ahead cell) cell speed (next_link (vehicle_of car)) && (has_room other cell r speed && changing.may_change car.number)) tail_here
+    ∙ ap (λ x. wishes_with changing lane count (change_gap_ahead closed ahead x) x speed (next_link (vehicle_of car)) && (has_room other x (car.cell - (car.size - 1)) speed && changing.may_change car.number)) cell_here
+    ∙ ap (λ s. wishes_with changing lane count (change_gap_ahead closed ahead car.cell) car.cell s (next_link (vehicle_of car)) && (has_room other car.cell (car.cell - (car.size - 1)) s && changing.may_change car.number)) speed_here
     ∙ ap (λ x. decision changing lane count closed ahead other x (vehicle_of car)) (sym (cell_is y key car is))
     ∙ ap (decision changing lane count closed ahead other (cell_at y key)) (some-vehicle car v (car_of y key) is seen)

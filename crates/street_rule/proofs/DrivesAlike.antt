@@ -5,7 +5,7 @@ use Rattle.std.specs.List.{range_with_len}
 use Rattle.std.proofs.Math.Path.{fun_ext}
 use Rattle.street_base.specs.Prelude.{Vehicle, with_speed, Cells, vehicle_at, is_covered, obstacle_ahead, Triple, triple, least, Drive, speed_after, driven_on, motion_gap, moved, comes_to, leaves, comer, motion, leaver}
 use Rattle.street_rule.specs.declared.watch.Watch.{Watch}
-use Rattle.street_rule.specs.Prelude.{watched, gap_to}
+use Rattle.street_rule.specs.Prelude.{watched, motion_gap_to}
 
 -- a triple from what becomes of the vehicle of each cell
 abbrev triple_by : (ℕ → Option Vehicle) → Cells → ℕ → Triple
@@ -22,8 +22,8 @@ pub record DrivesAlike (a b : Drive) (cells : Cells) (closed : List Bool) : Type
   pub exit : (x : ℕ) (v : Vehicle) → vehicle_at cells x ≡ Some v → obstacle_ahead cells closed x ≡ None → a.is_open_to v ≡ b.is_open_to v
 
 module _ (a b : Drive) (cells : Cells) (closed : List Bool) (alike : DrivesAlike a b cells closed) where
-  gap-agrees : (x : ℕ) (v : Vehicle) (ahead : Option ℕ) → vehicle_at cells x ≡ Some v → obstacle_ahead cells closed x ≡ ahead → gap_to ahead x (length cells) (a.is_open_to v) ≡ gap_to ahead x (length cells) (b.is_open_to v)
-  gap-agrees x v None there e = ap (gap_to None x (length cells)) (alike.exit x v there e)
+  gap-agrees : (x : ℕ) (v : Vehicle) (ahead : Option ℕ) → vehicle_at cells x ≡ Some v → obstacle_ahead cells closed x ≡ ahead → motion_gap_to ahead x (length cells) (a.is_open_to v) ≡ motion_gap_to ahead x (length cells) (b.is_open_to v)
+  gap-agrees x v None there e = ap (motion_gap_to None x (length cells)) (alike.exit x v there e)
   gap-agrees x v (Some y) there e = refl
 
   moved-at : (x : ℕ) (o : Option Vehicle) → vehicle_at cells x ≡ o → option_map (driven_on a cells closed x) o ≡ option_map (driven_on b cells closed x) o

@@ -7,7 +7,7 @@ use Rattle.street_yard.specs.Prelude.{YardEntry, Yard, list_at, entry_at, car_of
 use Rattle.street_yard.proofs.Keys.{IsApart-split, last_or-push, snoc_cases, without-split, has-away, has-later, has-behind}
 use Rattle.street_base.specs.Prelude.{Vehicle, vehicle_of, with_speed, Cells, vehicle_at, obstacle_ahead, Drive, speed_after, motion_gap, moved, motion, leaver, AreDisjoint}
 use Rattle.street_gap.specs.Prelude.{entrance_after, lesser}
-use Rattle.street_rule.specs.Prelude.{gap_to, Drives, Leaves, MovesList, left_lists, stopped, watched, noted}
+use Rattle.street_rule.specs.Prelude.{motion_gap_to, Drives, Leaves, MovesList, left_lists, stopped, watched, noted}
 use Rattle.street_yard.proofs.YardLemmas.{left, left-is, head_is, no_head, cell_is}
 use Rattle.street_yard.proofs.FallingLists.{falling-agree, found, found-agree, key_at-drop, key_at-gone, falling-split, falling-wider, key_at-split, rear-under, cells-length, cells-read}
 use Rattle.street_base.proofs.MotionLemmas.{IsPartMoved, leaver_from, part_moved-start, part_moved-all, part_moved-vehicle, leaver_from-past, leaver_from-stays, leaver_from-goes, leaver_from-all}
@@ -106,7 +106,7 @@ module _ (drive : Drive) (closed : List Bool) where
       ∙ nobody-between cell count 0 p.was [] z (subst (IsFalling cell count) (p.before ∙ ap (λ l. p.was ++ l) none) lane.falls) (subst (λ o. z < low_of o count) p.at_ahead b) tt (omega arith)) in
       sym (watched-skip drive (cells_at first n count) closed (low_of ahead count) 0 w (omega arith) empty) ∙ watched-all drive (cells_at first n count) closed w
 
-  moved-is : (old : Cells) (x : ℕ) (v : Vehicle) (obstacle : Option ℕ) (speed : ℕ) → vehicle_at old x ≡ Some v → obstacle_ahead old closed x ≡ obstacle → speed ≡ speed_after drive.limit (gap_to obstacle x (length old) (drive.is_open_to v)) (drive.dawdles v.number) v.speed → moved drive old closed x ≡ Some (with_speed v speed)
+  moved-is : (old : Cells) (x : ℕ) (v : Vehicle) (obstacle : Option ℕ) (speed : ℕ) → vehicle_at old x ≡ Some v → obstacle_ahead old closed x ≡ obstacle → speed ≡ speed_after drive.limit (motion_gap_to obstacle x (length old) (drive.is_open_to v)) (drive.dawdles v.number) v.speed → moved drive old closed x ≡ Some (with_speed v speed)
   unfolding moved motion_gap
   moved-is old x v obstacle speed there ahead is = rw (there, ahead, is) refl
 
@@ -238,7 +238,7 @@ module _ (drive : Drive) (closed : List Bool) where
           ]
 
       module _ (speed place : ℕ) (u : Yard) (d : Drives y u key speed place) (place_is : place ≡ car.cell + speed) (len : length closed ≡ count) (next : Option ℕ) (behind : IsBehind y key next)
-          (speed_is : speed ≡ speed_after drive.limit (gap_to (lesser rear (entrance_after closed car.cell)) car.cell count (drive.is_open_to (vehicle_of car))) (drive.dawdles car.number) car.speed) where
+          (speed_is : speed ≡ speed_after drive.limit (motion_gap_to (lesser rear (entrance_after closed car.cell)) car.cell count (drive.is_open_to (vehicle_of car))) (drive.dawdles car.number) car.speed) where
         driven : car_of u key ≡ Some (record car { speed = speed; cell = place })
         driven = d.driven ∙ ap (option_map (λ (c : Car). record c { speed = speed; cell = place })) is
 
@@ -251,8 +251,8 @@ module _ (drive : Drive) (closed : List Bool) where
         moved_here : moved drive (cells_at first n count) closed car.cell ≡ Some (with_speed (vehicle_of car) speed)
         moved_here = moved-is (cells_at first n count) car.cell (vehicle_of car) (lesser rear (entrance_after closed car.cell)) speed there (obstacle len) (rw size speed_is)
 
-        gap_bound : speed ≤ gap_to (lesser rear (entrance_after closed car.cell)) car.cell count (drive.is_open_to (vehicle_of car))
-        gap_bound = subst (λ s. s ≤ gap_to (lesser rear (entrance_after closed car.cell)) car.cell count (drive.is_open_to (vehicle_of car))) (sym speed_is) (speed_after-le drive.limit _ (drive.dawdles car.number) car.speed)
+        gap_bound : speed ≤ motion_gap_to (lesser rear (entrance_after closed car.cell)) car.cell count (drive.is_open_to (vehicle_of car))
+        gap_bound = subst (λ s. s ≤ motion_gap_to (lesser rear (entrance_after closed car.cell)) car.cell count (drive.is_open_to (vehicle_of car))) (sym speed_is) (speed_after-le drive.limit _ (drive.dawdles car.number) car.speed)
 
         behind_ahead : (a : ℕ) → ahead ≡ Some a → place < a
         behind_ahead a e = elim (snoc_cases w.was) as (λ _. place < a) [
@@ -263,7 +263,7 @@ module _ (drive : Drive) (closed : List Bool) where
               let is_rear : rear ≡ Some r = w.at_rear ∙ ap (option_map (rear_at first)) last in
               let front : ◌≡◌ {A = Option ℕ} (Some (cell_at first s.1)) (Some a) = sym (w.at_ahead ∙ ap (option_map (cell_at first)) last) ∙ e in
               let at : cell_at first s.1 ≡ a = cc in
-              let g : speed ≤ gap_to (lesser (Some r) (entrance_after closed car.cell)) car.cell count (drive.is_open_to (vehicle_of car)) = subst (λ o. speed ≤ gap_to (lesser o (entrance_after closed car.cell)) car.cell count (drive.is_open_to (vehicle_of car))) is_rear gap_bound in
+              let g : speed ≤ motion_gap_to (lesser (Some r) (entrance_after closed car.cell)) car.cell count (drive.is_open_to (vehicle_of car)) = subst (λ o. speed ≤ motion_gap_to (lesser o (entrance_after closed car.cell)) car.cell count (drive.is_open_to (vehicle_of car))) is_rear gap_bound in
               let b = gap-within r (entrance_after closed car.cell) car.cell count (drive.is_open_to (vehicle_of car)) in
               let l : car.cell < r = subst (λ o. MatchOption o (Unit {0}) (λ k. car.cell < rear_at first k)) last clear in
               let under = rear-under first s.1 in

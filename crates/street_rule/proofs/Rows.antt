@@ -3,7 +3,7 @@ use Rattle.std.proofs.Common.{◌≡◌, ℕ, Bool, true, false, List, [], ◌�
 use Rattle.street_base.specs.Prelude.{least, Changing}
 use Rattle.street_gap.specs.declared.closures.Stretch.{Stretch}
 use Rattle.street_gap.specs.Prelude.{closed_marks, are_open}
-use Rattle.street_rule.specs.Prelude.{gap_up, wishes_with, has_room_between}
+use Rattle.street_rule.specs.Prelude.{change_gap_ahead, wishes_with, has_room_between}
 
 -- the marks of a lane of 20 cells with these closed
 abbrev marks : List Stretch → List Bool
@@ -14,15 +14,15 @@ abbrev closed_from : ℕ → ℕ → List Stretch
 closed_from first last = record { first = first; last = last } ∷ []
 
 -- the gap ahead ends at a vehicle or an entrance, and is 16 where neither is in sight; cells 5 and 6 are closed, or none
-pub gaps_with_open_cells : (gap_up (marks []) None 3 ≡ 16) × (gap_up (marks []) (Some 5) 3 ≡ 1)
+pub gaps_with_open_cells : (change_gap_ahead (marks []) None 3 ≡ 16) × (change_gap_ahead (marks []) (Some 5) 3 ≡ 1)
 unfolding closed_marks least
 gaps_with_open_cells = (refl, refl)
 
-pub gaps_before_an_entrance : (gap_up (marks (closed_from 5 6)) None 3 ≡ 1) × (gap_up (marks (closed_from 5 6)) (Some 4) 3 ≡ 0) × (gap_up (marks (closed_from 5 6)) (Some 9) 3 ≡ 1)
+pub gaps_before_an_entrance : (change_gap_ahead (marks (closed_from 5 6)) None 3 ≡ 1) × (change_gap_ahead (marks (closed_from 5 6)) (Some 4) 3 ≡ 0) × (change_gap_ahead (marks (closed_from 5 6)) (Some 9) 3 ≡ 1)
 unfolding closed_marks least
 gaps_before_an_entrance = (refl, refl, refl)
 
-pub gap_within_a_closed_stretch : gap_up (marks (closed_from 5 6)) None 5 ≡ 16
+pub gap_within_a_closed_stretch : change_gap_ahead (marks (closed_from 5 6)) None 5 ≡ 16
 unfolding closed_marks least
 gap_within_a_closed_stretch = refl
 

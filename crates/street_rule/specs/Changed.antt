@@ -6,15 +6,15 @@ use Rattle.street_rule.specs.Road.{Road, tracks}
 
 -- that the lists of a road stand for these lanes, lane by lane: as many lanes, with the same cells and closed marks; of
 -- buffers and of who waits nothing is said
-abbrev pub StandsFor : Yard → Road → List LaneState → Type 0
-StandsFor y road lanes = tracks y road ≡ map (λ lane. lane.track) lanes
+abbrev pub TracksStandFor : Yard → Road → List LaneState → Type 0
+TracksStandFor y road lanes = tracks y road ≡ map (λ lane. lane.track) lanes
 
 -- that, whatever lanes the road's old lists stood for, its new ones stand for these lanes after the lane changes of
 -- this step by the road's network; lanes that are not two stay as they are
 abbrev pub Changes : Yard → Yard → Road → ℕ → Type 0
 Changes old new road step =
     (m : Traffic) (lanes : List LaneState) → m.network ≡ road.network → m.clock ≡ step
-    → StandsFor old road lanes → StandsFor new road (changed_lanes (changing_on m road.link) lanes)
+    → TracksStandFor old road lanes → TracksStandFor new road (changed_lanes (changing_on m road.link) lanes)
 
 -- that key k is on none of these lists; true of a key on no list at all
 abbrev pub IsOff : Yard → List ℕ → ℕ → Type 0

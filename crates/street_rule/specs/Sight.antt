@@ -25,18 +25,18 @@ changing_of road step = record {
 }
 
 -- the gap ahead of cell x for lane changes, given the obstacle ahead: the cells up to it, or 16 where there is none
-abbrev pub gap_between : Option ℕ → ℕ → ℕ
-gap_between obstacle x = unwrap_or (option_map (λ y. y - x - 1) obstacle) 16
+abbrev pub change_gap_to : Option ℕ → ℕ → ℕ
+change_gap_to obstacle x = unwrap_or (option_map (λ y. y - x - 1) obstacle) 16
 
 -- the gap ahead of cell x for lane changes: the cells up to `ahead`, the rear of the vehicle ahead, or to the next
 -- entrance of a closed stretch above x, whichever is lower; 16 where neither is
-abbrev pub gap_up : List Bool → Option ℕ → ℕ → ℕ
-gap_up closed ahead x = gap_between (lesser ahead (entrance_after closed x)) x
+abbrev pub change_gap_ahead : List Bool → Option ℕ → ℕ → ℕ
+change_gap_ahead closed ahead x = change_gap_to (lesser ahead (entrance_after closed x)) x
 
 -- the gap behind a rear in cell x for lane changes: the cells down to `below`, the cell of the vehicle behind, if there
 -- is one; else 16
-abbrev pub gap_down : Option ℕ → ℕ → ℕ
-gap_down below x = unwrap_or (option_map (λ y. x - y - 1) below) 16
+abbrev pub change_gap_behind : Option ℕ → ℕ → ℕ
+change_gap_behind below x = unwrap_or (option_map (λ y. x - y - 1) below) 16
 
 -- whether a vehicle in cell x wants the other lane: if it is slow (its gap is at most its speed); but in the turn zone
 -- of a lane of `count` cells, if it has a next link, yes if its own lane does not serve that, no if only its own does
@@ -56,13 +56,13 @@ has_room other x r speed = are_free other r x && (nat_lt (speed + 1) (free_ahead
 -- where nothing is in sight
 abbrev pub has_room_between : List Bool → Bool → Option ℕ → Option ℕ → ℕ → ℕ → ℕ → Bool
 has_room_between closed is_open above below x r speed =
-    is_open && (nat_lt (speed + 1) (gap_up closed above x) && nat_lt 5 (gap_down below r))
+    is_open && (nat_lt (speed + 1) (change_gap_ahead closed above x) && nat_lt 5 (change_gap_behind below r))
 
 -- whether vehicle v in cell x of a lane changes to the other lane, whose track is `other`: it wants to, by its gap to
 -- `ahead`, the rear of the vehicle ahead, or to a closed stretch; it fits there; and its lane draw allows it
 abbrev pub decision : Changing → ℕ → ℕ → List Bool → Option ℕ → Track → ℕ → Vehicle → Bool
 decision changing lane count closed ahead other x v =
-    wishes_with changing lane count (gap_up closed ahead x) x v.speed (next_link v) && (has_room other x (rear x v) v.speed && changing.may_change v.number)
+    wishes_with changing lane count (change_gap_ahead closed ahead x) x v.speed (next_link v) && (has_room other x (rear x v) v.speed && changing.may_change v.number)
 
 -- whether the vehicle v, in the cell of a key on a lane (0 or 1) of a road, changes to the other lane in this step,
 -- given the closed marks of its own lane and `ahead`, the rear of the vehicle ahead there, if there is one
@@ -96,4 +96,4 @@ Decides y road lane step ahead key goes =
 abbrev pub DecidesAt : Yard → Road → ℕ → ℕ → ℕ → ℕ → Bool → Type 0
 DecidesAt y road lane step gap key goes =
     (v : Vehicle) (closed : List Bool) (ahead : Option ℕ) → vehicle_with y key ≡ Some v
-    → gap ≡ gap_up closed ahead (cell_at y key) → goes ≡ decision_of y road lane step closed ahead key v
+    → gap ≡ change_gap_ahead closed ahead (cell_at y key) → goes ≡ decision_of y road lane step closed ahead key v

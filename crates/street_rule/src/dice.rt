@@ -26,6 +26,7 @@ struct KeptDraws {
 /// The dice of a network: whether a vehicle dawdles, and whether it may change lane, each with its chance, of 1,000.
 ///
 /// A contract sees the seed and the odds. What is kept is not seen: an answer is the same whatever is kept.
+#[derive(Drop)]
 pub struct Dice {
     rng: ChaCha20Rng,
     seed: u64,
@@ -38,22 +39,6 @@ pub struct Dice {
     kept: Vec<KeptDraws>,
     // Draws of vehicles that lost their place, by the number modulo the length.
     aside: Vec<KeptDraws>,
-}
-
-impl Drop for Dice {
-    /// Drops each field.
-    fn drop(self) {
-        let Dice {
-            rng: _,
-            seed: _,
-            dawdle: _,
-            change: _,
-            dawdle_drawn: _,
-            change_drawn: _,
-            kept: _,
-            aside: _,
-        } = self;
-    }
 }
 
 /// How many vehicles' draws are put aside at most.

@@ -9,7 +9,7 @@ ghost use Rattle.street_base.specs.Prelude.{serves};
 ghost use Rattle.street_yard.specs.Prelude.{list_on, cell_at};
 ghost use Rattle.street_gap.specs.Prelude.{IsUpTo, IsPosition};
 ghost use Rattle.street_rule.specs.Prelude.{length_of, lane_of, lane_seen, IsRoad, odds_of, changing_of};
-ghost use Rattle.street_rule.specs.Prelude.{gap_between, wishes_with, TellsRoom, Decides, DecidesAt, IsOutlook};
+ghost use Rattle.street_rule.specs.Prelude.{change_gap_to, wishes_with, TellsRoom, Decides, DecidesAt, IsOutlook};
 
 use crate::Dice;
 use crate::road::{Road, RoadLane};
@@ -66,7 +66,7 @@ pub(crate) fn zone_begin(road: &Road<'_>) -> CellNo
 /// nothing is in sight. To reckon it then with a cell far ahead spares a branch that the processor cannot predict where there
 /// are few vehicles on each lane.
 fn is_slow(obstacle: Option<CellNo>, cell: CellNo, speed: Speed) -> bool
-    ensures { result ≡ nat_lt (gap_between obstacle cell) (speed + 1) }
+    ensures { result ≡ nat_lt (change_gap_to obstacle cell) (speed + 1) }
 {
     let cell = u64::from(cell);
     let obstacle = match obstacle {
@@ -101,7 +101,7 @@ fn may_wish(
 ) -> bool
     requires zone { zone ≡ length_of road.now - road.now.network.zone }
     ensures { (step : ℕ) → result ≡ false
-        → wishes_with (changing_of road.now step) lane (length_of road.now) (gap_between obstacle cell) cell speed next ≡ false }
+        → wishes_with (changing_of road.now step) lane (length_of road.now) (change_gap_to obstacle cell) cell speed next ≡ false }
 {
     is_slow(obstacle, cell, speed) | ((zone <= cell) & is_unserved(road, lane, next))
 }

@@ -1,6 +1,6 @@
 //! What the threads of a team share: a mailbox for each of them, and signals that something was lent or came back. `team.rt`
 //! and the workers meet in it.
-ghost use Rattle.std.specs.Prelude.{◌≡◌, vec_len, IfOk};
+ghost use Rattle.std.specs.Prelude.{◌≡◌, ◌≤◌, vec_len, IfOk};
 
 use crate::task::{FinishedTask, Task};
 use crate::waits::WakeSignal;
@@ -130,7 +130,9 @@ pub fn start_workers<
     alloc: Global,
     shared: &'s TeamState<'a, 'w, T, W>,
     threads: usize,
-) -> Vec<JoinHandle<()>> {
+) -> Vec<JoinHandle<()>>
+    ensures { vec_len result ≤ threads }
+{
     let mut started = Vec::new(alloc);
     if started.reserve(threads).is_err() {
         return started;

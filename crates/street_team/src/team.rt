@@ -1,6 +1,6 @@
 //! The caller's side of a team: items are lent to the workers, and all are back when the call returns. The steps of
 //! `street_engine` by a team lend tiles so.
-ghost use Rattle.std.specs.Prelude.{◌≡◌, ℕ, ◌+◌, ◌<◌, length, vec_len, vec_capacity, slice_get, slice_index_or, Some, None, IfSome};
+ghost use Rattle.std.specs.Prelude.{◌≡◌, ℕ, ◌+◌, ◌<◌, ◌≤◌, length, vec_len, vec_capacity, slice_get, slice_index_or, Some, None, IfSome};
 ghost use Rattle.street_team.specs.Lent.{AllMay, EachDoes, BackDoes, IsBackOf};
 
 use crate::block::ItemBlock;
@@ -28,6 +28,7 @@ pub fn new_locks<T: Drop>(
 
 /// Who lends items to so many threads, a block of them to each while there are locks and blocks; the others it works on itself.
 /// A block has as many as it has room for, the first block those behind the caller's own.
+#[derive(Drop)]
 pub struct Team<'a, 'r, 'w, 's, T: Drop, W: TeamWork<T>, R: Wait> {
     rt: &'r R,
     shared: &'s TeamState<'a, 'w, T, W>,
@@ -36,20 +37,6 @@ pub struct Team<'a, 'r, 'w, 's, T: Drop, W: TeamWork<T>, R: Wait> {
     used: usize,
     threads: usize,
     ghost known: { (k : ℕ) (l : _) → slice_get locks.now k ≡ Some l → l.id ≡ W.lock k },
-}
-
-impl<'a, 'r, 'w, 's, T: Drop, W: TeamWork<T>, R: Wait> Drop for Team<'a, 'r, 'w, 's, T, W, R> {
-    /// Drops the blocks.
-    fn drop(self) {
-        let Team {
-            rt: _,
-            shared: _,
-            locks: _,
-            spare: _,
-            used: _,
-            threads: _,
-        } = self;
-    }
 }
 
 impl<'a, 'r, 'w, 's, T: Drop, W: TeamWork<T>, R: Wait> Team<'a, 'r, 'w, 's, T, W, R> {
@@ -62,7 +49,8 @@ impl<'a, 'r, 'w, 's, T: Drop, W: TeamWork<T>, R: Wait> Team<'a, 'r, 'w, 's, T, W
         spare: Vec<ItemBlock<T>>,
         threads: usize,
     ) -> Self
-        requires { (k : ℕ) (l : _) → slice_get locks.now k ≡ Some l → l.id ≡ W.lock k }
+        requires locks { (k : ℕ) (l : _) → slice_get locks.now k ≡ Some l → l.id ≡ W.lock k }
+        requires mailboxes { threads ≤ vec_len shared.now.mailboxes }
     {
         Team {
             rt,

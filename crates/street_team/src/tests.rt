@@ -1,5 +1,5 @@
 //! Numbers that a team adds to.
-ghost use Rattle.std.specs.Prelude.{◌≡◌, ℕ, ◌+◌, ◌<◌, length, slice_get, slice_index_or, List, Some, IfOk};
+ghost use Rattle.std.specs.Prelude.{◌≡◌, ℕ, ◌+◌, ◌<◌, ◌≤◌, length, slice_get, vec_len, slice_index_or, List, Some, IfOk};
 
 use super::{
     ItemBlock, Team, TeamState, TeamWork, join_workers, new_blocks, new_locks, start_workers,
@@ -107,6 +107,7 @@ fn add_with<'a, K: Course + Send + Sync, R: Threads + Wait + Sync>(
     items: Vec<u32>,
     threads: usize,
 ) -> Added<K>
+    requires mailboxes { threads ≤ vec_len shared.now.mailboxes }
     requires locks { (k : ℕ) (l : _) → slice_get locks.now k ≡ Some l → l.id ≡ K.lock k }
     requires begun { items.items ≡ K.begun }
     requires small { (i : ℕ) (d : ℕ) → i < length K.begun → slice_index_or K.begun i d < 1000 }
@@ -115,7 +116,8 @@ fn add_with<'a, K: Course + Send + Sync, R: Threads + Wait + Sync>(
         thread::scope_env(),
         rt,
         move |scope| -> Added<K>
-            requires { ((k : ℕ) (l : _) → slice_get locks.now k ≡ Some l → l.id ≡ K.lock k)
+            requires { (threads ≤ vec_len shared.now.mailboxes)
+                × ((k : ℕ) (l : _) → slice_get locks.now k ≡ Some l → l.id ≡ K.lock k)
                 × (items.items ≡ K.begun)
                 × ((i : ℕ) (d : ℕ) → i < length K.begun → slice_index_or K.begun i d < 1000) }
         {

@@ -6,7 +6,7 @@ use Rattle.serde_json.specs.Written.{compact_text}
 use Rattle.street_base.specs.declared.command.Command.{Command}
 use Rattle.street_base.specs.declared.command.Command.TheVariants.{Load, Enter, Signal, Advance, CloseLane, ReopenLane, TakeOut, PlaceMeter, ReadMeter, Vehicle, Lane, Count}
 use Rattle.street_base.specs.declared.net.NetSpec.{NetSpec}
-use Rattle.street_text.specs.ReplyLines.{number_data, node_data, link_data, turn_data, phase_data, number_at, text_at, list_at}
+use Rattle.street_text.specs.ReplyLines.{number_data, node_data, link_data, turn_data, phase_data, number_at, text_at, list_member}
 
 -- ---- objects, their keys in byte order
 
@@ -15,8 +15,8 @@ use Rattle.street_text.specs.ReplyLines.{number_data, node_data, link_data, turn
 abbrev pub load_data : NetSpec → Data
 load_data net =
     object (number_at (codes "change") net.change (text_at (codes "cmd") (codes "load") (number_at (codes "dawdle") net.dawdle
-    (list_at (codes "links") link_data net.links (list_at (codes "nodes") node_data net.nodes (number_at (codes "seed") net.seed
-    (number_at (codes "start") net.start (list_at (codes "turns") turn_data net.turns (number_at (codes "zone") net.zone no_members)))))))))
+    (list_member (codes "links") link_data net.links (list_member (codes "nodes") node_data net.nodes (number_at (codes "seed") net.seed
+    (number_at (codes "start") net.start (list_member (codes "turns") turn_data net.turns (number_at (codes "zone") net.zone no_members)))))))))
 
 -- the JSON object of a command of this name (`close` or `reopen`) for the cells of a lane from `first` to `last`
 abbrev pub stretch_data_of : List ℕ → ℕ → ℕ → ℕ → ℕ → Data
@@ -43,10 +43,10 @@ abbrev pub command_data : Command → Data
 command_data (Load net) = load_data net
 command_data (Enter plan lane depart size) =
     object (text_at (codes "cmd") (codes "enter") (number_at (codes "depart") depart (number_at (codes "lane") lane
-    (list_at (codes "plan") number_data plan (size_at size no_members)))))
+    (list_member (codes "plan") number_data plan (size_at size no_members)))))
 command_data (Signal node offset phases) =
     object (text_at (codes "cmd") (codes "signal") (number_at (codes "node") node (number_at (codes "offset") offset
-    (list_at (codes "phases") phase_data phases no_members))))
+    (list_member (codes "phases") phase_data phases no_members))))
 command_data (Advance steps) = object (text_at (codes "cmd") (codes "advance") (number_at (codes "steps") steps no_members))
 command_data (CloseLane link lane first last) = stretch_data_of (codes "close") link lane first last
 command_data (ReopenLane link lane first last) = stretch_data_of (codes "reopen") link lane first last

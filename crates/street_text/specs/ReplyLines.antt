@@ -97,12 +97,12 @@ abbrev pub text_at : List ℕ → List ℕ → Members → Members
 text_at key text more = member key (string text) more
 
 -- the members of an object with a list under this key put before the members `more`; `one` gives the value of one entry
-abbrev pub list_at : {T : Type 0} → List ℕ → (T → Data) → List T → Members → Members
-list_at key one list more = member key (array (items_from one list)) more
+abbrev pub list_member : {T : Type 0} → List ℕ → (T → Data) → List T → Members → Members
+list_member key one list more = member key (array (items_from one list)) more
 
 -- the members of an object with a vehicle's plan, a list of numbers, under `plan` put before the members `more`
 abbrev pub plan_at : List ℕ → Members → Members
-plan_at plan more = list_at (codes "plan") number_data plan more
+plan_at plan more = list_member (codes "plan") number_data plan more
 
 -- the members of a reply with a vehicle's size put before the members `more`; only `more` where the size is not above 1
 abbrev pub size_at : ℕ → Members → Members
@@ -165,11 +165,11 @@ reply_data (Short clock short) = object (number_at (codes "clock") clock (number
 reply_data (Closed closed) = object (number_at (codes "closed") closed no_members)
 reply_data (Reply.Taken taken) = object (number_at (codes "taken") taken no_members)
 reply_data (Placed meter) = object (number_at (codes "meter") meter no_members)
-reply_data (Rows now rows) = object (member (codes "now") (running_data now) (list_at (codes "rows") meter_data rows no_members))
+reply_data (Rows now rows) = object (member (codes "now") (running_data now) (list_member (codes "rows") meter_data rows no_members))
 reply_data (Vehicle car whereabouts) = vehicle_data car whereabouts
 reply_data (Lane buffer cells closed waiting) =
-    object (list_at (codes "buffer") buffer_data buffer (list_at (codes "cells") cell_data cells
-    (list_at (codes "closed") stretch_data closed (list_at (codes "waiting") waiting_data waiting no_members))))
+    object (list_member (codes "buffer") buffer_data buffer (list_member (codes "cells") cell_data cells
+    (list_member (codes "closed") stretch_data closed (list_member (codes "waiting") waiting_data waiting no_members))))
 reply_data (Census admitted arrived buffers cells clock taken waiting) =
     object (number_at (codes "admitted") admitted (number_at (codes "arrived") arrived (number_at (codes "buffers") buffers (number_at (codes "cells") cells
     (number_at (codes "clock") clock (number_at (codes "taken") taken (number_at (codes "waiting") waiting no_members)))))))

@@ -12,7 +12,7 @@ use Rattle.street_node.specs.Prelude.{ShowsAs, AtMostOnce}
 use Rattle.street_lanes.specs.Prelude.{LaneView, LaneStands, Lanes, IsLane, Same, GoesIf, GoesAt, lane_of, size_of, size_on, IsOn}
 use Rattle.street_lanes.specs.Lanes.{IsOf}
 use Rattle.street_net.specs.Prelude.{slot_of}
-use Rattle.street_tile.specs.Prelude.{TileView, IsTileOf, StandsFor, AreNumbers, is_own, at_place, planned, DoesIf, Does}
+use Rattle.street_tile.specs.Prelude.{TileView, IsTileOf, TileStandsFor, AreNumbers, is_own, at_place, planned, DoesIf, Does}
 use Rattle.street_tile.proofs.SameLanes.{same-none, same-long, even-of}
 use Rattle.street_tile.proofs.SameTile.{tile-seen, place-seen, at-view}
 use Rattle.street_tile.proofs.Each.{lane_at-each}
@@ -55,7 +55,7 @@ module _ (net : NetSpec) (x : TileView) (tile : IsTileOf net x) where
   once-in = subst AtMostOnce (sym tile.places) (own-once net x.low x.high)
 
   -- an own lane stands for the machine's
-  pub stands-in : (m : Traffic) → StandsFor x m → (n : ℕ) (p : Place) → slice_get x.own.places n ≡ Some p → LaneStands (lane_of x.own n) (lane_at m p)
+  pub stands-in : (m : Traffic) → TileStandsFor x m → (n : ℕ) (p : Place) → slice_get x.own.places n ≡ Some p → LaneStands (lane_of x.own n) (lane_at m p)
   stands-in m s n p at =
       let within = slice_get_within x.own.places n p at in
       let even = even-of net x.own tile.own in
@@ -144,15 +144,15 @@ module _ (net : NetSpec) {x v : TileView} (is : x ≡ v) (tile : IsTileOf net v)
   pub seen-at : (rule : LaneState → LaneState) (own : Lanes) → GoesAt n rule x.own own → Does net (at_place p rule) v (record x { own = own })
   seen-at rule own goes = at-view (Does net (at_place p rule)) is (does-at net x (tile-seen is tile) n p (place-seen n p is at) rule own goes)
 
-  pub seen-count : (closed : Bool) (first last : ℕ) (own : Lanes) (count : ℕ) → GoesAt n (with_marks closed first last) x.own own → ((s : LaneState) → LaneStands (lane_of own n) s → count ≡ closed_cells s.track.closed) → (m : Traffic) → StandsFor v m → count ≡ closed_after closed first last (lane_at m p)
-  seen-count closed first last own count goes counts m s = counts (with_marks closed first last (lane_at m p)) (goes.goes (lane_at m p) (stands-in net x (tile-seen is tile) m (subst (λ (t : TileView). StandsFor t m) (sym is) s) n p (place-seen n p is at)))
+  pub seen-count : (closed : Bool) (first last : ℕ) (own : Lanes) (count : ℕ) → GoesAt n (with_marks closed first last) x.own own → ((s : LaneState) → LaneStands (lane_of own n) s → count ≡ closed_cells s.track.closed) → (m : Traffic) → TileStandsFor v m → count ≡ closed_after closed first last (lane_at m p)
+  seen-count closed first last own count goes counts m s = counts (with_marks closed first last (lane_at m p)) (goes.goes (lane_at m p) (stands-in net x (tile-seen is tile) m (subst (λ (t : TileView). TileStandsFor t m) (sym is) s) n p (place-seen n p is at)))
 
   -- what is true of whatever the lane stands for is true of the machine's lane
-  pub seen-any : (P : LaneState → Type 0) → ((s : LaneState) → LaneStands (lane_of x.own n) s → P s) → (m : Traffic) → StandsFor v m → P (lane_at m p)
-  seen-any P holds m s = holds (lane_at m p) (stands-in net x (tile-seen is tile) m (subst (λ (t : TileView). StandsFor t m) (sym is) s) n p (place-seen n p is at))
+  pub seen-any : (P : LaneState → Type 0) → ((s : LaneState) → LaneStands (lane_of x.own n) s → P s) → (m : Traffic) → TileStandsFor v m → P (lane_at m p)
+  seen-any P holds m s = holds (lane_at m p) (stands-in net x (tile-seen is tile) m (subst (λ (t : TileView). TileStandsFor t m) (sym is) s) n p (place-seen n p is at))
 
-  pub seen-shown : (reply : Reply) → ((s : LaneState) → LaneStands (lane_of x.own n) s → reply ≡ shown_lane s) → (m : Traffic) → StandsFor v m → reply ≡ shown_lane (lane_at m p)
-  seen-shown reply shows m s = shows (lane_at m p) (stands-in net x (tile-seen is tile) m (subst (λ (t : TileView). StandsFor t m) (sym is) s) n p (place-seen n p is at))
+  pub seen-shown : (reply : Reply) → ((s : LaneState) → LaneStands (lane_of x.own n) s → reply ≡ shown_lane s) → (m : Traffic) → TileStandsFor v m → reply ≡ shown_lane (lane_at m p)
+  seen-shown reply shows m s = shows (lane_at m p) (stands-in net x (tile-seen is tile) m (subst (λ (t : TileView). TileStandsFor t m) (sym is) s) n p (place-seen n p is at))
 
 pub seen-plan : (net : NetSpec) {x v : TileView} → x ≡ v → (node k : ℕ) (plan other : SignalPlan) → v.low ≤ node → node < v.high → x.low + length x.signals ≡ x.high → k ≡ node → ShowsAs plan other → DoesIf net (λ m. node < length m.signals) (planned node other) v (record x { signals = set x.signals (k - x.low) (Some plan) })
 seen-plan net {x} {v} is node k plan other low high nodes same shows =

@@ -4,13 +4,13 @@ use Rattle.std.proofs.lemmas.Bool.{cases_eq}
 use Rattle.std.proofs.lemmas.List.{get_or_append_left, get_or_push}
 use Rattle.street_base.specs.declared.net.NetSpec.{NetSpec}
 use Rattle.street_base.specs.Prelude.{loaded}
-use Rattle.street_tile.specs.Prelude.{TileView, IsShare, IsIdle, StandsFor, AreTiles, MetersStand, AllMetersStand}
+use Rattle.street_tile.specs.Prelude.{TileView, IsShare, IsIdle, TileStandsFor, AreTiles, MetersStand, AllMetersStand}
 
 -- a tile with its share of the nodes, and nobody on it
 pub record IsMade (net : NetSpec) (k i : ℕ) (x : TileView) : Type 0 where
   pub share : IsShare net k i x
   pub idle : IsIdle x
-  pub stands : StandsFor x (loaded net)
+  pub stands : TileStandsFor x (loaded net)
   pub meters : MetersStand x (loaded net)
 
 -- the tiles before i are made

@@ -9,7 +9,7 @@ use Rattle.street_base.specs.declared.names.Place.{Place}
 use Rattle.street_base.specs.Prelude.{SignalPlan, Traffic, LaneState, Queued, Waiting, lane_at, in_lane, lane_without}
 use Rattle.street_lanes.specs.Prelude.{LaneView, LaneStands, Lanes, IsLane, AllLanes, GoesIf, lane_of, place_at, no_place, IsOn, PlanStands}
 use Rattle.street_lanes.proofs.Without.{all-stay, cells-stay}
-use Rattle.street_tile.specs.Prelude.{TileView, IsTileOf, StandsFor, without, DoesIf, HaveAtMostOne}
+use Rattle.street_tile.specs.Prelude.{TileView, IsTileOf, TileStandsFor, without, DoesIf, HaveAtMostOne}
 use Rattle.street_tile.proofs.Each.{lane_at-each}
 use Rattle.street_tile.proofs.SameLanes.{place-is, stands-at, stand-all, even-of}
 use Rattle.street_tile.proofs.OwnLanes.{own-lanes}
@@ -69,7 +69,7 @@ module _ (number : ℕ) where
     there : (k : ℕ) (p : Place) → slice_get x.own.places k ≡ Some p → IsLane net p
     there = subst (AllLanes net) (sym tile.places) (own-lanes net x.low x.high)
 
-    pub stands-here : (m : Traffic) → StandsFor x m → LaneStands (lane_of x.own n) (lane_at m (place_at x.own n))
+    pub stands-here : (m : Traffic) → TileStandsFor x m → LaneStands (lane_of x.own n) (lane_at m (place_at x.own n))
     stands-here m s = stands-at m x.own s.lanes n h (let e = even-of net x.own tile.own in omega arith)
 
     pub few-here : (m : Traffic) → HaveAtMostOne x.own.places m number → in_lane number (lane_at m (place_at x.own n)) ≤ 1
@@ -77,17 +77,17 @@ module _ (number : ℕ) where
 
     -- how many are taken out of lane n is how many are there
     module _ (gone : ℕ) (found : (s : LaneState) → LaneStands (lane_of x.own n) s → in_lane number s ≤ 1 → gone ≡ in_lane number s) where
-      pub gone-is : (m : Traffic) → StandsFor x m → HaveAtMostOne x.own.places m number → gone ≡ in_lane number (lane_at m (place_at x.own n))
+      pub gone-is : (m : Traffic) → TileStandsFor x m → HaveAtMostOne x.own.places m number → gone ≡ in_lane number (lane_at m (place_at x.own n))
       gone-is m s few = found (lane_at m (place_at x.own n)) (stands-here m s) (few-here m few)
 
       -- where one is taken out of lane n, no other own lane had it
-      others-none : 0 < gone → (m : Traffic) → StandsFor x m → HaveAtMostOne x.own.places m number → (k : ℕ) (p : Place) → (k ≡ n → ⊥) → slice_get x.own.places k ≡ Some p → in_lane number (lane_at m p) ≡ 0
+      others-none : 0 < gone → (m : Traffic) → TileStandsFor x m → HaveAtMostOne x.own.places m number → (k : ℕ) (p : Place) → (k ≡ n → ⊥) → slice_get x.own.places k ≡ Some p → in_lane number (lane_at m p) ≡ 0
       others-none some m s few k p ne at =
           let both = sum-both (λ q. in_lane number (lane_at m q)) x.own.places k n p (place_at x.own n) ne at (place-is x.own n h) in
           let is = gone-is m s few in
           omega arith
 
-      lane-after : 0 < gone → (y : Lanes) → GoesIf n (λ s. in_lane number s ≤ 1) (lane_without number) x.own y → (m : Traffic) → StandsFor x m → HaveAtMostOne x.own.places m number → (k : ℕ) → k < length x.own.places → LaneStands (lane_of y k) (lane_without number (lane_at m (place_at x.own k)))
+      lane-after : 0 < gone → (y : Lanes) → GoesIf n (λ s. in_lane number s ≤ 1) (lane_without number) x.own y → (m : Traffic) → TileStandsFor x m → HaveAtMostOne x.own.places m number → (k : ℕ) → k < length x.own.places → LaneStands (lane_of y k) (lane_without number (lane_at m (place_at x.own k)))
       lane-after some y goes m s few k hk = elim (cases_eq k n) as (λ _. LaneStands (lane_of y k) (lane_without number (lane_at m (place_at x.own k)))) [
         | inl here ↦ rw here (goes.goes (lane_at m (place_at x.own n)) (stands-here m s) (few-here m few))
         | inr other ↦ (
@@ -124,12 +124,12 @@ module _ (number : ℕ) where
           by_case None f = tt
           by_case (Some car) f = taken-does 1 f (omega arith) y goes
 
-      pub some-had : IfSome r (λ car. (m : Traffic) → IsOn net m → StandsFor x m → HaveAtMostOne x.own.places m number → 0 < in_lane number (lane_at m (place_at x.own n)))
+      pub some-had : IfSome r (λ car. (m : Traffic) → IsOn net m → TileStandsFor x m → HaveAtMostOne x.own.places m number → 0 < in_lane number (lane_at m (place_at x.own n)))
       some-had = by_case r found
         where
-          by_case : (o : Option Car) → ((s : LaneState) → LaneStands (lane_of x.own n) s → in_lane number s ≤ 1 → length (option_to_list o) ≡ in_lane number s) → IfSome o (λ car. (m : Traffic) → IsOn net m → StandsFor x m → HaveAtMostOne x.own.places m number → 0 < in_lane number (lane_at m (place_at x.own n)))
+          by_case : (o : Option Car) → ((s : LaneState) → LaneStands (lane_of x.own n) s → in_lane number s ≤ 1 → length (option_to_list o) ≡ in_lane number s) → IfSome o (λ car. (m : Traffic) → IsOn net m → TileStandsFor x m → HaveAtMostOne x.own.places m number → 0 < in_lane number (lane_at m (place_at x.own n)))
           by_case None f = tt
           by_case (Some car) f = λ m on s few. let is = gone-is 1 f m s few in omega arith
 
-      pub none-had : r ≡ None → (m : Traffic) → IsOn net m → StandsFor x m → HaveAtMostOne x.own.places m number → in_lane number (lane_at m (place_at x.own n)) ≡ 0
+      pub none-had : r ≡ None → (m : Traffic) → IsOn net m → TileStandsFor x m → HaveAtMostOne x.own.places m number → in_lane number (lane_at m (place_at x.own n)) ≡ 0
       none-had none m on s few = sym (gone-is (length (option_to_list r)) found m s few) ∙ ap (λ (o : Option Car). length (option_to_list o)) none

@@ -6,7 +6,7 @@ use Rattle.street_base.specs.declared.record.RecordRow.{RecordRow}
 use Rattle.street_record.specs.Rows.{arrival_at}
 use Rattle.street_base.specs.Prelude.{Vehicle, is_free, Traffic, lane_at, departed, departed_lane, changed, driven, arrival, leaver_of}
 use Rattle.street_lanes.specs.Prelude.{LaneStands, Lanes, AllLanes, Same, place_at, IsOn, LanesStand, LanesGo, AllFree, Detectors}
-use Rattle.street_tile.specs.Prelude.{Transfer, vehicle_in, crossing, let_go, placed, placed_lane, TileView, IsTileOf, StandsFor, Shows, ShowSignals, ArePairs, nobody, is_own, KeepMeters, HaveWatched, LanePhase, MotionPhase, ReleasePhase, EnterPhase, IsReleasing}
+use Rattle.street_tile.specs.Prelude.{Transfer, vehicle_in, crossing, let_go, placed, placed_lane, TileView, IsTileOf, TileStandsFor, Shows, ShowSignals, ArePairs, nobody, is_own, KeepMeters, HaveWatched, LanePhase, MotionPhase, ReleasePhase, EnterPhase, IsReleasing}
 use Rattle.street_net.specs.Prelude.{mouth}
 use Rattle.street_node.specs.Prelude.{IsWalk}
 use Rattle.street_tile.proofs.SameLanes.{place-is}
@@ -72,7 +72,7 @@ module _ (net : NetSpec) (x : TileView) (tile : IsTileOf net x) where
     };
   }
 
-  releasing : (view : List Bool) (m : Traffic) → IsOn net m → Shows net view m → StandsFor x m → IsReleasing net x.clock x.own view m
+  releasing : (view : List Bool) (m : Traffic) → IsOn net m → Shows net view m → TileStandsFor x m → IsReleasing net x.clock x.own view m
   releasing view m on shows s = record {
     on = on;
     in_time = sym s.clock;

@@ -5,7 +5,7 @@ use Rattle.street_base.specs.declared.names.Place.{Place}
 use Rattle.street_base.specs.Prelude.{Vehicle, Traffic, LaneState, lane_at, giver, entering, released, departed, changed, driven, step, is_free}
 use Rattle.street_base.proofs.FormLemmas.{each_lane-sizes, changed-formed, driven-formed, released-formed, departed-formed}
 use Rattle.street_lanes.specs.Prelude.{AllLanes, AllFree, IsOn}
-use Rattle.street_tile.specs.Prelude.{Transfer, crossing, entry_in, let_go, let_go_lane, TileView, own_places, IsRoads, IsTileOf, StandsFor, Each, AllStand, Shows, GoesBy, ReleasePhase, EnterPhase, ticked, all_handed, all_places, received}
+use Rattle.street_tile.specs.Prelude.{Transfer, crossing, entry_in, let_go, let_go_lane, TileView, own_places, IsRoads, IsTileOf, TileStandsFor, Each, AllStand, Shows, GoesBy, ReleasePhase, EnterPhase, ticked, all_handed, all_places, received}
 use Rattle.street_tile.proofs.Rows.{InRow, AreInRow}
 use Rattle.std.proofs.lemmas.Bool.{cases_Bool}
 use Rattle.street_tile.proofs.OwnLanes.{own-lanes}
@@ -49,8 +49,8 @@ tiles-of net low high (x ∷ xs) r (suc k) d l = tiles-of net x.high high xs r.3
 pub goes-all : (net : NetSpec) (f : Traffic → Traffic) (xs ys : List TileView) → length ys ≡ length xs → Each (GoesBy net f) xs ys → (m : Traffic) → IsOn net (f m) → AllStand net xs m → AllStand net ys (f m)
 goes-all net f xs ys e each m on s = record { on = on; each = λ i d l. (each i d (omega arith)).stands m s.on (s.each i d (omega arith)) }
 
-received-stands : (es : List Transfer) (y z : TileView) (m : Traffic) → z ≡ received es y → StandsFor y m → StandsFor z m
-received-stands es y z m e s = subst (λ (t : TileView). StandsFor t m) (sym e) (record { clock = s.clock; lanes = s.lanes; none_loose = s.none_loose; signals = s.signals })
+received-stands : (es : List Transfer) (y z : TileView) (m : Traffic) → z ≡ received es y → TileStandsFor y m → TileStandsFor z m
+received-stands es y z m e s = subst (λ (t : TileView). TileStandsFor t m) (sym e) (record { clock = s.clock; lanes = s.lanes; none_loose = s.none_loose; signals = s.signals })
 
 received-coming : (es : List Transfer) (entry : Place → Option Vehicle) (y z : TileView) → ((p : Place) → entry_in es p ≡ entry p) → z ≡ received es y → z.coming ≡ map entry z.own.places
 received-coming es entry y z same e = subst (λ (t : TileView). t.coming ≡ map entry t.own.places) (sym e) (λ i. map (λ p. same p i) y.own.places)
@@ -80,7 +80,7 @@ enters-all net roads view xs ys zs ws a b c row releases moves enters m shows s 
           let stood = (releases i d (omega arith)).stands m s.on shows (s.each i d (omega arith)) in
           let moved = moves i d (omega arith) in
           let came = (enters i d (omega arith)).stands (let_go m) (entering m) (on-let_go net m s.on) (received-stands (all_handed ys) (get_or ys i d) (get_or zs i d) (let_go m) moved stood) (received-coming (all_handed ys) (entering m) (get_or ys i d) (get_or zs i d) same moved) (subst (λ (ps : List Place). AllFree ps (let_go m) (entering m)) (sym (ap (λ (t : TileView). t.own.places) moved ∙ (releases i d (omega arith)).same.own.places ∙ (tiles-of net 0 (length net.nodes) xs row i d (omega arith)).places)) (free-after net m s.on (own_places net (get_or xs i d).low (get_or xs i d).high) (own-lanes net (get_or xs i d).low (get_or xs i d).high))) in
-          subst (λ (t : Traffic). StandsFor (get_or ws i d) (departed t)) (sym (released-halves m)) came;
+          subst (λ (t : Traffic). TileStandsFor (get_or ws i d) (departed t)) (sym (released-halves m)) came;
     }
 
 -- the last phase ends the step

@@ -10,7 +10,7 @@ use Rattle.street_base.specs.declared.names.Place.{Place}
 use Rattle.street_base.proofs.ReleaseLemmas.{is_place-same, is_place-refl}
 use Rattle.street_meter.specs.Meter.{Meter, next_step}
 use Rattle.street_lanes.specs.Prelude.{Detectors, MeterStands, MetersStandFor, Placed}
-use Rattle.street_tile.specs.Prelude.{TileView, IsTileOf, StandsFor, AreDue, sizes_of, detectors_at, no_detectors, detectors_on, MetersStand, PlacesMeter}
+use Rattle.street_tile.specs.Prelude.{TileView, IsTileOf, TileStandsFor, AreDue, sizes_of, detectors_at, no_detectors, detectors_on, MetersStand, PlacesMeter}
 use Rattle.street_tile.proofs.SameLanes.{same-none}
 use Rattle.street_tile.proofs.SameTile.{tile-seen, place-seen, at-view}
 use Rattle.street_tile.proofs.Numbers.{apart-at}
@@ -47,7 +47,7 @@ meters-elsewhere x p cell period away m stand k q at =
     subst (MetersStandFor (detectors_at x.detectors k).meters) (sym (more-away q m.detectors _ other)) (stand k q at)
 
 -- a detector is no part of what a tile shows of lanes and signals
-pub stands-metered : (x : TileView) (p : Place) (cell period : ℕ) (m : Traffic) → StandsFor x m → StandsFor x (metered m p cell period)
+pub stands-metered : (x : TileView) (p : Place) (cell period : ℕ) (m : Traffic) → TileStandsFor x m → TileStandsFor x (metered m p cell period)
 unfolding metered
 stands-metered x p cell period m s = record { clock = s.clock; lanes = s.lanes; none_loose = s.none_loose; signals = s.signals }
 
@@ -99,7 +99,7 @@ module _ (net : NetSpec) (x : TileView) (tile : IsTileOf net x) (n : ℕ) (p : P
     abbrev one_more : Traffic → Detector
     one_more m = record { place = p; cell = cell; period = period; start = m.clock; triples = [] }
 
-    new_stands : (m : Traffic) → StandsFor x m → MeterStands placed.meter (one_more m)
+    new_stands : (m : Traffic) → TileStandsFor x m → MeterStands placed.meter (one_more m)
     new_stands m s = record {
       placed = rw (placed.new_one.place, placed.new_one.cell, placed.new_one.period, placed.new_one.start, s.clock) refl;
       stands = placed.new_one.stands;

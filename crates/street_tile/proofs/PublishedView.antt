@@ -10,7 +10,7 @@ use Rattle.street_base.specs.Prelude.{is_place, is_free, Traffic, lane_at}
 use Rattle.street_base.proofs.ReleaseLemmas.{is_place-same}
 use Rattle.street_base.proofs.PlaceLemmas.{places-listed}
 use Rattle.street_lanes.specs.Prelude.{IsLane}
-use Rattle.street_tile.specs.Prelude.{Transfer, TileView, IsRoads, StandsFor, AllStand, Shows, all_places, all_handed}
+use Rattle.street_tile.specs.Prelude.{Transfer, TileView, IsRoads, TileStandsFor, AllStand, Shows, all_places, all_handed}
 use Rattle.street_net.specs.Prelude.{mouth}
 use Rattle.street_tile.proofs.Rows.{AreInRow}
 use Rattle.street_node.proofs.BufferWalk.{none-times}
@@ -48,7 +48,7 @@ module _ (net : NetSpec) (xs : List TileView) where
   published-start view wide = record { wide = wide; shown = λ m s p there e. cc }
 
   pub published-next : (i : ℕ) (view after : List Bool) (d : TileView) → i < length xs → IsPublished i view → length after ≡ length view
-      → ((m : Traffic) → StandsFor (get_or xs i d) m → (j : ℕ) (p : Place) → slice_get (get_or xs i d).own.places j ≡ Some p → mouth after p ≡ is_free (lane_at m p).track 0)
+      → ((m : Traffic) → TileStandsFor (get_or xs i d) m → (j : ℕ) (p : Place) → slice_get (get_or xs i d).own.places j ≡ Some p → mouth after p ≡ is_free (lane_at m p).track 0)
       → ((p : Place) → IsLane net p → list_any (is_place p) (get_or xs i d).own.places ≡ false → mouth after p ≡ mouth view p) → IsPublished (i + 1) after
   published-next i view after d h before wide own rest = record {
     wide = wide ∙ before.wide;

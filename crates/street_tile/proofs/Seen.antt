@@ -7,7 +7,7 @@ use Rattle.std.proofs.lemmas.List.Sums.{sum_by-cons, sum_by-set, passes_at_first
 use Rattle.street_base.specs.declared.net.NetSpec.{NetSpec}
 use Rattle.street_base.specs.declared.reply.Whereabouts.{Whereabouts}
 use Rattle.street_base.specs.declared.names.Place.{Place}
-use Rattle.street_base.specs.Prelude.{is_place, places, Vehicle, Traffic, LaneState, Queued, Waiting, lane_at, weight, in_lane, IsSound, is_number, seen_in, seen}
+use Rattle.street_base.specs.Prelude.{is_place, places, Vehicle, Traffic, LaneState, Queued, Waiting, lane_at, weight, in_lane, IsSoundTraffic, is_number, whereabouts_in, whereabouts_on_lanes}
 use Rattle.street_base.proofs.ReleaseLemmas.{is_place-same, is_place-refl}
 use Rattle.street_lanes.specs.Prelude.{IsLane}
 use Rattle.street_tile.specs.Prelude.{TileView, IsTileOf, AreTiles, AllStand, HaveNot, HaveAtMostOne, Finds, WhereOnce, all_places, TilesView, TilesStandFor, OwnsLink, TileHasNot}
@@ -50,15 +50,15 @@ module _ (net : NetSpec) (place : Place) (car : ℕ) where
         | inr past ↦ cond-false _ _ _ (lt-leb (suc at) (length cells) (omega arith))
       ]
 
-  pub zero-unseen : (lane : LaneState) → in_lane car lane ≡ 0 → seen_in net place car lane ≡ None
-  unfolding seen_in
+  pub zero-unseen : (lane : LaneState) → in_lane car lane ≡ 0 → whereabouts_in net place car lane ≡ None
+  unfolding whereabouts_in
   zero-unseen lane z =
       let cells = no-cell lane.track.cells (omega arith) in
       let queue = find-none (λ (q : Queued). q.vehicle.number == car) (λ q. weight car (Some q.vehicle)) (λ q t. cond-true _ _ _ t) lane.queue (omega arith) in
       let waiting = find-none (λ (w : Waiting). w.vehicle.number == car) (λ w. weight car (Some w.vehicle)) (λ w t. cond-true _ _ _ t) lane.waiting (omega arith) in
       rw (cells, queue, waiting) refl
 
-  pub seen-some : (lane : LaneState) (w : Whereabouts) → seen_in net place car lane ≡ Some w → 0 < in_lane car lane
+  pub seen-some : (lane : LaneState) (w : Whereabouts) → whereabouts_in net place car lane ≡ Some w → 0 < in_lane car lane
   seen-some lane w e = elim (cases_lt 0 (in_lane car lane)) as (λ _. 0 < in_lane car lane) [
     | inl some ↦ some
     | inr none ↦ absurd (let unseen = zero-unseen lane (omega arith) in let bad : ◌≡◌ {A = Option Whereabouts} None (Some w) = sym unseen ∙ e in cc)
@@ -98,24 +98,24 @@ module _ (net : NetSpec) (xs : List TileView) (tiles : AreTiles net xs) (number 
     tile = tiles-of net 0 (length net.nodes) xs (in-row net xs tiles) i x t.within
 
     -- a tile's lanes have it at most once
-    pub one-at : (m : Traffic) → IsSound m → TilesStandFor v m → HaveAtMostOne x.own.places m number
+    pub one-at : (m : Traffic) → IsSoundTraffic m → TilesStandFor v m → HaveAtMostOne x.own.places m number
     one-at m sound s = have-one net x number m (subst (IsTileOf net) (sym t.is) tile) (stands-seen net xs v m t.seen s).lanes.on sound.whole
 
     -- one tile has found it
-    pub found-seen : (m : Traffic) → IsSound m → TilesStandFor v m → (w : Whereabouts) → Finds here x.own.places m number (Some w) → seen m number ≡ Some w
-    unfolding seen
+    pub found-seen : (m : Traffic) → IsSoundTraffic m → TilesStandFor v m → (w : Whereabouts) → Finds here x.own.places m number (Some w) → whereabouts_on_lanes m number ≡ Some w
+    unfolding whereabouts_on_lanes
     found-seen m sound s w finds =
         let found = at-list t (λ n u. Finds n u.own.places m number (Some w)) finds in
         let p = found.1 in
         let of_p = own-at net (get_or xs i x) tile found.0 p found.2 in
         let net_is = (stands-seen net xs v m t.seen s).lanes.on.network in
         let among : list_any (is_place p) (places m.network) ≡ true = subst (λ (n : NetSpec). list_any (is_place p) (places n) ≡ true) (sym net_is) of_p.0 in
-        let is : seen_in m.network p number (lane_at m p) ≡ Some w = subst (λ (n : NetSpec). seen_in n p number (lane_at m p) ≡ Some w) (sym net_is) found.3 in
+        let is : whereabouts_in m.network p number (lane_at m p) ≡ Some w = subst (λ (n : NetSpec). whereabouts_in n p number (lane_at m p) ≡ Some w) (sym net_is) found.3 in
         let some = seen-some net p number (lane_at m p) w found.3 in
-        first-only (λ q. seen_in m.network q number (lane_at m q)) (places m.network) p w among is (λ q a ne. zero-unseen m.network q number (lane_at m q) (on-one m sound.formed sound.whole number p q ne among a some))
+        first-only (λ q. whereabouts_in m.network q number (lane_at m q)) (places m.network) p w among is (λ q a ne. zero-unseen m.network q number (lane_at m q) (on-one m sound.formed sound.whole number p q ne among a some))
 
     -- a lane of one tile has it
-    pub found-on-seen : (m : Traffic) → IsSound m → TilesStandFor v m → (p : Place) (w : Whereabouts) → IsLane v.network p → OwnsLink v i p.link → ◌≡◌ {A = Option Whereabouts} (Some w) (seen_in here p number (lane_at m p)) → ◌≡◌ {A = Option Whereabouts} (Some w) (seen m number)
+    pub found-on-seen : (m : Traffic) → IsSoundTraffic m → TilesStandFor v m → (p : Place) (w : Whereabouts) → IsLane v.network p → OwnsLink v i p.link → ◌≡◌ {A = Option Whereabouts} (Some w) (whereabouts_in here p number (lane_at m p)) → ◌≡◌ {A = Option Whereabouts} (Some w) (whereabouts_on_lanes m number)
     found-on-seen m sound s p w lane own is =
         let there : IsLane net p = subst (λ (u : TilesView). IsLane u.network p) (sym t.seen) lane in
         let at = own-number net (get_or xs i x) p tile there (owns-any t p.link p own refl x) in
@@ -134,15 +134,15 @@ module _ (net : NetSpec) (xs : List TileView) (tiles : AreTiles net xs) (number 
         ])
 
   -- no tile has it
-  pub nowhere-seen : (m : Traffic) → AllStand net xs m → ((k : ℕ) (d : TileView) → k < length xs → HaveNot (get_or xs k d).own.places m number) → seen m number ≡ None
-  unfolding seen
-  nowhere-seen m s none = all-none (λ q. seen_in m.network q number (lane_at m q)) (places m.network) unseen
+  pub nowhere-seen : (m : Traffic) → AllStand net xs m → ((k : ℕ) (d : TileView) → k < length xs → HaveNot (get_or xs k d).own.places m number) → whereabouts_on_lanes m number ≡ None
+  unfolding whereabouts_on_lanes
+  nowhere-seen m s none = all-none (λ q. whereabouts_in m.network q number (lane_at m q)) (places m.network) unseen
     where
       first-part : (ys : List TileView) → 0 < length ys → TileView
       first-part [] h = absurd (omega arith)
       first-part (y ∷ ys) h = y
 
-      unseen : (q : Place) → list_any (is_place q) (places m.network) ≡ true → seen_in m.network q number (lane_at m q) ≡ None
+      unseen : (q : Place) → list_any (is_place q) (places m.network) ≡ true → whereabouts_in m.network q number (lane_at m q) ≡ None
       unseen q a =
           let there : list_any (is_place q) (places net) ≡ true = subst (λ (n : NetSpec). list_any (is_place q) (places n) ≡ true) s.on.network a in
           let tile = tile-with q xs (some-tile net (roads-of net xs tiles) xs (in-row net xs tiles) q (lane-of net q there)) in

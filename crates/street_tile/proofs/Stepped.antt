@@ -13,7 +13,7 @@ use Rattle.street_record.specs.Rows.{arrival_at}
 use Rattle.street_record.proofs.Counted.{rows-count, told-count}
 use Rattle.street_record.proofs.InOrder.{arrivals-few}
 use Rattle.street_tile.specs.Record.{arrived_at}
-use Rattle.street_tile.specs.Prelude.{TileView, Each, AllStand, StandsFor, MetersStand, SameButArrived, Steps, HaveStepped, TilesStandFor, TilesView, tiles_of, AreTiles, IsTileOf, all_places, is_own, own_places}
+use Rattle.street_tile.specs.Prelude.{TileView, Each, AllStand, TileStandsFor, MetersStand, SameButArrived, Steps, HaveStepped, TilesStandFor, TilesView, tiles_of, AreTiles, IsTileOf, all_places, is_own, own_places}
 use Rattle.street_tile.proofs.PublishedView.{all_places-push}
 use Rattle.street_tile.proofs.Rows.{in-row, roads-of}
 use Rattle.street_tile.proofs.Sums.{tiles-sums, over_all-places}
@@ -32,14 +32,14 @@ stepped-kept x y m s network long same = record {
   stand = record {
     lanes = subst (λ (net : NetSpec). AllStand net y.tiles (step m)) (sym network) (record {
       on = s.stand.lanes.on;
-      each = λ i d h. subst (λ (t : TileView). StandsFor t (step m)) (sym (same i d (omega (arith, long, h)))) (stood (get_or x.tiles i d) (get_or y.tiles i d) (s.stand.lanes.each i d (omega (arith, long, h))));
+      each = λ i d h. subst (λ (t : TileView). TileStandsFor t (step m)) (sym (same i d (omega (arith, long, h)))) (stood (get_or x.tiles i d) (get_or y.tiles i d) (s.stand.lanes.each i d (omega (arith, long, h))));
     });
     meters = λ i d h. subst (λ (t : TileView). MetersStand t (step m)) (sym (same i d (omega (arith, long, h)))) (s.stand.meters i d (omega (arith, long, h)));
   };
   left = λ i d h. subst (λ (t : TileView). t.left ≡ filter_map (arrival_at (changed m)) t.own.places) (sym (same i d (omega (arith, long, h)))) (s.left i d (omega (arith, long, h)));
 }
   where
-    stood : (a b : TileView) → StandsFor a (step m) → StandsFor (record a { arrived = b.arrived }) (step m)
+    stood : (a b : TileView) → TileStandsFor a (step m) → TileStandsFor (record a { arrived = b.arrived }) (step m)
     stood a b t = record { clock = t.clock; lanes = t.lanes; none_loose = t.none_loose; signals = t.signals }
 
 -- one of the tiles holds the rows of its own lanes

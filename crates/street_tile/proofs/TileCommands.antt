@@ -11,7 +11,7 @@ use Rattle.street_base.proofs.ReleaseLemmas.{is_place-same}
 use Rattle.street_base.proofs.PlaceLemmas.{places-listed}
 use Rattle.street_base.proofs.FormLemmas.{each_lane-sizes}
 use Rattle.street_lanes.specs.Prelude.{LaneStands, IsLane, AllLanes, IsOn}
-use Rattle.street_tile.specs.Prelude.{TileView, IsTileOf, AreTiles, AllStand, StandsFor, is_own, own_places, without, DoesIf, HaveNot, Have, HaveAtMostOne, WhereOnce, at_place, planned, TilesView, tiles_of, TilesStandFor, TilesGo, OwnsLink, AreKept, PlacesMeter}
+use Rattle.street_tile.specs.Prelude.{TileView, IsTileOf, AreTiles, AllStand, TileStandsFor, is_own, own_places, without, DoesIf, HaveNot, Have, HaveAtMostOne, WhereOnce, at_place, planned, TilesView, tiles_of, TilesStandFor, TilesGo, OwnsLink, AreKept, PlacesMeter}
 use Rattle.street_tile.proofs.NumberOnce.{lane-same, lane_at-without}
 use Rattle.street_tile.proofs.Numbers.{own-number}
 use Rattle.street_node.proofs.LaneWalk.{filter-holds}
@@ -71,7 +71,7 @@ module _ (net : NetSpec) (number : ℕ) where
   }
 
   -- a tile that has it not stands as it did
-  not-there : (m : Traffic) → IsOn net m → (x : TileView) → IsTileOf net x → HaveNot x.own.places m number → StandsFor x m → StandsFor x (without number m)
+  not-there : (m : Traffic) → IsOn net m → (x : TileView) → IsTileOf net x → HaveNot x.own.places m number → TileStandsFor x m → TileStandsFor x (without number m)
   unfolding without
   not-there m on x tile none s = record {
     clock = s.clock;
@@ -121,7 +121,7 @@ module _ (net : NetSpec) (number : ℕ) where
 
   -- where a tile has it not
   pub not-at : (xs : List TileView) (i : ℕ) (d : TileView) → AreTiles net xs → i < length xs
-      → ((m : Traffic) → IsOn net m → StandsFor (get_or xs i d) m → HaveAtMostOne (get_or xs i d).own.places m number → HaveNot (get_or xs i d).own.places m number)
+      → ((m : Traffic) → IsOn net m → TileStandsFor (get_or xs i d) m → HaveAtMostOne (get_or xs i d).own.places m number → HaveNot (get_or xs i d).own.places m number)
       → (m : Traffic) → IsWhole m → TilesStandFor (tiles_of net xs) m → (e : TileView) → HaveNot (get_or xs i e).own.places m number
   not-at xs i d tiles h none m whole s e =
       let most = have-one net (get_or xs i d) number m (tiles-of net 0 (length net.nodes) xs (in-row net xs tiles) i d h) s.lanes.on whole in
@@ -164,7 +164,7 @@ module _ (net : NetSpec) (p : Place) (rule : LaneState → LaneState) where
   }
 
   -- a tile without that lane stands as it did
-  lane-elsewhere : (m : Traffic) → IsOn net m → (x : TileView) → IsTileOf net x → is_own net x.low x.high p ≡ false → StandsFor x m → StandsFor x (at_place p rule m)
+  lane-elsewhere : (m : Traffic) → IsOn net m → (x : TileView) → IsTileOf net x → is_own net x.low x.high p ≡ false → TileStandsFor x m → TileStandsFor x (at_place p rule m)
   unfolding at_place
   lane-elsewhere m on x tile other s = record {
     clock = s.clock;
@@ -200,7 +200,7 @@ module _ (net : NetSpec) (node : ℕ) (plan : SignalPlan) where
   on-planned m on = record { network = on.network; formed = record { lanes = on.formed.lanes; cells = on.formed.cells; turns = on.formed.turns } }
 
   -- a tile of other nodes stands as it did
-  plan-elsewhere : (m : Traffic) (x : TileView) → ((at : ℕ) → x.low ≤ at → at < x.high → at ≡ node → ⊥) → StandsFor x m → StandsFor x (planned node plan m)
+  plan-elsewhere : (m : Traffic) (x : TileView) → ((at : ℕ) → x.low ≤ at → at < x.high → at ≡ node → ⊥) → TileStandsFor x m → TileStandsFor x (planned node plan m)
   unfolding planned
   plan-elsewhere m x other s = record {
     clock = s.clock;

@@ -6,7 +6,7 @@ use Rattle.street_base.specs.declared.net.NetSpec.{NetSpec}
 use Rattle.street_base.specs.declared.names.Place.{Place}
 use Rattle.street_base.specs.Prelude.{Traffic}
 use Rattle.street_lanes.specs.Prelude.{MetersStandFor, IsOn}
-use Rattle.street_tile.specs.Prelude.{TileView, AllStand, StandsFor, SameTile, Each, IsStill, is_own, DoesIf, KeepsAll, MetersStand, detectors_at, detectors_on, TilesView, tiles_of, AreKept, TilesStandFor, TilesGo, TilesKeep, OwnsLink}
+use Rattle.street_tile.specs.Prelude.{TileView, AllStand, TileStandsFor, SameTile, Each, IsStill, is_own, DoesIf, KeepsAll, MetersStand, detectors_at, detectors_on, TilesView, tiles_of, AreKept, TilesStandFor, TilesGo, TilesKeep, OwnsLink}
 use Rattle.street_tile.proofs.SameTile.{tile-none}
 use Rattle.street_tile.proofs.BetweenPhases.{tiles-same}
 
@@ -47,10 +47,10 @@ kept-set net xs i y d mouths kept h same handed coming =
 
 module _ (net : NetSpec) (P : Traffic → Type 0) (f : Traffic → Traffic) (xs : List TileView) (i : ℕ) (y d : TileView) (h : i < length xs)
     (on : (m : Traffic) → P m → IsOn net m → IsOn net (f m))
-    (elsewhere : (k : ℕ) (e : TileView) (m : Traffic) → (k ≡ i → ⊥) → k < length xs → P m → AllStand net xs m → StandsFor (get_or xs k e) (f m)) where
+    (elsewhere : (k : ℕ) (e : TileView) (m : Traffic) → (k ≡ i → ⊥) → k < length xs → P m → AllStand net xs m → TileStandsFor (get_or xs k e) (f m)) where
   -- the tile at i is another, the others stand as they did
   pub one-goes : y.arrived ≡ (get_or xs i d).arrived
-      → ((m : Traffic) → P m → AllStand net xs m → StandsFor y (f m))
+      → ((m : Traffic) → P m → AllStand net xs m → TileStandsFor y (f m))
       → ((m : Traffic) → P m → AllStand net xs m → MetersStand (get_or xs i d) m → MetersStand y (f m))
       → ((k : ℕ) (e : TileView) (m : Traffic) → (k ≡ i → ⊥) → k < length xs → MetersStand (get_or xs k e) m → MetersStand (get_or xs k e) (f m))
       → TilesGo P f (tiles_of net xs) (tiles_of net (set xs i y))
@@ -63,7 +63,7 @@ module _ (net : NetSpec) (P : Traffic → Type 0) (f : Traffic → Traffic) (xs 
         goes = λ m holds s. record {
           lanes = record {
             on = on m holds s.lanes.on;
-            each = λ k e l. at-set (λ t. StandsFor t (f m)) xs i y e k h (λ here. stands m holds s.lanes) (λ other. elsewhere k e m other (omega (arith, l, long)) holds s.lanes);
+            each = λ k e l. at-set (λ t. TileStandsFor t (f m)) xs i y e k h (λ here. stands m holds s.lanes) (λ other. elsewhere k e m other (omega (arith, l, long)) holds s.lanes);
           };
           meters = λ k e l. at-set (λ t. MetersStand t (f m)) xs i y e k h (λ here. meters m holds s.lanes (s.meters i d h))
               (λ other. let within : k < length xs = omega (arith, l, long) in apart k e m other within (s.meters k e within));
@@ -134,10 +134,10 @@ module _ {net here : NetSpec} {xs : List TileView} {v : TilesView} {i : ℕ} {x 
   owns-here link p own at = at-call (λ n u. is_own n u.low u.high p ≡ true) (owns-any link p own at x)
 
   -- it stands for what all stand for
-  pub stands-here : (m : Traffic) → TilesStandFor v m → IsOn here m × StandsFor x m × MetersStand x m
+  pub stands-here : (m : Traffic) → TilesStandFor v m → IsOn here m × TileStandsFor x m × MetersStand x m
   stands-here m s =
       let all = stands-seen net xs v m t.seen s in
-      at-call (λ n u. IsOn n m × StandsFor u m × MetersStand u m) (all.lanes.on, all.lanes.each i x t.within, all.meters i x t.within)
+      at-call (λ n u. IsOn n m × TileStandsFor u m × MetersStand u m) (all.lanes.on, all.lanes.each i x t.within, all.meters i x t.within)
 
   pub does-there : {P : Traffic → Type 0} {f : Traffic → Traffic} {y : TileView} → DoesIf here P f x y → DoesIf net P f (get_or xs i x) y
   does-there {P} {f} {y} does = at-list (λ n u. DoesIf n P f u y) does

@@ -2,10 +2,10 @@
 use Rattle.std.specs.Prelude.{◌≡◌, ◌<◌, ◌≤◌, ℕ, List, sum_by, Option, Some, None, slice_get, slice_set, if◌then◌else◌}
 use Rattle.street_base.specs.declared.net.NetSpec.{NetSpec}
 use Rattle.street_base.specs.declared.reply.Whereabouts.{Whereabouts}
-use Rattle.street_base.specs.Prelude.{Vehicle, is_place, SignalPlan, Traffic, LaneState, lane_at, each_lane, in_lane, lane_without, seen_in}
+use Rattle.street_base.specs.Prelude.{Vehicle, is_place, SignalPlan, Traffic, LaneState, lane_at, each_lane, in_lane, lane_without, whereabouts_in}
 use Rattle.street_base.specs.declared.names.Place.{Place}
 use Rattle.street_lanes.specs.Prelude.{vehicle_on, place_at, IsOn}
-use Rattle.street_tile.specs.Tiles.{TileView, StandsFor, SameTile}
+use Rattle.street_tile.specs.Tiles.{TileView, TileStandsFor, SameTile}
 
 -- ---- what is done
 
@@ -35,7 +35,7 @@ pub record DoesIf (net : NetSpec) (P : Traffic → Type 0) (f : Traffic → Traf
   pub coming : y.coming ≡ x.coming
   pub arrived : y.arrived ≡ x.arrived
   pub detectors : y.detectors ≡ x.detectors
-  pub stands : (m : Traffic) → IsOn net m → P m → StandsFor x m → StandsFor y (f m)
+  pub stands : (m : Traffic) → IsOn net m → P m → TileStandsFor x m → TileStandsFor y (f m)
 
 -- that, for each traffic of the network for which tile x stood, tile y stands for f of it, with no condition; nodes,
 -- places, sizes, loose vehicles and odds, hand-overs, those who come, arrived numbers and detectors are as they were
@@ -68,7 +68,7 @@ Hold ps m number v = (k : ℕ) × (p : Place) × (slice_get ps k ≡ Some p) × 
 -- `found` is none, that the vehicle is on none of them, as where there are no lanes
 abbrev pub Finds : NetSpec → List Place → Traffic → ℕ → Option Whereabouts → Type 0
 Finds net ps m number None = HaveNot ps m number
-Finds net ps m number (Some found) = (k : ℕ) × (p : Place) × (slice_get ps k ≡ Some p) × (seen_in net p number (lane_at m p) ≡ Some found)
+Finds net ps m number (Some found) = (k : ℕ) × (p : Place) × (slice_get ps k ≡ Some p) × (whereabouts_in net p number (lane_at m p) ≡ Some found)
 
 -- the sum of f over the traffic's lanes at these places, a place that stands twice counted twice; 0 where there are
 -- none
@@ -83,10 +83,10 @@ HaveAtMostOne ps m number = over ps (in_lane number) m ≤ 1
 -- that P holds of all traffic of the network for which the tile stands, and in which the number stands at most once on
 -- the tile's lanes; nothing is claimed of other traffic
 abbrev pub WhereOnce : NetSpec → TileView → ℕ → (Traffic → Type 0) → Type 0
-WhereOnce net x number P = (m : Traffic) → IsOn net m → StandsFor x m → HaveAtMostOne x.own.places m number → P m
+WhereOnce net x number P = (m : Traffic) → IsOn net m → TileStandsFor x m → HaveAtMostOne x.own.places m number → P m
 
 -- that `found` is the whereabouts of the vehicle of this number on lane n of the tile's own, none where it is not on
 -- that lane; claimed of all traffic of the network for which the tile stands and that has the number at most once on
 -- the tile's lanes
 abbrev pub FindsAt : NetSpec → TileView → ℕ → ℕ → Option Whereabouts → Type 0
-FindsAt net x n number found = WhereOnce net x number (λ m. found ≡ seen_in net (place_at x.own n) number (lane_at m (place_at x.own n)))
+FindsAt net x n number found = WhereOnce net x number (λ m. found ≡ whereabouts_in net (place_at x.own n) number (lane_at m (place_at x.own n)))

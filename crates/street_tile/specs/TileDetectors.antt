@@ -4,7 +4,7 @@ use Rattle.street_base.specs.declared.net.NetSpec.{NetSpec}
 use Rattle.street_base.specs.declared.names.Place.{Place}
 use Rattle.street_base.specs.Prelude.{metered, is_place, link_at, Traffic, LaneState, Detector, noted}
 use Rattle.street_lanes.specs.Prelude.{LaneStands, Lanes, lane_of, Detectors, watch_of, AllGoOn, AllNote, MetersStandFor}
-use Rattle.street_tile.specs.Tiles.{TileView, StandsFor, SameTile}
+use Rattle.street_tile.specs.Tiles.{TileView, TileStandsFor, SameTile}
 
 -- the detectors that are read past the end of a list: none, on a lane of no cells
 abbrev pub no_detectors : Detectors
@@ -70,5 +70,5 @@ AllMetersStand xs m = All (λ x. MetersStand x m) xs
 pub record PlacesMeter (p : Place) (cell period : ℕ) (x y : TileView) : Type 0 where
   pub same : SameTile x y
   pub rest : y ≡ record x { detectors = y.detectors }
-  pub stands : (m : Traffic) → StandsFor x m → StandsFor y (metered m p cell period)
-  pub meters : (m : Traffic) → StandsFor x m → MetersStand x m → MetersStand y (metered m p cell period)
+  pub stands : (m : Traffic) → TileStandsFor x m → TileStandsFor y (metered m p cell period)
+  pub meters : (m : Traffic) → TileStandsFor x m → MetersStand x m → MetersStand y (metered m p cell period)

@@ -112,7 +112,7 @@ BeginsLink own n = n < length own.places → (place_at own n).lane ≡ 0
 
 -- that the tile shows the traffic as far as it is the tile's: the same clock, its own lanes, the greens at its own
 -- nodes, and no vehicle on no list; of mouths, detectors and those on the way nothing is said
-pub record StandsFor (x : TileView) (m : Traffic) : Type 0 where
+pub record TileStandsFor (x : TileView) (m : Traffic) : Type 0 where
   pub clock : x.clock ≡ m.clock
   pub lanes : LanesStand x.own.places x.own.lanes m
   pub none_loose : x.own.loose ≡ []
@@ -121,7 +121,7 @@ pub record StandsFor (x : TileView) (m : Traffic) : Type 0 where
 -- that the tile's mouths at its own lanes' slots, 2 * link + lane, say whether their cells 0 are free, in all traffic
 -- for which the tile stands
 abbrev pub ShowsOwn : TileView → Type 0
-ShowsOwn x = (m : Traffic) → StandsFor x m → (j : ℕ) (p : Place) → slice_get x.own.places j ≡ Some p → mouth x.mouths p ≡ is_free (lane_at m p).track 0
+ShowsOwn x = (m : Traffic) → TileStandsFor x m → (j : ℕ) (p : Place) → slice_get x.own.places j ≡ Some p → mouth x.mouths p ≡ is_free (lane_at m p).track 0
 
 -- that `numbers`, two entries for each link, has at the slot of each lane of ps, 2 * link + lane, the lane's position
 -- in ps; of other slots nothing is said
@@ -193,4 +193,4 @@ pub record AreTiles (net : NetSpec) (xs : List TileView) : Type 0 where
 -- it at its own lanes and nodes; that the tiles cover the network is not said
 pub record AllStand (net : NetSpec) (xs : List TileView) (m : Traffic) : Type 0 where
   pub on : IsOn net m
-  pub each : All (λ x. StandsFor x m) xs
+  pub each : All (λ x. TileStandsFor x m) xs

@@ -4,7 +4,7 @@ ghost use Rattle.street_base.specs.declared.net.NetSpec.{NetSpec};
 ghost use Rattle.street_base.specs.Prelude.{link_at, SignalPlan as PlanSeen, Traffic, lane_at, in_lane, with_marks, with_waiting, closed_after, shown_lane};
 ghost use Rattle.street_node.specs.Prelude.{ShowsAs};
 ghost use Rattle.street_lanes.specs.Prelude.{waiting_of, IsLane, HasShortPlan, IsOn};
-ghost use Rattle.street_tile.specs.Prelude.{IsTileOf, StandsFor, is_own, at_place, planned, DoesIf, Does, KeepsAll};
+ghost use Rattle.street_tile.specs.Prelude.{IsTileOf, TileStandsFor, is_own, at_place, planned, DoesIf, Does, KeepsAll};
 
 use crate::tile::Tile;
 use std::alloc::Global;
@@ -71,7 +71,7 @@ impl Tile {
         requires order { first ≤ last }
         requires within { last < (link_at net.now at.link).length }
         ensures marks { OnOk result (Does net.now (at_place at (with_marks true first last)) self.old self.new) }
-        ensures count { IfOk result (λ count. (m : Traffic) → IsOn net.now m → StandsFor self.old m
+        ensures count { IfOk result (λ count. (m : Traffic) → IsOn net.now m → TileStandsFor self.old m
             → count ≡ closed_after true first last (lane_at m at)) }
         ensures starved { OnErr result (KeepsAll self.old self.new) }
     {
@@ -96,7 +96,7 @@ impl Tile {
         requires order { first ≤ last }
         requires within { last < (link_at net.now at.link).length }
         ensures marks { OnOk result (Does net.now (at_place at (with_marks false first last)) self.old self.new) }
-        ensures count { IfOk result (λ count. (m : Traffic) → IsOn net.now m → StandsFor self.old m
+        ensures count { IfOk result (λ count. (m : Traffic) → IsOn net.now m → TileStandsFor self.old m
             → count ≡ closed_after false first last (lane_at m at)) }
         ensures starved { OnErr result (KeepsAll self.old self.new) }
     {
@@ -121,7 +121,7 @@ impl Tile {
         requires order { first ≤ last }
         requires within { last < (link_at net.now at.link).length }
         ensures marks { OnOk result (Does net.now (at_place at (with_marks closed first last)) self.old self.new) }
-        ensures count { IfOk result (λ count. (m : Traffic) → IsOn net.now m → StandsFor self.old m
+        ensures count { IfOk result (λ count. (m : Traffic) → IsOn net.now m → TileStandsFor self.old m
             → count ≡ closed_after closed first last (lane_at m at)) }
         ensures starved { OnErr result (KeepsAll self.old self.new) }
     {
@@ -138,7 +138,7 @@ impl Tile {
         requires tile { IsTileOf net.now self.now }
         requires lane { IsLane net.now at }
         requires own { is_own net.now self.now.low self.now.high at ≡ true }
-        ensures { IfOk result (λ reply. (m : Traffic) → IsOn net.now m → StandsFor self.now m
+        ensures { IfOk result (λ reply. (m : Traffic) → IsOn net.now m → TileStandsFor self.now m
             → reply ≡ shown_lane (lane_at m at)) }
     {
         let lane = self.number(net, at);

@@ -4,7 +4,7 @@ ghost use Rattle.std.specs.List.{range_with_len};
 ghost use Rattle.street_base.specs.Prelude.{most_workers, most_links, loaded};
 ghost use Rattle.street_lanes.specs.Prelude.{AllLanes, fresh};
 ghost use Rattle.street_lanes.specs.Lanes.{IsOf};
-ghost use Rattle.street_tile.specs.Prelude.{IsTileOf, IsIdle, StandsFor, AreTiles, AreNumbers, own_places, bare, MetersStand, AllMetersStand};
+ghost use Rattle.street_tile.specs.Prelude.{IsTileOf, IsIdle, TileStandsFor, AreTiles, AreNumbers, own_places, bare, MetersStand, AllMetersStand};
 ghost use Rattle.street_node.specs.Prelude.{AtMostOnce};
 
 use crate::hand_over::{Comers, HandOver};
@@ -216,7 +216,7 @@ impl Tile {
         ensures tile { IfOk result (IsTileOf net.now) }
         ensures nodes { IfOk result (λ tile. (tile.low ≡ low) × (tile.high ≡ high)) }
         ensures idle { IfOk result IsIdle }
-        ensures stands { IfOk result (λ tile. StandsFor tile (loaded net.now)) }
+        ensures stands { IfOk result (λ tile. TileStandsFor tile (loaded net.now)) }
         ensures meters { IfOk result (λ tile. MetersStand tile (loaded net.now)) }
     {
         let links = net.spec().links.as_slice().len();
@@ -253,7 +253,7 @@ impl Tile {
         ensures tiles { IfOk result (λ tiles. AreTiles net.now tiles.items) }
         ensures count { IfOk result (λ tiles. length tiles.items ≡ min workers (length net.now.nodes)) }
         ensures idle { IfOk result (λ tiles. All IsIdle tiles.items) }
-        ensures stand { IfOk result (λ tiles. All (λ x. StandsFor x (loaded net.now)) tiles.items) }
+        ensures stand { IfOk result (λ tiles. All (λ x. TileStandsFor x (loaded net.now)) tiles.items) }
         ensures meters { IfOk result (λ tiles. AllMetersStand tiles.items (loaded net.now)) }
     {
         let nodes = net.spec().nodes.as_slice().len();

@@ -9,15 +9,9 @@ use street_base::{CarNo, LinkIx, Starved};
 
 /// For each number given so far the link on which its vehicle was last put. A vehicle is sought there first; whether it is
 /// there is asked of the lanes.
+#[derive(Drop)]
 pub struct LinkHints {
     links: Vec<LinkIx>,
-}
-
-impl Drop for LinkHints {
-    /// Drops the list.
-    fn drop(self) {
-        let LinkHints { links: _ } = self;
-    }
 }
 
 impl Model for LinkHints {

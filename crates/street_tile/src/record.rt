@@ -2,11 +2,11 @@
 //! `street_engine` calls it for each step of a recorded run.
 ghost use Rattle.std.specs.Prelude.{◌≡◌, ◌<◌, ◌≤◌, map, length, filter_map, sum_by, true};
 ghost use Rattle.std.specs.List.{FoldsTo};
-ghost use Rattle.street_base.specs.Prelude.{IsSound, Traffic, most_vehicles, places, rows_bytes, rows_of_step};
+ghost use Rattle.street_base.specs.Prelude.{IsSoundTraffic, Traffic, most_vehicles, places, rows_bytes, rows_of_step};
 ghost use Rattle.street_lanes.specs.Prelude.{IsLane, IsOn};
 ghost use Rattle.street_record.specs.Given.{Adds};
 ghost use Rattle.street_record.specs.Rows.{as_written, arrival_at, rows_at};
-ghost use Rattle.street_tile.specs.Prelude.{HaveStepped, IsTileOf, StandsFor, is_own};
+ghost use Rattle.street_tile.specs.Prelude.{HaveStepped, IsTileOf, TileStandsFor, is_own};
 ghost use Rattle.street_tile.specs.Record.{arrived_at, link_rows};
 
 use crate::tile::Tile;
@@ -22,7 +22,7 @@ impl Tile {
         requires tile { IsTileOf net.now self.now }
         requires lane { IsLane net.now at }
         requires own { is_own net.now self.now.low self.now.high at ≡ true }
-        ensures { (before : Traffic) → (after : Traffic) → IsOn net.now after → StandsFor self.now after
+        ensures { (before : Traffic) → (after : Traffic) → IsOn net.now after → TileStandsFor self.now after
             → self.now.left ≡ filter_map (arrival_at before) self.now.own.places
             → FoldsTo S.takes sink.old (map as_written (rows_at before after at)) sink.new }
     {
@@ -59,7 +59,7 @@ impl Tiles {
     /// How many rows the step has that was made last: those in cells and in buffers, and those who arrived. Looks at counts that are
     /// kept, and at no lane.
     pub fn rows(&self) -> u32
-        requires { (m : Traffic) × HaveStepped self.now m × IsSound m × (length m.ends ≤ most_vehicles) }
+        requires { (m : Traffic) × HaveStepped self.now m × IsSoundTraffic m × (length m.ends ≤ most_vehicles) }
         ensures { (m : Traffic) → HaveStepped self.now m → result ≡ length (rows_of_step m) }
     {
         let totals = self.totals();

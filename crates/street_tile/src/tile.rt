@@ -10,6 +10,7 @@ use street_lanes::{Detectors, Lanes};
 use street_node::SignalPlan;
 
 /// A block of nodes with all lanes of the links that run to them, and the vehicles there.
+#[derive(Drop)]
 pub struct Tile {
     /// The position of its first node.
     pub(crate) low: usize,
@@ -39,28 +40,6 @@ pub struct Tile {
     pub(crate) has_meters: bool,
     /// The detectors of each own lane, by its number in `own`.
     pub(crate) detectors: Vec<Detectors>,
-}
-
-impl Drop for Tile {
-    /// Drops its parts.
-    fn drop(self) {
-        let Tile {
-            low: _,
-            high: _,
-            links: _,
-            own: _,
-            numbers: _,
-            clock: _,
-            signals: _,
-            mouths: _,
-            handed: _,
-            coming: _,
-            arrived: _,
-            left: _,
-            has_meters: _,
-            detectors: _,
-        } = self;
-    }
 }
 
 impl Model for Tile {

@@ -4,7 +4,7 @@
 //! command is done by the tile that owns the node or lane, and the others stay as they are. Steps are in `step`, commands that
 //! name a vehicle in `tiles_vehicles`, the blocks in which a team lends the tiles in `sharing`.
 ghost use Rattle.std.specs.Prelude.{◌≡◌, ◌+◌, ◌<◌, ◌≤◌, length, min, option_map, slice_get, IfOk, OnOk, OnErr};
-ghost use Rattle.street_base.specs.Prelude.{in_lane, IsSound, with_marks, metered, last_clock, most_workers, most_period, most_vehicles, loaded, with_waiting, closed_after};
+ghost use Rattle.street_base.specs.Prelude.{in_lane, IsSoundTraffic, with_marks, metered, last_clock, most_workers, most_period, most_vehicles, loaded, with_waiting, closed_after};
 ghost use Rattle.street_base.specs.Prelude.{link_at, shown_lane, shown_rows, in_cells, in_buffers, in_wait, SignalPlan as PlanSeen, Traffic, lane_at};
 ghost use Rattle.street_node.specs.Prelude.{ShowsAs};
 ghost use Rattle.street_lanes.specs.Prelude.{IsLane, HasShortPlan, waiting_of};
@@ -22,23 +22,12 @@ use street_node::SignalPlan;
 
 /// A network, its tiles, the view of its mouths as the last step's releases saw it (none open before the first), and on which link
 /// each vehicle was last put.
+#[derive(Drop)]
 pub struct Tiles {
     pub(crate) network: Arc<Network, Global>,
     pub(crate) tiles: Vec<Tile>,
     pub(crate) view: View,
     pub(crate) hints: LinkHints,
-}
-
-impl Drop for Tiles {
-    /// Drops its parts.
-    fn drop(self) {
-        let Tiles {
-            network: _,
-            tiles: _,
-            view: _,
-            hints: _,
-        } = self;
-    }
 }
 
 impl Model for Tiles {
@@ -224,7 +213,7 @@ impl Tiles {
     /// How many vehicles are in cells, in buffers and waiting on the lanes of all tiles. Looks at counts that are kept, and at no
     /// lane.
     pub fn totals(&self) -> LaneTotals
-        requires { (m : Traffic) × TilesStandFor self.now m × IsSound m × (length m.ends ≤ most_vehicles) }
+        requires { (m : Traffic) × TilesStandFor self.now m × IsSoundTraffic m × (length m.ends ≤ most_vehicles) }
         ensures cells { (m : Traffic) → TilesStandFor self.now m → result.cells ≡ in_cells m }
         ensures buffers { (m : Traffic) → TilesStandFor self.now m → result.buffers ≡ in_buffers m }
         ensures waiting { (m : Traffic) → TilesStandFor self.now m → result.waiting ≡ in_wait m }

@@ -1,7 +1,7 @@
 //! Commands that name a vehicle: it is sought on the lanes of the link on which it was last put, and then in all tiles.
 //! `street_engine` calls them.
 ghost use Rattle.std.specs.Prelude.{◌≡◌, ℕ, ◌<◌, length, true, false, IsSome, IfOk};
-ghost use Rattle.street_base.specs.Prelude.{IsSound, IsWhole, seen, Traffic};
+ghost use Rattle.street_base.specs.Prelude.{IsSoundTraffic, IsWhole, whereabouts_on_lanes, Traffic};
 ghost use Rattle.street_lanes.specs.Prelude.{IsLane};
 ghost use Rattle.street_tile.specs.Prelude.{without, TilesStandFor, TilesGo, TileHasNot};
 
@@ -82,7 +82,7 @@ impl Tiles {
         link: LinkIx,
         number: CarNo,
     ) -> Result<Option<Whereabouts>, Starved>
-        ensures { IfOk result (λ found. IsSome found → (m : Traffic) → IsSound m → TilesStandFor self.now m → found ≡ seen m number) }
+        ensures { IfOk result (λ found. IsSome found → (m : Traffic) → IsSoundTraffic m → TilesStandFor self.now m → found ≡ whereabouts_on_lanes m number) }
     {
         for lane in 0..self.lanes_of(link) {
             let at = Place { link, lane };
@@ -99,7 +99,7 @@ impl Tiles {
     /// # Errors
     /// Memory for the plan was refused.
     pub fn find(&self, alloc: Global, number: CarNo) -> Result<Option<Whereabouts>, Starved>
-        ensures { IfOk result (λ found. (m : Traffic) → IsSound m → TilesStandFor self.now m → found ≡ seen m number) }
+        ensures { IfOk result (λ found. (m : Traffic) → IsSoundTraffic m → TilesStandFor self.now m → found ≡ whereabouts_on_lanes m number) }
     {
         if let Some(link) = self.hints.get(number)
             && let Some(found) = self.find_on_link(alloc, link, number)?

@@ -1,8 +1,8 @@
 //! Commands to one tile that name a vehicle, and how many vehicles are on its lanes. `tiles_vehicles.rt` calls them.
 ghost use Rattle.std.specs.Prelude.{◌≡◌, ◌<◌, length, count_by, is_some, option_map, None, true, IfOk, IfSome};
-ghost use Rattle.street_base.specs.Prelude.{vehicle_of, Traffic, lane_at, in_lane, seen_in};
+ghost use Rattle.street_base.specs.Prelude.{vehicle_of, Traffic, lane_at, in_lane, whereabouts_in};
 ghost use Rattle.street_lanes.specs.Prelude.{IsLane, place_at, vehicle_on};
-ghost use Rattle.street_tile.specs.Prelude.{IsTileOf, StandsFor, is_own, without, DoesIf, HaveNot, Have, Hold, HaveAtMostOne, WhereOnce, Finds, FindsAt, over};
+ghost use Rattle.street_tile.specs.Prelude.{IsTileOf, TileStandsFor, is_own, without, DoesIf, HaveNot, Have, Hold, HaveAtMostOne, WhereOnce, Finds, FindsAt, over};
 
 use crate::tile::Tile;
 use std::alloc::Global;
@@ -94,7 +94,7 @@ impl Tile {
         requires tile { IsTileOf net.now self.now }
         requires lane { IsLane net.now at }
         requires own { is_own net.now self.now.low self.now.high at ≡ true }
-        ensures { IfOk result (λ found. WhereOnce net.now self.now number (λ m. found ≡ seen_in net.now at number (lane_at m at))) }
+        ensures { IfOk result (λ found. WhereOnce net.now self.now number (λ m. found ≡ whereabouts_in net.now at number (lane_at m at))) }
     {
         let n = self.number(net, at);
         self.find_on_own(alloc, net, n, number)
@@ -123,9 +123,9 @@ impl Tile {
 
     /// How many vehicles are in cells, in buffers and waiting on the own lanes. Looks at counts that are kept, and at no lane.
     pub fn totals(&self) -> LaneTotals
-        ensures cells { (m : Traffic) → StandsFor self.now m → result.cells ≡ over self.now.own.places (λ lane. count_by is_some lane.track.cells) m }
-        ensures buffers { (m : Traffic) → StandsFor self.now m → result.buffers ≡ over self.now.own.places (λ lane. length lane.queue) m }
-        ensures waiting { (m : Traffic) → StandsFor self.now m → result.waiting ≡ over self.now.own.places (λ lane. length lane.waiting) m }
+        ensures cells { (m : Traffic) → TileStandsFor self.now m → result.cells ≡ over self.now.own.places (λ lane. count_by is_some lane.track.cells) m }
+        ensures buffers { (m : Traffic) → TileStandsFor self.now m → result.buffers ≡ over self.now.own.places (λ lane. length lane.queue) m }
+        ensures waiting { (m : Traffic) → TileStandsFor self.now m → result.waiting ≡ over self.now.own.places (λ lane. length lane.waiting) m }
     {
         self.own.totals()
     }

@@ -17,16 +17,10 @@ use street_net::{Network, slot};
 
 /// For each lane of a network whether its cell 0 is empty and not closed, by `street_net::slot`: two entries a link, of which a
 /// link of one lane uses the first. Contracts see the list.
+#[derive(Drop)]
 pub struct View {
     /// Of each lane, by slot, whether its mouth is open.
     pub(crate) mouths: Vec<bool>,
-}
-
-impl Drop for View {
-    /// Drops the list.
-    fn drop(self) {
-        let View { mouths: _ } = self;
-    }
 }
 
 impl Model for View {

@@ -3,7 +3,7 @@ use Rattle.std.proofs.Common.{◌≡◌, ◌<◌, List, length, get_or, refl, sy
 use Rattle.street_base.specs.declared.net.NetSpec.{NetSpec}
 use Rattle.street_base.specs.Prelude.{network_fault, last_clock, Traffic, loaded}
 use Rattle.street_base.proofs.LoadLemmas.{loaded-sound}
-use Rattle.street_tile.specs.Prelude.{KeepsAll, TileView, AreTiles, AllStand, StandsFor, SameTile, Each, IsIdle, IsPrepared}
+use Rattle.street_tile.specs.Prelude.{KeepsAll, TileView, AreTiles, AllStand, TileStandsFor, SameTile, Each, IsIdle, IsPrepared}
 use Rattle.street_tile.proofs.BetweenPhases.{tiles-same}
 
 -- ---- one tile
@@ -14,8 +14,8 @@ keeps-same x y e = subst (SameTile x) (sym e) (record { low = refl; high = refl;
 keeps-idle : (x y : TileView) → KeepsAll x y → IsIdle x → IsIdle y
 keeps-idle x y e idle = subst IsIdle (sym e) (record { handed = idle.handed; coming = idle.coming; arrived = idle.arrived })
 
-keeps-stands : (x y : TileView) (m : Traffic) → KeepsAll x y → StandsFor x m → StandsFor y m
-keeps-stands x y m e s = subst (λ (t : TileView). StandsFor t m) (sym e) (record { clock = s.clock; lanes = s.lanes; none_loose = s.none_loose; signals = s.signals })
+keeps-stands : (x y : TileView) (m : Traffic) → KeepsAll x y → TileStandsFor x m → TileStandsFor y m
+keeps-stands x y m e s = subst (λ (t : TileView). TileStandsFor t m) (sym e) (record { clock = s.clock; lanes = s.lanes; none_loose = s.none_loose; signals = s.signals })
 
 -- ---- all tiles
 
@@ -31,12 +31,12 @@ module _ (net : NetSpec) (xs ys : List TileView) (long : length ys ≡ length xs
   pub prepared-kept : All IsPrepared ys
   prepared-kept k d h = let within : k < length xs = omega arith in (kept k d within).1
 
-  stands-kept : (m : Traffic) → All (λ x. StandsFor x m) xs → All (λ x. StandsFor x m) ys
+  stands-kept : (m : Traffic) → All (λ x. TileStandsFor x m) xs → All (λ x. TileStandsFor x m) ys
   stands-kept m each k d h =
       let within : k < length xs = omega arith in
       keeps-stands (get_or xs k d) (get_or ys k d) m (kept k d within).0 (each k d within)
 
   -- they stand for the network with no vehicle
-  pub new-stand : network_fault net ≡ None → net.start < last_clock → All (λ x. StandsFor x (loaded net)) xs → (m : Traffic) × AllStand net ys m × (m.clock < last_clock)
+  pub new-stand : network_fault net ≡ None → net.start < last_clock → All (λ x. TileStandsFor x (loaded net)) xs → (m : Traffic) × AllStand net ys m × (m.clock < last_clock)
   unfolding loaded
   new-stand faultless early each = (loaded net, record { on = record { network = refl; formed = (loaded-sound net faultless).formed }; each = stands-kept (loaded net) each }, early)

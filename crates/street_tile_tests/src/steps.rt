@@ -1,7 +1,7 @@
 //! A step of all tiles phase by phase, called as a caller of its own would.
 ghost use Rattle.std.specs.Prelude.{◌≤◌, ◌<◌, length, OnOk, All};
 ghost use Rattle.street_base.specs.Prelude.{last_clock, loaded};
-ghost use Rattle.street_tile.specs.Prelude.{KeepsAll, AreTiles, StandsFor, IsIdle, IsPrepared, Each};
+ghost use Rattle.street_tile.specs.Prelude.{KeepsAll, AreTiles, TileStandsFor, IsIdle, IsPrepared, Each};
 
 use crate::meeting::{Calls, Meeting, Watched};
 use crate::scenes::two_ways;
@@ -36,7 +36,7 @@ fn step<R: Threads + Sync, G: Gate + Sync>(
     requires tiles { AreTiles net.now tiles.old }
     requires few { length tiles.old ≤ 64 }
     requires idle { All IsIdle tiles.old }
-    requires stand { All (λ x. StandsFor x (loaded net.now)) tiles.old }
+    requires stand { All (λ x. TileStandsFor x (loaded net.now)) tiles.old }
 {
     prepare(tiles)?;
     let mut view = View::new(alloc, net)?;

@@ -8,11 +8,11 @@ use Rattle.std.proofs.lemmas.Map.Steps.{length-le_from_distinct_below}
 use Rattle.street_yard.specs.declared.list_table.ListRow.{ListRow}
 use Rattle.street_yard.specs.declared.hot.Hot.{Hot}
 use Rattle.street_yard.specs.declared.yard.Slot.{Slot}
-use Rattle.street_yard.specs.Prelude.{first_or, last_or, Has, Away, IsApart, Links, LinksAt, linked, list_of, IsList, no_row, StandsFor, walk, rejoined, unlinked_at, row_joined, inserted_at}
+use Rattle.street_yard.specs.Prelude.{first_or, last_or, Has, Away, IsApart, Links, LinksAt, linked, list_of, IsList, no_row, RowsStandFor, walk, rejoined, unlinked_at, row_joined, inserted_at}
 use Rattle.street_yard.specs.Inside.{links_at, lists_of, slot_in, hot_at}
 use Rattle.street_yard.proofs.Keys.{Away-append, IsApart-split, IsApart-join, last_or-append}
 use Rattle.street_yard.proofs.Threads.{modify-same, modify-other, modify-was, IsThread-split, IsThread-join, IsThread-Away, IsThread-modify, walk-thread}
-use Rattle.street_yard.proofs.Rejoined.{IsThread-has, StandsFor-changed, rejoined-other, list_of-rejoined, rejoined-parts, row-front, row-back, row-count, IsOn-first, IsOn-last}
+use Rattle.street_yard.proofs.Rejoined.{IsThread-has, RowsStandFor-changed, rejoined-other, list_of-rejoined, rejoined-parts, row-front, row-back, row-count, IsOn-first, IsOn-last}
 
 pub Has-other : (us : List ℕ) (key : ℕ) (vs : List ℕ) (k : ℕ) → k ≢ key → Has (us ++ key ∷ vs) k → Has (us ++ vs) k
 Has-other [] key vs k ne ([], bs, e) = absurd (let f : k ≡ key = cc in ne f)
@@ -36,8 +36,8 @@ list_of-const l None e = refl
 list_of-const l (Some _) e = e
 
 -- the key has left its list
-pub StandsFor-unlink : (at : LinksAt) (rows : List ListRow) (lists : List (List ℕ)) (n key : ℕ) (us vs : List ℕ) (count : ℕ) → count ≡ length (us ++ vs) → n < length rows → StandsFor at rows lists → get_or lists n [] ≡ us ++ key ∷ vs → StandsFor (unlinked_at at key us vs) (set rows n (row_joined (get_or rows n no_row) count (last_or us None) (first_or vs None) (first_or vs None) (last_or us None))) (set lists n (us ++ vs))
-StandsFor-unlink at rows lists n key us vs count counts within y is =
+pub RowsStandFor-unlink : (at : LinksAt) (rows : List ListRow) (lists : List (List ℕ)) (n key : ℕ) (us vs : List ℕ) (count : ℕ) → count ≡ length (us ++ vs) → n < length rows → RowsStandFor at rows lists → get_or lists n [] ≡ us ++ key ∷ vs → RowsStandFor (unlinked_at at key us vs) (set rows n (row_joined (get_or rows n no_row) count (last_or us None) (first_or vs None) (first_or vs None) (last_or us None))) (set lists n (us ++ vs))
+RowsStandFor-unlink at rows lists n key us vs count counts within y is =
     let e = get_or rows n no_row in
     let p = last_or us None in
     let q = first_or vs None in
@@ -52,7 +52,7 @@ StandsFor-unlink at rows lists n key us vs count counts within y is =
     let key_on : list_of (at key) ≡ Some n = ap list_of parts.1.0 in
     let gone : list_of (now key) ≡ None = ap list_of (modify-same joined key (λ _. linked None None None)) ∙ list_of-const _ (joined key) refl in
     let lists_stay : (k : ℕ) → k ≢ key → list_of (now k) ≡ list_of (at k) = λ k ne. ap list_of (modify-other joined key _ k ne) ∙ list_of-rejoined at p q q p k in
-    StandsFor-changed at now rows lists n (us ++ vs) (row_joined e count p q q p) within y
+    RowsStandFor-changed at now rows lists n (us ++ vs) (row_joined e count p q q p) within y
     (record {
       thread = IsThread-join now n None us vs None (IsThread-modify joined n key _ None us q apart.0 both.0) (IsThread-modify joined n key _ p vs None apart.1 both.1);
       front = row-front (record e { count = count }) us vs (key ∷ vs) q q p was.front refl;
@@ -75,8 +75,8 @@ StandsFor-unlink at rows lists n key us vs count counts within y is =
           Has-other us key vs k differs old
     ])
 
-pub StandsFor-insert : (at : LinksAt) (rows : List ListRow) (lists : List (List ℕ)) (n key : ℕ) (us vs : List ℕ) (count : ℕ) (l : Links) → count ≡ length (us ++ key ∷ vs) → n < length rows → StandsFor at rows lists → get_or lists n [] ≡ us ++ vs → at key ≡ Some l → l.list ≡ None → StandsFor (inserted_at at n key us vs) (set rows n (row_joined (get_or rows n no_row) count (last_or us None) (first_or vs None) (Some key) (Some key))) (set lists n (us ++ key ∷ vs))
-StandsFor-insert at rows lists n key us vs count l counts within y is here loose =
+pub RowsStandFor-insert : (at : LinksAt) (rows : List ListRow) (lists : List (List ℕ)) (n key : ℕ) (us vs : List ℕ) (count : ℕ) (l : Links) → count ≡ length (us ++ key ∷ vs) → n < length rows → RowsStandFor at rows lists → get_or lists n [] ≡ us ++ vs → at key ≡ Some l → l.list ≡ None → RowsStandFor (inserted_at at n key us vs) (set rows n (row_joined (get_or rows n no_row) count (last_or us None) (first_or vs None) (Some key) (Some key))) (set lists n (us ++ key ∷ vs))
+RowsStandFor-insert at rows lists n key us vs count l counts within y is here loose =
     let e = get_or rows n no_row in
     let p = last_or us None in
     let q = first_or vs None in
@@ -93,7 +93,7 @@ StandsFor-insert at rows lists n key us vs count l counts within y is here loose
     let stays : joined key ≡ Some l = rejoined-other at n p q (Some key) (Some key) key on_p on_q key_off ∙ here in
     let new : now key ≡ Some (linked p q (Some n)) = modify-was joined key _ l stays in
     let lists_stay : (k : ℕ) → k ≢ key → list_of (now k) ≡ list_of (at k) = λ k ne. ap list_of (modify-other joined key _ k ne) ∙ list_of-rejoined at p q (Some key) (Some key) k in
-    StandsFor-changed at now rows lists n (us ++ key ∷ vs) (row_joined e count p q (Some key) (Some key)) within y
+    RowsStandFor-changed at now rows lists n (us ++ key ∷ vs) (row_joined e count p q (Some key) (Some key)) within y
     (record {
       thread = IsThread-join now n None us (key ∷ vs) None (IsThread-modify joined n key _ None us (Some key) away.0 both.0) (new, IsThread-modify joined n key _ (Some key) vs None away.1 both.1);
       front = row-front (record e { count = count }) us (key ∷ vs) vs (Some key) q (Some key) was.front refl;
@@ -153,7 +153,7 @@ module _ (hots : List Hot) (slots : List (Option Slot)) (within : (k : ℕ) → 
   pub keys-few : (xs : List ℕ) → IsApart xs → ((k : ℕ) → Has xs k → k < length hots) → length xs ≤ length hots
   keys-few xs apart below = length-le_from_distinct_below xs (length hots) (IsDistinct-from_apart xs apart) (λ k h. below k (Has-from_list_any xs k h))
 
-  pub lists_of-stands : (rows : List ListRow) (lists : List (List ℕ)) → StandsFor (links_at hots slots) rows lists → lists_of hots slots rows ≡ lists
+  pub lists_of-stands : (rows : List ListRow) (lists : List (List ℕ)) → RowsStandFor (links_at hots slots) rows lists → lists_of hots slots rows ≡ lists
   lists_of-stands rows lists y =
       let find : ListRow → List ℕ = λ e. walk (links_at hots slots) (length hots) e.front in
       ext_get_or [] (lists_of hots slots rows) lists (length-map rows find ∙ sym y.count) (λ i lt.

@@ -8,13 +8,13 @@ use Rattle.street_yard.specs.declared.hot.Cold.{Cold}
 use Rattle.street_yard.specs.declared.list_table.ListRow.{ListRow}
 use Rattle.street_yard.specs.declared.yard.Slot.{Slot}
 use Rattle.street_yard.specs.declared.yard.Yard.TheInside.{Inside}
-use Rattle.street_yard.specs.Prelude.{Yard, list_at, list_on, without, put_behind, Has, IsLoose, Links, LinksAt, linked, list_of, no_row, StandsFor, modify, rejoined, row_behind, row_ahead, next_of, behind_of}
+use Rattle.street_yard.specs.Prelude.{Yard, list_at, list_on, without, put_behind, Has, IsLoose, Links, LinksAt, linked, list_of, no_row, RowsStandFor, modify, rejoined, row_behind, row_ahead, next_of, behind_of}
 use Rattle.street_yard.specs.Inside.{hot_at, slot_in, links_at, inner, lists_of, seen, IsSound, IsBelow, hots_behind, hots_ahead, hots_linked, next_behind_of}
 use Rattle.street_yard.proofs.Threads.{IsThread-Away}
 use Rattle.street_yard.proofs.Rejoined.{IsThread-has, IsOn}
 use Rattle.street_yard.proofs.LinkChanges.{on_slot, on_below, keys-few}
 use Rattle.street_yard.proofs.Hots.{core-behind, core-ahead, core-linked, length-behind, length-ahead, links-behind, links-ahead, links-linked}
-use Rattle.street_yard.proofs.Fields.{names_within, links_steps, row_steps, position, count_on, below-on, links_of-seen, list_on-seen, listed_below, seen_listed, seen_loose, seen_within, StandsFor-without, StandsFor-pushed, StandsFor-put, there_next, on_back}
+use Rattle.street_yard.proofs.Fields.{names_within, links_steps, row_steps, position, count_on, below-on, links_of-seen, list_on-seen, listed_below, seen_listed, seen_loose, seen_within, RowsStandFor-without, RowsStandFor-pushed, RowsStandFor-put, there_next, on_back}
 
 -- the three writes of a relinking
 module _ (hots h1 h2 h3 : List Hot) (slots : List (Option Slot)) (key : ℕ) (old new : Slot) (p q x z a b n : Option ℕ) (p_below : IsBelow (length hots) p) (q_below : IsBelow (length hots) q) (key_below : key < length hots) (is : slot_in slots key ≡ Some old) (s1 : h1 ≡ hots_behind hots p x) (s2 : h2 ≡ hots_ahead h1 q z) (s3 : h3 ≡ hots_linked h2 key a b) (list : new.list ≡ n) where
@@ -88,12 +88,12 @@ module _ (y : Inside) (v : Yard) (key : ℕ) (old : Slot) (p q : Option ℕ) (s 
         let c = count_on at_links y.rows its_lists key n its_links s.stands its_links_are on in
         (omega (arith, same, c), same)
 
-    pub stands_without : (h1 h2 h3 : List Hot) (new : Slot) (e e1 e2 : ListRow) (a b : Option ℕ) → a ≡ None → b ≡ None → h1 ≡ hots_behind y.hots p q → h2 ≡ hots_ahead h1 q p → h3 ≡ hots_linked h2 key a b → new.list ≡ None → e ≡ get_or y.rows n e → e1 ≡ row_behind (record e { count = e.count - 1 }) p q → e2 ≡ row_ahead e1 q p → StandsFor (links_at h3 (set y.slots.slots key (Some new))) (set y.rows n e2) (set (seen y).lists n (without key (list_at (seen y) n)))
+    pub stands_without : (h1 h2 h3 : List Hot) (new : Slot) (e e1 e2 : ListRow) (a b : Option ℕ) → a ≡ None → b ≡ None → h1 ≡ hots_behind y.hots p q → h2 ≡ hots_ahead h1 q p → h3 ≡ hots_linked h2 key a b → new.list ≡ None → e ≡ get_or y.rows n e → e1 ≡ row_behind (record e { count = e.count - 1 }) p q → e2 ≡ row_ahead e1 q p → RowsStandFor (links_at h3 (set y.slots.slots key (Some new))) (set y.rows n e2) (set (seen y).lists n (without key (list_at (seen y) n)))
     stands_without h1 h2 h3 new e e1 e2 a b a_is b_is s1 s2 s3 list e_is t1 t2 =
         let links = steps-links y.hots h1 h2 h3 y.slots.slots key old new p q q p a b None ahead_below behind_below its_below is s1 s2 s3 list in
         let links' = links ∙ ap (λ o. modify (rejoined at_links p q q p) key (λ _. linked o b None)) a_is ∙ ap (λ o. modify (rejoined at_links p q q p) key (λ _. linked None o None)) b_is in
         let c = counted_once e e_is in
-        StandsFor-without at_links y.rows its_lists key n its_links s.stands its_links_are on _ e2 (e.count - 1) (omega (arith, c)) links' (row_steps y.rows n e e1 e2 (e.count - 1) p q q p its_within e_is t1 t2)
+        RowsStandFor-without at_links y.rows its_lists key n its_links s.stands its_links_are on _ e2 (e.count - 1) (omega (arith, c)) links' (row_steps y.rows n e e1 e2 (e.count - 1) p q q p its_within e_is t1 t2)
 
 Has-tail : (key k : ℕ) (xs : List ℕ) → k ≢ key → Has (key ∷ xs) k → Has xs k
 Has-tail key k xs ne ([], vs, e) = absurd (let f : k ≡ key = cc in ne f)
@@ -152,7 +152,7 @@ module _ (y : Inside) (v : Yard) (key n : ℕ) (s : IsSound y) (is_v : seen y �
   pub back_below : (e : ListRow) → e ≡ get_or y.rows n e → IsBelow (length y.hots) e.back
   back_below e e_is = below-on y s n e.back (subst (λ (x : ListRow). IsOn now_links n x.back) (sym (e_is ∙ get_or_default y.rows n e no_row list_within)) (on_back now_links y.rows now_lists n s.stands list_within))
 
-  pub stands_pushed : (h1 h2 h3 : List Hot) (new : Slot) (e e1 e2 : ListRow) (x end : Option ℕ) (last : Option ℕ) → x ≡ Some key → end ≡ None → last ≡ None → h1 ≡ hots_behind y.hots e.back x → h2 ≡ hots_ahead h1 end x → h3 ≡ hots_linked h2 key e.back last → new.list ≡ Some n → e ≡ get_or y.rows n e → e1 ≡ row_behind (record e { count = e.count + 1 }) e.back x → e2 ≡ row_ahead e1 end x → StandsFor (links_at h3 (set y.slots.slots key (Some new))) (set y.rows n e2) (set (seen y).lists n (list_at (seen y) n ++ key ∷ []))
+  pub stands_pushed : (h1 h2 h3 : List Hot) (new : Slot) (e e1 e2 : ListRow) (x end : Option ℕ) (last : Option ℕ) → x ≡ Some key → end ≡ None → last ≡ None → h1 ≡ hots_behind y.hots e.back x → h2 ≡ hots_ahead h1 end x → h3 ≡ hots_linked h2 key e.back last → new.list ≡ Some n → e ≡ get_or y.rows n e → e1 ≡ row_behind (record e { count = e.count + 1 }) e.back x → e2 ≡ row_ahead e1 end x → RowsStandFor (links_at h3 (set y.slots.slots key (Some new))) (set y.rows n e2) (set (seen y).lists n (list_at (seen y) n ++ key ∷ []))
   stands_pushed h1 h2 h3 new e e1 e2 x end last x_is end_is last_is s1 s2 s3 list e_is t1 t2 =
       let s1' = s1 ∙ ap (hots_behind y.hots e.back) x_is in
       let s2' = s2 ∙ ap (λ o. hots_ahead h1 o x) end_is ∙ ap (hots_ahead h1 None) x_is in
@@ -161,7 +161,7 @@ module _ (y : Inside) (v : Yard) (key n : ℕ) (s : IsSound y) (is_v : seen y �
       let t2' = t2 ∙ ap (λ o. row_ahead e1 o x) end_is ∙ ap (row_ahead e1 None) x_is in
       let links = steps-links y.hots h1 h2 h3 y.slots.slots key loose_key.0 new e.back None (Some key) (Some key) e.back None (Some n) (back_below e e_is) tt key_within loose_key.2 s1' s2' s3' list in
       let c = count_small e e_is in
-      StandsFor-pushed now_links y.rows now_lists key n loose_links s.stands list_within loose_links_are loose_key.4 (e.count + 1) (omega (arith, c)) e.back _ e2 (ap (λ (f : ListRow). f.back) (e_is ∙ get_or_default y.rows n e no_row list_within)) links (row_steps y.rows n e e1 e2 (e.count + 1) e.back None (Some key) (Some key) list_within e_is t1' t2')
+      RowsStandFor-pushed now_links y.rows now_lists key n loose_links s.stands list_within loose_links_are loose_key.4 (e.count + 1) (omega (arith, c)) e.back _ e2 (ap (λ (f : ListRow). f.back) (e_is ∙ get_or_default y.rows n e no_row list_within)) links (row_steps y.rows n e e1 e2 (e.count + 1) e.back None (Some key) (Some key) list_within e_is t1' t2')
 
   -- what is behind a key of the list, or first on it
   next_some : (a : ℕ) (o : Option Slot) → IsSome o → (hot_at y.hots a).behind ≡ behind_of (option_map (λ (p : Slot). linked (hot_at y.hots a).ahead (hot_at y.hots a).behind p.list) o)
@@ -178,7 +178,7 @@ module _ (y : Inside) (v : Yard) (key n : ℕ) (s : IsSound y) (is_v : seen y �
   pub next_below : (e : ListRow) (a q : Option ℕ) → IsOn now_links n a → e ≡ get_or y.rows n e → q ≡ next_behind_of y.hots e a → IsBelow (length y.hots) q
   next_below e a q on e_is q_is = below-on y s n q (subst (IsOn now_links n) (sym (next_is e a q on e_is q_is)) (there_next now_links y.rows now_lists n s.stands list_within a on))
 
-  pub stands_put : (h1 h2 h3 : List Hot) (new : Slot) (e e1 e2 : ListRow) (x a q : Option ℕ) → x ≡ Some key → IsOn now_links n a → q ≡ next_behind_of y.hots e a → h1 ≡ hots_behind y.hots a x → h2 ≡ hots_ahead h1 q x → h3 ≡ hots_linked h2 key a q → new.list ≡ Some n → e ≡ get_or y.rows n e → e1 ≡ row_behind (record e { count = e.count + 1 }) a x → e2 ≡ row_ahead e1 q x → StandsFor (links_at h3 (set y.slots.slots key (Some new))) (set y.rows n e2) (set (seen y).lists n (put_behind a key (list_at (seen y) n)))
+  pub stands_put : (h1 h2 h3 : List Hot) (new : Slot) (e e1 e2 : ListRow) (x a q : Option ℕ) → x ≡ Some key → IsOn now_links n a → q ≡ next_behind_of y.hots e a → h1 ≡ hots_behind y.hots a x → h2 ≡ hots_ahead h1 q x → h3 ≡ hots_linked h2 key a q → new.list ≡ Some n → e ≡ get_or y.rows n e → e1 ≡ row_behind (record e { count = e.count + 1 }) a x → e2 ≡ row_ahead e1 q x → RowsStandFor (links_at h3 (set y.slots.slots key (Some new))) (set y.rows n e2) (set (seen y).lists n (put_behind a key (list_at (seen y) n)))
   stands_put h1 h2 h3 new e e1 e2 x a q x_is on q_is s1 s2 s3 list e_is t1 t2 =
       let s1' = s1 ∙ ap (hots_behind y.hots a) x_is in
       let s2' = s2 ∙ ap (hots_ahead h1 q) x_is in
@@ -186,4 +186,4 @@ module _ (y : Inside) (v : Yard) (key n : ℕ) (s : IsSound y) (is_v : seen y �
       let t2' = t2 ∙ ap (row_ahead e1 q) x_is in
       let links = steps-links y.hots h1 h2 h3 y.slots.slots key loose_key.0 new a q (Some key) (Some key) a q (Some n) (below-on y s n a on) (next_below e a q on e_is q_is) key_within loose_key.2 s1' s2' s3 list in
       let c = count_small e e_is in
-      StandsFor-put now_links y.rows now_lists key n loose_links s.stands list_within loose_links_are loose_key.4 (e.count + 1) (omega (arith, c)) a q _ e2 on (next_is e a q on e_is q_is) links (row_steps y.rows n e e1 e2 (e.count + 1) a q (Some key) (Some key) list_within e_is t1' t2')
+      RowsStandFor-put now_links y.rows now_lists key n loose_links s.stands list_within loose_links_are loose_key.4 (e.count + 1) (omega (arith, c)) a q _ e2 on (next_is e a q on e_is q_is) links (row_steps y.rows n e e1 e2 (e.count + 1) a q (Some key) (Some key) list_within e_is t1' t2')

@@ -3,7 +3,7 @@ use Rattle.std.proofs.Common.{◌≡◌, ◌≢◌, ℕ, ◌<◌, List, [], ◌�
 use Rattle.std.proofs.lemmas.Bool.{cases_eq}
 use Rattle.std.proofs.lemmas.List.{append_assoc, get_or-set_same, get_or-set_other, length-set}
 use Rattle.street_yard.specs.declared.list_table.ListRow.{ListRow}
-use Rattle.street_yard.specs.Prelude.{first_or, last_or, Has, IsApart, Links, LinksAt, list_of, IsThread, IsList, no_row, StandsFor, modify, set_behind, set_ahead, AwayFrom, rejoined, row_behind, row_ahead}
+use Rattle.street_yard.specs.Prelude.{first_or, last_or, Has, IsApart, Links, LinksAt, list_of, IsThread, IsList, no_row, RowsStandFor, modify, set_behind, set_ahead, AwayFrom, rejoined, row_behind, row_ahead}
 use Rattle.street_yard.proofs.Keys.{Away-append, IsApart-split, snoc_cases, last_or-push, last_or-append}
 use Rattle.street_yard.proofs.Threads.{modify-same, modify-other, IsThread-at, IsThread-same, IsThread-set_behind, IsThread-set_ahead, IsThread-behind, IsThread-ahead}
 
@@ -17,8 +17,8 @@ IsList-same at now n xs e same l =
     record { thread = IsThread-same at now n None xs None same l.thread; front = l.front; back = l.back; counted = l.counted; distinct = l.distinct }
 
 -- one list is another, and the keys of the other lists keep their links
-pub StandsFor-changed : (at now : LinksAt) (rows : List ListRow) (lists : List (List ℕ)) (n : ℕ) (xs : List ℕ) (e : ListRow) → n < length rows → StandsFor at rows lists → IsList now n xs e → ((k m : ℕ) → m ≢ n → list_of (at k) ≡ Some m → now k ≡ at k) → ((k m : ℕ) → m ≢ n → list_of (now k) ≡ Some m → list_of (at k) ≡ Some m) → ((k : ℕ) → list_of (now k) ≡ Some n → Has xs k) → StandsFor now (set rows n e) (set lists n xs)
-StandsFor-changed at now rows lists n xs e within y list others back here =
+pub RowsStandFor-changed : (at now : LinksAt) (rows : List ListRow) (lists : List (List ℕ)) (n : ℕ) (xs : List ℕ) (e : ListRow) → n < length rows → RowsStandFor at rows lists → IsList now n xs e → ((k m : ℕ) → m ≢ n → list_of (at k) ≡ Some m → now k ≡ at k) → ((k m : ℕ) → m ≢ n → list_of (now k) ≡ Some m → list_of (at k) ≡ Some m) → ((k : ℕ) → list_of (now k) ≡ Some n → Has xs k) → RowsStandFor now (set rows n e) (set lists n xs)
+RowsStandFor-changed at now rows lists n xs e within y list others back here =
     let within' : n < length lists = omega (arith, y.count) in
     record {
       count = length-set lists n xs ∙ y.count ∙ sym (length-set rows n e);

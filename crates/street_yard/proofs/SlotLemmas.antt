@@ -8,12 +8,12 @@ use Rattle.street_yard.specs.declared.hot.Cold.{Cold}
 use Rattle.street_yard.specs.declared.list_table.ListRow.{ListRow}
 use Rattle.street_yard.specs.declared.yard.Slot.{Slot}
 use Rattle.street_yard.specs.declared.yard.Yard.TheInside.{Inside}
-use Rattle.street_yard.specs.Prelude.{YardEntry, Yard, entry_at, list_on, Has, Away, IsApart, IsLoose, Updates, linked, list_of, no_row, StandsFor}
+use Rattle.street_yard.specs.Prelude.{YardEntry, Yard, entry_at, list_on, Has, Away, IsApart, IsLoose, Updates, linked, list_of, no_row, RowsStandFor}
 use Rattle.street_yard.specs.Inside.{no_hot, hot_at, slot_in, links_at, Core, core, kept_of, kept_with, kept_at, kept_in, lists_of, seen, link_after, FitsSlot, vacant, IsLaidOut, IsSound}
 use Rattle.street_yard.proofs.Keys.{has_or_away, has-away, IsApart-split, IsApart-join}
 use Rattle.street_yard.proofs.LinkChanges.{Has-other, keys-few, lists_of-stands}
 use Rattle.street_yard.proofs.Hots.{hot-same, hot-other, slot-same, slot-other, kept-read, kept_in-set, kept_in-same}
-use Rattle.street_yard.proofs.Fields.{yard-same, entry_at-seen, list_on-seen, links_of-seen, seen_loose, StandsFor-loose, StandsFor-empty}
+use Rattle.street_yard.proofs.Fields.{yard-same, entry_at-seen, list_on-seen, links_of-seen, seen_loose, RowsStandFor-loose, RowsStandFor-empty}
 
 Has-before : (xs : List ℕ) (key k : ℕ) → k ≢ key → Has (xs ++ key ∷ []) k → Has xs k
 Has-before xs key k ne h = subst (λ l. Has l k) (append-nil xs) (Has-other xs key [] k ne h)
@@ -80,9 +80,9 @@ module _ (y : Inside) (v : Yard) (key : ℕ) (s : IsSound y) (is_v : seen y ≡ 
     kept_stays : (j : ℕ) → j ≢ key → kept_at y.hots taken_slots j ≡ kept_at y.hots y.slots.slots j
     kept_stays j ne = ap (kept_with (core (hot_at y.hots j))) (taken_other j ne)
 
-    taken_stands : StandsFor (links_at y.hots taken_slots) y.rows (lists_of y.hots y.slots.slots y.rows)
+    taken_stands : RowsStandFor (links_at y.hots taken_slots) y.rows (lists_of y.hots y.slots.slots y.rows)
     taken_stands =
-        StandsFor-loose (links_at y.hots y.slots.slots) (links_at y.hots taken_slots) y.rows _ key s.stands
+        RowsStandFor-loose (links_at y.hots y.slots.slots) (links_at y.hots taken_slots) y.rows _ key s.stands
         (ap list_of (links_of-seen y key taken_key.0 taken_key.2) ∙ taken_key.4)
         (ap (λ o. list_of (option_map (λ (p : Slot). linked (hot_at y.hots key).ahead (hot_at y.hots key).behind p.list) o)) taken_here)
         (λ k ne. ap (option_map (λ (p : Slot). linked (hot_at y.hots k).ahead (hot_at y.hots k).behind p.list)) (taken_other k ne))
@@ -178,9 +178,9 @@ module _ (y : Inside) (v : Yard) (key : ℕ) (s : IsSound y) (is_v : seen y ≡ 
       | inr ne ↦ (let b = s.below k (subst IsSome (kept_rest k ne) h) in omega arith)
     ]
 
-    new_stands : StandsFor (links_at new_hots new_slots) y.rows (lists_of y.hots y.slots.slots y.rows)
+    new_stands : RowsStandFor (links_at new_hots new_slots) y.rows (lists_of y.hots y.slots.slots y.rows)
     new_stands =
-        StandsFor-loose (links_at y.hots y.slots.slots) (links_at new_hots new_slots) y.rows _ key s.stands
+        RowsStandFor-loose (links_at y.hots y.slots.slots) (links_at new_hots new_slots) y.rows _ key s.stands
         (ap list_of (links_of-seen y key vacant spare_slot))
         (ap (λ o. list_of (option_map (λ (p : Slot). linked (hot_at new_hots key).ahead (hot_at new_hots key).behind p.list) o)) new_here)
         (λ k ne. ap (λ (h : Hot). option_map (λ (p : Slot). linked h.ahead h.behind p.list) (slot_in new_slots k)) (hot-other y.hots key new_hot k ne) ∙ ap (option_map (λ (p : Slot). linked (hot_at y.hots k).ahead (hot_at y.hots k).behind p.list)) (new_other k ne))
@@ -278,9 +278,9 @@ module _ (y : Inside) (v : Yard) (s : IsSound y) (is_v : seen y ≡ v) (index : 
     | inr ne ↦ ap (λ (h : Hot). kept_with (core h) (slot_in later j)) (hot_stays j ne) ∙ ap (kept_with (core (hot_at y.hots j))) (others j ne)
   ]
 
-  more_stands : StandsFor (links_at more later) y.rows (lists_of y.hots y.slots.slots y.rows)
+  more_stands : RowsStandFor (links_at more later) y.rows (lists_of y.hots y.slots.slots y.rows)
   more_stands =
-      StandsFor-loose (links_at y.hots y.slots.slots) (links_at more later) y.rows _ index s.stands
+      RowsStandFor-loose (links_at y.hots y.slots.slots) (links_at more later) y.rows _ index s.stands
       (ap (λ o. list_of (option_map (λ (p : Slot). linked (hot_at y.hots index).ahead (hot_at y.hots index).behind p.list) o)) was_none)
       (ap (λ o. list_of (option_map (λ (p : Slot). linked (hot_at more index).ahead (hot_at more index).behind p.list) o)) here)
       (λ k ne. ap (λ (h : Hot). option_map (λ (p : Slot). linked h.ahead h.behind p.list) (slot_in later k)) (hot_stays k ne) ∙ ap (option_map (λ (p : Slot). linked (hot_at y.hots k).ahead (hot_at y.hots k).behind p.list)) (others k ne))
@@ -322,12 +322,12 @@ module _ (y : Inside) (v : Yard) (s : IsSound y) (is_v : seen y ≡ v) (index : 
 
 pub lists_empty : (hots : List Hot) (slots : List (Option Slot)) (rows : List ListRow) (n : ℕ) → hots ≡ [] → slots ≡ [] → rows ≡ replicate n no_row → lists_of hots slots rows ≡ replicate n []
 lists_empty hots slots rows n a b e =
-    (λ i. lists_of (a i) (b i) (e i)) ∙ lists_of-stands [] [] (λ k h. absurd (let bad : IsSome {T = Slot} None = h in cc)) (replicate n no_row) (replicate n []) (StandsFor-empty n)
+    (λ i. lists_of (a i) (b i) (e i)) ∙ lists_of-stands [] [] (λ k h. absurd (let bad : IsSome {T = Slot} None = h in cc)) (replicate n no_row) (replicate n []) (RowsStandFor-empty n)
 
 pub laid_out_empty : (hots : List Hot) (slots : List (Option Slot)) (spare : List ℕ) (capacity : ℕ) (rows : List ListRow) (n : ℕ) → hots ≡ [] → slots ≡ [] → spare ≡ [] → rows ≡ replicate n no_row → n ≤ 4294967295 → IsLaidOut hots slots spare 0 capacity rows
 laid_out_empty hots slots spare capacity rows n a b c e few =
     rw (a, b, c, e) (record {
-      stands = rw (lists_empty [] [] (replicate n no_row) n refl refl refl) (StandsFor-empty n);
+      stands = rw (lists_empty [] [] (replicate n no_row) n refl refl refl) (RowsStandFor-empty n);
       within = λ k h. absurd (let bad : IsSome {T = Slot} None = h in cc);
       placed = λ k. tt;
       below = λ k h. absurd (let bad : IsSome {T = YardEntry} None = h in cc);

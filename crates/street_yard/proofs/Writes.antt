@@ -8,7 +8,7 @@ use Rattle.street_yard.specs.declared.hot.Cold.{Cold}
 use Rattle.street_yard.specs.declared.list_table.ListRow.{ListRow}
 use Rattle.street_yard.specs.declared.yard.Slot.{Slot}
 use Rattle.street_yard.specs.declared.yard.Yard.TheInside.{Inside}
-use Rattle.street_yard.specs.Prelude.{YardEntry, Yard, entry_at, kept_set, car_set, list_set, Has, Links, linked, StandsFor}
+use Rattle.street_yard.specs.Prelude.{YardEntry, Yard, entry_at, kept_set, car_set, list_set, Has, Links, linked, RowsStandFor}
 use Rattle.street_yard.specs.Inside.{hot_at, slot_in, links_at, Core, core, car_with, kept_of, kept_with, kept_at, kept_in, lists_of, inner, link_after, IsFit, FitsSlot, vacant, seen, with_cold, IsLaidOut, IsSound}
 use Rattle.street_yard.proofs.LinkChanges.{lists_of-stands}
 use Rattle.street_yard.proofs.Hots.{kept_in-change, hot-same, hot-other, slot-same, slot-other}
@@ -25,7 +25,7 @@ module _ (hots now : List Hot) (slots later : List (Option Slot)) (spare : List 
     (len : length now ≡ length hots) (inners : (j : ℕ) → j ≢ key → inner (hot_at now j) ≡ inner (hot_at hots j))
     (fit : IsFit (hot_at now key).next new.list new.car)
     (keeps : kept_with (core (hot_at now key)) (Some new) ≡ option_map f (kept_with (core (hot_at hots key)) (Some slot)))
-    (len_rows : length rows' ≡ length rows) (stands : StandsFor (links_at now later) rows' lists') where
+    (len_rows : length rows' ≡ length rows) (stands : RowsStandFor (links_at now later) rows' lists') where
   within' : (k : ℕ) → IsSome (slot_in later k) → k < length now
   within' k h = elim (cases_eq k key) as (λ _. k < length now) [
     | inl e ↦ (let lt : key < length hots = s.within key (subst IsSome (sym is) refl) in omega (arith, len))
@@ -132,8 +132,8 @@ module _ (y : Inside) (v : Yard) (key : ℕ) (slot new : Slot) (g : Cold → Col
   links_same : links_at now slots' ≡ links_at y.hots y.slots.slots
   links_same = λ i j. links_each j i
 
-  stands : StandsFor (links_at now slots') y.rows (lists_of y.hots y.slots.slots y.rows)
-  stands = subst (λ at. StandsFor at y.rows (lists_of y.hots y.slots.slots y.rows)) (sym links_same) s.stands
+  stands : RowsStandFor (links_at now slots') y.rows (lists_of y.hots y.slots.slots y.rows)
+  stands = subst (λ at. RowsStandFor at y.rows (lists_of y.hots y.slots.slots y.rows)) (sym links_same) s.stands
 
   new_fit : IsFit (hot_at now key).next new.list new.car
   new_fit = fit-filled (hot_at now key).next new (g car_is.0) new_car (next car_is.0 (next-is y v key s is_v slot is car_is.0 car_is.1) car_is.1)
@@ -186,7 +186,7 @@ module _ (y : Inside) (v : Yard) (key : ℕ) (slot new : Slot) (g : Cold → Col
 
 -- a change of one key's list and of the neighbours
 module _ (y : Inside) (v : Yard) (key : ℕ) (slot new : Slot) (car : Cold) (n : Option ℕ) (s : IsSound y) (is_v : seen y ≡ v) (is : slot_in y.slots.slots key ≡ Some slot) (filled : slot.car ≡ Some car) (new_is : new ≡ record slot { list = n }) (now : List Hot) (len : length now ≡ length y.hots) (inners : (j : ℕ) → inner (hot_at now j) ≡ inner (hot_at y.hots j)) (rows' : List ListRow) (len_rows : length rows' ≡ length y.rows)
-    (lists_v : Yard → List (List ℕ)) (stands : StandsFor (links_at now (set y.slots.slots key (Some new))) rows' (lists_v (seen y))) where
+    (lists_v : Yard → List (List ℕ)) (stands : RowsStandFor (links_at now (set y.slots.slots key (Some new))) rows' (lists_v (seen y))) where
   abbrev pub moved : YardEntry → YardEntry
   moved e = record e { list = n }
 
@@ -243,8 +243,8 @@ module _ (y : Inside) (v : Yard) (key : ℕ) (s : IsSound y) (is_v : seen y ≡ 
   links_all : links_at hots' y.slots.slots ≡ links_at y.hots y.slots.slots
   links_all = λ i j. hot_links j i
 
-  hot_stands : StandsFor (links_at hots' y.slots.slots) y.rows (lists_of y.hots y.slots.slots y.rows)
-  hot_stands = subst (λ at. StandsFor at y.rows (lists_of y.hots y.slots.slots y.rows)) (sym links_all) s.stands
+  hot_stands : RowsStandFor (links_at hots' y.slots.slots) y.rows (lists_of y.hots y.slots.slots y.rows)
+  hot_stands = subst (λ at. RowsStandFor at y.rows (lists_of y.hots y.slots.slots y.rows)) (sym links_all) s.stands
 
   hot_keeps : kept_with (core (hot_at hots' key)) (Some there.0) ≡ option_map f (kept_with (core (hot_at y.hots key)) (Some there.0))
   hot_keeps =

@@ -4,7 +4,7 @@ pub use Rattle.street_yard.specs.Listed.{AllAbove, IsFalling, IsLane, cell_at, k
 unfoldable pub use Rattle.street_yard.specs.Listed.{cells_at}
 pub use Rattle.street_yard.specs.Neighbour.{number-named, number_of, somebody}
 pub use Rattle.street_yard.specs.Tables.{AreEven, AreListed, HasNoKeys, counts, goes_on, hot_of, is_marked, joined, row_of, size_in, told, zipped}
-pub use Rattle.street_yard.specs.Thread.{AwayFrom, IsList, IsThread, Links, LinksAt, StandsFor, behind_of, inserted_at, linked, list_of, modify}
+pub use Rattle.street_yard.specs.Thread.{AwayFrom, IsList, IsThread, Links, LinksAt, RowsStandFor, behind_of, inserted_at, linked, list_of, modify}
 pub use Rattle.street_yard.specs.Thread.{next_of, no_row, rejoined, row_ahead, row_behind, row_joined, set_ahead, set_behind, unlinked_at}
 unfoldable pub use Rattle.street_yard.specs.Thread.{walk}
 pub use Rattle.street_yard.specs.View.{viewed}

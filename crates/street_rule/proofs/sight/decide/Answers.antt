@@ -1,6 +1,6 @@
 use Rattle.std.proofs.Common.{◌<◌, ◌-◌, false, length, refl, sym, ap, ◌∙◌, arith}
 use Rattle.street_gap.specs.Prelude.{closed_marks}
-use Rattle.street_rule.specs.Prelude.{no_lane, lane_seen, lane_of, length_of, track_of, changing_of, gap_between, gap_up, wishes_with}
+use Rattle.street_rule.specs.Prelude.{no_lane, lane_seen, lane_of, length_of, track_of, changing_of, change_gap_to, change_gap_ahead, wishes_with}
 use Rattle.street_base.specs.Prelude.{vehicle_of, next_link}
 use Rattle.street_yard.proofs.YardLemmas.{on_has_entry, cell_reads}
 use Rattle.street_rule.proofs.Decision.{its_car, gap-by, field-is, decided-by}
@@ -12,9 +12,9 @@ returns-then-not-may_wish-clause-goes c = λ v seen.
     let car = its_car c.args.yard.now c.args.key (on_has_entry c.args.yard.now c.args.key _ c.requires.key) in
     let here : c.args.outlook.lane < length c.args.road.now.lanes = (let l = c.requires.outlook.lane in let t = c.requires.lanes in omega arith) in
     decided-by (changing_of c.args.road.now c.args.outlook.step) c.args.outlook.lane (length_of c.args.road.now) (closed_marks (lane_of c.args.road.now c.args.outlook.lane).closed (length_of c.args.road.now)) c.args.ahead
-    (track_of c.args.yard.now (length_of c.args.road.now) (lane_of c.args.road.now (1 - c.args.outlook.lane))) c.args.yard.now c.args.key car.0 v c.cell-cell.result (car.0.cell - (car.0.size - 1)) c.speed-speed.result (gap_between c.obstacle_ahead-obstacle.result c.cell-cell.result) false false car.1 seen (field-is (λ r. r.cell) car.0 _ c.cell-cell.result car.1 c.cell-cell.ensures) refl (field-is (λ r. r.speed) car.0 _ c.speed-speed.result car.1 c.speed-speed.ensures)
+    (track_of c.args.yard.now (length_of c.args.road.now) (lane_of c.args.road.now (1 - c.args.outlook.lane))) c.args.yard.now c.args.key car.0 v c.cell-cell.result (car.0.cell - (car.0.size - 1)) c.speed-speed.result (change_gap_to c.obstacle_ahead-obstacle.result c.cell-cell.result) false false car.1 seen (field-is (λ r. r.cell) car.0 _ c.cell-cell.result car.1 c.cell-cell.ensures) refl (field-is (λ r. r.speed) car.0 _ c.speed-speed.result car.1 c.speed-speed.ensures)
     (gap-by (length_of c.args.road.now) (lane_of c.args.road.now c.args.outlook.lane) (lane_seen c.args.outlook.own) c.args.ahead c.obstacle_ahead-obstacle.result c.cell-cell.result c.requires.outlook.own (c.requires.road.lanes c.args.outlook.lane no_lane here).within c.obstacle_ahead-obstacle.ensures)
-    (sym (c.may_wish.ensures c.args.outlook.step c.if-not-may_wish.true) ∙ ap (wishes_with (changing_of c.args.road.now c.args.outlook.step) c.args.outlook.lane (length_of c.args.road.now) (gap_between c.obstacle_ahead-obstacle.result c.cell-cell.result) c.cell-cell.result c.speed-speed.result) (field-is (λ r. next_link (vehicle_of r)) car.0 _ c.next_link.result car.1 c.next_link.ensures.next))
+    (sym (c.may_wish.ensures c.args.outlook.step c.if-not-may_wish.true) ∙ ap (wishes_with (changing_of c.args.road.now c.args.outlook.step) c.args.outlook.lane (length_of c.args.road.now) (change_gap_to c.obstacle_ahead-obstacle.result c.cell-cell.result) c.cell-cell.result c.speed-speed.result) (field-is (λ r. next_link (vehicle_of r)) car.0 _ c.next_link.result car.1 c.next_link.ensures.next))
     refl
 
 pub returns-clause-goes : goal.returns-clause-goes
@@ -24,4 +24,4 @@ returns-clause-goes c = λ v seen.
     (c.unwrap_or-gap.ensures
     ∙ ap (λ o. unwrap_or o 16) c.cells_up_to.ensures
     ∙ gap-by (length_of c.args.road.now) (lane_of c.args.road.now c.args.outlook.lane) (lane_seen c.args.outlook.own) c.args.ahead c.obstacle_ahead-obstacle.result c.cell-cell.result c.requires.outlook.own (c.requires.road.lanes c.args.outlook.lane no_lane here).within c.obstacle_ahead-obstacle.ensures
-    ∙ ap (gap_up (closed_marks (lane_of c.args.road.now c.args.outlook.lane).closed (length_of c.args.road.now)) c.args.ahead) (sym (cell_reads c.args.yard.now c.args.key c.cell-cell.result c.cell-cell.ensures)))
+    ∙ ap (change_gap_ahead (closed_marks (lane_of c.args.road.now c.args.outlook.lane).closed (length_of c.args.road.now)) c.args.ahead) (sym (cell_reads c.args.yard.now c.args.key c.cell-cell.result c.cell-cell.ensures)))

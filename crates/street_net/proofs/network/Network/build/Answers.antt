@@ -31,11 +31,6 @@ invariant_of-network c =
     checked c.in_ok-spec.spec c.args.spec.now c.in_ok-node_ids.node_ids.keys c.in_ok-node_ids.link_ids.keys c.in_ok-briefs.briefs.items c.in_ok-briefs.in_lanes.items c.in_ok-briefs.turns.starts.items c.in_ok-briefs.turns.turns.items c.new.result.items
     c.in_ok-spec.ensures c.in_ok-node_ids.ensures.faultless c.in_ok-node_ids.ensures.keys.0 c.in_ok-node_ids.ensures.keys.1 c.in_ok-briefs.ensures.0 c.in_ok-briefs.ensures.1 c.in_ok-briefs.ensures.2 (nothing-kept c.in_ok-spec.spec c.new.result.items c.new.ensures.items)
 
-pub invariant_of-network-in_err-nexts : goal.invariant_of-network-in_err-nexts
-invariant_of-network-in_err-nexts c =
-    checked c.in_ok-spec.spec c.args.spec.now c.in_ok-node_ids.node_ids.keys c.in_ok-node_ids.link_ids.keys c.in_ok-briefs.briefs.items c.in_ok-briefs.in_lanes.items c.in_ok-briefs.turns.starts.items c.in_ok-briefs.turns.turns.items c.new.result.items
-    c.in_ok-spec.ensures c.in_ok-node_ids.ensures.faultless c.in_ok-node_ids.ensures.keys.0 c.in_ok-node_ids.ensures.keys.1 c.in_ok-briefs.ensures.0 c.in_ok-briefs.ensures.1 c.in_ok-briefs.ensures.2 (nothing-kept c.in_ok-spec.spec c.new.result.items c.new.ensures.items)
-
 pub invariant_of-network-2 : goal.invariant_of-network-2
 invariant_of-network-2 c =
     checked c.in_ok-spec.spec c.args.spec.now c.in_ok-node_ids.node_ids.keys c.in_ok-node_ids.link_ids.keys c.in_ok-briefs.briefs.items c.in_ok-briefs.in_lanes.items c.in_ok-briefs.turns.starts.items c.in_ok-briefs.turns.turns.items c.in_ok-nexts.nexts.items

@@ -1,6 +1,6 @@
 use Rattle.std.proofs.Common.{◌≡◌, ◌+◌, ◌*◌, ◌∙◌, sym, ap, subst, arith, option_map}
 use Rattle.street_base.specs.declared.names.Place.{Place}
-use Rattle.street_net.specs.Prelude.{turn_by_position, list_at, AreTurnsFrom}
+use Rattle.street_net.specs.Prelude.{turn_by_position, turns_at, AreTurnsFrom}
 use Rattle.street_net.proofs.TurnTable.{turn-nowhere, turn-answer}
 use Rattle.street_net.proofs.Starts.{turns-at}
 use Rattle.street_net.proofs.network.Network.turn.Goals as goal
@@ -22,7 +22,7 @@ turn_to-requires c =
     let table = c.self.inside.turns in
     let place : Place = record { link = c.args.link; lane = c.args.lane } in
     let are = turns-at net c.self.invariant.faultless table.starts.items table.turns.items c.self.invariant.turns_kept place (omega (arith, c.self.invariant.briefs_kept.one_each, c.if-position-len.false, c.position.ensures, c.len.ensures)) (omega (arith, c.from.ensures)) in
-    let is : c.list.result.now ≡ list_at table.starts.items table.turns.items (2 * c.args.link + c.args.lane) = c.list.ensures ∙ ap (list_at table.starts.items table.turns.items) c.list_of.ensures.value in
+    let is : c.list.result.now ≡ turns_at table.starts.items table.turns.items (2 * c.args.link + c.args.lane) = c.list.ensures ∙ ap (turns_at table.starts.items table.turns.items) c.list_of.ensures.value in
     (subst (AreTurnsFrom net place) (sym is) are).rising
 
 pub returns : goal.returns
@@ -31,5 +31,5 @@ returns c =
     let table = c.self.inside.turns in
     let place : Place = record { link = c.args.link; lane = c.args.lane } in
     let are = turns-at net c.self.invariant.faultless table.starts.items table.turns.items c.self.invariant.turns_kept place (omega (arith, c.self.invariant.briefs_kept.one_each, c.if-position-len.false, c.position.ensures, c.len.ensures)) (omega (arith, c.from.ensures)) in
-    let is : c.list.result.now ≡ list_at table.starts.items table.turns.items (2 * c.args.link + c.args.lane) = c.list.ensures ∙ ap (list_at table.starts.items table.turns.items) c.list_of.ensures.value in
+    let is : c.list.result.now ≡ turns_at table.starts.items table.turns.items (2 * c.args.link + c.args.lane) = c.list.ensures ∙ ap (turns_at table.starts.items table.turns.items) c.list_of.ensures.value in
     rw (← c.self.view_is) (turn-answer net c.self.invariant.faultless place c.args.next c.list.result.now (subst (AreTurnsFrom net place) (sym is) are) c.turn_to.result c.turn_to.ensures)

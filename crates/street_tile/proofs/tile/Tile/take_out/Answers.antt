@@ -2,7 +2,7 @@ use Rattle.std.proofs.Common.{◌≡◌, ◌<◌, ◌∙◌, length, ap, sym, su
 use Rattle.std.proofs.lemmas.Option.{slice_get_within}
 use Rattle.street_base.specs.Prelude.{lane_at, in_lane}
 use Rattle.street_lanes.specs.Prelude.{place_at, vehicle_on}
-use Rattle.street_tile.specs.Prelude.{TileView, StandsFor, HaveAtMostOne, WhereOnce}
+use Rattle.street_tile.specs.Prelude.{TileView, TileStandsFor, HaveAtMostOne, WhereOnce}
 use Rattle.street_tile.proofs.SameLanes.{place-is}
 use Rattle.street_tile.proofs.NumberOnce.{not-more}
 use Rattle.street_tile.proofs.tile.Tile.take_out.Goals as goal
@@ -34,6 +34,6 @@ returns-in-Some-clause-vehicle c = λ m on s few.
     let x = c.args.self.now in
     let n = c.loop-n.n in
     let same = c.loop-n.invariant.same in
-    let is = c.in-Some.ensures.vehicle m on (subst (λ (t : TileView). StandsFor t m) (sym same) s) (subst (λ (t : TileView). HaveAtMostOne t.own.places m c.args.number) (sym same) few) in
+    let is = c.in-Some.ensures.vehicle m on (subst (λ (t : TileView). TileStandsFor t m) (sym same) s) (subst (λ (t : TileView). HaveAtMostOne t.own.places m c.args.number) (sym same) few) in
     let places : length c.self.inside.own.places ≡ length x.own.places = ap (λ (t : TileView). length t.own.places) c.self.view_is in
     (n, place_at x.own n, place-is x.own n (omega arith), ap (λ (t : TileView). vehicle_on c.args.number (lane_at m (place_at t.own n))) (sym same) ∙ sym is)

@@ -1,5 +1,5 @@
 use Rattle.std.proofs.Common.{◌≡◌, ℕ, ◌+◌, ◌≤◌, length, arith}
-use Rattle.street_base.specs.Prelude.{IsSound, Traffic, step, in_buffers, in_cells, most_vehicles}
+use Rattle.street_base.specs.Prelude.{IsSoundTraffic, Traffic, step, in_buffers, in_cells, most_vehicles}
 use Rattle.street_base.proofs.CountLemmas.{adds-up}
 use Rattle.street_base.proofs.StepLemmas.{step-sound}
 use Rattle.street_tile.proofs.Stepped.{step-long, step-count}
@@ -20,7 +20,7 @@ returns c m s =
     omega (arith, cells, buffers, arrived, count)
 
 -- they are no more than vehicles
-on-lanes-few : (m : Traffic) → IsSound m → length m.ends ≤ most_vehicles → (cells buffers : ℕ) → cells ≡ in_cells (step m) → buffers ≡ in_buffers (step m) → cells + buffers ≤ most_vehicles
+on-lanes-few : (m : Traffic) → IsSoundTraffic m → length m.ends ≤ most_vehicles → (cells buffers : ℕ) → cells ≡ in_cells (step m) → buffers ≡ in_buffers (step m) → cells + buffers ≤ most_vehicles
 on-lanes-few m sound most cells buffers a b =
     let sum = adds-up (step m) (step-sound m sound) in
     let long = step-long m in

@@ -2,7 +2,7 @@ use Rattle.std.proofs.Common.{◌≡◌, ℕ, ◌+◌, ◌<◌, ◌≤◌, List,
 use Rattle.street_base.specs.declared.net.NetSpec.{NetSpec}
 use Rattle.street_base.specs.Prelude.{most_vehicles, over_all, Traffic, LaneState}
 use Rattle.street_base.proofs.CountLemmas.{adds-up}
-use Rattle.street_tile.specs.Prelude.{over, all_places, TileView, StandsFor, AreTiles, TilesView, TilesStandFor, tiles_of}
+use Rattle.street_tile.specs.Prelude.{over, all_places, TileView, TileStandsFor, AreTiles, TilesView, TilesStandFor, tiles_of}
 use Rattle.street_tile.proofs.LaneCounts.{count-more, count-few, count-all}
 use Rattle.street_tile.proofs.Together.{stands-seen}
 use Rattle.street_tile.proofs.tiles.Tiles.totals.Goals as goal
@@ -16,9 +16,9 @@ module _ (net : NetSpec) (xs : List TileView) (v : TilesView) (seen : tiles_of n
   all : length xs ≤ i → (m : Traffic) → TilesStandFor v m → sum ≡ over_all f m
   all h m s = first m s ∙ count-all net xs tiles m f (stands-seen net xs v m seen s).lanes i h
 
-  module _ (x : TileView) (h : i < length xs) (is : x ≡ get_or xs i x) (own : ℕ) (one : (m : Traffic) → StandsFor x m → own ≡ over x.own.places f m) where
+  module _ (x : TileView) (h : i < length xs) (is : x ≡ get_or xs i x) (own : ℕ) (one : (m : Traffic) → TileStandsFor x m → own ≡ over x.own.places f m) where
     this : (m : Traffic) → TilesStandFor v m → own ≡ over x.own.places f m
-    this m s = one m (subst (λ (t : TileView). StandsFor t m) (sym is) ((stands-seen net xs v m seen s).lanes.each i x h))
+    this m s = one m (subst (λ (t : TileView). TileStandsFor t m) (sym is) ((stands-seen net xs v m seen s).lanes.each i x h))
 
     more : (m : Traffic) → TilesStandFor v m → sum + own ≡ over (all_places (take (i + 1) v.tiles)) f m
     more m s = subst (λ (u : TilesView). sum + own ≡ over (all_places (take (i + 1) u.tiles)) f m) seen (count-more net xs tiles m f i x sum own h is (first m s) (this m s))
