@@ -85,10 +85,10 @@ class Order(NotingCase):
         """Each read is followed by the record of its lines, what is kept of them, a sync of that, and their replies."""
         folder, text = self.place("-".join(words)), text_of(self.session.lines)
         run = self.noting.run([PROGRAM, "--keep", NAME, *words], text, folder)
-        end = first = 0
+        end = first = reads = 0
         seen = set()
         for size, kinds, written, lasting in reads_of(run.calls, Disk(folder)):
-            end += size
+            end, reads = end + size, reads + 1
             last = text[:end].count(b"\n")
             wanted = self.wanted(first, last, words)
             self.assertEqual((kinds, written), (list(wanted), wanted))
@@ -97,6 +97,7 @@ class Order(NotingCase):
             first = last
         self.assertEqual((run.status, last), (0, len(self.session.lines)))
         self.assertEqual(len(seen), 3, "reads that change, reads that ask, and the end")
+        self.assertLessEqual(reads, len(text) // 2_048, "a read takes what is there, up to 4,096 bytes")
 
     def test_each_reply_follows_a_sync(self):
         for workers in WORKERS:

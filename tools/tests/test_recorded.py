@@ -61,6 +61,15 @@ def lines_of_town(cars, steps):
     return [*map(json.dumps, lines), *[ADVANCE] * steps]
 
 
+def growing_to(limit):
+    """What has a program that is started then make no file longer than so many bytes; a write beyond that fails."""
+    def limits():
+        signal.signal(signal.SIGXFSZ, signal.SIG_IGN)
+        resource.setrlimit(resource.RLIMIT_FSIZE, (limit, limit))
+
+    return limits
+
+
 class Client:
     """Sends lines to the program, and waits for replies."""
 
@@ -352,6 +361,30 @@ class BesideKept(RecordCase):
                 self.assertTrue(self.record("a.jsonl").startswith(self.record("part.jsonl")))
                 (self.folder / "part.jsonl").unlink()
 
+    def test_a_log_that_fails_ends_the_session(self):
+        """The record has the blocks of all lines of the read whose log failed, and no more; the log has those of reads
+        before it alone, and their replies are out."""
+        load, enter, *_ = (EXAMPLES / "one-vehicle.jsonl").read_text().splitlines()
+        lines = [load, enter, *[ADVANCE.ljust(300 + at) for at in range(60)]]
+        text, limit, size = text_of(lines), 9_000, 4_096
+        wanted, sizes = defined_record(text), blocks_after(tuple(lines))
+        # How many lines have ended before each read ends, and how long they are together.
+        ended = [text[:end].count("\n") for end in range(size, len(text), size)]
+        failed = next(at for at, count in enumerate(ended) if len(text_of(lines[:count])) > limit)
+        kept, served = ended[failed - 1], ended[failed]
+        self.write("text", text)
+        for workers in WORKERS:
+            (self.folder / "a.jsonl").unlink(missing_ok=True)
+            with open(self.folder / "text", encoding="utf-8") as file:
+                done = subprocess.run(
+                    [PROGRAM, "--keep", "a.jsonl", "--record", "r.bin", "--workers", str(workers)], stdin=file,
+                    capture_output=True, text=True, check=False, cwd=self.folder, preexec_fn=growing_to(limit),
+                )
+            self.assertEqual((done.returncode, done.stderr), (1, "streetsim: cannot write a.jsonl\n"))
+            self.assertEqual(done.stdout.splitlines(), replies_to(lines)[:kept])
+            self.assertEqual((self.folder / "a.jsonl").read_text(), text_of(lines[:kept]))
+            self.assertEqual(self.record(), wanted[: sizes[served - 1]])
+
     def test_a_record_that_fails_ends_the_session(self):
         """Of the read whose record failed nothing is answered; what was kept before is there, and goes on."""
         load, enter, advance, ask = (EXAMPLES / "one-vehicle.jsonl").read_text().splitlines()
@@ -423,13 +456,9 @@ class Faults(RecordCase):
 
     def grown_to(self, limit, words):
         """The replies of a run in which no file may grow beyond so many bytes."""
-        def limits():
-            signal.signal(signal.SIGXFSZ, signal.SIG_IGN)
-            resource.setrlimit(resource.RLIMIT_FSIZE, (limit, limit))
-
         done = subprocess.run(
             [PROGRAM, "--record", "r.bin", *words], input=text_of(self.LINES), capture_output=True, text=True,
-            check=False, cwd=self.folder, preexec_fn=limits,
+            check=False, cwd=self.folder, preexec_fn=growing_to(limit),
         )
         self.assertEqual((done.returncode, done.stderr), (1, "streetsim: cannot write r.bin\n"))
         return done.stdout.splitlines()
