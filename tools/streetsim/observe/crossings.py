@@ -87,7 +87,7 @@ class Entries:
         edge_of, self.departs = movements.edge_of[plans.links], departs
         place, last = plans.first_places.copy(), plans.end_places - 1
         approach = movements.approach_of[plans.links[place]]
-        own = np.where(approach >= 0, movements.approach_edges[np.maximum(approach, 0)], -1)
+        own = np.append(movements.approach_edges, -1)[approach]  # -1: on none
         while (off := (edge_of[place] != own) & (place < last) & (own >= 0)).any():
             place[off] += 1
         on_way = (own >= 0) & (edge_of[place] == own) & (place < last)
