@@ -117,7 +117,8 @@ def lit_node(light: str, map_node: NodeOf, mapping: Map, offset: int, cycle: lis
     program = LightProgram(offset, cycle, "actuated")
     cut, shares = measured_of(mapping)
     permissive = mapping.options.get("permissive")
-    return LitNode(map_node.node, turns, edges, light, program, permissive, Report(), cut=cut, shares=shares)
+    live = any(ways.node == map_node.node for ways in mapping.lit_ways)
+    return LitNode(map_node.node, turns, edges, light, program, permissive, Report(), {}, cut, shares, live)
 
 
 def plan_command(node: int, rows: Sequence[Green], clock: int) -> Command:

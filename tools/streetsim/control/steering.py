@@ -10,6 +10,7 @@ from streetsim.control.rescue import Rescue
 from streetsim.control.settings import Settings
 from streetsim.control.timed import Timed, TimesOfDay
 from streetsim.control.works_closures import begun_here, closures_of
+from streetsim.control.yielding import Yielding
 from streetsim.kernel.loop import Controller
 from streetsim.model.mapping import Map
 from streetsim.model.runs import Run
@@ -27,6 +28,7 @@ class Steering:
         self.buses, self.rescue, self.timed = Buses(settings.buses, self.driver), Rescue(settings.rescue), Timed()
         self.lights = Lights(self.driver)
         self.ending = Ending(self.buses, self.timed, lights.longest)
+        self.yielding = Yielding(mapping)
         self.controllers: list[Controller] = [
             self.merging,
             self.buses,
@@ -36,6 +38,7 @@ class Steering:
             self.rescue,
             self.timed,
             TimesOfDay(self.driver),
+            *([self.yielding] if mapping.lit_ways else []),
         ]
 
     def stops(self) -> list[StopOutcome]:

@@ -30,6 +30,7 @@ class SentLine(NamedTuple):
     clock: int
     line: Line
     passed_on: bool  # it is of the run's file, or sent ahead of such a line; else of a controller's own
+    for_a_gap: bool = False  # it shows a plan that stays in force, but for turns that give way
 
 
 class Observer:
@@ -47,6 +48,8 @@ class Observer:
 
 class Controller:
     """Acts between seconds, by what the last one shows."""
+
+    shows_alone = False  # all that it sends are signals: vehicles to come need not wait for it
 
     def begin(self, kernel: Kernel) -> None:
         """Before the first step, behind the load and the first lines of the run."""
@@ -123,11 +126,12 @@ class Kernel:
     def make_steps(self, until: int) -> None:
         """Makes the steps to the next clock at which a controller is due, one at least and none beyond `until`.
         Controllers that are due now must have acted. Fault where a vehicle is refused."""
-        target = self.clock + 1
+        entering = target = self.clock + 1
         if until > target:
-            due = min((controller.next_clock() for controller in self.controllers), default=until)
-            target = max(target, min(until, self.clock + self.most_steps, due))
-        self.enter_due(target)
+            clocks = [until, target + self.most_steps - 1]
+            entering = max(target, min([*clocks, *(one.next_clock() for one in self.controllers if not one.shows_alone)]))
+            target = max(target, min([entering, *(one.next_clock() for one in self.controllers if one.shows_alone)]))
+        self.enter_due(entering)
         self.program.begin(target - self.clock)
         self.hand_over(ROWS)
         blocks = self.program.blocks()
@@ -172,11 +176,11 @@ class Kernel:
             due.append(line)
         self.send_now(due, True)
 
-    def send_now(self, lines: Sequence[Line], passed_on: bool) -> None:
-        """Sends lines, and keeps them as Sent has them. Fault where one is refused."""
+    def send_now(self, lines: Sequence[Line], passed_on: bool, for_a_gap: bool = False) -> None:
+        """Sends lines, and keeps them as SentLine has them. Fault where one is refused."""
         self.send_lines(lines)
         for line in lines:
-            self.sent_lines.append(SentLine(self.clock, line, passed_on))
+            self.sent_lines.append(SentLine(self.clock, line, passed_on, for_a_gap))
             self.closed.note(line.command)
 
     def send_lines(self, lines: Sequence[Line]) -> list[bytes]:
@@ -200,7 +204,8 @@ class Kernel:
         if first_new < self.entered:
             lines = run.enters[first_new : self.entered]
             self.send_lines(lines)
-            self.vehicles.add(range(first_new, self.entered), [line.command.get("size", 1) for line in lines])
+            sizes, plans = zip(*((line.command.get("size", 1), line.command["plan"]) for line in lines), strict=True)
+            self.vehicles.add(range(first_new, self.entered), sizes, plans)
 
     def reenter(self, car: int, command: Command) -> None:
         """Takes out a vehicle, by its number in the program, and enters it anew by a command. Fault if refused."""
@@ -220,7 +225,7 @@ class Kernel:
         """Enters a vehicle by a command; owner: its number in the file, or beyond those where it is not of the file.
         Fault if refused."""
         self.send_lines([own_line(command)])
-        self.vehicles.add([owner], [command.get("size", 1)])
+        self.vehicles.add([owner], [command.get("size", 1)], [command["plan"]])
 
     def ask_vehicles(self, cars: Iterable[int]) -> list[Vehicle]:
         """The replies on vehicles, by their numbers in the program; Fault where one is refused."""

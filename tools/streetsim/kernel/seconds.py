@@ -37,9 +37,12 @@ class Vehicles:
     car: dict[int, int] = field(default_factory=dict)  # by number in the file the last number in the program
     entered: int = 0  # all that were entered so far
     takeouts: list[Takeout] = field(default_factory=list)
+    plans: list[Sequence[int]] = field(default_factory=list)  # by number: the links with which it was entered
 
-    def add(self, owners: Sequence[int], sizes: Sequence[int]) -> None:
-        """Adds vehicles that were entered, by their numbers in the file, with the cells that they take."""
+    def add(self, owners: Sequence[int], sizes: Sequence[int], plans: Sequence[Sequence[int]] = ()) -> None:
+        """Adds vehicles that were entered, by their numbers in the file, with the cells that they take and their
+        links."""
+        self.plans += plans
         first_new, self.entered = self.entered, self.entered + len(owners)
         self.owner[first_new : self.entered] = owners
         self.size[first_new : self.entered] = sizes

@@ -3,6 +3,7 @@ or two: with the user's changes and without."""
 from collections.abc import Collection, Iterable
 from dataclasses import dataclass
 from functools import cached_property
+from operator import attrgetter
 from typing import Any
 
 from streetsim.base import limits
@@ -60,7 +61,8 @@ class World:
         self.hand = Hand(steering.merging if page_run.settings.merging else None, later)
         self.ledger = Ledger(self.hand, *page_run.departs_and_ends, node)
         self.program = LoggedProgram(page_run.program, page_run.workers)
-        controllers, observers = [*steering.controllers, self.hand], [self.ledger]
+        controllers = sorted([*steering.controllers, self.hand], key=attrgetter("shows_alone"))
+        observers = [self.ledger]
         self.kernel = Kernel(self.program, page_run.run, page_run.mapping, controllers, observers)
         # By node the last plan that the run or the page has set, and what detectors have its light show since.
         self.plans: dict[int, Command] = {}
@@ -148,11 +150,28 @@ class World:
     def signals(self) -> tuple[list[Command], list[Command]]:
         """(the plans that the run or the page has set, what detectors have lights show) since the last message; the
         last of each node alone."""
+<<<<<<< HEAD
         self.take_sent()
         plans = [self.plans[node] for node in sorted(self.untold_plans)]
         shown = [self.shown[node] for node in sorted(self.untold_shown)]
         self.untold_plans, self.untold_shown = set(), set()
         return plans, shown
+=======
+        kernel, is_first = self.kernel, self.lines_sent < 0
+        sent = [(line, True) for line in kernel.run.first] if is_first else []
+        new = kernel.sent_lines[max(0, self.lines_sent) :]
+        sent += [(line_sent.line, line_sent.passed_on) for line_sent in new if not line_sent.for_a_gap]
+        self.lines_sent = len(kernel.sent_lines)
+        plans: dict[int, Command] = {}
+        shown_signals: dict[int, Command] = {}
+        for line, is_plan in sent:
+            command = line.command
+            if command["cmd"] == "signal" and command["node"] not in self.page_run.givers:
+                (plans if is_plan else shown_signals)[command["node"]] = command
+                if is_plan:
+                    shown_signals.pop(command["node"], None)
+        return [*plans.values()], [*shown_signals.values()]
+>>>>>>> b785c718 (Who gives way at lights decides second by second, by the vehicles that are there)
 
     def waiting(self) -> list[list[int]]:
         """[slot, how many] of the lanes that vehicles wait to enter, who wished to by now."""

@@ -1,8 +1,8 @@
 """The map file: which SUMO names the numbers of a run stand for.
 
-A file of version 2, which is written, tells its version, and has each table as an object of columns by name; a column
-that is not there has its usual values. Files of version 1 tell none, and have rows as lists in the order of the fields;
-they are read as well.
+A file of version 3, which is written, tells its version, and has each table as an object of columns by name; a column
+that is not there has its usual values. Files of versions 1 and 2 do not say who gives way at lights, as their signals
+show it; those of version 1 do not tell their version, and have rows as lists in the order of the fields. All are read.
 """
 from collections.abc import Iterable, Sequence
 from dataclasses import asdict, dataclass, field
@@ -16,9 +16,9 @@ from streetsim.model.named import columns, columns_of, one_of, rows_of
 from streetsim.model.reserved import ReservedLanes
 from streetsim.model.starting import SlowStarts
 from streetsim.model.stops import Visit
-from streetsim.model.waiting import GivingWay, giving_way_of
+from streetsim.model.waiting import GivingWay, LitWays, giving_way_of, lit_ways_of
 
-VERSION = 2
+VERSION = 3
 Place = tuple[int, int]  # a link and a lane of it
 Shape = Sequence[Sequence[float]]  # of (x, y)
 KEYS = ("nodes", "links", "turns", "signals", "cars", "options", "warnings")
@@ -138,8 +138,12 @@ class Map:
     reserved: ReservedLanes | None = None  # of classes beside the first
     end: int = 0  # the clock at which SUMO's configuration ends a run, 0 where none does
     timings: list[Json] = field(default_factory=list)  # the programs of lights at the road, as of model.timing
+<<<<<<< HEAD
     # By light, of those whose plan a search made that is not to be trusted, why it is not.
     doubted_plans: dict[str, str] = field(default_factory=dict)
+=======
+    lit_ways: list[LitWays] = field(default_factory=list)  # who gives way at lights
+>>>>>>> b785c718 (Who gives way at lights decides second by second, by the vehicles that are there)
 
     def __post_init__(self) -> None:
         """Finds the links of each edge."""
@@ -187,6 +191,7 @@ class Map:
             "location": self.location,
             "actuated": self.actuated,
             **{name: value for name in WHERE_ANY if (value := getattr(self, name))},
+            **({"lit_ways": columns_of(LitWays, self.lit_ways)} if self.lit_ways else {}),
             **({"full": asdict(self.full)} if self.full else {}),
             **({"starts": asdict(self.starts)} if self.starts else {}),
             **({"reserved": asdict(self.reserved)} if self.reserved else {}),
@@ -210,11 +215,22 @@ def refuse_outside(nodes: Sequence[Sequence[object]], links: Sequence[MapLink], 
         raise ValueError("a turn has a link that is not there")
 
 
+def refuse_ways_outside(lit_ways: Iterable[LitWays], nodes: int, links: int) -> None:
+    """ValueError where one who gives way at a light names a node, link, lane or way that is not there. nodes, links:
+    how many there are."""
+    for one in lit_ways:
+        turns = [turn for way in one.ways for turn in way]
+        numbers = {*one.stops, *(way for own, foe, _ in one.yields for way in (own, foe))}
+        is_known = 0 <= one.node < nodes and numbers <= {*range(len(one.ways))}
+        if not is_known or not all(0 <= link < links and lane in (0, 1) and 0 <= to < links for link, lane, to in turns):
+            raise ValueError("who gives way at a light names what is not there")
+
+
 def map_from(path: FilePath, content: Json) -> Map:
     """The map of the content of its file, as `Map.written` gives it; path: for the Fault where it is no map, or one of
     a later version."""
-    if (version := content.get("version", 1)) not in (1, VERSION):
-        raise Fault(f"{path}: a map of version {version}, and these tools read 1 and {VERSION}: import the run anew")
+    if (version := content.get("version", 1)) not in (1, 2, VERSION):
+        raise Fault(f"{path}: a map of version {version}, and these tools read 1 to {VERSION}: import the run anew")
     try:
         fields: Json = {key: content[key] for key in ("cars", "options", "warnings")}
         fields["nodes"], fields["signals"] = rows_of(MapNode, content["nodes"]), rows_of(MapSignal, content["signals"])
@@ -223,6 +239,7 @@ def map_from(path: FilePath, content: Json) -> Map:
         fields["warning_rows"] = content.get("told", [])
         fields |= {name: content.get(name, {}) for name in ("location", "names", "sources", "doubted_plans")}
         fields |= {"kinds": content.get("vehicles", {}), "yields": giving_way_of(content.get("yields", ()))}
+        fields["lit_ways"] = lit_ways_of(content.get("lit_ways", {}))
         fields["full"] = fullness_of(content.get("full", {}))
         fields["end"] = content.get("end", 0)
         fields["starts"] = one_of(SlowStarts, content["starts"]) if "starts" in content else None
@@ -230,6 +247,7 @@ def map_from(path: FilePath, content: Json) -> Map:
         for name, kind in (("detectors", Detector), ("visits", Visit), ("switches", Switch)):
             fields[name] = rows_of(kind, content.get(name, ()))
         refuse_outside(fields["nodes"], fields["links"], fields["turns"])
+        refuse_ways_outside(fields["lit_ways"], len(fields["nodes"]), len(fields["links"]))
         return Map(**fields)
     except (AttributeError, KeyError, TypeError, ValueError) as fault:
         raise Fault(f"{path}: not a map that streetsim-import wrote: {fault}") from None

@@ -1,10 +1,10 @@
-"""Who gives way to whom where there is no light, as the map has it: the turns, those that go first there, and the gaps
-that the others need."""
+"""Who gives way to whom, as the map has it: at lights, and without a light with the gaps that are needed."""
 from collections.abc import Iterable
 from dataclasses import dataclass, replace
 from typing import Self
 
-from streetsim.model.named import one_of
+from streetsim.base.files import Json
+from streetsim.model.named import one_of, rows_of
 
 TurnKey = tuple[int, int, int]  # link, lane, next link
 WIDER = 0.3  # seconds more for each further lane of a street that is crossed
@@ -73,6 +73,29 @@ class GivingWay:
     turns: tuple[TurnKey, ...]
     foes: tuple[Foe, ...]
     pace: Pace | None = None  # of those who have to stop
+
+
+@dataclass(slots=True, frozen=True)
+class LitWays:
+    """Who gives way at a node with a light while both have green. A way is the turns of one movement under one signal;
+    others name it by its position."""
+
+    node: int
+    ways: tuple[tuple[TurnKey, ...], ...]
+    # A way, one that goes before it, and whether that leads to another lane of the same street.
+    yields: tuple[tuple[int, int, bool], ...]
+    stops: tuple[int, ...] = ()  # the ways that may go in a red after a stop
+
+
+def lit_ways_of(table: Json) -> list[LitWays]:
+    """Who gives way at lights, of a map's file."""
+    return [
+        LitWays(
+            entry.node, tuple(tuple((link, lane, following) for link, lane, following in way) for way in entry.ways),
+            tuple((own, foe, beside) for own, foe, beside in entry.yields), tuple(entry.stops),
+        )
+        for entry in rows_of(LitWays, table)
+    ]
 
 
 def giving_way_of(value: Iterable[object]) -> list[GivingWay]:

@@ -222,6 +222,18 @@ class Greens:
         return self.greens_by_plan[id(phases)]
 
 
+def lanes_that_give_way(mapping: Map, plans: Greens) -> set[Place]:
+    """The lanes from which some give way at a light: they have green together with others that go before them."""
+    found: set[Place] = set()
+    for one in mapping.lit_ways:
+        shown = (green for _, command in plans.plans.get(one.node, ()) for _, green in command["phases"])
+        phases = {frozenset((link, lane, to) for link, lane, to in green) for green in shown}
+        for own, foe, _ in one.yields:
+            if any(not green.isdisjoint(one.ways[own]) and not green.isdisjoint(one.ways[foe]) for green in phases):
+                found.update((link, lane) for link, lane, _ in one.ways[own])
+    return found
+
+
 def ends_and_greens(phases: Sequence[Sequence[Any]]) -> tuple[list[int], dict[Place, list[frozenset[int]]]]:
     """(by phase the second of the cycle in which it ends, by lane with any green the links that are green in each
     phase) of a plan's phases."""

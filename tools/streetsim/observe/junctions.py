@@ -53,7 +53,7 @@ class Junctions(Passages):
     def keep_interval(self) -> None:
         """Sums up the interval under way, which is over."""
         sent = self.kernel.sent_lines[self.sent_count :]
-        lines = ((following.clock, following.line.command) for following in sent)
+        lines = ((following.clock, following.line.command) for following in sent if not following.for_a_gap)
         self.shown_plans.plans.add((clock, command) for clock, command in lines if command["cmd"] == "signal")
         self.sent_count += len(sent)
         back, stood = (np.concatenate(parts) for parts in zip(*self.begun_interval, strict=True))

@@ -12,6 +12,7 @@ from streetsim.observe.crossings import Crossed
 from streetsim.observe.junction_capacity import (
     QUEUES, USUAL_LOST, Discharge, Saturation, all_have_same_green, mean_saturation, usual_flow,
 )
+from streetsim.observe.junction_layout import lanes_that_give_way
 from streetsim.observe.junction_measures import Interval
 from streetsim.observe.log import Columns
 from streetsim.observe.passages import Passages
@@ -27,7 +28,7 @@ class LaneGreens(NamedTuple):
     """What some phases show to the lanes that lead to a node."""
 
     has_green: Array  # by lane and phase whether a link has green to which vehicles go from there
-    same_green: Array  # by lane whether all its vehicles have the same green
+    same_green: Array  # by lane whether all its vehicles have the same green, in which none gives way
 
 
 class UtilisationCalculator:
@@ -56,6 +57,7 @@ class UtilisationCalculator:
         self.flow = np.array([rate.flow for rate in rates], float)
         self.lost = np.array([rate.lost for rate in rates], float)
         self.greens: dict[tuple[int, tuple[int, ...]], LaneGreens] = {}  # by node and phases
+        self.giving = lanes_that_give_way(passages.kernel.map, shown.plans)
 
     def saturation_of(self, lane_key: Place) -> Saturation:
         """How a lane passes queues: as it did where there were QUEUES discharges, else as all lanes of the run did
@@ -96,7 +98,10 @@ class UtilisationCalculator:
             lanes = list(zip(self.shown_plans.greens(node, lane_keys, phases), used, strict=True))
             self.greens[node, phases] = LaneGreens(
                 np.array([[shown is None or bool(shown & links) for shown in greens] for greens, links in lanes]),
-                np.array([all_have_same_green(greens, links) for greens, links in lanes]),
+                np.array([
+                    lane_key not in self.giving and all_have_same_green(greens, links)
+                    for lane_key, (greens, links) in zip(lane_keys, lanes)
+                ]),
             )
         return self.greens[node, phases]
 
@@ -137,10 +142,16 @@ class UtilisationCalculator:
         interval.flows = dict(zip(self.lane_keys, self.flow.tolist(), strict=True))
 
     def by_busy_seconds(self, alone: Array, waiting: Array, green: Array) -> Array:
+<<<<<<< HEAD
         """Who passed as a share, 0 to 1, of who could, of lanes without a signal, or whose vehicles do not all have the
         same green: the share of green
         seconds with a vehicle on the lane that has stood (waiting), and a headway for each that passes while there is
         none (alone)."""
+=======
+        """v/c, 0 to 1, of lanes without a signal, from which some give way, or whose vehicles do not all have the same
+        green: the share of green seconds with a vehicle on the lane that has stood (waiting), and a headway for each
+        that passes while there is none (alone)."""
+>>>>>>> b785c718 (Who gives way at lights decides second by second, by the vehicles that are there)
         return np.minimum(1.0, (waiting + alone * 3600 / self.flow) / np.maximum(1, green))
 
 

@@ -267,8 +267,8 @@ def lit_lines(sent: Iterable[SentLine], mapping: Map) -> Iterator[tuple[int, Lin
     """Of the lines that a run sent, as (clock, line), those with the signal plans that the tools made for nodes with a
     light; the setting tells them as signals of the run."""
     lit = {node for _, node in mapping.signals}
-    for clock, line, _ in sent:
-        if line.number < 0 and line.command["cmd"] == "signal" and line.command["node"] in lit:
+    for clock, line, _, for_a_gap in sent:
+        if line.number < 0 and not for_a_gap and line.command["cmd"] == "signal" and line.command["node"] in lit:
             yield clock, line
 
 

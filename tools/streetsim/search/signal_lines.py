@@ -102,6 +102,7 @@ class LightLines:
             self.permissive.add(name)
         turns = self.turns[node]
         edges = {link: self.mapping.links[link].edge for link, *_ in turns}
-        lit = LitNode(node, turns, edges, name, program, permissive, self.report, movements, *measured_of(self.mapping))
+        measured = *measured_of(self.mapping), any(ways.node == node for ways in self.mapping.lit_ways)
+        lit = LitNode(node, turns, edges, name, program, permissive, self.report, movements, *measured)
         command = signal_command(lit)
         return json.dumps(command["phases"], separators=(",", ":")).encode()

@@ -65,7 +65,7 @@ class SignalsInForce(Controller):
 
     def in_force(self) -> Collection[Command]:
         """The signal commands in force."""
-        sent = (sent_line.line.command for sent_line in self.kernel.sent_lines)
+        sent = (sent_line.line.command for sent_line in self.kernel.sent_lines if not sent_line.for_a_gap)
         signals = {command["node"]: command for command in sent if command["cmd"] == "signal"}
         return {**self.signals, **signals}.values()
 
@@ -126,7 +126,8 @@ class SignalsInForce(Controller):
         program = LightProgram(offset, list(phases), "static")
         cut, shares = measured_of(self.map)
         permissive = self.map.options["permissive"]
-        return LitNode(node, turns, edges, light, program, permissive, report, cut=cut, shares=shares)
+        live = any(ways.node == node for ways in self.map.lit_ways)
+        return LitNode(node, turns, edges, light, program, permissive, report, {}, cut, shares, live)
 
     def constant_lines(self, light: str, state: str, begin: float) -> list[Line]:
         """The lines that show a state without permissive greens from the clock begin on; forgets what was to come."""

@@ -2,6 +2,7 @@
 from collections.abc import Iterable, Sequence
 from functools import partial
 from math import ceil
+from operator import attrgetter
 
 from streetsim.base.client import read_reply
 from streetsim.base.program import find_program
@@ -78,7 +79,8 @@ class Simulation:
         controllers, index = self.steering.controllers, self.steering.controllers.index(self.steering.lights)
         self.before_script = [*controllers[:index], *self.controllers_before_script()]
         of_script = self.script_settings.controllers
-        self.after_script = [*self.controllers_after_script(), *controllers[index:], self.signals_in_force, *of_script]
+        after = [*self.controllers_after_script(), *controllers[index:], self.signals_in_force, *of_script]
+        self.after_script = sorted(after, key=attrgetter("shows_alone"))  # who gives way decides by what all others show
         self.kernel.controllers = [*self.before_script, *self.after_script]
         self.kernel.observers = self.script_settings.observers
         self.second_observers = [*self.observers_before_view(), self.view]

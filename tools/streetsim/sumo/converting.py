@@ -14,6 +14,7 @@ from streetsim.sumo.crossing import hourly_flows
 from streetsim.sumo.demand import DemandVehicle, enters, kinds_of
 from streetsim.sumo.detectors import detectors_on_cells
 from streetsim.sumo.full import fullness
+from streetsim.sumo.lit_ways import lit_ways_of
 from streetsim.sumo.merges import merges_of
 from streetsim.sumo.net import STATIC, SumoNet, doubted_plans, lights_not_static
 from streetsim.sumo.network import Network, Options
@@ -75,6 +76,7 @@ def converted(
         warn_of_rules(net, network, programs_shown(net, days), report)
         warn_of_clashes(net, report)
         warn_of_broken(net, report)
+    network.lit_ways = lit_ways_of(net, network)
     ends = {light: day[1][0] - 1 for light, day in days.items() if len(day) > 1}
     signals = signal_commands(net, network, movements_at, report, ends) + day_lines(net, network, days, flows, report)
     lights = [(light, command["node"]) for light, command in signals if "at" not in command]
@@ -141,7 +143,11 @@ def map_of(network: Network, lights: list[tuple[str, int]], names: list[str], re
         starts=network.starts,
         reserved=network.reserved,
         timings=network.timings,
+<<<<<<< HEAD
         doubted_plans=network.doubted_plans,
+=======
+        lit_ways=network.lit_ways,
+>>>>>>> b785c718 (Who gives way at lights decides second by second, by the vehicles that are there)
     )
 
 

@@ -188,6 +188,7 @@ def read_net(path: FilePath, classes: Sequence[str], report: Report) -> SumoNet:
         raise Fault(f"{path}: no lane is open to {', '.join(classes)}; lanes are opened to: {opened}")
     spare_main_streets(net)
     wait_inside(net)
+    go_side_by_side(net)
     measure_inside(net)
     return net
 
@@ -213,6 +214,19 @@ def wait_inside(net: SumoNet) -> None:
                 free = foe not in yields.get(request, ()) and request not in yields.get(foe, ())
                 if free and turn_into_one(of_request[request], of_request[foe]):
                     yields.setdefault(request, set()).add(foe)
+
+
+def go_side_by_side(net: SumoNet) -> None:
+    """At lights, has lanes of one edge that become one lane of the next not give way to each other: netconvert writes
+    so for one of them, but its vehicles go by turns, and do not wait for gaps as those who turn across others do."""
+    for junction, connections in connections_of(net).items():
+        yields, beside = net.yields.get(junction, {}), defaultdict[tuple[str, str], set[int]](set)
+        lit = [one for one in connections if one.light and one.request is not None]
+        for one in lit:
+            beside[one.source, one.target].add(one.request or 0)
+        for one in lit:
+            if one.request in yields:
+                yields[one.request] = yields[one.request] - beside[one.source, one.target]
 
 
 def turn_into_one(connection: NetConnection, other_connection: NetConnection) -> bool:

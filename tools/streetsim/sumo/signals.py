@@ -52,6 +52,7 @@ class LitNode:
     movements: Mapping[int, CrossingMovement] = field(default_factory=dict)  # by request: who gives way there
     cut: float = 0.0  # seconds that are cut from greens, in the mean over nodes
     shares: Pairs = ()  # of permissive greens that were surveyed: (edge, share)
+    live: bool = False  # who gives way is decided while the run goes: permissive greens are shown as they are
 
     def states(self) -> list[str]:
         """The light's state, SUMO's letters, in each second of its cycle. Fault where each_second raises one."""
@@ -59,7 +60,9 @@ class LitNode:
 
     def shown_seconds(self, states: Sequence[str]) -> ShownSeconds:
         """What is shown, by first second, as shown_by_gaps or shown_by_share has it; states: as states gives them."""
-        if self.movements:
+        if self.live:
+            seconds_shown: ShownSeconds = {}
+        elif self.movements:
             seconds_shown = shown_by_gaps(self.movements)
         else:
             seconds_shown = shown_by_share(self.light, self.turns, states, self.permissive)
@@ -127,7 +130,8 @@ def lit_node(
     edges = {link: network.links[link].edge for link, *_ in turns}
     measured = network.options.cut, network.options.shares
     program, permissive = net.programs[light], network.options.permissive
-    return LitNode(node, turns, edges, light, program, permissive, report, movements, *measured)
+    live = any(ways.node == node for ways in network.lit_ways)
+    return LitNode(node, turns, edges, light, program, permissive, report, movements, *measured, live)
 
 
 def signal_commands(

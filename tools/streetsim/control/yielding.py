@@ -1,0 +1,189 @@
+"""Giving way at lights by what happens: each turn that is green together with others that go before it is shown green in
+the next second where the vehicles that are there leave a gap, and red where they do not.
+
+The constants were chosen on lone crosses alone, beside SUMO (one cross each, 50 km/h, lefts on their own lane and on a
+shared one, greens of 14 to 57 s, 0 to 1,000 vehicles an hour against them): the gaps are SUMO's own, AFTER_STAND and
+SNEAK_SECONDS stand for what vehicles do inside a junction, as here they wait at the line.
+"""
+from __future__ import annotations
+
+from collections.abc import Sequence
+from dataclasses import dataclass
+from operator import attrgetter
+
+from streetsim.control.yielding_plans import AS_PLANNED, CLOSED, OPENED, PlansInForce
+from streetsim.control.yielding_sight import Ahead, Sight
+from streetsim.control.yielding_ways import NO_TURN, Lanes, Way, Ways
+from streetsim.kernel.loop import Controller, Kernel
+from streetsim.kernel.seconds import READY, Block
+from streetsim.model.mapping import Map
+
+STANDING_GAP, ROLLING_GAP = 3.5, 3.0  # seconds that are free before one who stands or follows, and who rolls alone
+FOLLOWING = 3  # seconds after another one left, in which one follows
+AFTER_STAND = 1.5  # seconds more between two, the first of which stood for LONG_STAND
+LONG_STAND = 2  # seconds
+SNEAK_SECONDS = 5  # after the end of a green, in which one goes that stood there
+HALF = 0.5  # of a second, to which clocks are compared
+QUEUED = 8  # seconds for which others on the lane of one that gave way keep its distance
+LONG_AGO = -99  # a clock
+
+
+@dataclass(slots=True)
+class Front:
+    """One that is the first of its lane, and may pass its stop line in the next second."""
+
+    car: int
+    slot: int
+    turn: int
+    way: Way
+    stands: bool  # at the stop line
+    looks: bool = False  # for a gap
+
+
+class Yielding(Controller):
+    """Has turns at lights give way to those who come."""
+
+    shows_alone = True
+
+    def __init__(self, mapping: Map) -> None:
+        """mapping: with who gives way at lights."""
+        self.mapping, self.line_count = mapping, 0
+
+    def begin(self, kernel: Kernel) -> None:
+        """Nobody waits yet."""
+        self.kernel, self.clock, self.next_sent = kernel, kernel.start, 0
+        self.ways = Ways(self.mapping)
+        self.lanes = Lanes(self.mapping, self.ways, kernel.run.load.command["nodes"])
+        self.plans, self.ahead = PlansInForce(self.ways, self.lanes), Ahead(kernel.vehicles)
+        for line in kernel.run.first:
+            self.plans.note(kernel.start, line.command)
+        self.left: dict[int, int] = {}  # by turn the clock at which one left by it
+        self.free_at: dict[int, float] = {}  # by lane the clock from which on the next one may go
+        self.held: dict[int, int] = {}  # by lane who stood there in the last second and was to wait
+        self.waited: dict[int, tuple[int, int]] = {}  # by lane who waited there last, and until when
+        self.let_go: list[Front] = []  # in the last second
+        self.stood_since: dict[int, int] = {}  # by car the clock since which it stands first
+        self.looked_at: set[int] = set()  # lanes in the last second
+
+    def next_clock(self) -> int:
+        """The next second."""
+        return self.clock
+
+    def act(self, clock: int, now: Block) -> None:
+        """Closes and opens turns for the next second."""
+        self.clock = clock + 1
+        sent = self.kernel.sent_lines
+        for line in sent[self.next_sent :]:
+            if not line.for_a_gap:
+                self.plans.note(clock, line.line.command)
+        self.next_sent = len(sent)
+        self.plans.advance(clock)
+        self.note_left(clock, now)
+        fronts = self.find_fronts(clock, now)
+        if clock < self.kernel.until:
+            self.decide(clock, now, fronts)
+
+    def note_left(self, clock: int, now: Block) -> None:
+        """Notes of those who were let go in the last second who went, and when the next ones may."""
+        for front in self.let_go:
+            [row] = (now.car == front.car).nonzero()[0].tolist() or [-1]
+            if row < 0 or now.cell[row] & READY != clock - 1 + self.lanes.residence[front.slot] or now.cell[row] >= 0:
+                continue
+            since = self.stood_since.pop(front.car, clock)
+            free_at = self.free_at.get(front.slot, LONG_AGO)
+            begin = free_at if clock - 1 - free_at < 1 else clock - 1
+            more = AFTER_STAND if clock - 1 - since >= LONG_STAND else 0.0
+            self.free_at[front.slot] = begin + front.way.headway + more
+            self.left[front.turn] = clock
+
+    def lively_lanes(self, clock: int) -> set[int]:
+        """The lanes that are looked at though none of their turns meets others now."""
+        self.waited = {slot: own for slot, own in self.waited.items() if clock - own[1] <= SNEAK_SECONDS}
+        self.free_at = {slot: free_at for slot, free_at in self.free_at.items() if free_at > clock - QUEUED}
+        return {*self.waited, *self.free_at, *self.plans.changed, *self.lanes.may_stop}
+
+    def find_fronts(self, clock: int, now: Block) -> list[Front]:
+        """Those who are first of lanes where it is to be decided whether they go, and may pass the line in the next
+        second; notes since when they stand there."""
+        cells = self.plans.alert_cell
+        if lively := [slot for slot in self.lively_lanes(clock) if not self.plans.is_meeting(slot)]:
+            cells = cells.copy()
+            cells[lively] = self.lanes.line_cell[lively]
+        rows = (now.cell >= cells[now.slot]).nonzero()[0]
+        fronts, last_slot, looked_at = [], -1, set()
+        for car, slot, cell, speed in zip(*(column[rows].tolist() for column in (now.car, now.slot, now.cell, now.speed))):
+            left = self.lanes.length[slot] - cell
+            looked_at.add(slot)
+            if slot != last_slot and left <= speed + 1:
+                turn = self.ways.number.get((slot, self.ahead.links(car, slot >> 1)[0]), NO_TURN)
+                stands = speed == 0 and left == 1
+                if stands:
+                    self.stood_since.setdefault(car, clock if slot in self.looked_at else clock - 1 - LONG_STAND)
+                if turn != NO_TURN:
+                    fronts.append(Front(car, slot, turn, self.ways.all[turn], stands))
+            last_slot = slot
+        self.looked_at = looked_at
+        return fronts
+
+    def decide(self, clock: int, now: Block, fronts: Sequence[Front]) -> None:
+        """Decides of each of those who are first, in their ranks, whether it goes, and shows it."""
+        plans, held = self.plans, self.held
+        for front in fronts:
+            front.looks = plans.meets(front.turn) or (front.stands and self.may_go_late(clock, front))
+        looking = sorted((front for front in fronts if front.looks), key=lambda front: (front.way.rank, front.slot))
+        self.held, self.let_go = {}, []
+        shown = {front.turn: self.goes_as_planned(clock, front) for front in fronts if not front.looks}
+        if looking:
+            slots = set[int]().union(*(plans.seen_lanes(front.turn) for front in looking))
+            sight = Sight(clock, now, slots, self.ways, self.lanes, self.ahead, plans.comes, held)
+            going: set[int] = set()
+            for front in looking:
+                shown[front.turn] = self.has_gap(clock, front, sight, going)
+                if shown[front.turn]:
+                    going.add(front.turn)
+                    self.let_go.append(front)
+                elif front.stands and plans.is_green(front.turn):
+                    self.held[front.slot], self.waited[front.slot] = front.car, (front.car, clock)
+        self.show(shown)
+
+    def may_go_late(self, clock: int, front: Front) -> bool:
+        """Whether one that stands goes though its light is red, as soon as there is a gap: it waited there in the
+        green, or may go after a stop."""
+        car, until = self.waited.get(front.slot, (NO_TURN, LONG_AGO))
+        late = car == front.car and clock - until <= SNEAK_SECONDS
+        stopped = front.way.may_stop and clock - self.stood_since[front.car] >= 1
+        return not self.plans.is_green(front.turn) and (late or stopped)
+
+    def goes_as_planned(self, clock: int, front: Front) -> bool:
+        """Whether one that need not look for a gap is shown green; behind one that gave way it keeps its distance."""
+        free_at = self.free_at.get(front.slot, LONG_AGO)
+        return self.plans.is_green(front.turn) and (front.way.gives or free_at <= clock + HALF)
+
+    def has_gap(self, clock: int, front: Front, sight: Sight, going: set[int]) -> bool:
+        """Whether one may go. going: the turns by which some are let go in this second."""
+        if self.free_at.get(front.slot, LONG_AGO) > clock + HALF:
+            return False
+        follows = clock - self.left.get(front.turn, LONG_AGO) <= FOLLOWING
+        needed = STANDING_GAP if front.stands or follows else ROLLING_GAP
+        for foe, is_crossed in front.way.foes.items():
+            if foe in sight.passed:
+                return False
+            if is_crossed and sight.seconds.get(foe, needed) < needed and not self.waits(foe, sight, going):
+                return False
+        return True
+
+    def waits(self, foe: int, sight: Sight, going: set[int]) -> bool:
+        """Whether one that goes first waits itself."""
+        way = self.ways.all[foe]
+        return way.gives and (way.slot in self.held or (way.slot in sight.held and foe not in going))
+
+    def show(self, shown: dict[int, bool]) -> None:
+        """Shows turns green or not in the next second, where they are not shown so already."""
+        plans = self.plans
+        if changed := [turn for turn, goes in shown.items() if plans.shown(turn) != goes]:
+            for turn in changed:
+                goes = shown[turn]
+                plans.set_mode(turn, AS_PLANNED if plans.is_green(turn) == goes else OPENED if goes else CLOSED)
+            lines = plans.lines(changed)
+            self.line_count += len(lines)
+            self.kernel.send_now(lines, False, True)

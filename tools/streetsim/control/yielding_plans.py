@@ -1,0 +1,194 @@
+"""The plans of lights in force, as turns see them that give way: which turns are green, and for which of them somebody
+may come; and the lines that show a plan with some turns closed or opened."""
+from __future__ import annotations
+
+import heapq
+import json
+from collections import defaultdict
+from collections.abc import Iterable, Sequence
+from itertools import accumulate
+from typing import NamedTuple
+
+from streetsim.base.arrays import Array, numpy as np
+from streetsim.control.yielding_ways import NO_CELL, Lanes, Ways
+from streetsim.kernel.loop import own_line
+from streetsim.model.runs import Command, Line
+
+# Seconds of red between two greens of a turn, and at the begin of a green, that the import shows alone so that its
+# queue leaves as slowly as in SUMO: who gives way sees it green.
+HELD_BACK, HELD_AT_BEGIN = 8, 3
+AS_PLANNED, CLOSED, OPENED = 0, 1, 2  # what a turn shows beside its plan
+
+
+class ShownPhase(NamedTuple):
+    """A phase of a node's plan, by numbers of turns that are looked at."""
+
+    greens: frozenset[int]
+    comes: frozenset[int]  # by which somebody may come
+    meets: frozenset[int]  # green ones, where somebody may come before whom they give way
+    slots: Array  # the lanes of those
+
+
+NOTHING_SHOWN = ShownPhase(frozenset(), frozenset(), frozenset(), ())
+
+
+class NodePlan:
+    """A plan of a node, for those of its turns that are looked at."""
+
+    def __init__(self, command: Command, turns: Sequence[int], ways: Ways) -> None:
+        """command: the signal command; turns: numbers of the turns that lead there."""
+        self.command, self.turns, self.names = command, turns, [ways.all[turn].name for turn in turns]
+        seconds = [length for length, _ in command["phases"]]
+        shown = [{tuple(turn) for turn in green} for _, green in command["phases"]]
+        self.ends = [*accumulate(seconds)]
+        goes_before = np.array([[foe in ways.all[turn].foes for foe in turns] for turn in turns], np.int64)
+        greens = np.array([[name in green for name in self.names] for green in shown], bool)
+        comes = with_held_back(greens, np.array(seconds), goes_before)
+        meets = greens & (comes.astype(np.int64) @ goes_before.T > 0)
+        self.phases = [self.phase_of(ways, *rows) for rows in zip(greens, comes, meets)]
+        self.lines: dict[tuple[int, tuple[int, ...]], Line] = {}
+
+    def phase_of(self, ways: Ways, *rows: Array) -> ShownPhase:
+        """A phase, by whether each turn is green, somebody may come by it, and it meets others."""
+        greens, comes, meets = (frozenset(self.turns[at] for at in row.nonzero()[0].tolist()) for row in rows)
+        slots = sorted({ways.all[turn].slot for turn in meets})
+        return ShownPhase(greens, comes, meets, np.array(slots, np.int64))
+
+    def phase_at(self, clock: int, offset: int) -> tuple[int, int]:
+        """(the phase at a clock, how many of its seconds are left)."""
+        second = (clock + offset) % self.ends[-1]
+        phase = next(at for at, end in enumerate(self.ends) if second < end)
+        return phase, self.ends[phase] - second
+
+    def line(self, offset: int, modes: tuple[int, ...]) -> Line:
+        """The line that shows the plan from its offset on, with turns closed or opened by their modes."""
+        if (line := self.lines.get((offset, modes))) is None:
+            closed, opened = ({name for name, own in zip(self.names, modes) if own == mode} for mode in (CLOSED, OPENED))
+            phases = [
+                [length, sorted([*turn] for turn in {(link, lane, to) for link, lane, to in green} - closed | opened)]
+                for length, green in self.command["phases"]
+            ]
+            line = self.lines[offset, modes] = own_line({**self.command, "offset": offset, "phases": phases})
+        return line
+
+
+def with_held_back(greens: Array, seconds: Array, goes_before: Array) -> Array:
+    """By phase and turn whether somebody may come by it: where it is green, in reds of HELD_BACK seconds between its
+    greens, and in those of HELD_AT_BEGIN before one, where a turn that gives way to it has begun. greens: by phase and
+    turn; goes_before: by turn and another one 1 where that goes first, else 0."""
+    before, after = red_until(greens, seconds), red_until(greens[::-1], seconds[::-1])[::-1]
+    red = before + after - seconds[:, None]
+    comes = greens | (red <= HELD_BACK) & greens.any(axis=0)
+    is_short = (seconds <= HELD_AT_BEGIN)[:, None]
+    begun = greens & ~np.roll(greens, 1, axis=0)
+    begun |= greens & np.roll(begun & is_short, 1, axis=0)
+    is_met = begun.astype(np.int64) @ goes_before > 0
+    for _ in range(2):
+        comes |= is_short & is_met & np.roll(comes, -1, axis=0)
+    return comes
+
+
+def red_until(greens: Array, seconds: Array) -> Array:
+    """By phase and turn the seconds of red up to the phase's end since the last green; of turns that have none more than
+    a cycle."""
+    count, red, found = len(greens), np.zeros(greens.shape[1]), np.zeros(greens.shape)
+    for at in [*range(count)] * 2:
+        red = np.where(greens[at], 0, red + seconds[at])
+        found[at] = red
+    return found
+
+
+class PlansInForce:
+    """The plans of nodes with lights, and what they show at the clock."""
+
+    def __init__(self, ways: Ways, lanes: Lanes) -> None:
+        """None is in force yet; a node without one shows nothing."""
+        self.ways, self.lanes = ways, lanes
+        self.turns_at = defaultdict[int, list[int]](list)
+        for turn, way in enumerate(ways.all):
+            self.turns_at[way.node].append(turn)
+        self.plans: dict[int, NodePlan] = {}
+        self.offsets: dict[int, int] = {}
+        self.known: dict[str, NodePlan] = {}  # by node and phases
+        self.phases = dict.fromkeys(self.turns_at, NOTHING_SHOWN)  # by node what is shown now
+        self.mode = [AS_PLANNED] * len(ways.all)
+        self.changed: dict[int, set[int]] = {}  # by lane the turns that are not as planned
+        # By lane the cell from which on one may pass the line in the next second, where some meet others.
+        self.alert_cell = np.full(len(lanes.length), NO_CELL)
+        self.due: list[tuple[int, int, int]] = []  # clock, node and number of the plan at whose next phase to look
+        self.number: dict[int, int] = {}
+
+    def note(self, clock: int, command: Command) -> None:
+        """Takes a command that is sent at a clock, where it sets the light of one of the nodes."""
+        if command["cmd"] != "signal" or (node := command["node"]) not in self.turns_at:
+            return
+        key = f"{node}{json.dumps(command['phases'])}"
+        if key not in self.known:
+            self.known[key] = NodePlan(command, self.turns_at[node], self.ways)
+        self.plans[node], self.offsets[node] = self.known[key], command.get("offset", 0)
+        for turn in self.turns_at[node]:
+            self.set_mode(turn, AS_PLANNED)
+        self.number[node] = self.number.get(node, 0) + 1
+        heapq.heappush(self.due, (clock, node, self.number[node]))
+
+    def advance(self, clock: int) -> None:
+        """Brings what is green to a clock."""
+        while self.due and self.due[0][0] <= clock:
+            _, node, number = heapq.heappop(self.due)
+            if number == self.number[node]:
+                phase, left = self.plans[node].phase_at(clock, self.offsets[node])
+                self.show_phase(node, phase)
+                if len(self.plans[node].ends) > 1:
+                    heapq.heappush(self.due, (clock + left, node, number))
+
+    def show_phase(self, node: int, phase: int) -> None:
+        """Takes a phase of a node's plan."""
+        if len(before := self.phases[node].slots):
+            self.alert_cell[before] = NO_CELL
+        self.phases[node] = shown = self.plans[node].phases[phase]
+        self.alert_cell[shown.slots] = self.lanes.line_cell[shown.slots]
+
+    def phase(self, turn: int) -> ShownPhase:
+        """What the plan of a turn's node shows now."""
+        return self.phases[self.ways.all[turn].node]
+
+    def is_green(self, turn: int) -> bool:
+        """Whether the plan has a turn green now."""
+        return turn in self.phase(turn).greens
+
+    def comes(self, turn: int) -> bool:
+        """Whether somebody may come by a turn now."""
+        return turn in self.phase(turn).comes
+
+    def meets(self, turn: int) -> bool:
+        """Whether a turn is green now and somebody may come before whom it gives way."""
+        return turn in self.phase(turn).meets
+
+    def seen_lanes(self, turn: int) -> set[int]:
+        """The lanes on which those are now who go before a turn, as far as they are seen."""
+        foes = self.ways.all[turn].foes.keys() & self.phase(turn).comes
+        return {slot for foe in foes for slot in self.lanes.seen_by[foe]}
+
+    def is_meeting(self, slot: int) -> bool:
+        """Whether some of a lane meet others now."""
+        return bool(self.alert_cell[slot] != NO_CELL)
+
+    def shown(self, turn: int) -> bool:
+        """Whether a turn is shown green now."""
+        return self.is_green(turn) if self.mode[turn] == AS_PLANNED else self.mode[turn] == OPENED
+
+    def set_mode(self, turn: int, mode: int) -> None:
+        """Has a turn be shown as planned, or closed or opened."""
+        self.mode[turn] = mode
+        slot = self.ways.all[turn].slot
+        turns = self.changed.pop(slot, set()) - {turn}
+        if turns or mode != AS_PLANNED:
+            self.changed[slot] = turns if mode == AS_PLANNED else turns | {turn}
+
+    def lines(self, turns: Iterable[int]) -> list[Line]:
+        """The lines of the nodes of some turns, that show them by their modes."""
+        nodes = sorted({self.ways.all[turn].node for turn in turns} & self.plans.keys())
+        return [
+            self.plans[node].line(self.offsets[node], tuple(self.mode[turn] for turn in self.turns_at[node]))
+            for node in nodes
+        ]

@@ -1,0 +1,103 @@
+"""What those see who give way: in how many seconds the first one comes to each stop line, and who has just passed."""
+from __future__ import annotations
+
+from collections.abc import Callable, Iterable, Mapping
+
+from streetsim.base.arrays import numpy as np
+from streetsim.control.yielding_ways import HORIZON, NO_TURN, Lanes, Ways
+from streetsim.kernel.seconds import READY, Block, Vehicles
+
+DAWDLED = 0.17  # cells a step that a vehicle loses in the mean
+STARTING = 0.5  # seconds that one loses that stands on its way
+NOWHERE = -1  # the link behind the end of a plan
+
+
+class Ahead:
+    """The links ahead of vehicles, by the plans with which they were entered."""
+
+    def __init__(self, vehicles: Vehicles) -> None:
+        """vehicles: of the run; those to come too."""
+        self.plans = vehicles.plans
+        self.place: dict[int, int] = {}  # by car that of its link in its plan
+
+    def links(self, car: int, link: int) -> tuple[int, int]:
+        """(the next link of a vehicle that is on a link, the one behind it); NOWHERE where there is none."""
+        plan, place = self.plans[car], self.place.get(car, 0)
+        if plan[place] != link:
+            self.place[car] = place = plan.index(link, place)
+        left = len(plan) - place
+        return plan[place + 1] if left > 1 else NOWHERE, plan[place + 2] if left > 2 else NOWHERE
+
+
+class Sight:
+    """Some lanes in one second."""
+
+    def __init__(
+        self, clock: int, now: Block, slots: Iterable[int], ways: Ways, lanes: Lanes, ahead: Ahead,
+        comes: Callable[[int], bool], held: Mapping[int, int],
+    ) -> None:  # fmt: skip
+        """slots: that are looked at; comes: whether a turn has green; held: by slot who stood there in the second
+        before and was to wait, who lets nobody of its lane pass."""
+        self.clock, self.ways, self.lanes, self.ahead, self.comes, self.held = clock, ways, lanes, ahead, comes, held
+        self.seconds: dict[int, float] = {}  # by turn until the first one comes who may go on
+        self.passed: set[int] = set()  # the turns by which one passed in the last second
+        wanted = np.array(sorted(slots), np.int32)
+        bounds = zip(wanted.tolist(), *(now.slot.searchsorted(wanted, side).tolist() for side in ("left", "right")))
+        rows = {slot: slice(begin, end) for slot, begin, end in bounds if begin < end}
+        columns = {slot: [column[at].tolist() for column in (now.car, now.cell, now.speed)] for slot, at in rows.items()}
+        self.vehicles = {slot: [*zip(*own)] for slot, own in columns.items()}
+        for slot in self.vehicles:
+            self.see_lane(slot)
+        for slot, before in lanes.before.items():
+            for other in before if slot in slots else ():
+                self.see_before(slot, other)
+
+    def turn(self, car: int, slot: int) -> int:
+        """The number of the turn by which a vehicle of a lane goes on."""
+        return self.ways.number.get((slot, self.ahead.links(car, slot >> 1)[0]), NO_TURN)
+
+    def to_line(self, slot: int, cells_left: int, speed: int) -> float:
+        """The seconds for which one drives to its stop line (cells_left 1: at it)."""
+        driving = (cells_left - 1) / (self.lanes.limit[slot] - DAWDLED)
+        return driving + (STARTING if speed == 0 and cells_left > 1 else 0.0)
+
+    def see_lane(self, slot: int) -> None:
+        """Takes those of a lane, from the stop line back. Where the first one stays nobody comes behind it."""
+        length, limit, lane = self.lanes.length[slot], self.lanes.limit[slot], self.vehicles[slot]
+        inside = [(car, cell & READY) for car, cell, _ in lane if cell < 0]
+        just_now = self.clock - 1 + self.lanes.residence[slot]
+        self.passed.update(self.turn(car, slot) for car, ready in inside if ready == just_now)
+        is_full = len(inside) >= self.lanes.room[slot]
+        for place, (car, cell, speed) in enumerate(lane):
+            left = length - cell
+            if cell < 0 or left > HORIZON * limit:
+                break
+            turn = self.turn(car, slot)
+            goes_on = turn != NO_TURN and self.comes(turn)
+            stays = False
+            if place == 0:
+                stays = speed == 0 and left == 1 and (is_full or self.held.get(slot) == car)
+                stays |= turn != NO_TURN and not goes_on and left <= 2 * limit
+            if goes_on and not (stays and is_full):
+                self.note(turn, self.to_line(slot, left, speed))
+            if stays:
+                break
+
+    def see_before(self, slot: int, before: int) -> None:
+        """Takes those into the seconds to a stop line of a short lane who come there from a lane before."""
+        link = slot >> 1
+        drive = self.lanes.length[slot] / (self.lanes.limit[slot] - DAWDLED)
+        for car, cell, speed in self.vehicles.get(before, ()):
+            left = self.lanes.length[before] - cell
+            if cell >= 0 and (speed == 0 or left > HORIZON * self.lanes.limit[before]):
+                continue
+            following, after = self.ahead.links(car, before >> 1)
+            turn = self.ways.number.get((slot, after), NO_TURN)
+            if following == link and turn != NO_TURN and self.comes(turn):
+                inside = max(0, (cell & READY) - self.clock)
+                there = inside if cell < 0 else self.to_line(before, left, speed) + self.lanes.residence[before]
+                self.note(turn, there + drive)
+
+    def note(self, turn: int, seconds: float) -> None:
+        """Notes that one comes by a turn in some seconds."""
+        self.seconds[turn] = min(seconds, self.seconds.get(turn, seconds))

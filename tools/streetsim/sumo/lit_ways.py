@@ -1,0 +1,112 @@
+"""Who gives way to whom at lights while both have green: for the map, by which runs decide it second by second."""
+from collections import defaultdict
+from collections.abc import Collection, Iterable, Iterator, Mapping, Sequence
+
+from streetsim.model.waiting import LitWays, TurnKey
+from streetsim.sumo.crossing import ANY_GREEN, GREEN, OPEN, STOPS_FIRST
+from streetsim.sumo.net import NetConnection, SumoNet, connections_of
+from streetsim.sumo.network import Network
+from streetsim.sumo.signals import light_of
+
+WayKey = tuple[str, str, int | None]  # an edge, the next one, and the index in the light's state
+Yields = Mapping[int, Collection[int]]  # by request those that it gives way to
+
+
+def lit_ways_of(net: SumoNet, network: Network) -> list[LitWays]:
+    """Who gives way at each node whose light has a program, whatever the demand. Nobody where the permissive greens are
+    shown by a given share, nor at edges whose share was surveyed: those shares are shown."""
+    if network.options.permissive is not None:
+        return []
+    turns, number = turns_by_way(network), {name: at for at, name in enumerate(network.nodes)}
+    surveyed = {edge for edge, _ in network.options.shares}
+    found = (
+        ways_at(number[junction], connections, net, turns, surveyed)
+        for junction, connections in connections_of(net).items()
+        if junction in number
+    )
+    return [ways for ways in found if ways.yields or ways.stops]
+
+
+def turns_by_way(network: Network) -> dict[WayKey, list[TurnKey]]:
+    """The turns of a network by edges and index."""
+    found = defaultdict[WayKey, list[TurnKey]](list)
+    for (link, lane, following), turn in network.turns.items():
+        edges = network.links[link].edge, network.links[following].edge
+        found[*edges, turn.index if turn.light else None].append((link, lane, following))
+    return found
+
+
+def ways_at(
+    node: int, connections: Sequence[NetConnection], net: SumoNet, turns: Mapping[WayKey, list[TurnKey]],
+    surveyed: Collection[str],
+) -> LitWays:  # fmt: skip
+    """Who gives way at one node, by all connections of its junction; nobody where no light of it has a program, or it
+    is not known who gives way to whom. surveyed: edges that give way to nobody."""
+    light = light_of(connections, net)
+    ours = [one for one in connections if one.light in (light, None)]
+    if light is None or any(one.request is None for one in ours):
+        return LitWays(node, (), ())
+    states = [state for program in net.programs_of(light) for _, state in program.phases]
+    signs = {one.request: signs_of(one, states) for one in ours}
+    number: dict[WayKey, int] = {}
+    yields: dict[tuple[int, int], bool] = {}
+    for one, foe in pairs_that_meet([one for one in ours if one.source not in surveyed], ours, net, signs):
+        if turns.get(way_key(one)) and turns.get(way_key(foe)) and way_key(one) != way_key(foe):
+            pair = tuple(number.setdefault(way_key(way), len(number)) for way in (one, foe))
+            beside = one.target == foe.target and one.target_lane != foe.target_lane
+            yields[pair[0], pair[1]] = beside and yields.get((pair[0], pair[1]), True)
+    stopping = {way_key(one) for one in ours if STOPS_FIRST in signs[one.request] and turns.get(way_key(one))}
+    stops = sorted(number.setdefault(key, len(number)) for key in sorted(stopping, key=str))
+    return LitWays(
+        node, tuple(tuple(turns[key]) for key in number), tuple((*pair, yields[pair]) for pair in sorted(yields)),
+        tuple(stops),
+    )
+
+
+def way_key(connection: NetConnection) -> WayKey:
+    """The edges of a connection, and its index in the light's state; none without a light."""
+    return connection.source, connection.target, connection.index if connection.light else None
+
+
+def signs_of(connection: NetConnection, states: Iterable[str]) -> str:
+    """What a connection is shown in each of some states; one without a light goes first in all."""
+    if connection.light is None:
+        return GREEN[0] * len(list(states))
+    return "".join(state[connection.index : connection.index + 1] or "r" for state in states)
+
+
+def pairs_that_meet(
+    giving: Iterable[NetConnection], all_connections: Iterable[NetConnection], net: SumoNet,
+    signs: Mapping[int | None, str],
+) -> Iterator[tuple[NetConnection, NetConnection]]:  # fmt: skip
+    """The pairs of one that gives way and one that goes before it, by the junction's requests; not those of which the
+    first goes first in a state in which the second has green, nor two that wait together. signs: by request."""
+    by_request = {one.request: one for one in all_connections}
+    for one in giving:
+        yields = net.yields.get(net.edges[one.source].end, {})
+        for at in sorted(yields.get(one.request or 0, ())):
+            foe = by_request.get(at)
+            is_met = foe is not None and not goes_first(signs[one.request], signs[at])
+            if foe is not None and is_met and not wait_together(one, foe, by_request, yields, signs):
+                yield one, foe
+
+
+def goes_first(own: str, other: str) -> bool:
+    """Whether one goes first in a state in which another one has green too; arguments: their letters by state."""
+    return any(sign in GREEN and beside in ANY_GREEN for sign, beside in zip(own, other))
+
+
+def wait_together(
+    one: NetConnection, foe: NetConnection, by_request: Mapping[int | None, NetConnection], yields: Yields,
+    signs: Mapping[int | None, str],
+) -> bool:  # fmt: skip
+    """Whether two have permissive greens and each gives way to others of the other's edge, as left turns that face each
+    other do: they stand inside the junction and wait for those, not for each other."""
+    return all(
+        any(sign in OPEN for sign in signs[own.request])
+        and any(
+            other != its.request and other in by_request and by_request[other].source == its.source
+            for other in yields.get(own.request or 0, ())
+        )
+        for own, its in ((one, foe), (foe, one))
+    )

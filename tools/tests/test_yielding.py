@@ -1,0 +1,210 @@
+"""Giving way at lights by what happens: small scenes whose answer follows from the rule."""
+import unittest
+from dataclasses import replace
+from types import SimpleNamespace
+
+import crosses
+from seen import blocks_of, made
+from support import DATA, PROGRAM, Case, needs_simulator
+from streetsim.base.arrays import numpy as np
+from streetsim.control.settings import Settings
+from streetsim.control.yielding import AFTER_STAND, SNEAK_SECONDS, Yielding
+from streetsim.control.yielding_plans import with_held_back
+from streetsim.kernel.loop import Observer, own_line
+from streetsim.kernel.seconds import Block, Vehicles
+from streetsim.model.mapping import Map, MapLink, MapTurn, read_map
+from streetsim.model.runs import read_own_run
+from streetsim.model.waiting import LitWays
+from streetsim.observe.giving_way_rounds import with_lines
+from streetsim.sumo.greens import headway
+
+CELLS = 40  # of each link, of which 2 are driven in a second
+LEFT, STRAIGHT, RIGHT = (0, 0, 3), (1, 0, 4), (2, 0, 5)  # turns at node 0; left gives way to straight, right to left
+NODES = [[0, 3, 4], [1, 3, 4]]  # number, seconds in the buffer, vehicles that it holds
+GREEN, RED = 40, 20  # seconds of the cycle
+
+
+def mapping(yields=((0, 1, False),), stops=()):
+    """Three streets that lead to a light at node 0, and three that lead on."""
+    ends = [(1, 0)] * 3 + [(0, 1)] * 3
+    links = [MapLink(f"e{at}", (0,), *pair, CELLS, 2, 300.0, ()) for at, pair in enumerate(ends)]
+    turns = [MapTurn(*turn, 0, "L", at, False) for at, turn in enumerate((LEFT, STRAIGHT, RIGHT))]
+    ways = LitWays(0, ((LEFT,), (STRAIGHT,), (RIGHT,)), tuple(yields), tuple(stops))
+    return Map([("n0", 0, 0, 3), ("n1", 0, 0, 3)], links, turns, [("L", 0)], [], {}, [], lit_ways=[ways])
+
+
+class Scene:
+    """A run whose seconds are written by hand, and the plans that the controller shows by them."""
+
+    def __init__(self, plans, mapping, green=(LEFT, STRAIGHT, RIGHT)):
+        """plans: the links of each vehicle; green: turns of the first GREEN seconds."""
+        phases = [[GREEN, [[*turn] for turn in sorted(green)]], [RED, []]]
+        self.plan = {"cmd": "signal", "node": 0, "offset": 0, "phases": phases}
+        vehicles = Vehicles()
+        vehicles.add(range(len(plans)), [1] * len(plans), plans)
+        run = SimpleNamespace(first=[own_line(self.plan)], load=SimpleNamespace(command={"nodes": NODES}))
+        self.kernel = SimpleNamespace(
+            map=mapping, run=run, start=0, until=1000, sent_lines=[], vehicles=vehicles, send_now=self.keep
+        )
+        self.shown = {turn: turn in green for turn in (LEFT, STRAIGHT, RIGHT)}
+        self.controller = Yielding(mapping)
+        self.controller.begin(self.kernel)
+
+    def keep(self, lines, passed_on, for_a_gap):
+        """Takes what is sent: which turns are green in the first phase, or in the second."""
+        assert for_a_gap and not passed_on
+        [self.line] = lines
+
+    def second(self, clock, *lanes):
+        """Has the controller see a second, [link, {car: (cells to the line, speed)}, those in the buffer], and gives
+        the turns that are green in the next one."""
+        frames = [
+            [link, 0, [[car, CELLS - left, speed] for car, (left, speed) in cars.items()], list(buffer)]
+            for link, cars, *rest in lanes
+            for buffer in [rest[0] if rest else ()]
+        ]
+        self.line = None
+        self.controller.act(clock, Block(blocks_of([(clock + 2, frames)])))
+        phase = 0 if clock % (GREEN + RED) < GREEN else 1
+        command = self.line.command if self.line else self.in_force
+        self.in_force = command
+        return {tuple(turn) for turn in command["phases"][phase][1]}
+
+    @property
+    def in_force(self):
+        """The signal command that is shown."""
+        return getattr(self, "command", self.plan)
+
+    @in_force.setter
+    def in_force(self, command):
+        """Notes what is shown."""
+        self.command = command
+
+
+class Gaps(unittest.TestCase):
+    def test_who_stands_waits_for_a_gap_of_three_and_a_half_seconds(self):
+        """At 1.83 cells a second 6 cells take 3.3 s, 7 cells 3.8."""
+        for cells, goes in ((1, False), (7, False), (8, True), (20, True)):
+            scene = Scene([[0, 3], [1, 4]], mapping())
+            self.assertEqual(LEFT in scene.second(5, (0, {0: (1, 0)}), (1, {1: (cells, 2)})), goes, cells)
+
+    def test_who_rolls_alone_goes_in_one_of_three_seconds(self):
+        for cells, goes in ((6, False), (7, True)):
+            scene = Scene([[0, 3], [1, 4]], mapping())
+            self.assertEqual(LEFT in scene.second(5, (0, {0: (2, 2)}), (1, {1: (cells, 2)})), goes, cells)
+
+    def test_nobody_waits_for_one_that_drives_elsewhere_or_has_red_or_is_alone(self):
+        elsewhere = Scene([[0, 3], [1, 9]], mapping())
+        self.assertIn(LEFT, elsewhere.second(5, (0, {0: (1, 0)}), (1, {1: (1, 0)})))
+        red = Scene([[0, 3], [1, 4]], mapping(), green=(LEFT,))
+        self.assertIn(LEFT, red.second(5, (0, {0: (1, 0)}), (1, {1: (1, 0)})))
+        self.assertIn(LEFT, Scene([[0, 3]], mapping()).second(5, (0, {0: (1, 0)})))
+
+    def test_who_passed_in_the_last_second_is_in_the_way(self):
+        """One that passes its line in the second before a clock may go on 3 - 1 seconds later."""
+        scene = Scene([[0, 3], [1, 4]], mapping())
+        self.assertNotIn(LEFT, scene.second(5, (0, {0: (1, 0)}), (1, {}, [1])))
+        self.assertIn(LEFT, scene.second(6, (0, {0: (1, 0)})))
+
+    def test_who_leads_to_another_lane_of_the_street_is_in_the_way_when_it_passes(self):
+        beside = mapping([(0, 1, True)])
+        self.assertIn(LEFT, Scene([[0, 3], [1, 4]], beside).second(5, (0, {0: (1, 0)}), (1, {1: (1, 0)})))
+        self.assertNotIn(LEFT, Scene([[0, 3], [1, 4]], beside).second(5, (0, {0: (1, 0)}), (1, {}, [1])))
+
+    def test_nobody_waits_for_one_that_waits(self):
+        """The right gives way to the left, which waits for who goes straight on: while it stands the right goes."""
+        scene = Scene([[0, 3], [1, 4], [2, 5]], mapping([(0, 1, False), (2, 0, False)]))
+        lanes = (0, {0: (1, 0)}), (1, {1: (3, 2)}), (2, {2: (1, 0)})
+        self.assertEqual(scene.second(5, *lanes) & {LEFT, RIGHT}, {RIGHT})
+        self.assertEqual(scene.second(6, (0, {0: (1, 0)}), (2, {2: (1, 0)})) & {LEFT, RIGHT}, {LEFT})
+
+    def test_one_that_stood_there_goes_behind_the_end_of_green(self):
+        for clock, goes in ((GREEN, True), (GREEN - 1 + SNEAK_SECONDS, True), (GREEN + SNEAK_SECONDS, False)):
+            scene = Scene([[0, 3], [1, 4], [0, 3]], mapping())
+            scene.second(GREEN - 1, (0, {0: (1, 0)}), (1, {1: (1, 2)}))
+            self.assertEqual(LEFT in scene.second(clock, (0, {0: (1, 0)})), goes, clock)
+        scene.second(GREEN - 1, (0, {0: (1, 0)}), (1, {1: (1, 2)}))
+        self.assertNotIn(LEFT, scene.second(GREEN + 1, (0, {2: (1, 0)})), "another one")
+
+    def test_who_follows_keeps_a_distance_of_the_turns_speed(self):
+        """One that stood for 2 s and goes, and the next, which comes to the line a second later."""
+        scene = Scene([[0, 3], [0, 3], [1, 4]], mapping())
+        for clock in (5, 6, 7):
+            scene.second(clock, (0, {0: (1, 0), 1: (2, 0)}), (1, {2: (1, 0)}))
+        self.assertIn(LEFT, scene.second(8, (0, {0: (1, 0), 1: (2, 0)})))
+        behind = 8 + headway(13.9) + AFTER_STAND
+        for clock in range(9, 16):
+            shown = scene.second(clock, (0, {1: (1, 0)}, [0] if clock == 9 else []))
+            self.assertEqual(LEFT in shown, clock + 0.5 >= behind, clock)
+
+    def test_in_a_red_one_goes_after_a_stop(self):
+        scene = Scene([[0, 3], [1, 4]], mapping(stops=(0,)), green=(STRAIGHT,))
+        self.assertNotIn(LEFT, scene.second(5, (0, {0: (2, 2)})))
+        self.assertNotIn(LEFT, scene.second(6, (0, {0: (1, 0)}), (1, {1: (2, 2)})))
+        self.assertIn(LEFT, scene.second(8, (0, {0: (1, 0)})))
+
+
+class HeldBack(unittest.TestCase):
+    def test_seconds_that_hold_a_queue_up_count_as_green(self):
+        """Of two turns the first gives way: the second is red for 3 s at the begin and for 2 in the middle."""
+        greens = np.array([[1, 0], [1, 1], [1, 0], [1, 1], [0, 0]], bool)
+        before = np.array([[0, 1], [0, 0]], bool)
+        found = with_held_back(greens, np.array([3, 15, 2, 15, 40]), before)
+        self.assertEqual(found[:, 1].tolist(), [True] * 4 + [False])
+        late = with_held_back(greens, np.array([9, 15, 9, 15, 40]), before)
+        self.assertEqual(late[:, 1].tolist(), [False, True, False, True, False])
+
+
+class Record(Observer):
+    """The rows of all seconds."""
+
+    def begin(self, kernel):
+        """None yet."""
+        self.rows = []
+
+    def see(self, seconds):
+        """Takes some seconds."""
+        begin = int(seconds.first[1])
+        clocks = seconds.clocks[seconds.second[begin:]]
+        columns = clocks, seconds.car[begin:], seconds.slot[begin:], seconds.cell[begin:], seconds.speed[begin:]
+        self.rows += zip(*(column.tolist() for column in columns))
+
+
+class Cross(Case):
+    def imported(self, name, flows):
+        """(the run, the map) of a cross of crosses.py."""
+        self.write("routes.xml", crosses.demand(flows))
+        words = DATA / f"{name}.net.xml.gz", "--routes", self.folder / "routes.xml", "-o", self.folder / "run.jsonl"
+        self.tool("import", *words, "--map", self.folder / "map.json")
+        return read_own_run(self.folder / "run.jsonl"), read_map(self.folder / "map.json")
+
+    def test_the_import_says_who_gives_way(self):
+        """A left to those who face it and go straight on or right, not to the left that faces it; it is shown for the
+        whole of its 42 s."""
+        run, mapping = self.imported("cross1", {("w", "left"): 300, ("e", "straight"): 300})
+        [ways] = mapping.lit_ways
+        edges = [
+            {(mapping.links[link].edge, mapping.links[following].edge) for link, _, following in way}
+            for way in ways.ways
+        ]
+        found = [(*edges[own], *edges[foe]) for own, foe, _ in ways.yields]
+        facing = {foe for own, foe in found if own == ("wc", "cn") and foe[0] == "ec"}
+        self.assertEqual(facing, {("ec", "cw"), ("ec", "cn")})
+        [phases] = [line.command["phases"] for line in run.first if line.command["cmd"] == "signal"]
+        left = [*ways.ways[edges.index({("wc", "cn")})][0]]
+        self.assertEqual(sum(seconds for seconds, green in phases if left in green), 42)
+
+    @needs_simulator
+    def test_lines_replay(self):
+        """A run's lines as those of a file, without the controller, give the same record."""
+        run, mapping = self.imported("cross1", crosses.shared(30) | {("e", "straight"): 500, ("e", "left"): 100})
+        live, plain = Record(), Record()
+        kernel, _ = made(PROGRAM, run, mapping, Settings(1500), live)
+        lines = [(one.clock, one.line) for one in kernel.sent_lines]
+        self.assertGreater(sum(one.for_a_gap for one in kernel.sent_lines), 50)
+        made(PROGRAM, with_lines(run, lines), replace(mapping, lit_ways=[]), Settings(1500), plain)
+        self.assertEqual(live.rows, plain.rows)
+
+
+if __name__ == "__main__":
+    unittest.main()
