@@ -8,7 +8,7 @@ from seen import blocks_of, made
 from support import DATA, PROGRAM, Case, needs_simulator
 from streetsim.base.arrays import numpy as np
 from streetsim.control.settings import Settings
-from streetsim.control.yielding import AFTER_STAND, SNEAK_SECONDS, Yielding
+from streetsim.control.yielding import AFTER_STAND, SNEAK_SECONDS, LitYielding
 from streetsim.control.yielding_plans import with_held_back
 from streetsim.kernel.loop import Observer, own_line
 from streetsim.kernel.seconds import Block, Vehicles
@@ -47,7 +47,7 @@ class Scene:
             map=mapping, run=run, start=0, until=1000, sent_lines=[], vehicles=vehicles, send_now=self.keep
         )
         self.shown = {turn: turn in green for turn in (LEFT, STRAIGHT, RIGHT)}
-        self.controller = Yielding(mapping)
+        self.controller = LitYielding(mapping)
         self.controller.begin(self.kernel)
 
     def keep(self, lines, passed_on, for_a_gap):

@@ -13,6 +13,7 @@ from streetsim.control.actuated_lights import Driven
 from streetsim.control.actuated_logic import Actuated, ActuatedPhase
 from streetsim.model.mapping import Map
 from streetsim.model.runs import Command
+from streetsim.model.waiting import ways_at
 from streetsim.sumo.crossing import OPEN, CrossingMovement, movements_of
 from streetsim.sumo.driver_words import measured_of
 from streetsim.sumo.greens import green_here
@@ -117,8 +118,8 @@ def lit_node(light: str, map_node: NodeOf, mapping: Map, offset: int, cycle: lis
     program = LightProgram(offset, cycle, "actuated")
     cut, shares = measured_of(mapping)
     permissive = mapping.options.get("permissive")
-    live = any(ways.node == map_node.node for ways in mapping.lit_ways)
-    return LitNode(map_node.node, turns, edges, light, program, permissive, Report(), {}, cut, shares, live)
+    ways = ways_at(mapping.lit_ways, map_node.node)
+    return LitNode(map_node.node, turns, edges, light, program, permissive, Report(), {}, cut, shares, ways)
 
 
 def plan_command(node: int, rows: Sequence[Green], clock: int) -> Command:

@@ -1,5 +1,5 @@
-"""Giving way at lights by what happens: each turn that is green together with others that go before it is shown green in
-the next second where the vehicles that are there leave a gap, and red where they do not.
+"""Giving way at lights by what happens: each turn that is green together with others that go before it is shown green
+in the next second where the vehicles that are there leave a gap, and red where they do not.
 
 The constants were chosen on lone crosses alone, beside SUMO (one cross each, 50 km/h, lefts on their own lane and on a
 shared one, greens of 14 to 57 s, 0 to 1,000 vehicles an hour against them): the gaps are SUMO's own, AFTER_STAND and
@@ -12,8 +12,8 @@ from dataclasses import dataclass
 from operator import attrgetter
 
 from streetsim.control.yielding_plans import AS_PLANNED, CLOSED, OPENED, PlansInForce
-from streetsim.control.yielding_sight import Ahead, Sight
-from streetsim.control.yielding_ways import NO_TURN, Lanes, Way, Ways
+from streetsim.control.yielding_sight import Ahead, LanesSeen
+from streetsim.control.yielding_ways import NO_TURN, Lanes, MeetingTurn, Ways
 from streetsim.kernel.loop import Controller, Kernel
 from streetsim.kernel.seconds import READY, Block
 from streetsim.model.mapping import Map
@@ -35,12 +35,12 @@ class Front:
     car: int
     slot: int
     turn: int
-    way: Way
+    way: MeetingTurn
     stands: bool  # at the stop line
     looks: bool = False  # for a gap
 
 
-class Yielding(Controller):
+class LitYielding(Controller):
     """Has turns at lights give way to those who come."""
 
     shows_alone = True
@@ -111,7 +111,8 @@ class Yielding(Controller):
             cells[lively] = self.lanes.line_cell[lively]
         rows = (now.cell >= cells[now.slot]).nonzero()[0]
         fronts, last_slot, looked_at = [], -1, set()
-        for car, slot, cell, speed in zip(*(column[rows].tolist() for column in (now.car, now.slot, now.cell, now.speed))):
+        columns = (column[rows].tolist() for column in (now.car, now.slot, now.cell, now.speed))
+        for car, slot, cell, speed in zip(*columns):
             left = self.lanes.length[slot] - cell
             looked_at.add(slot)
             if slot != last_slot and left <= speed + 1:
@@ -135,10 +136,10 @@ class Yielding(Controller):
         shown = {front.turn: self.goes_as_planned(clock, front) for front in fronts if not front.looks}
         if looking:
             slots = set[int]().union(*(plans.seen_lanes(front.turn) for front in looking))
-            sight = Sight(clock, now, slots, self.ways, self.lanes, self.ahead, plans.comes, held)
+            seen = LanesSeen(clock, now, slots, self.ahead, plans, held)
             going: set[int] = set()
             for front in looking:
-                shown[front.turn] = self.has_gap(clock, front, sight, going)
+                shown[front.turn] = self.has_gap(clock, front, seen, going)
                 if shown[front.turn]:
                     going.add(front.turn)
                     self.let_go.append(front)
@@ -159,23 +160,23 @@ class Yielding(Controller):
         free_at = self.free_at.get(front.slot, LONG_AGO)
         return self.plans.is_green(front.turn) and (front.way.gives or free_at <= clock + HALF)
 
-    def has_gap(self, clock: int, front: Front, sight: Sight, going: set[int]) -> bool:
+    def has_gap(self, clock: int, front: Front, seen: LanesSeen, going: set[int]) -> bool:
         """Whether one may go. going: the turns by which some are let go in this second."""
         if self.free_at.get(front.slot, LONG_AGO) > clock + HALF:
             return False
         follows = clock - self.left.get(front.turn, LONG_AGO) <= FOLLOWING
         needed = STANDING_GAP if front.stands or follows else ROLLING_GAP
         for foe, is_crossed in front.way.foes.items():
-            if foe in sight.passed:
+            if foe in seen.passed:
                 return False
-            if is_crossed and sight.seconds.get(foe, needed) < needed and not self.waits(foe, sight, going):
+            if is_crossed and seen.seconds.get(foe, needed) < needed and not self.waits(foe, seen, going):
                 return False
         return True
 
-    def waits(self, foe: int, sight: Sight, going: set[int]) -> bool:
+    def waits(self, foe: int, seen: LanesSeen, going: set[int]) -> bool:
         """Whether one that goes first waits itself."""
         way = self.ways.all[foe]
-        return way.gives and (way.slot in self.held or (way.slot in sight.held and foe not in going))
+        return way.gives and (way.slot in self.held or (way.slot in seen.held and foe not in going))
 
     def show(self, shown: dict[int, bool]) -> None:
         """Shows turns green or not in the next second, where they are not shown so already."""

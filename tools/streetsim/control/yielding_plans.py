@@ -17,7 +17,7 @@ from streetsim.model.runs import Command, Line
 # Seconds of red between two greens of a turn, and at the begin of a green, that the import shows alone so that its
 # queue leaves as slowly as in SUMO: who gives way sees it green.
 HELD_BACK, HELD_AT_BEGIN = 8, 3
-AS_PLANNED, CLOSED, OPENED = 0, 1, 2  # what a turn shows beside its plan
+AS_PLANNED, CLOSED, OPENED = MODES = 0, 1, 2  # what a turn shows beside its plan
 
 
 class ShownPhase(NamedTuple):
@@ -63,7 +63,7 @@ class NodePlan:
     def line(self, offset: int, modes: tuple[int, ...]) -> Line:
         """The line that shows the plan from its offset on, with turns closed or opened by their modes."""
         if (line := self.lines.get((offset, modes))) is None:
-            closed, opened = ({name for name, own in zip(self.names, modes) if own == mode} for mode in (CLOSED, OPENED))
+            closed, opened = ({name for name, one in zip(self.names, modes) if one == mode} for mode in MODES[1:])
             phases = [
                 [length, sorted([*turn] for turn in {(link, lane, to) for link, lane, to in green} - closed | opened)]
                 for length, green in self.command["phases"]
@@ -89,8 +89,8 @@ def with_held_back(greens: Array, seconds: Array, goes_before: Array) -> Array:
 
 
 def red_until(greens: Array, seconds: Array) -> Array:
-    """By phase and turn the seconds of red up to the phase's end since the last green; of turns that have none more than
-    a cycle."""
+    """By phase and turn the seconds of red up to the phase's end since the last green; more than a cycle where there is
+    none."""
     count, red, found = len(greens), np.zeros(greens.shape[1]), np.zeros(greens.shape)
     for at in [*range(count)] * 2:
         red = np.where(greens[at], 0, red + seconds[at])

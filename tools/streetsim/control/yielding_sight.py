@@ -1,10 +1,11 @@
 """What those see who give way: in how many seconds the first one comes to each stop line, and who has just passed."""
 from __future__ import annotations
 
-from collections.abc import Callable, Iterable, Mapping
+from collections.abc import Iterable, Mapping
 
 from streetsim.base.arrays import numpy as np
-from streetsim.control.yielding_ways import HORIZON, NO_TURN, Lanes, Ways
+from streetsim.control.yielding_plans import PlansInForce
+from streetsim.control.yielding_ways import HORIZON, NO_TURN
 from streetsim.kernel.seconds import READY, Block, Vehicles
 
 DAWDLED = 0.17  # cells a step that a vehicle loses in the mean
@@ -29,26 +30,26 @@ class Ahead:
         return plan[place + 1] if left > 1 else NOWHERE, plan[place + 2] if left > 2 else NOWHERE
 
 
-class Sight:
+class LanesSeen:
     """Some lanes in one second."""
 
     def __init__(
-        self, clock: int, now: Block, slots: Iterable[int], ways: Ways, lanes: Lanes, ahead: Ahead,
-        comes: Callable[[int], bool], held: Mapping[int, int],
-    ) -> None:  # fmt: skip
-        """slots: that are looked at; comes: whether a turn has green; held: by slot who stood there in the second
+        self, clock: int, now: Block, slots: Iterable[int], ahead: Ahead, plans: PlansInForce, held: Mapping[int, int]
+    ) -> None:
+        """slots: that are looked at; plans: by which turns have green; held: by slot who stood there in the second
         before and was to wait, who lets nobody of its lane pass."""
-        self.clock, self.ways, self.lanes, self.ahead, self.comes, self.held = clock, ways, lanes, ahead, comes, held
+        self.clock, self.ahead, self.held = clock, ahead, held
+        self.ways, self.lanes, self.comes = plans.ways, plans.lanes, plans.comes
         self.seconds: dict[int, float] = {}  # by turn until the first one comes who may go on
         self.passed: set[int] = set()  # the turns by which one passed in the last second
         wanted = np.array(sorted(slots), np.int32)
         bounds = zip(wanted.tolist(), *(now.slot.searchsorted(wanted, side).tolist() for side in ("left", "right")))
         rows = {slot: slice(begin, end) for slot, begin, end in bounds if begin < end}
-        columns = {slot: [column[at].tolist() for column in (now.car, now.cell, now.speed)] for slot, at in rows.items()}
-        self.vehicles = {slot: [*zip(*own)] for slot, own in columns.items()}
+        columns = now.car, now.cell, now.speed
+        self.vehicles = {slot: [*zip(*(column[own].tolist() for column in columns))] for slot, own in rows.items()}
         for slot in self.vehicles:
             self.see_lane(slot)
-        for slot, before in lanes.before.items():
+        for slot, before in self.lanes.before.items():
             for other in before if slot in slots else ():
                 self.see_before(slot, other)
 

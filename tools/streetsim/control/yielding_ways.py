@@ -19,7 +19,7 @@ NO_CELL = CELLS + 1  # beyond all
 
 
 @dataclass(slots=True)
-class Way:
+class MeetingTurn:
     """A turn of a lane from which some give way at a light, or on which some go first there."""
 
     name: TurnKey
@@ -44,9 +44,9 @@ class Ways:
         slots = {2 * link + lane for one in mapping.lit_ways for way in one.ways for link, lane, _ in way}
         turns = [turn for turn in mapping.turns if 2 * turn.link + turn.lane in slots]
         self.all = [
-            Way((turn.link, turn.lane, turn.next), slot, mapping.links[turn.link].end, headway(max(SLOWEST, turn.speed)))
+            MeetingTurn(name, 2 * name[0] + name[1], mapping.links[name[0]].end, headway(max(SLOWEST, turn.speed)))
             for turn in turns
-            for slot in (2 * turn.link + turn.lane,)
+            for name in ((turn.link, turn.lane, turn.next),)
         ]
         self.number = {(way.slot, way.name[2]): at for at, way in enumerate(self.all)}
         self.nodes = sorted({one.node for one in mapping.lit_ways})

@@ -128,9 +128,10 @@ class Kernel:
         Controllers that are due now must have acted. Fault where a vehicle is refused."""
         entering = target = self.clock + 1
         if until > target:
-            clocks = [until, target + self.most_steps - 1]
-            entering = max(target, min([*clocks, *(one.next_clock() for one in self.controllers if not one.shows_alone)]))
-            target = max(target, min([entering, *(one.next_clock() for one in self.controllers if one.shows_alone)]))
+            due = [one.next_clock() for one in self.controllers if not one.shows_alone]
+            showing = [one.next_clock() for one in self.controllers if one.shows_alone]
+            entering = max(target, min([until, self.clock + self.most_steps, *due]))
+            target = max(target, min([entering, *showing]))
         self.enter_due(entering)
         self.program.begin(target - self.clock)
         self.hand_over(ROWS)

@@ -222,7 +222,8 @@ def refuse_ways_outside(lit_ways: Iterable[LitWays], nodes: int, links: int) -> 
         turns = [turn for way in one.ways for turn in way]
         numbers = {*one.stops, *(way for own, foe, _ in one.yields for way in (own, foe))}
         is_known = 0 <= one.node < nodes and numbers <= {*range(len(one.ways))}
-        if not is_known or not all(0 <= link < links and lane in (0, 1) and 0 <= to < links for link, lane, to in turns):
+        are_there = (0 <= link < links and lane in (0, 1) and 0 <= to < links for link, lane, to in turns)
+        if not is_known or not all(are_there):
             raise ValueError("who gives way at a light names what is not there")
 
 

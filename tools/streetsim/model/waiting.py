@@ -87,6 +87,11 @@ class LitWays:
     stops: tuple[int, ...] = ()  # the ways that may go in a red after a stop
 
 
+def ways_at(lit_ways: Iterable[LitWays], node: int) -> LitWays | None:
+    """Who gives way at one node with a light; none where nobody does."""
+    return next((ways for ways in lit_ways if ways.node == node), None)
+
+
 def lit_ways_of(table: Json) -> list[LitWays]:
     """Who gives way at lights, of a map's file."""
     return [

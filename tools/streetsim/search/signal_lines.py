@@ -9,6 +9,7 @@ from streetsim.base.report import Report
 from streetsim.model.fullness import FullLane
 from streetsim.model.mapping import Map, MapTurn
 from streetsim.model.runs import Run
+from streetsim.model.waiting import ways_at
 from streetsim.search.signal_plans import PlannedLight, PlannedTiming
 from streetsim.sumo.additional import read_additional
 from streetsim.sumo.crossing import hourly_flows
@@ -102,7 +103,7 @@ class LightLines:
             self.permissive.add(name)
         turns = self.turns[node]
         edges = {link: self.mapping.links[link].edge for link, *_ in turns}
-        measured = *measured_of(self.mapping), any(ways.node == node for ways in self.mapping.lit_ways)
+        measured = *measured_of(self.mapping), ways_at(self.mapping.lit_ways, node)
         lit = LitNode(node, turns, edges, name, program, permissive, self.report, movements, *measured)
         command = signal_command(lit)
         return json.dumps(command["phases"], separators=(",", ":")).encode()

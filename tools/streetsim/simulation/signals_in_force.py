@@ -7,6 +7,7 @@ from streetsim.kernel.loop import NEVER, Controller, Kernel, own_line
 from streetsim.kernel.seconds import Block
 from streetsim.model.mapping import Map, MapTurn
 from streetsim.model.runs import Command, Line
+from streetsim.model.waiting import ways_at
 from streetsim.sumo.crossing import GREEN
 from streetsim.sumo.driver_words import measured_of
 from streetsim.sumo.net import LightProgram
@@ -126,8 +127,8 @@ class SignalsInForce(Controller):
         program = LightProgram(offset, list(phases), "static")
         cut, shares = measured_of(self.map)
         permissive = self.map.options["permissive"]
-        live = any(ways.node == node for ways in self.map.lit_ways)
-        return LitNode(node, turns, edges, light, program, permissive, report, {}, cut, shares, live)
+        ways = ways_at(self.map.lit_ways, node)
+        return LitNode(node, turns, edges, light, program, permissive, report, {}, cut, shares, ways)
 
     def constant_lines(self, light: str, state: str, begin: float) -> list[Line]:
         """The lines that show a state without permissive greens from the clock begin on; forgets what was to come."""

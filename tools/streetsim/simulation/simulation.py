@@ -80,7 +80,7 @@ class Simulation:
         self.before_script = [*controllers[:index], *self.controllers_before_script()]
         of_script = self.script_settings.controllers
         after = [*self.controllers_after_script(), *controllers[index:], self.signals_in_force, *of_script]
-        self.after_script = sorted(after, key=attrgetter("shows_alone"))  # who gives way decides by what all others show
+        self.after_script = sorted(after, key=attrgetter("shows_alone"))  # who gives way sees what all others show
         self.kernel.controllers = [*self.before_script, *self.after_script]
         self.kernel.observers = self.script_settings.observers
         self.second_observers = [*self.observers_before_view(), self.view]

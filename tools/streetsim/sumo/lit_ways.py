@@ -20,7 +20,7 @@ def lit_ways_of(net: SumoNet, network: Network) -> list[LitWays]:
     turns, number = turns_by_way(network), {name: at for at, name in enumerate(network.nodes)}
     surveyed = {edge for edge, _ in network.options.shares}
     found = (
-        ways_at(number[junction], connections, net, turns, surveyed)
+        ways_of_junction(number[junction], connections, net, turns, surveyed)
         for junction, connections in connections_of(net).items()
         if junction in number
     )
@@ -36,7 +36,7 @@ def turns_by_way(network: Network) -> dict[WayKey, list[TurnKey]]:
     return found
 
 
-def ways_at(
+def ways_of_junction(
     node: int, connections: Sequence[NetConnection], net: SumoNet, turns: Mapping[WayKey, list[TurnKey]],
     surveyed: Collection[str],
 ) -> LitWays:  # fmt: skip

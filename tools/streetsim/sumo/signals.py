@@ -11,8 +11,8 @@ from streetsim.base.report import Report, first_few
 from streetsim.model.mapping import MapTurn
 from streetsim.model.runs import Command
 from streetsim.model.timing import spans_of, states_of
-from streetsim.model.waiting import TurnKey
-from streetsim.sumo.crossing import GREEN, OPEN, STOPS_FIRST, CrossingMovement, Flows, movements_of
+from streetsim.model.waiting import LitWays, TurnKey, ways_at
+from streetsim.sumo.crossing import ANY_GREEN, GREEN, OPEN, STOPS_FIRST, CrossingMovement, Flows, movements_of
 from streetsim.sumo.driver_words import Pairs, cut_at, with_cut
 from streetsim.sumo.greens import TWO_PARTS, hidden_middle, hidden_start, parts_shown, parts_shown_in_red
 from streetsim.sumo.net import NEMA, STATIC, LightProgram, NetConnection, SumoNet, connections_of
@@ -52,7 +52,7 @@ class LitNode:
     movements: Mapping[int, CrossingMovement] = field(default_factory=dict)  # by request: who gives way there
     cut: float = 0.0  # seconds that are cut from greens, in the mean over nodes
     shares: Pairs = ()  # of permissive greens that were surveyed: (edge, share)
-    live: bool = False  # who gives way is decided while the run goes: permissive greens are shown as they are
+    ways: LitWays | None = None  # who gives way, where runs decide it: permissive greens are whole
 
     def states(self) -> list[str]:
         """The light's state, SUMO's letters, in each second of its cycle. Fault where each_second raises one."""
@@ -60,8 +60,8 @@ class LitNode:
 
     def shown_seconds(self, states: Sequence[str]) -> ShownSeconds:
         """What is shown, by first second, as shown_by_gaps or shown_by_share has it; states: as states gives them."""
-        if self.live:
-            seconds_shown: ShownSeconds = {}
+        if self.ways is not None:
+            seconds_shown: ShownSeconds = dict(shown_alone(self.ways, self.light, self.turns, states))
         elif self.movements:
             seconds_shown = shown_by_gaps(self.movements)
         else:
@@ -130,8 +130,8 @@ def lit_node(
     edges = {link: network.links[link].edge for link, *_ in turns}
     measured = network.options.cut, network.options.shares
     program, permissive = net.programs[light], network.options.permissive
-    live = any(ways.node == node for ways in network.lit_ways)
-    return LitNode(node, turns, edges, light, program, permissive, report, movements, *measured, live)
+    ways = ways_at(network.lit_ways, node)
+    return LitNode(node, turns, edges, light, program, permissive, report, movements, *measured, ways)
 
 
 def signal_commands(
@@ -293,6 +293,26 @@ def shown_by_gaps(movements: Mapping[int, CrossingMovement]) -> ShownSeconds:
             own = seconds, parts, movement.leads.get(start)
             of_index[start] = max(own, of_index.get(start, NOTHING), key=itemgetter(0, 1))
     return by_index
+
+
+def shown_alone(
+    ways: LitWays, light: str, turns: Sequence[AtLight], states: Sequence[str]
+) -> Iterator[tuple[int | None, dict[int, ShownPart]]]:
+    """What is shown, by index, of permissive greens in which nobody has green who goes first: as of main ones; of
+    others nothing is said. states: of the light, one for each second."""
+    index_of = {(link, lane, to): turn.index for link, lane, to, turn in turns if turn.light == light}
+    indexes = [{index_of.get(turn) for turn in way} for way in ways.ways]
+    foes = defaultdict[int, set[int | None]](set)
+    for own, foe, _ in ways.yields:
+        for index in indexes[own]:
+            if index is not None:
+                foes[index] |= indexes[foe]
+    for index, others in foes.items():
+        lit = [other for other in others if other is not None]
+        met = [len(lit) < len(others) or any(state[other] in ANY_GREEN for other in lit) for state in states]
+        runs = spans_of("".join(state[index] for state in states), OPEN)
+        alone = ((start, length) for start, length in runs if not any((met * 2)[start : start + length]))
+        yield index, {start: (length, AS_MAIN, None) for start, length in alone}
 
 
 def shown_by_share(
