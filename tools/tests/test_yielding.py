@@ -55,16 +55,16 @@ class Scene:
         assert for_a_gap and not passed_on
         [self.line] = lines
 
-    def second(self, clock, *lanes):
-        """Has the controller see a second, [link, {car: (cells to the line, speed)}, those in the buffer], and gives
-        the turns that are green in the next one."""
+    def second(self, clock, *lanes, ago=0):
+        """Has the controller see a second, [link, {car: (cells to the line, speed)}, those in the buffer], who passed
+        their line so many seconds before, and gives the turns that are green in the next one."""
         frames = [
-            [link, 0, [[car, CELLS - left, speed] for car, (left, speed) in cars.items()], list(buffer)]
+            [link, 0, [[car, CELLS - left, speed] for car, (left, speed) in cars.items()], [*buffer]]
             for link, cars, *rest in lanes
             for buffer in [rest[0] if rest else ()]
         ]
         self.line = None
-        self.controller.act(clock, Block(blocks_of([(clock + 2, frames)])))
+        self.controller.act(clock, Block(blocks_of([(clock + 2 - ago, frames)])))
         phase = 0 if clock % (GREEN + RED) < GREEN else 1
         command = self.line.command if self.line else self.in_force
         self.in_force = command
@@ -136,6 +136,16 @@ class Gaps(unittest.TestCase):
         for clock in range(9, 16):
             shown = scene.second(clock, (0, {1: (1, 0)}, [0] if clock == 9 else []))
             self.assertEqual(LEFT in shown, clock + 0.5 >= behind, clock)
+
+    def test_a_longer_vehicle_needs_and_leaves_a_longer_gap(self):
+        """Of two cells: at 1.83 cells a second 8 cells take 3.8 s, 9 cells 4.4."""
+        for cells, goes in ((8, False), (10, True)):
+            scene = Scene([[0, 3], [1, 4]], mapping())
+            scene.kernel.vehicles.size[0] = 2
+            self.assertEqual(LEFT in scene.second(5, (0, {0: (1, 0)}), (1, {1: (cells, 2)})), goes, cells)
+        scene.kernel.vehicles.size[1] = 2
+        for ago, goes in ((0, False), (1, False), (2, True)):
+            self.assertEqual(LEFT in scene.second(6 + ago, (0, {0: (1, 0)}), (1, {}, [1]), ago=ago), goes, ago)
 
     def test_in_a_red_one_goes_after_a_stop(self):
         scene = Scene([[0, 3], [1, 4]], mapping(stops=(0,)), green=(STRAIGHT,))

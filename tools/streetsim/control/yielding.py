@@ -7,10 +7,12 @@ SNEAK_SECONDS stand for what vehicles do inside a junction, as here they wait at
 """
 from __future__ import annotations
 
+from collections import Counter
 from collections.abc import Sequence
 from dataclasses import dataclass
 from operator import attrgetter
 
+from streetsim.control.yielding_fullness import LitFullness
 from streetsim.control.yielding_plans import AS_PLANNED, CLOSED, OPENED, PlansInForce
 from streetsim.control.yielding_sight import Ahead, LanesSeen
 from streetsim.control.yielding_ways import NO_TURN, Lanes, MeetingTurn, Ways
@@ -19,6 +21,7 @@ from streetsim.kernel.seconds import READY, Block
 from streetsim.model.mapping import Map
 
 STANDING_GAP, ROLLING_GAP = 3.5, 3.0  # seconds that are free before one who stands or follows, and who rolls alone
+LONGER = 0.9  # seconds more for each cell more of a vehicle, which it drives at the speed of a turn
 FOLLOWING = 3  # seconds after another one left, in which one follows
 AFTER_STAND = 1.5  # seconds more between two, the first of which stood for LONG_STAND
 LONG_STAND = 2  # seconds
@@ -48,6 +51,7 @@ class LitYielding(Controller):
     def __init__(self, mapping: Map) -> None:
         """mapping: with who gives way at lights."""
         self.mapping, self.line_count = mapping, 0
+        self.fullness = LitFullness(2 * len(mapping.links), 0)
 
     def begin(self, kernel: Kernel) -> None:
         """Nobody waits yet."""
@@ -57,6 +61,7 @@ class LitYielding(Controller):
         self.plans, self.ahead = PlansInForce(self.ways, self.lanes), Ahead(kernel.vehicles)
         for line in kernel.run.first:
             self.plans.note(kernel.start, line.command)
+        self.fullness.end += kernel.start
         self.left: dict[int, int] = {}  # by turn the clock at which one left by it
         self.free_at: dict[int, float] = {}  # by lane the clock from which on the next one may go
         self.held: dict[int, int] = {}  # by lane who stood there in the last second and was to wait
@@ -80,8 +85,19 @@ class LitYielding(Controller):
         self.plans.advance(clock)
         self.note_left(clock, now)
         fronts = self.find_fronts(clock, now)
+        meeting = ((front.slot, front.car) for front in fronts if self.plans.is_meeting(front.slot))
+        self.fullness.note_second(clock, self.plans.alert_cell, meeting)
         if clock < self.kernel.until:
             self.decide(clock, now, fronts)
+
+    def full_passages(self) -> dict[str, int]:
+        """By edge with lanes that were full, from which some give way: vehicles that passed these then; the part under
+        way is judged."""
+        found = Counter[str]()
+        self.fullness.end_part()
+        for slot, passages in self.fullness.passages.items():
+            found[self.mapping.links[slot >> 1].edge] += passages
+        return dict(found)
 
     def note_left(self, clock: int, now: Block) -> None:
         """Notes of those who were let go in the last second who went, and when the next ones may."""
@@ -158,7 +174,8 @@ class LitYielding(Controller):
     def goes_as_planned(self, clock: int, front: Front) -> bool:
         """Whether one that need not look for a gap is shown green; behind one that gave way it keeps its distance."""
         free_at = self.free_at.get(front.slot, LONG_AGO)
-        return self.plans.is_green(front.turn) and (front.way.gives or free_at <= clock + HALF)
+        is_free = front.way.gives or free_at <= clock + HALF
+        return self.plans.is_green(front.turn) and is_free
 
     def has_gap(self, clock: int, front: Front, seen: LanesSeen, going: set[int]) -> bool:
         """Whether one may go. going: the turns by which some are let go in this second."""
@@ -166,6 +183,7 @@ class LitYielding(Controller):
             return False
         follows = clock - self.left.get(front.turn, LONG_AGO) <= FOLLOWING
         needed = STANDING_GAP if front.stands or follows else ROLLING_GAP
+        needed += LONGER * (int(self.ahead.vehicles.size[front.car]) - 1)
         for foe, is_crossed in front.way.foes.items():
             if foe in seen.passed:
                 return False

@@ -18,7 +18,7 @@ class Ahead:
 
     def __init__(self, vehicles: Vehicles) -> None:
         """vehicles: of the run; those to come too."""
-        self.plans = vehicles.plans
+        self.vehicles, self.plans = vehicles, vehicles.plans
         self.place: dict[int, int] = {}  # by car that of its link in its plan
 
     def links(self, car: int, link: int) -> tuple[int, int]:
@@ -67,7 +67,8 @@ class LanesSeen:
         length, limit, lane = self.lanes.length[slot], self.lanes.limit[slot], self.vehicles[slot]
         inside = [(car, cell & READY) for car, cell, _ in lane if cell < 0]
         just_now = self.clock - 1 + self.lanes.residence[slot]
-        self.passed.update(self.turn(car, slot) for car, ready in inside if ready == just_now)
+        size = self.ahead.vehicles.size
+        self.passed.update(self.turn(car, slot) for car, ready in inside if just_now - ready < size[car])
         is_full = len(inside) >= self.lanes.room[slot]
         for place, (car, cell, speed) in enumerate(lane):
             left = length - cell

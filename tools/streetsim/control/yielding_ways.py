@@ -44,9 +44,11 @@ class Ways:
         slots = {2 * link + lane for one in mapping.lit_ways for way in one.ways for link, lane, _ in way}
         turns = [turn for turn in mapping.turns if 2 * turn.link + turn.lane in slots]
         self.all = [
-            MeetingTurn(name, 2 * name[0] + name[1], mapping.links[name[0]].end, headway(max(SLOWEST, turn.speed)))
+            MeetingTurn(
+                (turn.link, turn.lane, turn.next), 2 * turn.link + turn.lane, mapping.links[turn.link].end,
+                headway(max(SLOWEST, turn.speed)),
+            )
             for turn in turns
-            for name in ((turn.link, turn.lane, turn.next),)
         ]
         self.number = {(way.slot, way.name[2]): at for at, way in enumerate(self.all)}
         self.nodes = sorted({one.node for one in mapping.lit_ways})
@@ -76,12 +78,9 @@ class Lanes:
         links = [link for link in mapping.links for _ in (0, 1)]
         self.length, self.limit = [link.cells for link in links], [link.limit for link in links]
         self.residence, self.room = [nodes[link.end][1] for link in links], [nodes[link.end][2] for link in links]
-        self.gives = {way.slot for way in ways.all if way.gives}
         self.may_stop = {way.slot for way in ways.all if way.may_stop}
-        # By slot the cell from which on one may pass the line in a step, where some give way.
-        self.line_cell = np.full(len(links), NO_CELL)
-        for slot in self.gives:
-            self.line_cell[slot] = self.length[slot] - self.limit[slot]
+        # By slot the cell from which on one may pass the line in a step.
+        self.line_cell = np.array([length - limit for length, limit in zip(self.length, self.limit)])
         first = {ways.all[foe].slot for way in ways.all for foe in way.foes}
         self.before = self.lanes_before(mapping, {slot for slot in first if self.is_short(slot)})
         # By turn the lanes on which those are who go on by it, as far as they are seen.

@@ -1,4 +1,6 @@
 """Lanes that are nearly full by the demand, as an import finds them: there queues may be other than in SUMO."""
+from __future__ import annotations
+
 from collections.abc import Mapping
 from dataclasses import dataclass
 from typing import Any
@@ -24,6 +26,7 @@ class FullLane:
     # Seconds from which to which it is, by quarters of an hour; end 0: where only the whole demand fills it.
     begin: int = 0
     end: int = 0
+    waits: bool = False  # some on it wait for gaps at a light, as runs show
 
     def in_words(self) -> str:
         """Where it is, and how full."""
@@ -52,6 +55,11 @@ class Fullness:
     def overfull_share(self) -> float:
         """How often a vehicle passes lanes whose demand is OVERFULL, in the mean of all vehicles."""
         return sum(one.vehicles for one in self.lanes if one.demand >= OVERFULL) / self.of if self.of else 0.0
+
+    def unseen(self) -> Fullness:
+        """Those of lanes on which nobody waits for gaps at a light: how full others are a run shows."""
+        lanes = tuple(one for one in self.lanes if not one.waits)
+        return Fullness(lanes, min(self.vehicles, sum(one.vehicles for one in lanes)), self.of)
 
     def junctions(self) -> dict[str, float]:
         """By junction the greatest demand of its lanes, as a share of what can pass."""

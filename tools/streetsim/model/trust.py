@@ -200,14 +200,25 @@ def crowding_doubts(vehicles: int, crowded: Mapping[str, int]) -> Iterator[str]:
 
 def full_doubts(mapping: Map) -> Iterator[str]:
     """A doubt where more than a fifth of the vehicles pass lanes that are nearly full by the demand, or a tenth those
-    whose queue grows all the time."""
-    full = mapping.full
+    whose queue grows all the time; without those that runs show themselves (gap_doubts)."""
+    full = mapping.full.unseen() if mapping.lit_ways else mapping.full
     if full.share > MOST_FULL or full.overfull_share > MOST_OVERFULL:
         first = "; ".join(one.in_words() for one in full.lanes[:MOST_NAMED])
         most = f", most of all {first}" if len(full.lanes) > MOST_NAMED else f": {first}"
         yield (
             f"{full.vehicles:,} of {count_told(full.of, 'vehicle')} pass lanes that are nearly full by the demand, and "
             f"their queues may be other than in SUMO{most}"
+        )
+
+
+def gap_doubts(vehicles: int, passages: Mapping[str, int]) -> Iterator[str]:
+    """A doubt where lanes from which some wait for gaps at lights were full, and were passed then more than a fifth as
+    often as there are vehicles. vehicles: how many there are; passages: by edge how many passed then."""
+    if (count := sum(passages.values())) > MOST_FULL * vehicles:
+        most_passed = ", ".join(sorted(passages, key=lambda edge: (-passages[edge], edge))[:MOST_NAMED])
+        yield (
+            f"queues that wait for gaps at lights did not end, for {count_told(count, 'passage')} of "
+            f"{count_told(vehicles, 'vehicle')}, and may be other than in SUMO: most of all at the end of {most_passed}"
         )
 
 

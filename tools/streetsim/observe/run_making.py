@@ -210,6 +210,7 @@ def figures_of(
     doubts = [
         *trust.doubts(driven, rescues, censuses, run, mapping, listed),
         *trust.crowding_doubts(driven.vehicles, yielding.crowded),
+        *trust.gap_doubts(driven.vehicles, steering.yielding.full_passages()),
         *beyond,
         *doubts_of(run_tables.works.watched, mapping),
         *told_of_crowded(crowded),

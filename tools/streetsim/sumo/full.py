@@ -109,7 +109,7 @@ def full_at_light(
         if demand >= (FULL if waiting else FULL_IN_TURN):
             source, target = max(waiting or sharing, key=lambda movement: movement.flow).pair
             where = junction, f"{edge}_{index}", ways[source, target], source, target
-            yield FullLane(*where, round(demand, 2)), [movement.pair for movement in sharing]
+            yield FullLane(*where, round(demand, 2), waits=bool(waiting)), [movement.pair for movement in sharing]
 
 
 def by_greens(sharing: Sequence[CrossingMovement], wish: float) -> float:

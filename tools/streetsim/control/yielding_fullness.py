@@ -1,0 +1,44 @@
+"""How full the lanes are from which some give way at lights, as a run shows it."""
+from __future__ import annotations
+
+from collections import Counter, defaultdict
+from collections.abc import Iterable
+
+from streetsim.base.arrays import Array, numpy as np
+from streetsim.control.yielding_ways import NO_CELL
+
+PART_SECONDS = 900  # that are looked at alone
+LEAST_OPEN = 60  # seconds of a part, below which a lane is not judged
+FULL = 0.9  # share of the seconds in which its turns meet others, in which one is first at the stop line
+
+
+class LitFullness:
+    """Counts, by lane and quarter of an hour, the seconds in which its turns meet others, and those of them in which
+    one is first at its stop line."""
+
+    def __init__(self, slots: int, start: int) -> None:
+        """slots: how many lanes there are."""
+        self.open, self.end = np.zeros(slots, np.int64), start + PART_SECONDS
+        self.busy, self.passing = Counter[int](), Counter[int]()
+        self.first: dict[int, int] = {}  # by lane who was first last
+        self.passages = defaultdict[int, int](int)  # by lane that was full: vehicles in the parts in which it was
+
+    def note_second(self, clock: int, alert_cell: Array, fronts: Iterable[tuple[int, int]]) -> None:
+        """Takes a second. alert_cell: by lane, NO_CELL where its turns meet nobody; fronts: (lane, car) of those who
+        are first at stop lines."""
+        if clock >= self.end:
+            self.end_part()
+        self.open += alert_cell != NO_CELL
+        for slot, car in fronts:
+            self.busy[slot] += 1
+            if self.first.get(slot) != car:
+                self.first[slot] = car
+                self.passing[slot] += 1
+
+    def end_part(self) -> None:
+        """Judges the lanes of the part that is over."""
+        for slot, busy in self.busy.items():
+            if self.open[slot] >= LEAST_OPEN and busy >= FULL * self.open[slot]:
+                self.passages[slot] += self.passing[slot]
+        self.open[:] = 0
+        self.busy, self.passing, self.end = Counter(), Counter(), self.end + PART_SECONDS
