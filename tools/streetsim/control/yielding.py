@@ -10,13 +10,13 @@ from __future__ import annotations
 from collections import Counter
 from collections.abc import Sequence
 from dataclasses import dataclass
-from operator import attrgetter
+from itertools import takewhile
 
 from streetsim.control.yielding_fullness import LitFullness
 from streetsim.control.yielding_plans import AS_PLANNED, CLOSED, OPENED, PlansInForce
 from streetsim.control.yielding_sight import Ahead, LanesSeen
 from streetsim.control.yielding_ways import NO_TURN, Lanes, MeetingTurn, Ways
-from streetsim.kernel.loop import Controller, Kernel
+from streetsim.kernel.loop import Controller, Kernel, SentLine
 from streetsim.kernel.seconds import READY, Block
 from streetsim.model.mapping import Map
 
@@ -55,7 +55,8 @@ class LitYielding(Controller):
 
     def begin(self, kernel: Kernel) -> None:
         """Nobody waits yet."""
-        self.kernel, self.clock, self.next_sent = kernel, kernel.start, 0
+        self.kernel, self.clock = kernel, kernel.start
+        self.last_sent: SentLine | None = None
         self.ways = Ways(self.mapping)
         self.lanes = Lanes(self.mapping, self.ways, kernel.run.load.command["nodes"])
         self.plans, self.ahead = PlansInForce(self.ways, self.lanes), Ahead(kernel.vehicles)
@@ -77,11 +78,7 @@ class LitYielding(Controller):
     def act(self, clock: int, now: Block) -> None:
         """Closes and opens turns for the next second."""
         self.clock = clock + 1
-        sent = self.kernel.sent_lines
-        for line in sent[self.next_sent :]:
-            if not line.for_a_gap:
-                self.plans.note(clock, line.line.command)
-        self.next_sent = len(sent)
+        self.note_lines(clock)
         self.plans.advance(clock)
         self.note_left(clock, now)
         fronts = self.find_fronts(clock, now)
@@ -98,6 +95,15 @@ class LitYielding(Controller):
         for slot, passages in self.fullness.passages.items():
             found[self.mapping.links[slot >> 1].edge] += passages
         return dict(found)
+
+    def note_lines(self, clock: int) -> None:
+        """Takes the plans that were sent since the last second."""
+        sent = self.kernel.sent_lines
+        new = [*takewhile(lambda line: line is not self.last_sent, reversed(sent))]
+        for line in reversed(new):
+            if not line.for_a_gap:
+                self.plans.note(clock, line.line.command)
+        self.last_sent = sent[-1] if sent else None
 
     def note_left(self, clock: int, now: Block) -> None:
         """Notes of those who were let go in the last second who went, and when the next ones may."""

@@ -91,7 +91,8 @@ class World:
 
     def take_sent(self) -> None:
         """Notes the plans among the lines that were sent, and forgets these: a long run takes no memory for them."""
-        self.note_signals((sent.line, sent.passed_on) for sent in self.kernel.sent_lines)
+        plans = (sent for sent in self.kernel.sent_lines if not sent.for_a_gap)
+        self.note_signals((sent.line, sent.passed_on) for sent in plans)
         self.kernel.sent_lines.clear()
 
     def note_signals(self, sent: Iterable[tuple[Line, bool]]) -> None:
@@ -150,28 +151,11 @@ class World:
     def signals(self) -> tuple[list[Command], list[Command]]:
         """(the plans that the run or the page has set, what detectors have lights show) since the last message; the
         last of each node alone."""
-<<<<<<< HEAD
         self.take_sent()
         plans = [self.plans[node] for node in sorted(self.untold_plans)]
         shown = [self.shown[node] for node in sorted(self.untold_shown)]
         self.untold_plans, self.untold_shown = set(), set()
         return plans, shown
-=======
-        kernel, is_first = self.kernel, self.lines_sent < 0
-        sent = [(line, True) for line in kernel.run.first] if is_first else []
-        new = kernel.sent_lines[max(0, self.lines_sent) :]
-        sent += [(line_sent.line, line_sent.passed_on) for line_sent in new if not line_sent.for_a_gap]
-        self.lines_sent = len(kernel.sent_lines)
-        plans: dict[int, Command] = {}
-        shown_signals: dict[int, Command] = {}
-        for line, is_plan in sent:
-            command = line.command
-            if command["cmd"] == "signal" and command["node"] not in self.page_run.givers:
-                (plans if is_plan else shown_signals)[command["node"]] = command
-                if is_plan:
-                    shown_signals.pop(command["node"], None)
-        return [*plans.values()], [*shown_signals.values()]
->>>>>>> b785c718 (Who gives way at lights decides second by second, by the vehicles that are there)
 
     def waiting(self) -> list[list[int]]:
         """[slot, how many] of the lanes that vehicles wait to enter, who wished to by now."""

@@ -138,12 +138,9 @@ class Map:
     reserved: ReservedLanes | None = None  # of classes beside the first
     end: int = 0  # the clock at which SUMO's configuration ends a run, 0 where none does
     timings: list[Json] = field(default_factory=list)  # the programs of lights at the road, as of model.timing
-<<<<<<< HEAD
     # By light, of those whose plan a search made that is not to be trusted, why it is not.
     doubted_plans: dict[str, str] = field(default_factory=dict)
-=======
     lit_ways: list[LitWays] = field(default_factory=list)  # who gives way at lights
->>>>>>> b785c718 (Who gives way at lights decides second by second, by the vehicles that are there)
 
     def __post_init__(self) -> None:
         """Finds the links of each edge."""

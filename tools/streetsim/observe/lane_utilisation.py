@@ -142,16 +142,9 @@ class UtilisationCalculator:
         interval.flows = dict(zip(self.lane_keys, self.flow.tolist(), strict=True))
 
     def by_busy_seconds(self, alone: Array, waiting: Array, green: Array) -> Array:
-<<<<<<< HEAD
-        """Who passed as a share, 0 to 1, of who could, of lanes without a signal, or whose vehicles do not all have the
-        same green: the share of green
-        seconds with a vehicle on the lane that has stood (waiting), and a headway for each that passes while there is
-        none (alone)."""
-=======
-        """v/c, 0 to 1, of lanes without a signal, from which some give way, or whose vehicles do not all have the same
-        green: the share of green seconds with a vehicle on the lane that has stood (waiting), and a headway for each
-        that passes while there is none (alone)."""
->>>>>>> b785c718 (Who gives way at lights decides second by second, by the vehicles that are there)
+        """Who passed as a share, 0 to 1, of who could, of lanes without a signal, from which some give way, or whose
+        vehicles do not all have the same green: the share of green seconds with a vehicle on the lane that has stood
+        (waiting), and a headway for each that passes while there is none (alone)."""
         return np.minimum(1.0, (waiting + alone * 3600 / self.flow) / np.maximum(1, green))
 
 

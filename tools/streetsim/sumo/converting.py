@@ -143,11 +143,8 @@ def map_of(network: Network, lights: list[tuple[str, int]], names: list[str], re
         starts=network.starts,
         reserved=network.reserved,
         timings=network.timings,
-<<<<<<< HEAD
         doubted_plans=network.doubted_plans,
-=======
         lit_ways=network.lit_ways,
->>>>>>> b785c718 (Who gives way at lights decides second by second, by the vehicles that are there)
     )
 
 
