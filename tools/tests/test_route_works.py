@@ -6,18 +6,22 @@ import unittest
 from dataclasses import replace
 from types import SimpleNamespace
 
-from support import PROGRAM, Case, lane, needs_package, needs_simulator, net
+from support import DATA, PROGRAM, Case, lane, needs_package, needs_simulator, net
 from test_route import Commands, flow, lit, two_ways
 from streetsim.base.files import Fault
+from streetsim.base.report import Report
 from streetsim.control.works_movements import in_common
 from streetsim.model.mapping import MapLink, read_map
 from streetsim.search.route_closing import Closing, knows_of_works, turn_off
-from streetsim.search.route_diverting import why_within_gap
+from streetsim.search.route_diverting import check_works, why_within_gap
 from streetsim.search.route_drawing import scale_of_counts
+from streetsim.search.route_loading import read_town
 from streetsim.search.route_underway import Diversion, PlannedVehicle, WaysRound, impassable_edges, turning_to
+from streetsim.sumo.network import Options
 from streetsim.sumo.trips import Trip
 from streetsim.sumo.way_costs import flat_costs
 from streetsim.sumo.way_graph import Graph
+from streetsim.sumo.way_unloaded import map_without_routes
 
 # From p to z over q, r and x; q also leads to w and z, and p to y and z.
 GRAPH = Graph(
@@ -99,6 +103,22 @@ class TurningOff(unittest.TestCase):
         some, more = ({name for name in names if knows_of_works(name, share, 1)} for share in (0.3, 0.6))
         self.assertLess(some, more)
         self.assertTrue(250 < len(some) < 350 and 550 < len(more) < 650, (len(some), len(more)))
+
+
+class Bases(unittest.TestCase):
+    def test_the_runs_without_works_have_the_same_joint_lanes(self):
+        """The turn lanes before the light are links of their own; works on one of them join it to another, in the runs
+        with works and in those without."""
+        town = read_town(str(DATA / "office.net.xml.gz"), [], Options(), Report())
+        mapping = map_without_routes(town.net, town.own_options())
+        apart = [mapping.links[link].lanes for link in mapping.links_of["Nin"]]
+        town.joint = check_works(["Nin_1:20-40:0-600"], (), (), town, 900)
+        self.assertTrue(town.joint)
+        mapping = map_without_routes(town.net, town.own_options())
+        joint = [mapping.links[link].lanes for link in mapping.links_of["Nin"]]
+        [together] = [lanes for lanes in joint if 1 in lanes]
+        self.assertEqual(len(together), 2)
+        self.assertNotIn(together, apart)
 
 
 class WithinTheGap(unittest.TestCase):
