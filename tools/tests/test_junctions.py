@@ -425,7 +425,7 @@ class ByHand(unittest.TestCase):
         self.assertEqual(spill_columns(interval, approach, [(0, 0)]), ("0", ""))
 
     def test_rows_that_are_doubted(self):
-        """A lane that is full by the demand doubts its movement, and where more come than pass the whole approach; so
+        """A lane that is full by the demand and was seen to be doubts its movement; so
         does a v/c near 1; a doubt of another time does not."""
         mapping, interval = map_from("", MAP), judged(FRAMES, self.plans)
 
@@ -439,12 +439,17 @@ class ByHand(unittest.TestCase):
             """A lane that is full."""
             return doubt_of_lane(FullLane("B", name, STRAIGHT, "a", "b", demand, 9, begin, end))
 
+        full = {(0, 0): 0.75}
         self.assertEqual(doubts(), ["", "", ""])
-        self.assertEqual(doubts(lane(0.85)), ["demand 0.85 of what passes"] * 3)
-        self.assertEqual(doubts(lane(0.85, name="a_1")), ["", "", ""])
-        self.assertEqual(doubts(lane(1.05, name="a_1")), ["demand 1.05 of what passes"] * 3)
-        self.assertEqual(doubts(lane(0.85, 9_000, 9_900)), ["", "", ""])
+        self.assertEqual(doubts(lane(0.85), uses=full), ["demand 0.85 of what passes"] * 3)
+        self.assertEqual(doubts(lane(0.85)), ["", "", ""], "the run shows a v/c of 0.46")
+        self.assertEqual(doubts(lane(0.85, name="a_1"), uses=full), ["", "", ""])
+        self.assertEqual(doubts(lane(0.85, 9_000, 9_900), uses=full), ["", "", ""])
         self.assertEqual(doubts(uses={(0, 0): 0.93}), ["v/c 0.93"] * 3)
+        made = JunctionTables(approaches_of(mapping), mapping)
+        for use in (0.93, 0.75, 0.75):
+            made.add(replace(interval, uses={(0, 0): use}))
+        self.assertEqual([row[-1] for row in made.movements], ["v/c 0.93", "v/c 0.93 in the interval before", ""])
         self.assertEqual(doubts(Doubt(JUNCTION, "B", "", "odd", ALL)), ["odd"] * 3)
         self.assertEqual(doubts(Doubt(OF_WORKS, "", "a", "odd", ALL)), ["", "", ""])
 

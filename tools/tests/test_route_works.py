@@ -107,18 +107,18 @@ class TurningOff(unittest.TestCase):
 
 class Bases(unittest.TestCase):
     def test_the_runs_without_works_have_the_same_joint_lanes(self):
-        """The turn lanes before the light are links of their own; works on one of them join it to another, in the runs
-        with works and in those without."""
-        town = read_town(str(DATA / "office.net.xml.gz"), [], Options(), Report())
-        mapping = map_without_routes(town.net, town.own_options())
-        apart = [mapping.links[link].lanes for link in mapping.links_of["Nin"]]
-        town.joint = check_works(["Nin_1:20-40:0-600"], (), (), town, 900)
-        self.assertTrue(town.joint)
-        mapping = map_without_routes(town.net, town.own_options())
-        joint = [mapping.links[link].lanes for link in mapping.links_of["Nin"]]
-        [together] = [lanes for lanes in joint if 1 in lanes]
-        self.assertEqual(len(together), 2)
-        self.assertNotIn(together, apart)
+        """Lanes of a grid are links of their own; works on one of them join it to the other, in the runs with works and
+        in those without."""
+        town = read_town(str(DATA / "grid.net.xml.gz"), [], Options(), Report())
+
+        def lanes():
+            """By link of a street its lanes, in a run without works."""
+            mapping = map_without_routes(town.net, town.own_options())
+            return [tuple(mapping.links[link].lanes) for link in mapping.links_of["A0B0"]]
+
+        self.assertEqual(lanes(), [(0,), (1,)])
+        town.joint = check_works(["A0B0_0:20-40:0-600"], (), (), town, 900)
+        self.assertEqual((town.joint, lanes()), (("A0B0_0",), [(0, 1)]))
 
 
 class WithinTheGap(unittest.TestCase):

@@ -4,7 +4,7 @@ from collections import defaultdict
 from collections.abc import Iterable, Mapping, Sequence
 from dataclasses import dataclass, replace
 
-from streetsim.model.doubts import ALL, APPROACH, MOVEMENT, SPREAD, Doubt, DoubtsByPlace, why_of
+from streetsim.model.doubts import ALL, APPROACH, LANE, MOVEMENT, SPREAD, Doubt, DoubtsByPlace, why_of
 from streetsim.model.mapping import Map, Place
 from streetsim.model.names import Names, open_named
 from streetsim.model.service import fills, level, percentile
@@ -13,6 +13,7 @@ from streetsim.observe.junction_layout import Approach
 from streetsim.observe.junction_measures import Interval, Losses, weighted_mean_losses
 
 NEARLY_FULL = 0.9  # v/c of a movement from which on its delay and queue may be other than in SUMO
+SEEN_FULL = 0.7  # v/c of a lane in a run, from which on the demand's doubt of it holds
 MOVEMENT_SHARE = 0.05  # of a movement's vehicles, from which on a lane counts for its queue
 Queues = Mapping[Place, tuple[float, float, float]]  # by lane what queue_figures has
 
@@ -30,7 +31,8 @@ class MovementRow:
 
 class JunctionTables:
     """The rows of the three tables, by interval; what nobody used in an interval has none. filled: the edges of the
-    approaches that a queue filled in any interval; found: the doubts of rows by their own values."""
+    approaches that a queue filled in any interval; found: the doubts of rows by their own values; held: those of lanes
+    that are full by the demand and were seen to be in any interval."""
 
     def __init__(
         self, approaches: Mapping[str, Approach], mapping: Map, doubts: Iterable[Doubt] = (), cut: Iterable[str] = ()
@@ -48,6 +50,8 @@ class JunctionTables:
         self.junctions: list[Entry] = []
         self.filled: set[str] = set()
         self.found: list[Doubt] = []
+        self.held: set[Doubt] = set()
+        self.before: dict[str, list[Doubt]] = {}  # by approach what its rows of the interval before said
 
     def add(self, interval: Interval) -> None:
         """Adds the rows of an interval to all three tables."""
@@ -80,15 +84,32 @@ class JunctionTables:
         fills_it = fills(float(queued[2]), float(queued[3]))
         if fills_it:
             self.filled.add(approach.edge)
-        own = DoubtsByPlace(self.own_doubts(interval, approach, rows, fills_it))
+        known = [*self.seen_doubts(interval, approach, rows), *self.own_doubts(interval, approach, rows, fills_it)]
+        own = DoubtsByPlace(known)
         doubts = [self.movement_doubt(interval, approach, row, own) for row in rows]
         self.movements += [(*row.cells, doubt) for row, doubt in zip(rows, doubts, strict=True)]
         place = (interval.begin, interval.end), approach.junction, approach.edge
-        whole = why_of([*self.doubts.of_approach(*place), *own.of_approach(*place)])
+        whole = why_of(own.of_approach(*place))
         doubt = whole or spread_doubt(zip((row.lost for row in rows), doubts, strict=True))
         ratio_columns = f"{ratio:.2f}", level(lost.delay, approach.control), doubt
         self.approaches.append((*head, *loss_columns(lost, interval), *queued, *ratio_columns))
         return lost, max((greatest for _, greatest, _ in lane_queues), default=0.0), ratio, doubt
+
+    def seen_doubts(self, interval: Interval, approach: Approach, rows: Sequence[MovementRow]) -> list[Doubt]:
+        """The given doubts of an approach in an interval; of lanes that are full by the demand those whose v/c in the
+        run, the greatest of their movements, is SEEN_FULL or more; and, where any is, what its rows of the interval
+        before said, whose queues still end."""
+        ratios: dict[str, float] = {}
+        for row in rows:
+            for lane in row.lanes:
+                name = self.mapping.lane_name(*lane)
+                ratios[name] = max(row.ratio, ratios.get(name, 0.0))
+        known = self.doubts.at((interval.begin, interval.end), approach.junction, approach.edge)
+        found = [one for one in known if one.kind != LANE or ratios.get(one.lane, 0.0) >= SEEN_FULL]
+        self.held.update(one for one in found if one.kind == LANE)
+        full = max((row.ratio for row in rows), default=0.0) >= SEEN_FULL
+        before = self.before.pop(approach.edge, []) if full else []
+        return [*found, *(replace(one, why=f"{one.why} in the interval before", end=interval.end) for one in before)]
 
     def own_doubts(
         self, interval: Interval, approach: Approach, rows: Iterable[MovementRow], fills_it: bool
@@ -106,13 +127,14 @@ class JunctionTables:
             why = "its queue goes on in the edges before, which no table has"
             found.append(replace(usual, kind=APPROACH, why=why))
         self.found += found
+        self.before[approach.edge] = found
         return found
 
     def movement_doubt(self, interval: Interval, approach: Approach, row: MovementRow, own: DoubtsByPlace) -> str:
-        """What speaks against a movement's row, of all doubts and of the approach's own."""
+        """What speaks against a movement's row, of the doubts of its approach (own)."""
         lanes = [self.mapping.lane_name(*lane_key) for lane_key in row.lanes]
         place = (interval.begin, interval.end), approach.junction, approach.edge, row.target, lanes
-        return why_of([*self.doubts.of_movement(*place), *own.of_movement(*place)])
+        return why_of(own.of_movement(*place))
 
     def movement_row(
         self, interval: Interval, queues: Queues, approach: Approach, target: str, name: str

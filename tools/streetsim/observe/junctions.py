@@ -12,7 +12,7 @@ from streetsim.base.report import first_few
 from streetsim.control.bus_fleet import StopOutcome, dwells
 from streetsim.kernel.loop import Kernel
 from streetsim.kernel.seconds import Seconds
-from streetsim.model.doubts import Doubt, joined
+from streetsim.model.doubts import LANE, Doubt, joined
 from streetsim.model.names import Names
 from streetsim.observe.crossings import Crossed
 from streetsim.observe.junction_facing import junctions_with_facing_streets
@@ -71,8 +71,8 @@ class Junctions(Passages):
         self, folder: str, stops: Iterable[StopOutcome], doubts: Sequence[Doubt]
     ) -> tuple[list[str], list[str], list[Doubt]]:
         """Writes movements.csv, approaches.csv and junctions.csv into the folder of a run; stops: what became of them;
-        doubts: with places. Gives (sentences for the terminal; why the tables are not to be trusted; the doubts of rows
-        by their own values). Fault where one cannot be written."""
+        doubts: with places. Gives (sentences for the terminal; why the tables are not to be trusted; the doubts with
+        those of rows by their own values, and of lanes that are full by the demand those that were seen to be). Fault where one cannot be written."""
         kernel = self.kernel
         run, mapping, start = kernel.run, kernel.map, kernel.start
         crossed = Crossed(self, kernel.plans, self.interval, dwells(stops))
@@ -87,7 +87,8 @@ class Junctions(Passages):
             where = "where minor streets wait for each other"
             messages.append(f"junctions: delays are too small {where}: {first_few(facing)}")
         beyond, texts = queues_beyond_messages(sorted(tables.filled.intersection(cut_short)))
-        return messages + beyond, texts, list(joined(tables.found))
+        held = [one for one in doubts if one.kind != LANE or one in tables.held]
+        return messages + beyond, texts, [*held, *joined(tables.found)]
 
 
 def queues_beyond_messages(approaches: list[str]) -> tuple[list[str], list[str]]:

@@ -202,7 +202,7 @@ def figures_of(
     beyond: list[str] = []
     if run_tables.junctions is not None:
         more, beyond, of_rows = run_tables.junctions.write(folder, stops, places)
-        notes, places = [*notes, *more], [*places, *of_rows]
+        notes, places = [*notes, *more], of_rows
     trips = list(run_tables.trips.rows(steering.rescue.count, stops))
     run_tables.write(folder, trips, clock)
     driven, rescues = trust.trips_at(clock, run.start(), trips), steering.rescue.count.total()
