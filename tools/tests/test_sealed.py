@@ -408,7 +408,8 @@ class Folders(Sealed):
     def test_an_untouched_folder(self):
         status, told = tool("check", self.copy(), "--program", PROGRAM, "--workers", 4)
         self.assertEqual(status, 0, told)
-        self.assertRegex(told, r"copy: each of the [\d,]+ numbers in \d+ files is that of a run\n")
+        again = r"\(made again by a program that is proved\)\n"
+        self.assertRegex(told, rf"copy: each of the [\d,]+ numbers in \d+ files is that of a run {again}")
         status, told = tool("check", self.folder / "copy/seed-2", "--program", PROGRAM)
         self.assertEqual(status, 0, told)
 

@@ -71,6 +71,7 @@ def main(arguments: list[str]) -> int:
 def check_target(args: argparse.Namespace) -> int:
     """Checks what the words name, and prints the result; gives 0 where it is that of a run, else 1."""
     args.program = program.find_program(args.program)
+    program.AT_END.clear()  # the line of the result says it
     study = os.path.exists(f"{args.target}/{ORIGIN_FILE}")
     if args.study and not study:
         raise Fault("--study is of a study's folder")
@@ -100,10 +101,9 @@ def check_page(args: argparse.Namespace) -> int:
     runs = sum(len(plan["seeds"]) for plan in seal.content["plans"])
     same_program = all(plan["program"] == program_digest(args.program) for plan in seal.content["plans"])
     program_text = "the program that made it" if same_program else "another program than the one that made it"
-    proof = program.proof_words(args.program)
-    again = f"{runs} run{'s' * (runs != 1)} made again by {program_text}, which is {proof}"
-    good = f"each of the {numbers_in(page_anew):,} numbers on the page is that of a run ({again})"
-    return tell_result(args.target, mismatches, good, note)
+    again = f"{runs} run{'s' * (runs != 1)} made again by {program_text}, which is {program.proof_words(args.program)}"
+    good = f"each of the {numbers_in(page_anew):,} numbers on the page is that of a run"
+    return tell_result(args.target, mismatches, good, f" ({again}){note}")
 
 
 def page_text(path: str) -> str:
@@ -116,7 +116,7 @@ def page_text(path: str) -> str:
         return content.decode()
 
 
-def tell_result(target: str, mismatches: Sequence[Mismatch], good: str, note: str = "") -> int:
+def tell_result(target: str, mismatches: Sequence[Mismatch], good: str, note: str) -> int:
     """Prints the one line of the result; gives the status. good: what to say where nothing differs; note: what to add
     in any case."""
     if not mismatches:
@@ -169,5 +169,5 @@ def check_folder(args: argparse.Namespace, study: bool) -> int:
             folder_anew = (remake_study if study else remake_folder)(args, f"{temporary}/out")
         mismatches = [Mismatch(*difference) for difference in folder_differences(args.target, folder_anew, counts)]
     again = f"made again by a program that is {program.proof_words(args.program)}"
-    good = f"each of the {counts.numbers:,} numbers in {counts.files} files is that of a run ({again})"
-    return tell_result(args.target, mismatches, good)
+    good = f"each of the {counts.numbers:,} numbers in {counts.files} files is that of a run"
+    return tell_result(args.target, mismatches, good, f" ({again})")
