@@ -8,6 +8,7 @@ from support import MAP, NUMBERED, PROGRAM, RED, Case, needs_simulator
 from streetsim.base.program import UNKNOWN_NOTE, Proof
 from streetsim.model import folder, trust
 from streetsim.model.folder import NAME, Folder
+from streetsim.model.fullness import FullLane, Fullness
 from streetsim.model.mapping import TOLD_INVENTED, map_from
 from streetsim.model.runs import Line, Run
 
@@ -57,6 +58,15 @@ class Marks(unittest.TestCase):
         (told,) = trust.crowding_doubts(300, {"a": 11, "b": 20})
         self.assertTrue(told.startswith("2 streets that give way without a light are nearly full, for 31 passages"))
         self.assertTrue(told.endswith("most of all b, a"))
+
+    def test_lanes_that_wait_for_gaps_are_full(self):
+        """Above one passage of them in five vehicles; of the demand's full lanes those are passed over that runs show."""
+        self.assertEqual(list(trust.gap_doubts(300, {"a": 60})), [])
+        (told,) = trust.gap_doubts(300, {"a": 21, "b": 40})
+        self.assertTrue(told.startswith("queues that wait for gaps at lights did not end, for 61 passages of 300"), told)
+        self.assertTrue(told.endswith("most of all at the end of b, a"), told)
+        waiting, turning = (FullLane("J", name, "left", name, "b", 1.2, 90, waits=name == "a") for name in "ac")
+        self.assertEqual(Fullness((waiting, turning), 150, 300).unseen(), Fullness((turning,), 90, 300))
 
     def test_one_alone(self):
         """One street, passage or vehicle is told in the singular."""

@@ -9,7 +9,9 @@ from support import DATA, PROGRAM, Case, needs_simulator
 from streetsim.base.arrays import numpy as np
 from streetsim.control.settings import Settings
 from streetsim.control.yielding import AFTER_STAND, SNEAK_SECONDS, LitYielding
+from streetsim.control.yielding_fullness import LitFullness
 from streetsim.control.yielding_plans import with_held_back
+from streetsim.control.yielding_ways import NO_CELL
 from streetsim.kernel.loop import Observer, own_line
 from streetsim.kernel.seconds import Block, Vehicles
 from streetsim.model.mapping import Map, MapLink, MapTurn, read_map
@@ -163,6 +165,19 @@ class HeldBack(unittest.TestCase):
         self.assertEqual(found[:, 1].tolist(), [True] * 4 + [False])
         late = with_held_back(greens, np.array([9, 15, 9, 15, 40]), before)
         self.assertEqual(late[:, 1].tolist(), [False, True, False, True, False])
+
+
+class Full(unittest.TestCase):
+    def test_a_lane_with_somebody_first_for_nine_tenths(self):
+        """Of a quarter of an hour in which its turns meet others half the time; who passes is counted once."""
+        for busy, passages in ((9, 45), (8, 0)):
+            fullness = LitFullness(2, 0)
+            for clock in range(900):
+                meets = clock % 20 < 10
+                fronts = [(1, clock // 20)] if meets and clock % 10 < busy else []
+                fullness.note_second(clock, np.array([NO_CELL, 5 if meets else NO_CELL]), fronts)
+            fullness.end_part()
+            self.assertEqual(fullness.passages.get(1, 0), passages)
 
 
 class Record(Observer):

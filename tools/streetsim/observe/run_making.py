@@ -306,7 +306,7 @@ def write_setting(
         "dawdle": command["dawdle"],
         "every": run_tables.every,
         "period": settings.period,
-        "yielding": asdict(yielding),
+        "yielding": {**asdict(yielding), "lit_lines": run_tables.steering.yielding.line_count},
         "not_trusted": doubts[0],
         "doubts": doubt_rows(doubts[1]),
         "made": made_of,
