@@ -109,15 +109,15 @@ class AtAJunction(Case):
         files = [DATA / name for name in ("office.net.xml.gz", "office.rou.xml.gz", "office-90.add.xml")]
         run, mapped, out = (self.folder / name for name in ("o.jsonl", "o.map.json", "out"))
         self.tool("import", files[0], files[2], "--routes", files[1], "-o", run, "--map", mapped)
-        words = "--until", 28_800, "--junctions", 3600, "--every", 0, "--out", out, "--program", PROGRAM
+        words = "--until", 28_800, "--junctions", 900, "--every", 0, "--out", out, "--program", PROGRAM
         last = self.tool("run", run, "--map", mapped, *words)[0].splitlines()[-1]
         rows = read_table(f"{out}/movements.csv", MOVEMENTS)
-        [left] = [row for row in rows if (row["begin"], row["approach"], row["movement"]) == ("25200", "Nin", "L")]
+        [left] = [row for row in rows if (row["begin"], row["approach"], row["movement"]) == ("27900", "Nin", "L")]
         self.assertTrue(left["doubt"])
         self.assertIn("Mill Road into Main Street, from the north", last)
         self.assertIn("doubted most of all at", last)
         page = self.folder / "page.html"
-        self.tool("report", out, "--interval", 25_200, "-o", page)
+        self.tool("report", out, "--interval", 27_900, "-o", page)
         first = page.read_text().partition('id="junctions"')[0]
         self.assertIn("Mill Road into Main Street, from the north, at ", first)
         self.assertNotIn("nothing that a run checks of itself speaks against it", first)

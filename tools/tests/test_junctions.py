@@ -439,7 +439,7 @@ class ByHand(unittest.TestCase):
             """A lane that is full."""
             return doubt_of_lane(FullLane("B", name, STRAIGHT, "a", "b", demand, 9, begin, end))
 
-        full = {(0, 0): 0.75}
+        full = {(0, 0): 0.87}
         self.assertEqual(doubts(), ["", "", ""])
         self.assertEqual(doubts(lane(0.85), uses=full), ["demand 0.85 of what passes"] * 3)
         self.assertEqual(doubts(lane(0.85)), ["", "", ""], "the run shows a v/c of 0.46")
@@ -447,7 +447,7 @@ class ByHand(unittest.TestCase):
         self.assertEqual(doubts(lane(0.85, 9_000, 9_900), uses=full), ["", "", ""])
         self.assertEqual(doubts(uses={(0, 0): 0.93}), ["v/c 0.93"] * 3)
         made = JunctionTables(approaches_of(mapping), mapping)
-        for use in (0.93, 0.75, 0.75):
+        for use in (0.93, 0.87, 0.87):
             made.add(replace(interval, uses={(0, 0): use}))
         self.assertEqual([row[-1] for row in made.movements], ["v/c 0.93", "v/c 0.93 in the interval before", ""])
         self.assertEqual(doubts(Doubt(JUNCTION, "B", "", "odd", ALL)), ["odd"] * 3)

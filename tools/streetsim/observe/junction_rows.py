@@ -13,7 +13,7 @@ from streetsim.observe.junction_layout import Approach
 from streetsim.observe.junction_measures import Interval, Losses, weighted_mean_losses
 
 NEARLY_FULL = 0.9  # v/c of a movement from which on its delay and queue may be other than in SUMO
-SEEN_FULL = 0.7  # v/c of a lane in a run, from which on the demand's doubt of it holds
+SEEN_FULL = 0.85  # v/c of a lane in a run, from which on the demand's doubt of it holds
 MOVEMENT_SHARE = 0.05  # of a movement's vehicles, from which on a lane counts for its queue
 Queues = Mapping[Place, tuple[float, float, float]]  # by lane what queue_figures has
 
@@ -97,16 +97,17 @@ class JunctionTables:
 
     def seen_doubts(self, interval: Interval, approach: Approach, rows: Sequence[MovementRow]) -> list[Doubt]:
         """The given doubts of an approach in an interval; of lanes that are full by the demand those whose v/c in the
-        run, the greatest of their movements, is SEEN_FULL or more; and, where any is, what its rows of the interval
-        before said, whose queues still end."""
+        run, the greatest of their movements, is SEEN_FULL or more, and with this as their size; and, where any is, what
+        its rows of the interval before said, whose queues still end."""
         ratios: dict[str, float] = {}
         for row in rows:
             for lane in row.lanes:
                 name = self.mapping.lane_name(*lane)
                 ratios[name] = max(row.ratio, ratios.get(name, 0.0))
         known = self.doubts.at((interval.begin, interval.end), approach.junction, approach.edge)
-        found = [one for one in known if one.kind != LANE or ratios.get(one.lane, 0.0) >= SEEN_FULL]
-        self.held.update(one for one in found if one.kind == LANE)
+        held = [one for one in known if one.kind != LANE or ratios.get(one.lane, 0.0) >= SEEN_FULL]
+        self.held.update(one for one in held if one.kind == LANE)
+        found = [replace(one, size=ratios[one.lane]) if one.kind == LANE else one for one in held]
         full = max((row.ratio for row in rows), default=0.0) >= SEEN_FULL
         before = self.before.pop(approach.edge, []) if full else []
         return [*found, *(replace(one, why=f"{one.why} in the interval before", end=interval.end) for one in before)]
