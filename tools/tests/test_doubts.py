@@ -19,7 +19,7 @@ from streetsim.sumo.additional import read_additional
 from streetsim.sumo.net import doubted_plans, read_net
 from streetsim.sumo.types import Types
 
-LEFT = Doubt(LANE, "B", "a", "demand 1.07 of what passes", ALL, "a_1", "b", 25_200, 26_100, 1.07, 120)
+LEFT = Doubt(LANE, "B", "a", "demand 1.07 of what passes", ALL, "a_1", "b", 25_200, 26_100, 1.07, 120, True)
 
 
 class Words(unittest.TestCase):
@@ -50,7 +50,7 @@ class Words(unittest.TestCase):
     def test_rows_of_a_place(self):
         """A doubt of a lane is of the movements that use it, one whose queue stands before the lanes beside of all; it
         lasts a quarter of an hour longer."""
-        nearly = replace(LEFT, size=0.9)
+        nearly = replace(LEFT, spills=False)
         for one, lanes, begin, held in (
             (nearly, ["a_1"], 25_200, True), (nearly, ["a_0"], 25_200, False), (LEFT, ["a_0"], 25_200, True),
             (LEFT, ["a_1"], 26_100, True), (LEFT, ["a_1"], 27_000, False), (LEFT, ["a_1"], 24_300, False),

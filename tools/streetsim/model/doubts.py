@@ -13,7 +13,6 @@ from streetsim.model.names import Names
 LANE, MOVEMENT, APPROACH, JUNCTION, OF_WORKS = "lane", "movement", "approach", "junction", "works"  # kinds of places
 DELAYS, QUEUES, ALL, ADDED = "delay and letter", "queue", "delay, letter and queue", "what the works add"  # touched
 MOST_TOLD = 3  # places in a last line
-OVERFULL = 1.0  # of what passes a lane: from there on its queue stands before the lanes beside, too
 AFTER = 900  # seconds for which the queue of a lane that was full goes on
 SPREAD = 0.25  # of the time lost in an approach or at a junction, from which on doubted movements doubt it
 DOUBTED = "streetsim.not-trusted"  # the parameter of a light's program that says why what made it is not to be trusted
@@ -35,6 +34,7 @@ class Doubt:
     end: int = 0  # 0: to the end of the run
     size: float = 0.0  # demand as a share of what passes; 0: no such share is known
     vehicles: int = 0  # that it touches; 0: not known
+    spills: bool = False  # its queue stands before the lanes beside, so that it is of its whole approach
 
     def covers(self, begin: int, end: int) -> bool:
         """Whether it lasts in an interval, or ended less than AFTER before it."""
@@ -150,8 +150,8 @@ class DoubtsByPlace:
 
 
 def is_of_all(doubt: Doubt) -> bool:
-    """Whether it is of all movements of its approach: one of a lane too, whose queue stands before the lanes beside."""
-    return doubt.kind in (APPROACH, JUNCTION) or doubt.size >= OVERFULL
+    """Whether it is of all movements of its approach."""
+    return doubt.kind in (APPROACH, JUNCTION) or doubt.spills
 
 
 def touches_movement(doubt: Doubt, target: str, lanes: set[str]) -> bool:

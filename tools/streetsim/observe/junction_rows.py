@@ -14,6 +14,7 @@ from streetsim.observe.junction_measures import Interval, Losses, weighted_mean_
 
 NEARLY_FULL = 0.9  # v/c of a movement from which on its delay and queue may be other than in SUMO
 SEEN_FULL = 0.85  # v/c of a lane in a run, from which on the demand's doubt of it holds
+OVERFULL, SPILLS = 1.0, 0.1  # v/c, and share of cycles in which a lane is full: from there on its queue stands beyond
 MOVEMENT_SHARE = 0.05  # of a movement's vehicles, from which on a lane counts for its queue
 Queues = Mapping[Place, tuple[float, float, float]]  # by lane what queue_figures has
 
@@ -26,6 +27,7 @@ class MovementRow:
     lost: Losses
     ratio: float  # v/c, 0 where its capacity is not known
     lanes: list[Place]  # that count for its queue
+    spills: bool  # these are overfull, or full as far back as they go in SPILLS of the cycles
     cells: Entry
 
 
@@ -97,17 +99,17 @@ class JunctionTables:
 
     def seen_doubts(self, interval: Interval, approach: Approach, rows: Sequence[MovementRow]) -> list[Doubt]:
         """The given doubts of an approach in an interval; of lanes that are full by the demand those whose v/c in the
-        run, the greatest of their movements, is SEEN_FULL or more, and with this as their size; and, where any is, what
-        its rows of the interval before said, whose queues still end."""
-        ratios: dict[str, float] = {}
+        run, the greatest of their movements, is SEEN_FULL or more; and, where any is, what its rows of the interval
+        before said, whose queues still end."""
+        ratios, spilling = dict[str, float](), set[str]()
         for row in rows:
-            for lane in row.lanes:
-                name = self.mapping.lane_name(*lane)
+            for name in (self.mapping.lane_name(*lane) for lane in row.lanes):
                 ratios[name] = max(row.ratio, ratios.get(name, 0.0))
+                spilling |= {name} if row.spills else set()
         known = self.doubts.at((interval.begin, interval.end), approach.junction, approach.edge)
         held = [one for one in known if one.kind != LANE or ratios.get(one.lane, 0.0) >= SEEN_FULL]
         self.held.update(one for one in held if one.kind == LANE)
-        found = [replace(one, size=ratios[one.lane]) if one.kind == LANE else one for one in held]
+        found = [replace(one, spills=one.lane in spilling) if one.kind == LANE else one for one in held]
         full = max((row.ratio for row in rows), default=0.0) >= SEEN_FULL
         before = self.before.pop(approach.edge, []) if full else []
         return [*found, *(replace(one, why=f"{one.why} in the interval before", end=interval.end) for one in before)]
@@ -120,7 +122,10 @@ class JunctionTables:
         at = approach.junction, approach.edge
         usual = Doubt(MOVEMENT, *at, "", ALL, begin=interval.begin, end=interval.end)
         found = [
-            replace(usual, target=row.target, why=f"v/c {row.ratio:.2f}", size=row.ratio, vehicles=row.lost.vehicles)
+            replace(
+                usual, target=row.target, why=f"v/c {row.ratio:.2f}", size=round(row.ratio, 2),
+                vehicles=row.lost.vehicles, spills=row.spills,
+            )
             for row in rows
             if row.ratio >= NEARLY_FULL
         ]
@@ -157,7 +162,8 @@ class JunctionTables:
         flow_columns = f"{flow:.0f}", f"{capacity:.0f}" if capacity else "", f"{ratio:.2f}"
         letter, spills = level(lost.delay, approach.control, ratio), spill_columns(interval, approach, used)
         columns = *loss_columns(lost, interval), *queue_columns([queues[lane_key] for lane_key in used], room)
-        return MovementRow(target, lost, ratio, used, (*head, *columns, *flow_columns, letter, *spills))
+        overflows = ratio >= OVERFULL or float(spills[0]) >= 100 * SPILLS
+        return MovementRow(target, lost, ratio, used, overflows, (*head, *columns, *flow_columns, letter, *spills))
 
     def write(self, folder: str, names: Names, intervals: Iterable[Interval]) -> None:
         """Adds intervals, and writes the rows of each to movements.csv, approaches.csv and junctions.csv in a folder,
