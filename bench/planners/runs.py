@@ -86,15 +86,24 @@ def write_routes(path, departs, draws, side):
 def measured(name, command, folder):
     """Runs a command in a folder, and prints a row of what it and all that it starts took; gives seconds of processors
     and most memory, MB."""
-    begin, seconds_before, greatest_memory = time.monotonic(), shared.children_seconds(), 0
+    begin = time.monotonic()
+    took, most = measured_family(command, folder)
+    print(f"| {name} | {time.monotonic() - begin:.0f} | {took:.1f} | {most:.0f} |", flush=True)
+    return took, most
+
+
+def measured_family(command, folder, told=None):
+    """Runs a command in a folder; gives seconds of processors and most memory, MB, of it and all that it starts. told:
+    the file for what it says."""
+    seconds_before, greatest_memory = shared.children_seconds(), 0
     environment = {**shared.with_sumo(), "PYTHONDONTWRITEBYTECODE": ""}
-    with subprocess.Popen([str(word) for word in command], cwd=folder, env=environment) as process:
+    with contextlib.ExitStack() as files:
+        said = {"stdout": files.enter_context(open(told, "wb")), "stderr": subprocess.STDOUT} if told else {}
+        process = files.enter_context(subprocess.Popen([*map(str, command)], cwd=folder, env=environment, **said))
         while process.poll() is None:
             greatest_memory = max(greatest_memory, sum(map(resident, family(process.pid))))
             time.sleep(0.1)
-    took = shared.children_seconds() - seconds_before
-    print(f"| {name} | {time.monotonic() - begin:.0f} | {took:.1f} | {greatest_memory / 1024:.0f} |", flush=True)
-    return took, greatest_memory / 1024
+    return shared.children_seconds() - seconds_before, greatest_memory / 1024
 
 
 def family(process):

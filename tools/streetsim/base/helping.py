@@ -12,7 +12,7 @@ GROUPS = {  # the words of all commands by what they are of, as their options ar
     "detail sheets corridor strict no-open port log verbose no-warnings duration-log.statistics force",
     "SUMO's files": "tripinfo-output summary-output queue-output fcd-output vehroute-output statistic-output "
     "edgedata-output stop-output lanechange-output output-prefix save-configuration",
-    "Time": "begin end until every period first last interval slice what",
+    "Time": "begin end until every step period first last interval slice what",
     "Demand": "vehicles ends ways most error",
     "Seeds and search": "seeds check-seeds check budget precision rounds runs iterations gap share tried anew bounds "
     "cycle least reserve verify-sumo free vary random",

@@ -98,7 +98,7 @@ def player_html(folder: Folder, begin: int) -> str:
     """The player of PLAYED_SECONDS of a run from a clock on, in a frame, as HTML. Fault where nothing can be played."""
     with tempfile.TemporaryDirectory() as temporary, redirect_stdout(StringIO()):
         out = f"{temporary}/player.html"
-        smooth = ["--every", "1"] if folder.has_each_second() else []
+        smooth = ["--step", "1"] if folder.has_each_second() else []
         play([folder.path, *smooth, "--first", str(begin), "--last", str(begin + PLAYED_SECONDS), "-o", out])
         text = Path(out).read_text(encoding="utf-8")
     whole = f'<p class="small">Ten minutes of it; all: {command("streetsim-play", folder.path, *smooth)}.</p>'

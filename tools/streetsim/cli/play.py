@@ -32,7 +32,7 @@ def parser() -> Parser:
         help="folder that streetsim-run wrote",
     )
     add_clock(
-        tool_parser, "--every", "seconds between the steps that are shown; with 1 vehicles move smoothly (default: as "
+        tool_parser, "--step", "seconds between the steps that are shown; with 1 vehicles move smoothly (default: as "
         "the run was polled)", least=1, default=None,
     )
     tool_parser.add_argument("-o", "--output", help="output file: the page (default: FOLDER.play.html, here)")
@@ -66,9 +66,9 @@ def main(arguments: list[str]) -> int:
 def played_of(path: str, args: argparse.Namespace) -> Played:
     """What is played of a folder, by the words of the command; Fault where it has no such seconds."""
     folder = read_folder(path)
-    if args.every and not folder.has_each_second():
-        raise Fault(f"{path}: --every {args.every}: {ROWS} with each second is not there")
-    run = played(folder, args.first, args.last, args.every)
+    if args.step and not folder.has_each_second():
+        raise Fault(f"{path}: --step {args.step}: {ROWS} with each second is not there")
+    run = played(folder, args.first, args.last, args.step)
     if not run.frames:
         raise Fault(f"{path}: nothing was polled from {args.first} to {args.last} s")
     return run
