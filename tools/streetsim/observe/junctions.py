@@ -72,7 +72,8 @@ class Junctions(Passages):
     ) -> tuple[list[str], list[str], list[Doubt]]:
         """Writes movements.csv, approaches.csv and junctions.csv into the folder of a run; stops: what became of them;
         doubts: with places. Gives (sentences for the terminal; why the tables are not to be trusted; the doubts with
-        those of rows by their own values, and of lanes that are full by the demand those that were seen to be). Fault where one cannot be written."""
+        those of rows by their own values, and of lanes that are full by the demand those that were seen to be). Fault
+        where one cannot be written."""
         kernel = self.kernel
         run, mapping, start = kernel.run, kernel.map, kernel.start
         crossed = Crossed(self, kernel.plans, self.interval, dwells(stops))

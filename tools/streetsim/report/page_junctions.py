@@ -13,10 +13,10 @@ from streetsim.report.page_words import how_sure, interval_name
 from streetsim.report.run_tables import ResultRow, Runs
 
 KEY = (
-    "Pictures: lanes with the movements that they lead to; bands as wide as flows, of the colour of their letter; blue, "
-    "and queue: the 95 % queue as a share of the room. L, T, R, U: left, straight on, right, back. Queues: what half of "
-    "the cycles and what 95 % of them do not exceed, and the greatest, of the room. Bars: the length of an edge, and in "
-    "it the same queues, dark, light and a line."
+    "Pictures: lanes with the movements that they lead to; bands as wide as flows, of the colour of their letter; "
+    "blue, and queue: the 95 % queue as a share of the room. L, T, R, U: left, straight on, right, back. Queues: what "
+    "half of the cycles and what 95 % of them do not exceed, and the greatest, of the room. Bars: the length of an "
+    "edge, and in it the same queues, dark, light and a line."
 )
 MOST_MOVEMENTS = 25  # of changes on the page
 

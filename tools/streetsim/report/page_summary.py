@@ -17,7 +17,8 @@ from streetsim.report.page_drawings import letter_mark, service_keys, service_ma
 from streetsim.report.page_map import map_figure
 from streetsim.report.page_markup import bullets, change_told, mean_told, table
 from streetsim.report.page_verdict import (
-    Interval, LEAST_HOURLY, are_drawn, change_verdict, doubts_of, is_doubted, kind_of_change, ranked_rows, state_verdict,
+    Interval, LEAST_HOURLY, are_drawn, change_verdict, doubts_of, is_doubted, kind_of_change, ranked_rows,
+    state_verdict,
 )
 from streetsim.report.page_words import counted_noun, how_sure
 from streetsim.report.plan_costs import NOTICED, Means, PlanCosts, costs_of, means_by_class
