@@ -1,6 +1,7 @@
 """Small runs of one feature each, and the doors by which a run is made."""
 from __future__ import annotations
 
+import gzip
 import json
 import os
 import re
@@ -42,7 +43,7 @@ import streetsim.traci as traci
 UNTIL, SEED = 600, 42
 PARTS = (1, 7, 100)  # steps that a page asks for at once, by turns
 PROXY = Path(__file__).parent / "proxy.py"
-PAGE = TOOLS / "DOORS.md"
+PAGE, DATA = TOOLS / "DOORS.md", Path(__file__).parent / "data"
 
 
 @dataclass
@@ -130,6 +131,10 @@ FEATURES = {
         lit([(30, "G"), (3, "y"), (40, "r")]),
         all_in(BUS, vehicles(90, "a b", 5), vehicles(3, "a b", 90, 7, 'line="1"')),
         words=("--rescue", "0", "--departures", "drawn"), departures="drawn", wishes={"drawn": True},
+    ),
+    "giving way at lights": Feature(
+        gzip.decompress((DATA / "cross1.net.xml.gz").read_bytes()).decode(),
+        all_in(vehicles(40, "wc cn", 5), vehicles(40, "ec cw", 6), vehicles(30, "nc cs", 9), vehicles(20, "sc cw", 11)),
     ),
     "detours": Feature(
         two_ways(), all_in(vehicles(60, "in short out", 5)), close=("short_0", 100, 200, 100, 400), divert=True

@@ -25,7 +25,6 @@ from streetsim.base.files import Fault
 from streetsim.base.seeds import runs_needed, seeds_for, seeds_of, student
 from streetsim.cli.import_ import options_of, parser as import_parser
 from streetsim.cli.plan_commands import found_run, import_words
-from streetsim.cli.signals import warn_of_gaps
 from streetsim.control.settings import Settings
 from streetsim.model.mapping import map_from, read_map
 from streetsim.model.runs import Line, Run, read_run
@@ -571,31 +570,6 @@ class Verdicts(Searching):
         trips = {"a": (0.0, 100.0), "b": (100.0, 150.0), "bicycle": (0.0, 900.0)}
         self.assertEqual(mean_trip(trips, {"a": 0, "b": 100, "c": 400}, 1000), 250)
 
-    def test_permissive_turns_are_named(self):
-        """Somebody turns left against others: the plan rests on a formula."""
-        runs = [Outcome("", 1, 9, 1000, 0, 60)]
-        run = Run("run", Line(1, "", {"dawdle": 0}), enters=[Line(2, "", {"plan": [0], "depart": 0})])
-        town = Mock(
-            session=Mock(clocks=(0, 1000), departs=(0,)),
-            settings=Settings(1000),
-            run=run,
-            mapping=map_from("map", MAP),
-            gaps_told=lambda: SignalTown.gaps_told(Mock(lines=Mock(permissive={"L"}))),
-        )
-        told = "without --verify-sumo, as turns find their gaps in oncoming traffic by formula at L"
-        self.assertEqual(list(doubts_of(town, runs, runs, None)), [told])
-        self.assertEqual(list(doubts_of(town, runs, runs, object())), [])
-
-    def test_a_doubt_that_is_known_is_told_before_the_search(self):
-        """A result without --verify-sumo will not be trusted; with it, or where nobody waits for gaps, nothing is."""
-        for verify, gaps, told in (
-            (False, "turns find their gaps", "warning: the result will not be trusted without --verify-sumo: turns"),
-            (True, "turns find their gaps", ""), (False, "", ""),
-        ):  # fmt: skip
-            with redirect_stderr(StringIO()) as said:
-                warn_of_gaps(Namespace(verify_sumo=verify), Mock(gaps_told=lambda gaps=gaps: gaps))
-            self.assertEqual(said.getvalue()[: len(told)] if told else said.getvalue(), told)
-
     def test_queues_at_entries(self):
         """Two of 20 vehicles, a tenth, waited to enter under the plan given, and none under the plan found."""
         mapping = map_from("map", MAP)
@@ -604,11 +578,10 @@ class Verdicts(Searching):
         )
         town = Mock(
             session=Mock(clocks=(0, 1000), departs=20 * (0,)), settings=Settings(1000), run=run, mapping=mapping,
-            gaps_told=lambda: "",
         )  # fmt: skip
         given, found = ([Outcome("", 20, 9, 1000, waiting, 120)] for waiting in (2, 0))
         told = "as given 2 of 20 vehicles waited to enter at some 120 s, and are in no queue or count"
-        self.assertEqual(list(doubts_of(town, given, found, None)), [told])
+        self.assertEqual(list(doubts_of(town, given, found)), [told])
 
     def test_who_has_not_arrived(self):
         """Ten had the time; more than a tenth of them have not."""

@@ -3,6 +3,7 @@ import argparse
 import sys
 from collections.abc import Iterator, Sequence
 from contextlib import contextmanager
+from itertools import islice
 from statistics import fmean, stdev
 from time import monotonic
 
@@ -35,6 +36,8 @@ from streetsim.search.signal_plans import LEAST_GREEN, plan_text
 from streetsim.search.signal_search import PlanSearch, search_plan
 from streetsim.search.signal_town import Reading, Runner, SignalTown, read_town, sessions_of
 
+FINALISTS = 20  # plans that are judged by runs in which turns give way by who comes
+SHARE_RUNS = 2  # runs of the given plan that tell for how long others have them wait
 RESERVE = 80  # a chance of slowing down, of 1,000, by which a tenth fewer pass in a green
 
 
@@ -141,7 +144,6 @@ def main(arguments: list[str]) -> int:
     if args.bounds:
         return find_bounds(args, reading, town, check)
     making = RunOptions(reading.program, args.rounds)
-    warn_of_gaps(args, town)
     target = PlanFiles(args.output, args.out, corridor_of(args, town), making, args.until)
     in_sumo = sumo_for(reading, town.mapping, town.run) if args.verify_sumo else None
     with runner_of(args, town, check) as runner:
@@ -150,17 +152,11 @@ def main(arguments: list[str]) -> int:
     texts = [plan_text(town.lights, plan, PROGRAM_ID) for plan in (town.plan, search.best[1])]
     sumo = verified(in_sumo, town, texts, check, args.jobs) if in_sumo else None
     rows = before_after_rows(town, given_outcomes, best_outcomes, sumo)
-    doubts = list(doubts_of(town, given_outcomes, best_outcomes, sumo))
+    doubts = list(doubts_of(town, given_outcomes, best_outcomes))
     write_found(target, town, search, rows, doubts)
     status = tell_found(town, search, rows, why_stopped, doubts, sumo)
     tell_next(args, town)
     return status
-
-
-def warn_of_gaps(args: argparse.Namespace, town: SignalTown) -> None:
-    """Warns on standard error, before the search, where its result will not be trusted without --verify-sumo."""
-    if gaps := "" if args.verify_sumo else town.gaps_told():
-        print(f"warning: the result will not be trusted without --verify-sumo: {gaps}", file=sys.stderr)
 
 
 def tell_next(args: argparse.Namespace, town: SignalTown) -> None:
@@ -309,7 +305,10 @@ def runner_of(args: argparse.Namespace, town: SignalTown, check: Sequence[int]) 
         known = sorted({*tried_seeds(check), *given_seeds(args)})
         sessions, places = sessions_of(town, known, Runner(workers, town))
     with machines(args.jobs, args.cluster, sessions) as workers:
-        yield Runner(workers, town, places)
+        runner = Runner(workers, town, places)
+        if town.estimates:
+            runner.hide_as(town.base, known[:SHARE_RUNS])
+        yield runner
 
 
 def search_seeds(args: argparse.Namespace, runner: Runner, check: Sequence[int]) -> Sequence[int]:
@@ -330,6 +329,16 @@ def search_seeds(args: argparse.Namespace, runner: Runner, check: Sequence[int])
     return seeds
 
 
+def judge_finalists(search: PlanSearch, runner: Runner, seeds: Sequence[int], most: int) -> None:
+    """Runs the given plan and the best that were found by estimates, so many at most, with turns that give way at
+    lights by who comes; the best of these is then the best of the search."""
+    given = "given", runner.town.base
+    plans = [given, *(one for one in search.finalists(most) if search.key_of(one[1]) != search.key_of(given[1]))]
+    trips = (seconds for seconds, _ in runner.live_trips([plan for _, plan in plans], seeds))
+    means = [fmean(islice(trips, len(seeds))) for _ in plans]
+    search.judge(zip(plans, means, strict=True))
+
+
 def search_for_plan(args: argparse.Namespace, runner: Runner, check: Sequence[int]) -> tuple[PlanSearch, bool]:
     """Searches for a plan, and says what that came to; gives (search when it has ended, whether the user ended it by
     Ctrl-C)."""
@@ -342,9 +351,13 @@ def search_for_plan(args: argparse.Namespace, runner: Runner, check: Sequence[in
         """Searches from the given plan."""
         search_plan(search, town.base, town.lights, streets, changed, proposed_cycles(cycles, town, streets))
 
-    search, stopped = ended_search(
-        lambda plans: runner.mean_trips(plans, seeds), args.budget, len(seeds), search_from_given, seconds_after=judging
+    judged_plans = min(FINALISTS + 1, args.budget // len(seeds) // 2) if town.estimates else 0
+    search, is_stopped = ended_search(
+        lambda plans: runner.mean_trips(plans, seeds), args.budget - judged_plans * len(seeds), len(seeds),
+        search_from_given, seconds_after=judging, estimates=town.estimates,
     )
+    if judged_plans:
+        judge_finalists(search, runner, seeds, judged_plans - 1)
     told = f"the search has ended after {search.simulations} simulations"
     print(f"{told}: plans are now run by {len(check)} other seeds", file=sys.stderr)
-    return search, stopped
+    return search, is_stopped

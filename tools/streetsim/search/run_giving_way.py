@@ -1,6 +1,7 @@
 """Giving way without a light in studies and searches: rounds are made where a run is done,
 with its signals and its seed."""
 import json
+from collections.abc import Sequence
 from dataclasses import replace
 from functools import partial
 
@@ -8,11 +9,13 @@ from streetsim.base.files import Fault
 from streetsim.base.program import program_digest
 from streetsim.control.settings import Settings
 from streetsim.control.works_closures import closures_of
+from streetsim.kernel.loop import Observer
 from streetsim.kernel.serving import serving_program
 from streetsim.model.mapping import Map
 from streetsim.model.runs import Line, Run, with_load
 from streetsim.observe.giving_way_rounds import Yielding, gaps_of, with_lines
 from streetsim.search.run_open_end import outcome_of
+from streetsim.search.run_hidden import HiddenSeconds, HiddenShares
 from streetsim.search.run_prepared import Giving, Outcome, PreparedRun, outcome, session_of, vehicle_seconds
 
 
@@ -22,14 +25,24 @@ def giving_session(
     """The session of a run whose vehicles give way without a light by so many rounds. settings: its end, whether that
     is open, merging before works, lights that detectors drive and stops that are made; without: nodes whose signals are
     given with each run; load: fields of the load with other values. The session has a giving only where there are
-    rounds and turns that give way, an open end, such lights or stops, or works."""
+    rounds and turns that give way, turns that give way at lights, an open end, such lights or stops, or works."""
     until = settings.until
     session = session_of(program, run, until, without, **load)
-    gives_way = rounds and mapping.yields
+    gives_way = rounds and mapping.yields or mapping.lit_ways
     if not (gives_way or settings.open_end or is_driven(settings) or closures_of(run, until)):
         return session
     ends = settings.open_end, settings.merging, settings.lights, settings.buses
     return replace(session, giving=Giving(with_load(run, **load), mapping, until, without, rounds, *ends))
+
+
+def acts(giving: Giving) -> bool:
+    """Whether lines are sent by what is seen while a run goes."""
+    return bool(giving.mapping.lit_ways) or acts_beside_lights(giving)
+
+
+def acts_beside_lights(giving: Giving) -> bool:
+    """The same, but for those of turns that give way at lights."""
+    return is_driven(giving) or bool(giving.merging and closures_of(giving.run, giving.until))
 
 
 def is_driven(settings: Settings | Giving) -> bool:
@@ -64,7 +77,7 @@ def for_search(session: PreparedRun, lines: list) -> PreparedRun:
     """The session, which must have a giving, as with_gap_lines makes it; where something acts while its run goes, it
     keeps a giving without rounds, by which seconds_of_run has it act."""
     giving, prepared = session.giving, with_gap_lines(session, lines)
-    if giving is None or not (is_driven(giving) or (giving.merging and closures_of(giving.run, giving.until))):
+    if giving is None or not acts(giving):
         return prepared
     return replace(prepared, giving=replace(giving, run=with_lines(giving.run, lines), rounds=0))
 
@@ -77,30 +90,39 @@ def seconds_of_run(session: PreparedRun, signals: bytes, seed: int) -> float:
     return float(open_outcome(session, [], signals, seed).seconds)
 
 
+def live_trial(session: PreparedRun, signals: bytes, seed: int) -> tuple[float, HiddenShares]:
+    """The seconds of all vehicles, as seconds_of_run, of a run in which some give way at lights, and the seconds for
+    which these were hidden. The session is one that for_search made. Fault as of replies."""
+    hidden = HiddenSeconds()
+    return float(open_outcome(session, [], signals, seed, [hidden]).seconds), hidden.shares
+
+
 def outcome_giving_way(session: PreparedRun, signals: bytes, seed: int) -> Outcome:
     """What a run with a seed and signals (lines in bytes) gave after its rounds; Fault where a run fails."""
     if session.giving is None:
         return outcome(session, signals, seed)
     lines, yielding = gap_lines(session, signals, seed)
     giving = session.giving
-    if giving.open_end or is_driven(giving) or closures_of(giving.run, giving.until):
+    if giving.open_end or acts(giving) or closures_of(giving.run, giving.until):
         result = open_outcome(session, lines, signals, seed)
     else:
         result = outcome(with_gap_lines(session, lines), signals, seed)
     return replace(result, junctions=yielding.junctions, lines=yielding.lines)
 
 
-def open_outcome(session: PreparedRun, lines: list, signals: bytes, seed: int) -> Outcome:
-    """What a run gave that is asked while it goes: one without a last second, with works, buses, or lights that
-    detectors drive. The session must have a giving; lines: (clock, line), by which vehicles give way. Fault where the
-    program is another one than the session's, and as of outcome_of."""
+def open_outcome(
+    session: PreparedRun, lines: list, signals: bytes, seed: int, observers: Sequence[Observer] = ()
+) -> Outcome:
+    """What a run gave that is asked while it goes: one without a last second, with works, buses, turns that give way at
+    lights, or lights that detectors drive. The session must have a giving; lines: (clock, line), by which vehicles give
+    way without a light. Fault where the program is another one than the session's, and as of outcome_of."""
     if program_digest(session.program) != session.digest:
         raise Fault(f"{session.program}: another program than the one that the runs were prepared for, or none")
     giving = session.giving
     assert giving is not None
     run = with_signals(with_load(giving.run, seed=seed), signals, giving.without)
     settings = replace(settings_of(giving), every=0, open_end=giving.open_end)
-    return outcome_of(session.program, with_lines(run, lines), giving.mapping, settings)
+    return outcome_of(session.program, with_lines(run, lines), giving.mapping, settings, observers)
 
 
 def settings_of(giving: Giving) -> Settings:

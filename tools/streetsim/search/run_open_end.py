@@ -1,6 +1,7 @@
 """Runs of a study that are driven step by step: those without a last second, which go on until all have arrived or
 nobody moves, and those with works, buses, or lights that detectors drive."""
 import hashlib
+from collections.abc import Sequence
 
 from streetsim.base.client import NoReply, ProgramEnded
 from streetsim.base.files import Fault
@@ -8,7 +9,7 @@ from streetsim.control.settings import Settings
 from streetsim.control.steering import Steering
 from streetsim.control.works_figures import longest_queue, worst_quarter
 from streetsim.control.works_watched import doubts_of
-from streetsim.kernel.loop import Kernel
+from streetsim.kernel.loop import Kernel, Observer
 from streetsim.kernel.program import Program
 from streetsim.model.mapping import Map
 from streetsim.model.runs import Run
@@ -33,14 +34,17 @@ class Summed(Program):
         return replies
 
 
-def outcome_of(program: str, run: Run, mapping: Map, settings: Settings) -> Outcome:
+def outcome_of(
+    program: str, run: Run, mapping: Map, settings: Settings, observers: Sequence[Observer] = ()
+) -> Outcome:
     """Makes a run and gives its outcome; a vehicle that has not arrived counts until the run's end. program: its path;
-    settings: its end, rescues, and what is driven or made in it. Fault where the program refuses a line or ends."""
+    settings: its end, rescues, and what is driven or made in it; observers: see the run too. Fault where the program
+    refuses a line or ends."""
     steering, trips = Steering(run, mapping, settings), TripsTable()
     summary, works = Summary(trips, steering.ending.looks), WorksTable(steering.closures)
     try:
         with Summed(program) as running:
-            kernel = Kernel(running, run, mapping, steering.controllers, [trips, summary, works])
+            kernel = Kernel(running, run, mapping, steering.controllers, [trips, summary, works, *observers])
             kernel.go(settings.until)
             digest = running.sum.hexdigest()
     except (NoReply, ProgramEnded) as fault:

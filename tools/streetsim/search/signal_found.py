@@ -21,13 +21,13 @@ from streetsim.search.run_prepared import Outcome
 from streetsim.search.signal_in_sumo import Verified
 from streetsim.search.signal_lines import LightLines, full_lanes_under
 from streetsim.search.signal_plans import Plan, plan_text
-from streetsim.search.signal_search import PlanSearch
+from streetsim.search.signal_search import PlanSearch, PlanTrial
 from streetsim.search.signal_town import SignalTown
 
 LAST = "before-after.csv"
 BEFORE_AFTER = ("figure", "before", "after", "difference", "half_width_95", "runs")
 LIGHTS = ("light", "cycle_before", "cycle_after", "offset_before", "offset_after", "greens_before", "greens_after")
-TRIALS = ("simulations", "step", "mean_trip_s", "best_s")
+TRIALS = ("simulations", "step", "mean_trip_s", "best_s", "estimate")
 
 
 @dataclass(frozen=True, slots=True)
@@ -121,9 +121,14 @@ def write_search(
         for row, numbers in zip(rows, figures, strict=True)
     ]
     write_table(f"{folder}/{LAST}", BEFORE_AFTER, cells)
-    trials = [(trial.simulations, trial.step, f"{trial.mean_trip:.3f}", f"{trial.best:.3f}") for trial in search.trials]
-    write_table(f"{folder}/search.csv", TRIALS, trials)
+    write_table(f"{folder}/search.csv", TRIALS, map(trial_row, search.trials))
     trust.write_doubts(folder, doubts, program)
+
+
+def trial_row(trial: PlanTrial) -> Entry:
+    """A row of search.csv."""
+    means = f"{trial.mean_trip:.3f}", f"{trial.best:.3f}"
+    return trial.simulations, trial.step, *means, "yes" if trial.is_estimate else "no"
 
 
 def light_rows(town: SignalTown, plan: Plan) -> Iterator[Entry]:
@@ -218,7 +223,7 @@ def tell_verdict(
 def budget_ended(search: PlanSearch) -> str:
     """What a sentence on a search ends with where the budget ended it: after how many plans; nothing where it did
     not."""
-    return f", where --budget ended the search after {len(search.trials):,} plans" if search.spent else ""
+    return f", where --budget ended the search after {len(search.value_by_key):,} plans" if search.spent else ""
 
 
 def verdict(changes: Mapping[str, tuple[float, float]], worse: Sequence[str], search: PlanSearch) -> str:
@@ -235,10 +240,9 @@ def verdict(changes: Mapping[str, tuple[float, float]], worse: Sequence[str], se
 
 
 def doubts_of(
-    town: SignalTown, outcomes_before: Sequence[Outcome], outcomes_after: Sequence[Outcome], sumo: Verified | None
+    town: SignalTown, outcomes_before: Sequence[Outcome], outcomes_after: Sequence[Outcome]
 ) -> Iterator[str]:
-    """Why a result is not to be trusted, of the runs of the plan given and the plan found; nothing where it is. sumo:
-    None where SUMO was not run, so that greens in which turns find their gaps by formula are a doubt."""
+    """Why a result is not to be trusted, of the runs of the plan given and the plan found; nothing where it is."""
     until = town.session.clocks[-1]
     yield from vehicle_doubts(town, outcomes_before, outcomes_after)
     yield from trust.length_doubts(until, town.run, town.mapping)
@@ -246,8 +250,6 @@ def doubts_of(
         until, town.run, town.mapping,
         [light for light in town.settings.lights.listed_lights(town.mapping) if light not in town.lights],
     )
-    if not sumo and (gaps := town.gaps_told()):
-        yield f"without --verify-sumo, as {gaps}"
 
 
 def vehicle_doubts(

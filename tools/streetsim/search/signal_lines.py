@@ -2,6 +2,7 @@
 import json
 from collections import defaultdict
 from collections.abc import Mapping, Sequence
+from copy import copy
 from dataclasses import replace
 from typing import NamedTuple
 
@@ -10,6 +11,7 @@ from streetsim.model.fullness import FullLane
 from streetsim.model.mapping import Map, MapTurn
 from streetsim.model.runs import Run
 from streetsim.model.waiting import ways_at
+from streetsim.search.run_hidden import HiddenShares, with_hidden
 from streetsim.search.signal_plans import PlannedLight, PlannedTiming
 from streetsim.sumo.additional import read_additional
 from streetsim.sumo.crossing import hourly_flows
@@ -61,6 +63,7 @@ class LightLines:
         """net: whose programs are replaced by those of plans, in a copy."""
         self.net, self.mapping = replace(net, programs=dict(net.programs)), mapping
         self.flows = hourly_flows(flowing(run, mapping))
+        self.hidden: HiddenShares = {}  # of turns that give way, where lines show how long others let them wait
         self.limits_of = {link.edge: link.limit for link in mapping.links}
         self.connections = connections_of(net)
         self.nodes: defaultdict[str, list[int]] = defaultdict(list)
@@ -71,13 +74,11 @@ class LightLines:
             self.turns[mapping.links[turn.link].end].append((turn.link, turn.lane, turn.next, turn))
         # By (light, durations): for each node the phases as bytes.
         self.node_phases: dict[tuple[str, tuple[int, ...]], list[bytes]] = {}
-        self.permissive: set[str] = set()  # lights at which some who drive must find gaps in a green
         self.report = Report()  # of what was made, where a light needs more phases than there may be
 
     def signal_lines(self, plan: Mapping[str, PlannedTiming], lights: Mapping[str, PlannedLight]) -> bytes:
         """The signal lines of a plan as bytes, one for each node of each of its lights; lights: by name. Notes in
-        self.permissive the lights at which turns must find gaps in a green, and in self.report where one needs more
-        phases than there may be. Fault where a program does not fit its light."""
+        self.report where one needs more phases than there may be. Fault where a program does not fit its light."""
         lines = []
         for name, timing in plan.items():
             key = name, timing.durations
@@ -89,9 +90,15 @@ class LightLines:
                 lines.append(b'{"cmd":"signal","node":%d,"offset":%d,"phases":%s}\n' % values)
         return b"".join(lines)
 
+    def hiding(self, shares: HiddenShares) -> "LightLines":
+        """The same, with turns that give way hidden for these shares of the cycle."""
+        lines = copy(self)
+        lines.hidden, lines.node_phases = shares, {}
+        return lines
+
     def phases_json(self, name: str, node: int, timing: PlannedTiming, light: PlannedLight) -> bytes:
         """The phases of a light at one of its nodes, as the JSON of a signal line's "phases". Puts the program into
-        self.net; self.permissive, self.report and Fault as of signal_lines."""
+        self.net; self.report and Fault as of signal_lines."""
         program = LightProgram(0.0, list(zip(timing.durations, light.states, strict=True)), "static")
         self.net.programs[name] = program
         junction, permissive = self.mapping.nodes[node][0], self.mapping.options["permissive"]
@@ -99,11 +106,9 @@ class LightLines:
         if permissive is None and self.flows:
             connections = self.connections[junction]
             movements = movements_of_junction(junction, connections, self.net, self.flows, self.limits_of)
-        if any(movement.runs and movement.foes and movement.flow for movement in movements.values()):
-            self.permissive.add(name)
         turns = self.turns[node]
         edges = {link: self.mapping.links[link].edge for link, *_ in turns}
         measured = *measured_of(self.mapping), ways_at(self.mapping.lit_ways, node)
         lit = LitNode(node, turns, edges, name, program, permissive, self.report, movements, *measured)
         command = signal_command(lit)
-        return json.dumps(command["phases"], separators=(",", ":")).encode()
+        return json.dumps(with_hidden(command["phases"], self.hidden), separators=(",", ":")).encode()

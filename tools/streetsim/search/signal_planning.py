@@ -39,11 +39,12 @@ def refuse_budget(budget: int, seeds: Sequence[int]) -> None:
 def ended_search(
     trips: Callable[[Sequence[Any]], Iterator[float]], budget: int, seeds: int,
     search_to_end: Callable[[PlanSearch], None], key: Callable[[Any], Any] = key_of, seconds_after: float = 0.0,
+    estimates: bool = False,
 ) -> tuple[PlanSearch, bool]:
     """Makes a search, and shows on the terminal how far it is; gives (search when it has ended, whether the user ended
     it by Ctrl-C). trips: of plans, gives the mean trip (s) of each with each seed, plan by plan; budget, seeds, key: as
     PlanSearch has them (key_of); search_to_end: searches until the search has ended; seconds_after: those that what
-    comes after it takes."""
+    comes after it takes; estimates: as PlanSearch has it."""
     search_line = SearchShown(budget, seconds_after)
 
     def mean_trips(plans: Sequence[Any]) -> Generator[float, None, None]:
@@ -59,7 +60,7 @@ def ended_search(
             search_line.show(search)
             return stopping.end_asked
 
-        search = PlanSearch(mean_trips, budget, seeds, show_progress, key_of=key)
+        search = PlanSearch(mean_trips, budget, seeds, show_progress, key_of=key, estimates=estimates)
         search_to_end(search)
         search_line.line.end()
         return search, stopping.end_asked
@@ -95,4 +96,7 @@ def best_line(search: PlanSearch) -> str:
     """For the line of progress: the mean trip of the best plan so far and how much it is above or below that of the
     given one, the first that was tried; empty where that is 0, as nobody drives."""
     best, given = search.best[0], search.trials[0].mean_trip
-    return f"best {best:.1f} s ({100 * (best / given - 1):+.1f} %)" if given else ""
+    if not given:
+        return ""
+    change = f"{100 * (best / given - 1):+.1f} %"
+    return f"best {change} by estimate" if search.estimates else f"best {best:.1f} s ({change})"

@@ -6,7 +6,7 @@ PlanSearch.mean_trips does.
 from __future__ import annotations
 
 import contextlib
-from collections.abc import Callable, Collection, Generator, Iterable, Mapping, Sequence
+from collections.abc import Callable, Collection, Generator, Hashable, Iterable, Mapping, Sequence
 from dataclasses import dataclass, field
 from math import comb
 from typing import Any, TypeVar
@@ -16,11 +16,13 @@ from streetsim.search.signal_plans import Plan, PlannedLight
 
 Key = tuple[tuple[str, int, tuple[int, ...]], ...]  # of a plan: lights, offsets, durations
 Tried = TypeVar("Tried")  # a plan, or bounds of lights
+Step = tuple[str, Any]  # what is tried, and the plan, or bounds
 
 MeanTripsOf = Callable[[Sequence[Any]], Generator[float, None, None]]  # of plans, or of bounds: their values in order
 SHARES = (0.25, 0.12, 0.06, 0.03)  # of the cycle, by which offsets are moved
 SECONDS = (8, 4, 2, 1)  # of green that are moved between phases
 FEW_CLIMBS = 5  # climbs that tell nothing of those to come
+PLANS_EACH = 10  # plans that are tried for each finalist
 
 
 class SearchEnded(Exception):
@@ -35,6 +37,7 @@ class PlanTrial:
     step: str  # what was tried
     mean_trip: float  # seconds of a mean trip
     best: float  # so far
+    is_estimate: bool = False  # those who give way at lights did so by seconds of another run
 
 
 @dataclass
@@ -48,6 +51,7 @@ class PlanSearch:
     # Hears of each trial; gives whether the user has asked for an end.
     on_trial: Callable[[PlanSearch], bool] = lambda search: False
     value_by_key: dict[Any, float] = field(default_factory=dict)
+    tried: dict[Hashable, Step] = field(default_factory=dict)  # by key
     trials: list[PlanTrial] = field(default_factory=list)
     best: tuple[float, Any] = (float("inf"), None)  # value and plan; None before the first trial
     spent: bool = False  # the budget ended it
@@ -55,6 +59,7 @@ class PlanSearch:
     climbed: list[int] = field(default_factory=list)  # simulations so far, at the begin of the first and each end
     # What names a plan: equal ones have equal keys.
     key_of: Callable[[Any], Any] = lambda plan: key_of(plan)
+    estimates: bool = False  # those who give way at lights do so by seconds of another run
 
     @property
     def simulations(self) -> int:
@@ -75,11 +80,11 @@ class PlanSearch:
             tried.setdefault(name, set()).add(sum(durations))
         return tried
 
-    def mean_trips(self, steps: Sequence[tuple[str, Any]]) -> list[float]:
+    def mean_trips(self, steps: Sequence[Step]) -> list[float]:
         """The values (s) of plans, in their order; steps: (what was tried, plan). Those that are new are run, noted and
         told; a plan that was seen before costs nothing. Raises SearchEnded where the budget does not reach for all of
         them, after those that it does reach for (spent is then True), or where the user ends it."""
-        new_plans: dict[Any, tuple[str, Any]] = {}
+        new_plans: dict[Hashable, Step] = {}
         for step, plan in steps:
             if self.key_of(plan) not in self.value_by_key:
                 new_plans.setdefault(self.key_of(plan), (step, plan))
@@ -97,10 +102,22 @@ class PlanSearch:
 
     def note(self, key: Any, step: str, plan: Any, value: float) -> None:
         """Keeps the value of a plan, adds its trial, and makes it the best where it is."""
-        self.value_by_key[key] = value
+        self.value_by_key[key], self.tried[key] = value, (step, plan)
         if value < self.best[0]:
             self.best = value, plan
-        self.trials.append(PlanTrial(self.simulations + self.seeds, step, value, self.best[0]))
+        self.trials.append(PlanTrial(self.simulations + self.seeds, step, value, self.best[0], self.estimates))
+
+    def finalists(self, most: int) -> list[Step]:
+        """The best plans and what was tried by them, so many at most; fewer where few were tried."""
+        count = max(1, min(most, len(self.value_by_key) // PLANS_EACH))
+        ranked = sorted(self.value_by_key, key=lambda key: self.value_by_key[key])
+        return [self.tried[key] for key in ranked[:count]]
+
+    def judge(self, values: Iterable[tuple[Step, float]]) -> None:
+        """Takes the values (s) of some plans that are no estimates: the best of them is the best."""
+        self.estimates, self.best = False, (float("inf"), None)
+        for (step, plan), value in values:
+            self.note(self.key_of(plan), step, plan, value)
 
     def mean_trip(self, step: str, plan: Any) -> float:
         """The value (s) of one plan, as mean_trips gives it; step: what is tried, for search.csv."""

@@ -14,9 +14,12 @@ from streetsim.control.bus_planned import planned
 from streetsim.control.settings import Settings
 from streetsim.model.mapping import Map
 from streetsim.model.runs import Line, Run, read_with_map
-from streetsim.search.run_giving_way import for_search, gap_lines, giving_session, outcome_giving_way, seconds_of_run
+from streetsim.search.run_giving_way import (
+    acts_beside_lights, for_search, gap_lines, giving_session, live_trial, outcome_giving_way, seconds_of_run,
+)
+from streetsim.search.run_hidden import HiddenShares, mean_shares
 from streetsim.search.run_machines import Function, Machines
-from streetsim.search.run_prepared import Outcome, PreparedRun
+from streetsim.search.run_prepared import Outcome, PreparedRun, vehicle_seconds
 from streetsim.search.signal_lines import LightLines, read_plans
 from streetsim.search.signal_plans import Plan, PlannedLight, light_and_timing, why_kept
 from streetsim.search.signal_promises import Promises
@@ -61,10 +64,12 @@ class SignalTown:
         """The plan given, mended where it breaks what its phases must keep: the one that a search begins with."""
         return {name: self.lights[name].mended(timing) for name, timing in self.plan.items()}
 
-    def gaps_told(self) -> str:
-        """At which lights turns find their gaps by formula under the plans that were run; empty where at none."""
-        lights = first_few(sorted(self.lines.permissive))
-        return f"turns find their gaps in oncoming traffic by formula at {lights}" if lights else ""
+    @property
+    def estimates(self) -> bool:
+        """Whether most plans are run with seconds for which turns that give way at lights were hidden in another run:
+        where nothing else acts while a run goes, so that this costs much less."""
+        giving = self.session.giving
+        return giving is not None and bool(self.mapping.lit_ways) and not acts_beside_lights(giving)
 
     def plan_lines(self, plan: Plan) -> bytes:
         """The signal lines of a plan, as bytes."""
@@ -182,12 +187,25 @@ class Runner:
         """workers: that have the sessions of sessions_of, or the first for outcomes and gaps alone; town: whose plans
         are run; giving: by seed the place of its session, as sessions_of gives it."""
         self.workers, self.town, self.giving, self.cars = workers, town, giving, len(town.session.departs)
+        self.hidden_lines = town.lines  # of the plans of estimates
 
     def mean_trips(self, plans: Iterable[Plan], seeds: Sequence[int]) -> Iterator[float]:
-        """For each plan with each seed, in this order, the mean trip in seconds by the session of the search;
-        where vehicles give way without a light, by the gaps that were found under the given plan."""
-        for seconds in self.ordered(seconds_of_run, plans, seeds, self.giving, CAREFUL):
+        """For each plan with each seed, in this order, the mean trip in seconds by the session of the search; where
+        vehicles give way, without a light by the gaps that were found under the given plan, and in estimates of the
+        town at lights by the seconds that hide_as took."""
+        function = vehicle_seconds if self.town.estimates else seconds_of_run
+        for seconds in self.ordered(function, plans, seeds, self.giving, CAREFUL, self.hidden_lines):
             yield seconds / self.cars
+
+    def live_trips(self, plans: Iterable[Plan], seeds: Sequence[int]) -> Iterator[tuple[float, HiddenShares]]:
+        """The same, where who gives way at lights does so by who comes, with the seconds for which they were hidden."""
+        for seconds, shares in self.ordered(live_trial, plans, seeds, self.giving, CAREFUL):
+            yield seconds / self.cars, shares
+
+    def hide_as(self, plan: Plan, seeds: Sequence[int]) -> None:
+        """Has estimates hide turns that give way at lights as they are under a plan in runs with these seeds."""
+        shares = mean_shares([shares for _, shares in self.live_trips([plan], seeds)])
+        self.hidden_lines = self.town.lines.hiding(shares)
 
     def outcomes(self, plans: Sequence[Plan], seeds: Sequence[int], jobs: int) -> list[list[Outcome]]:
         """For each plan and each seed, what the plan gives by the session of the report, with gaps found under it;
@@ -211,12 +229,14 @@ class Runner:
         seeds: Sequence[int],
         sessions: Mapping[int, int] = MappingProxyType({}),
         session: int = EXACT,
+        lines: LightLines | None = None,
     ) -> Iterator[Any]:
         """What a function of a worker, of (session, signal lines of a plan as bytes, seed), gives for each plan with
         each seed, in this order. A seed is run by the session at sessions[seed], or at session where sessions does not
-        have the seed."""
+        have the seed; lines: that make the signal lines, None: the town's."""
+        made, lights = lines or self.town.lines, self.town.lights
         return self.workers.ordered([
-            (f"the run with seed {seed}", function, sessions.get(seed, session), self.town.plan_lines(plan), seed)
+            (f"the run with seed {seed}", function, sessions.get(seed, session), made.signal_lines(plan, lights), seed)
             for plan in plans for seed in seeds
         ])  # fmt: skip
 
