@@ -246,7 +246,7 @@ def by_traci(files):
 def by_learning(files):
     """The environment for learning, which controls no light."""
     with SignalEnv(files.sumo_words(), seconds=UNTIL, controlled=()) as env:
-        env.reset()
+        env.reset(SEED)
         while not env.step({})[3]:
             pass
 
@@ -271,7 +271,7 @@ def page_session(files):
     names = tuple(feature.wishes.get("joint", ()))
     program, run_and_map = find_program(None), read_with_map(files.run, files.map)
     settings = partial(live.page_settings, asked)
-    more = False, names, asked.rounds, 1, asked.departures or "listed"
+    more = names, asked.rounds, 1, asked.departures or "listed"
     of, _ = Joining(*run_and_map, files.map, program, settings, *more).page_run()
     session = PageSession(of)
     session.begin()
