@@ -3,6 +3,7 @@ import http.client
 import json
 import os
 import signal
+import socket
 import subprocess
 import sys
 import time
@@ -18,7 +19,7 @@ from random_ends import WORKS, end_commands
 from support import PROGRAM, QUICK, TOOLS, Case, needs_package, needs_simulator
 from streetsim.base import limits
 from streetsim.live import ledger
-from streetsim.live.bridge import Refusal, read_request
+from streetsim.live.bridge import Handler, Refusal, read_request
 from streetsim.live.ledger import Ledger
 from streetsim.live.logged_program import MOST_IN_MEMORY, SentLog
 from streetsim.live.session import PageSession
@@ -163,6 +164,11 @@ class Pages(LiveCase):
         session.go_back(**read_request("go_back", b'{"clock":5}', session))
         session.go_back(**read_request("go_back", b'{"clock":2}', session))
         self.assertEqual(session.clock, 2)
+
+    def test_a_connection_that_says_nothing_is_closed(self):
+        with patch.object(Handler, "timeout", 0.2), self.bridge() as bridge:
+            with socket.create_connection(("127.0.0.1", bridge.server_port), timeout=SOON) as silent:
+                self.assertEqual(silent.recv(1), b"")
 
     def test_a_session_that_has_ended_begins_nothing(self):
         session = PageSession(self.page_run())
