@@ -307,10 +307,13 @@ class Protocol(Served):
                 self.assertRaisesRegex(BadMessage, "more than 65,536 parts", reader.typed)
 
     def test_files_that_clients_name_are_written_in_one_folder(self):
-        """States, logs and outputs; names with dots and links lead nowhere else. The conversation goes on."""
+        """States, logs, outputs, and what additional files ask for; names with dots and links lead nowhere else. The
+        conversation goes on."""
         inside = self.folder / "inside"
         inside.mkdir()
         (inside / "link").symlink_to(self.folder)
+        asks = '<additional><edgeData id="e" freq="60" file="edges.xml"/></additional>'
+        outer, inner = self.write("outer.add.xml", asks), self.write("inside/inner.add.xml", asks)
         traci.start(["sumo", *WORDS])
         paths = self.folder / "x", inside / "../x", inside / "link/x", inside, inside / "x"
         save = bytes((tc.CMD_SAVE_SIMSTATE,)) + text("")
@@ -318,18 +321,19 @@ class Protocol(Served):
         loads = [(tc.CMD_LOAD, strings([*WORDS, *words])) for words in (
             ["--log", f"{self.folder}/x"], ["--tripinfo-output", f"{inside}/../x"], ["--writes", str(self.folder)],
             ["--tripinfo-output", f"{inside}/y", "--output-prefix", "../z"],
-            ["--tripinfo-output", f"{inside}/trips.xml"],
+            ["--tripinfo-output", f"{inside}/trips.xml"], ["-a", f"{outer},{inner}"],
         )]  # fmt: skip
         with confined(str(inside)):
             [states] = answers(self.talk(message(*saves, *loads, (tc.CMD_CLOSE, b""))))
         error = tc.RTYPE_ERR
-        self.assertEqual([result for _, result, _ in states], [*4 * [error], 0, *4 * [error], 0, 0])
+        self.assertEqual([result for _, result, _ in states], [*4 * [error], 0, *4 * [error], 0, 0, 0])
         for _, _, why in (*states[:4], *states[5:7], states[8]):
             self.assertIn(f"are written in {inside} alone (--writes)", why)
         self.assertIn("--writes is no word of a client's", states[7][2])
         traci.close()
-        self.assertEqual({path.name for path in self.folder.iterdir()}, {"inside"})
-        self.assertEqual({path.name for path in inside.iterdir()}, {"link", "trips.xml", "x"})
+        self.assertEqual({path.name for path in self.folder.iterdir()}, {"inside", "outer.add.xml"})
+        written = {path.name for path in inside.iterdir()}
+        self.assertEqual(written, {"link", "inner.add.xml", "trips.xml", "edges.xml", "x"})
 
     def test_two_clients_step_in_their_order(self):
         """The second one asks at each clock what the first one has set; a step is made when both have asked for it, and
