@@ -16,7 +16,7 @@ from urllib.parse import urlsplit
 
 from pages import LiveCase
 from random_ends import WORKS, end_commands
-from support import PROGRAM, QUICK, TOOLS, Case, needs_package, needs_simulator
+from support import PROGRAM, QUICK, RED, TOOLS, Case, needs_package, needs_simulator
 from streetsim.base import limits
 from streetsim.live import ledger
 from streetsim.live.bridge import Handler, Refusal, read_request
@@ -183,13 +183,26 @@ class Pages(LiveCase):
         first = world.message()
         self.assertEqual([plan["phases"] for plan in first["plans"]], [[[600, []]]])
         world.go_on(30)
-        self.assertEqual(world.kernel.sent_lines[1:], [])
         later = world.message()
         self.assertEqual([plan["phases"] for plan in later["plans"]], [[[600, [[0, 0, 1]]]]])
+        self.assertEqual(world.kernel.sent_lines, [])
         self.assertEqual(world.message()["plans"], [])
         world.forget_sent()
         whole = world.message()
         self.assertEqual(([plan["phases"] for plan in whole["plans"]], whole["first"]), ([[[600, [[0, 0, 1]]]]], 0))
+
+    def test_controllers_see_what_was_sent_by_hand_in_the_second_before(self):
+        """A plan that is told to the page at once stays among the lines that were sent until the next second is made;
+        it is told once."""
+        world = World(self.page_run())
+        self.addCleanup(world.close)
+        world.go_on(5)
+        world.message()
+        self.assertEqual(world.hand.send_command({**RED, "phases": [[9, [[0, 0, 1]]]]}), "")
+        self.assertEqual([len(world.message()["plans"]) for _ in range(2)], [1, 0])
+        self.assertEqual([sent.line.command["phases"] for sent in world.kernel.sent_lines], [[[9, [[0, 0, 1]]]]])
+        world.go_on(6)
+        self.assertEqual((world.message()["plans"], world.kernel.sent_lines), ([], []))
 
     def test_a_long_run_has_a_short_chart_whose_points_are_those_of_its_seconds(self):
         with patch.object(ledger, "MOST_POINTS", 10):

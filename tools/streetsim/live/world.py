@@ -68,6 +68,7 @@ class World:
         self.plans: dict[int, Command] = {}
         self.shown: dict[int, Command] = {}
         self.untold_plans, self.untold_shown = set[int](), set[int]()
+        self.noted_count = 0  # of the lines that were sent and are not forgotten
         self.note_signals((line, True) for line in page_run.run.first)
         self.forget_sent()
         try:
@@ -90,10 +91,13 @@ class World:
             self.kernel.go_on(min(target, self.clock + limits.STEPS))
 
     def take_sent(self) -> None:
-        """Notes the plans among the lines that were sent, and forgets these: a long run takes no memory for them."""
-        plans = (sent for sent in self.kernel.sent_lines if not sent.for_a_gap)
+        """Notes the plans among the lines that were sent, and forgets those of earlier seconds, which all controllers
+        have seen: a long run takes no memory for them."""
+        sent_lines = self.kernel.sent_lines
+        plans = [sent for sent in sent_lines[self.noted_count :] if not sent.for_a_gap]
         self.note_signals((sent.line, sent.passed_on) for sent in plans)
-        self.kernel.sent_lines.clear()
+        sent_lines[:] = [sent for sent in sent_lines if sent.clock >= self.clock]
+        self.noted_count = len(sent_lines)
 
     def note_signals(self, sent: Iterable[tuple[Line, bool]]) -> None:
         """Notes the plans among lines that were sent, each with whether it is of the run or the page."""
