@@ -6,7 +6,6 @@ from typing import Any
 
 from streetsim.base.files import TextFile
 from streetsim.model.detectors import E1, E2, Detector, longest_jam
-from streetsim.model.mapping import Place
 from streetsim.observe.sumo_formats import XmlFile, attributes, vehicle_metres
 from streetsim.observe.sumo_kinds import OutputFile
 from streetsim.observe.sumo_places import LanePlaces
@@ -151,11 +150,8 @@ class DetectorOutput(XmlFile):
             if second.clock > self.begins[detector.name] + detector.period:
                 self.write_interval(detector)
         self.clock = second.clock
-        by_place: dict[Place, list[tuple[int, Spot]]] = {}
-        for car, spot in second.positions.items():
-            by_place.setdefault((spot.link, spot.lane), []).append((car, spot))
         for detector in self.detectors:
-            vehicles = by_place.get((detector.link, detector.lane), ())
+            vehicles = [one for one in second.on_link(detector.link) if one[1].lane == detector.lane]
             self.note_second(detector, self.sums[detector.name], second, vehicles)
 
     def write_interval(self, detector: Detector) -> None:
@@ -200,9 +196,8 @@ class InductionLoopOutput(DetectorOutput):
         first = detector.first
         spots = [spot for _, spot in vehicles]
         sums.occupied += any(spot.cell is not None and spot.cell - spot.size < first <= spot.cell for spot in spots)
-        for car, previous in second.earlier_positions.items():
-            on_edge = previous.link == detector.link and car not in second.teleported
-            if on_edge and previous.cell is not None and previous.cell <= detector.first:
+        for car, previous in second.on_link(detector.link, is_earlier=True):
+            if car not in second.teleported and previous.cell is not None and previous.cell <= detector.first:
                 self.note_pass(detector, sums, previous, second.positions.get(car, replace(previous, cell=None)))
 
     def note_pass(self, detector: Detector, sums: LoopSums, previous: Spot, current: Spot) -> None:

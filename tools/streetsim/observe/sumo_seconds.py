@@ -1,6 +1,6 @@
 """Follows vehicles from second to second for SUMO's output files: who departed, entered an edge, left it, was
 teleported, arrived."""
-from collections.abc import Iterable, Sequence
+from collections.abc import Iterable, Mapping, Sequence
 from dataclasses import dataclass, field
 from typing import Any
 
@@ -49,6 +49,17 @@ class TripUnderWay:
     kind: str = DEFAULT
 
 
+CarsByLink = dict[int, list[tuple[int, Spot]]]
+
+
+def by_link(positions: Mapping[int, Spot]) -> CarsByLink:
+    """Where cars are, by link."""
+    found: CarsByLink = {}
+    for car, spot in positions.items():
+        found.setdefault(spot.link, []).append((car, spot))
+    return found
+
+
 @dataclass(slots=True)
 class Second:
     """What the lanes show at a clock, and what has changed since the second before."""
@@ -63,6 +74,14 @@ class Second:
     teleported: dict[int, Spot] = field(default_factory=dict)  # by car, out of which cells it was taken
     arrived: list[tuple[int, TripUnderWay]] = field(default_factory=list)
     earlier_positions: dict[int, Spot] = field(default_factory=dict)  # by car, of the second before
+    grouped: list[CarsByLink] = field(default_factory=list)  # these and positions, once anybody asks for them
+
+    def on_link(self, link: int, is_earlier: bool = False) -> Sequence[tuple[int, Spot]]:
+        """(car, where it is) of those on a link and in the junction behind it; is_earlier: where they were a second
+        before."""
+        if not self.grouped:
+            self.grouped = [by_link(self.positions), by_link(self.earlier_positions)]
+        return self.grouped[is_earlier].get(link, ())
 
     @property
     def time(self) -> int:
