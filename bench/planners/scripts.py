@@ -235,7 +235,7 @@ def figures(script: Path, ours: str, options: argparse.Namespace, script_words: 
 
 
 def main_sumo_scripts(argv: list[str]) -> int | None:
-    """Eight scripts for SUMO's own traci, unmodified, over sumo and over streetsim-sumo.
+    """Twelve scripts for SUMO's own traci, unmodified, over sumo and over streetsim-sumo.
 
     Takes half an hour; needs sumo, sumo-tools.
 

@@ -54,9 +54,9 @@ class Edgedata(XmlFile):
         if second.clock > self.begin + self.period:
             self.write_interval()
         self.clock = second.clock
-        for spot in second.positions.values():
-            if spot.cell is not None:
-                self.add_vehicle(spot)
+        for link, cars in second.by_link().items():
+            if on_cells := [spot for _, spot in cars if spot.cell is not None]:
+                self.add_vehicles(link, on_cells)
         for car in second.departed:
             self.sums_of(second.positions[car].link).departed += 1
         for _, link in second.entered:
@@ -68,14 +68,14 @@ class Edgedata(XmlFile):
         for _, trip in second.arrived:
             self.sums_of(trip.last_position.link).arrived += 1
 
-    def add_vehicle(self, spot: Spot) -> None:
-        """Adds one vehicle in the cells of an edge for one second."""
-        sums, link = self.sums_of(spot.link), self.links[spot.link]
-        sums.seconds += 1
-        sums.metres += self.lane_places.metres_per_second(spot)
-        sums.waiting += not spot.speed
-        sums.loss += max(0.0, 1 - spot.speed / link.limit)
-        sums.covered += vehicle_metres(spot)
+    def add_vehicles(self, link: int, spots: Sequence[Spot]) -> None:
+        """Adds the vehicles in the cells of a link for one second."""
+        sums, limit, speeds = self.sums_of(link), self.links[link].limit, [spot.speed for spot in spots]
+        sums.seconds += len(spots)
+        sums.metres += sum(speeds) * self.lane_places.cell_metres[link]
+        sums.waiting += speeds.count(0)
+        sums.loss += len(spots) - sum(min(speed, limit) for speed in speeds) / limit
+        sums.covered += sum(map(vehicle_metres, spots))
 
     def write_interval(self) -> None:
         """Writes the interval that has ended, all edges of the map or those where anybody was, and begins the next."""
@@ -151,7 +151,7 @@ class DetectorOutput(XmlFile):
                 self.write_interval(detector)
         self.clock = second.clock
         for detector in self.detectors:
-            vehicles = [one for one in second.on_link(detector.link) if one[1].lane == detector.lane]
+            vehicles = [one for one in second.by_link().get(detector.link, ()) if one[1].lane == detector.lane]
             self.note_second(detector, self.sums[detector.name], second, vehicles)
 
     def write_interval(self, detector: Detector) -> None:
@@ -196,7 +196,7 @@ class InductionLoopOutput(DetectorOutput):
         first = detector.first
         spots = [spot for _, spot in vehicles]
         sums.occupied += any(spot.cell is not None and spot.cell - spot.size < first <= spot.cell for spot in spots)
-        for car, previous in second.on_link(detector.link, is_earlier=True):
+        for car, previous in second.by_link(is_earlier=True).get(detector.link, ()):
             if car not in second.teleported and previous.cell is not None and previous.cell <= detector.first:
                 self.note_pass(detector, sums, previous, second.positions.get(car, replace(previous, cell=None)))
 

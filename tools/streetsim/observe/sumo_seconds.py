@@ -52,7 +52,7 @@ class TripUnderWay:
 CarsByLink = dict[int, list[tuple[int, Spot]]]
 
 
-def by_link(positions: Mapping[int, Spot]) -> CarsByLink:
+def cars_by_link(positions: Mapping[int, Spot]) -> CarsByLink:
     """Where cars are, by link."""
     found: CarsByLink = {}
     for car, spot in positions.items():
@@ -74,14 +74,14 @@ class Second:
     teleported: dict[int, Spot] = field(default_factory=dict)  # by car, out of which cells it was taken
     arrived: list[tuple[int, TripUnderWay]] = field(default_factory=list)
     earlier_positions: dict[int, Spot] = field(default_factory=dict)  # by car, of the second before
-    grouped: list[CarsByLink] = field(default_factory=list)  # these and positions, once anybody asks for them
+    grouped: dict[bool, CarsByLink] = field(default_factory=dict)  # positions, and earlier ones, that were asked for
 
-    def on_link(self, link: int, is_earlier: bool = False) -> Sequence[tuple[int, Spot]]:
-        """(car, where it is) of those on a link and in the junction behind it; is_earlier: where they were a second
+    def by_link(self, is_earlier: bool = False) -> CarsByLink:
+        """(car, where it is) of those on each link and in the junction behind it; is_earlier: where they were a second
         before."""
-        if not self.grouped:
-            self.grouped = [by_link(self.positions), by_link(self.earlier_positions)]
-        return self.grouped[is_earlier].get(link, ())
+        if is_earlier not in self.grouped:
+            self.grouped[is_earlier] = cars_by_link(self.earlier_positions if is_earlier else self.positions)
+        return self.grouped[is_earlier]
 
     @property
     def time(self) -> int:

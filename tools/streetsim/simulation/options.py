@@ -88,7 +88,7 @@ def is_time(value: str) -> bool:
 
 # By option: which values are taken, and what is said of others.
 VALUE_CHECKS: dict[str, tuple[Callable[[str], bool], str]] = {
-    "step-length": (is_one, "steps are of one second"),
+    "step-length": (is_one, "steps are of one second: leave it out"),
     "end": (is_time, "is no time"),
     "rounds": (lambda value: value.isdecimal() and int(value) <= MOST_ROUNDS, f"is not 0 to {MOST_ROUNDS}"),
     "merge": (("turns", "none").__contains__, "is not turns or none"),
