@@ -32,7 +32,7 @@ def mean_of(name: str, tag: str, attribute: str) -> Figure:
     return figure
 
 
-def told(pattern: str) -> Figure:
+def said(pattern: str) -> Figure:
     """A number that a tool says."""
     return lambda _, text: float(re.search(pattern, text)[1])
 
@@ -57,7 +57,7 @@ class Tool:
     """A tool of SUMO with its words, and a figure of what it gives, by which both sides are compared; not so where that
     is a picture."""
 
-    words: str
+    command: str
     unit: str
     figure: Figure
     status: int = 0  # with which it ends where all is well
@@ -71,7 +71,7 @@ TOOLS = (
          mean_of("tripinfo_60.xml", "tripinfo", "duration")),
     Tool("runSeeds.py -k run.sumocfg -a {sumo} --seeds 1:3", "mean trip of seed 2, s",
          mean_of("2.tripinfo.xml", "tripinfo", "duration"), 1),
-    Tool("averageTripStatistics.py -n 2 run.sumocfg", "mean loss, s", told(r"TimeLoss.* mean ([\d.]+)")),
+    Tool("averageTripStatistics.py -n 2 run.sumocfg", "mean loss, s", said(r"TimeLoss.* mean ([\d.]+)")),
     Tool("tlsCoordinator.py -n net.xml -r vehroute.xml -o a.xml", "offsets", rows("a.xml", "tlLogic")),
     Tool("tlsCycleAdaptation.py -n net.xml -r vehroute.xml -o a.xml", "lights", rows("a.xml", "tlLogic")),
     Tool("routeSampler.py -r vehroute.xml --edgedata-files counts.xml -o a.xml",
@@ -80,16 +80,16 @@ TOOLS = (
     Tool("output/tripinfoDiff.py tripinfo.xml tripinfo.xml a.xml", "vehicles", rows("a.xml", "vehicle")),
     Tool("output/edgeDataDiff.py edgedata.xml edgedata.xml a.xml", "edges", rows("a.xml", "edge")),
     Tool("output/tripStatistics.py -t tripinfo.xml -o a.txt", "lines", rows("a.txt")),
-    Tool("output/attributeStats.py tripinfo.xml -e tripinfo -a routeLength", "mean way, m", told(r"mean ([\d.]+)")),
-    Tool("output/attributeStats.py tripinfo.xml -e tripinfo -a duration", "mean trip, s", told(r"mean ([\d.]+)")),
+    Tool("output/attributeStats.py tripinfo.xml -e tripinfo -a routeLength", "mean way, m", said(r"mean ([\d.]+)")),
+    Tool("output/attributeStats.py tripinfo.xml -e tripinfo -a duration", "mean trip, s", said(r"mean ([\d.]+)")),
     Tool("output/attributeStats.py statistic.xml -e vehicleTripStatistics -a speed", "speed of trips, m/s",
-         told(r"mean ([\d.]+)")),
-    Tool("output/attributeStats.py e1.xml -e interval -a nVehContrib", "vehicles at a loop", told(r"mean ([\d.]+)")),
+         said(r"mean ([\d.]+)")),
+    Tool("output/attributeStats.py e1.xml -e interval -a nVehContrib", "vehicles at a loop", said(r"mean ([\d.]+)")),
     Tool("output/attributeStats.py e2.xml -e interval -a meanVehicleNumber", "vehicles in an area",
-         told(r"mean ([\d.]+)")),
-    Tool("output/attributeStats.py edgedata.xml -e edge -a speed", "speed on edges, m/s", told(r"mean ([\d.]+)")),
+         said(r"mean ([\d.]+)")),
+    Tool("output/attributeStats.py edgedata.xml -e edge -a speed", "speed on edges, m/s", said(r"mean ([\d.]+)")),
     Tool("output/computeCoordination.py -f fcd.xml --filter-route J1J2,J2J3", "vehicles of a way",
-         told(r"n=(\d+)")),
+         said(r"n=(\d+)")),
     Tool("xml/xml2csv.py tripinfo.xml -o a.csv", "lines", rows("a.csv")),
     Tool("xml/xml2csv.py summary.xml -o a.csv", "lines", rows("a.csv")),
     Tool("countEdgeUsage.py vehroute.xml -o a.xml", "edges", rows("a.xml", "edge")),
@@ -116,44 +116,47 @@ def prepare(folder: Path, program: str, binary: str, seconds: int) -> None:
     (folder / "net.xml").write_bytes(gzip.decompress((CORRIDOR / "corridor.net.xml.gz").read_bytes()))
     (folder / "routes.xml").write_text((CORRIDOR / "corridor.rou.xml").read_text())
     (folder / "outputs.add.xml").write_text(ADDITIONAL)
-    words = ["-n", "net.xml", "-o", "trips.xml", "-e", 900, "-p", 2, "--fringe-factor", 100, "--seed", 1, "--validate"]
-    shared.run([PYTHON, shared.RANDOM_TRIPS, *words], folder)
+    trip_words = "-n net.xml -o trips.xml -e 900 -p 2 --fringe-factor 100 --seed 1 --validate"
+    shared.run([PYTHON, shared.RANDOM_TRIPS, *trip_words.split()], folder)
     config = (
         '<configuration><net-file value="net.xml"/><route-files value="routes.xml"/>'
         f'<end value="{seconds}"/><tripinfo-output value="tripinfo.xml"/></configuration>'
     )
     (folder / "run.sumocfg").write_text(config)
-    words = [binary, "-c", "run.sumocfg", "-a", "outputs.add.xml", "--vehroute-output.exit-times", "--no-step-log"]
-    words += [word for kind in OUTPUTS for word in (f"--{kind}-output", f"{kind}.xml")]
-    subprocess.run(words, cwd=folder, env=environment(program, binary), check=True, capture_output=True)
+    run_words = [binary, "-c", "run.sumocfg", "-a", "outputs.add.xml", "--vehroute-output.exit-times", "--no-step-log"]
+    run_words += [word for kind in OUTPUTS for word in (f"--{kind}-output", f"{kind}.xml")]
+    subprocess.run(run_words, cwd=folder, env=environment(program, binary), check=True, capture_output=True)
     dumped = (folder / "edgedata.xml").read_text()  # a count is of all who were on an edge
-    counted = re.sub(r'departed="(\d+)"(.*?)entered="(\d+)"', lambda one: f'entered="{int(one[1]) + int(one[3])}"', dumped)
+    counts = re.compile(r'departed="(\d+)".*?entered="(\d+)"')
+    counted = counts.sub(lambda one: f'entered="{int(one[1]) + int(one[2])}"', dumped)
     (folder / "counts.xml").write_text(counted)
 
 
 def run(tool: Tool, folder: Path, program: str, binary: str) -> tuple[float | None, str]:
     """(the figure of a tool over a simulator, None where it fails; the last line of what it said)."""
-    script, *words = tool.words.format(sumo=binary).split()
+    script, *words = tool.command.format(sumo=binary).split()
     for path in folder.glob("a.*"):  # of the tool before
         path.unlink()
-    done = subprocess.run(
+    process = subprocess.run(
         [PYTHON, f"{SUMO_HOME}/tools/{script}", *words], cwd=folder, env=environment(program, binary),
         capture_output=True, text=True, check=False, timeout=600,
     )  # fmt: skip
-    said = [line for line in (done.stdout + done.stderr).splitlines() if line.strip()] or ["says nothing"]
+    lines = [line for line in (process.stdout + process.stderr).splitlines() if line.strip()] or ["says nothing"]
     try:
-        return (None, said[-1]) if done.returncode != tool.status else (tool.figure(folder, done.stdout + done.stderr), "")
+        if process.returncode == tool.status:
+            return tool.figure(folder, process.stdout + process.stderr), ""
     except (OSError, TypeError, ValueError, ElementTree.ParseError):
-        return None, said[-1]
+        pass
+    return None, lines[-1]
 
 
-def verdict(tool: Tool, there: float | None, here: float | None, why: str) -> str:
+def verdict(tool: Tool, theirs: float | None, ours: float | None, why: str) -> str:
     """How a tool does over streetsim-sumo beside SUMO."""
-    if there is None:
-        return "fails over both" if here is None else "works here alone"
-    if here is None:
+    if theirs is None:
+        return "fails over both" if ours is None else "works here alone"
+    if ours is None:
         return f"not here: {why}"
-    off = here / there - 1 if there else 0.0
+    off = ours / theirs - 1 if theirs else 0.0
     return "works" if tool.unit == PICTURE else "as in SUMO" if abs(off) < 0.005 else f"{100 * off:+.1f} %"
 
 
@@ -173,21 +176,21 @@ def main_sumo_tools(argv: list[str]) -> int | None:
     for binary, folder in folders.items():
         if not folder.exists():
             prepare(folder, options.program, binary, options.seconds)
-    failed, results = 0, dict[str, list[str]]()
+    failed, tools_by_result = 0, dict[str, list[str]]()
     shared.print_heads("Tool | what is compared | over SUMO | over `streetsim-sumo` | result")
     for tool in TOOLS:
-        if options.tools and not any(part in tool.words for part in options.tools):
+        if options.tools and not any(part in tool.command for part in options.tools):
             continue
         (there, _), (here, why) = (run(tool, folder, options.program, binary) for binary, folder in folders.items())
         numbers = " | ".join("-" if one is None else f"{one:.4g}" for one in (there, here))
         failed += there is not None and here is None
-        name, result = Path(tool.words.split()[0]).stem, verdict(tool, there, here, why)
+        name, result = Path(tool.command.split()[0]).stem, verdict(tool, there, here, why)
         print(f"| {name} | {tool.unit} | {numbers} | {result} |", flush=True)
         title = "other" if result.endswith("%") else result
-        results.setdefault(title, []).append(f"{name} ({tool.unit}: {result})" if title == "other" else name)
+        tools_by_result.setdefault(title, []).append(f"{name} ({tool.unit}: {result})" if title == "other" else name)
     print()
     shared.print_heads("Over `streetsim-sumo` | SUMO's tools")  # as the page has it
-    for title, names in sorted(results.items()):
+    for title, names in sorted(tools_by_result.items()):
         print(f"| {title} | {', '.join(dict.fromkeys(names))} |")
     if failed:
         print(f"{failed} tools work over SUMO alone", file=sys.stderr)

@@ -1,5 +1,5 @@
-"""Every five minutes the busiest street is slow for as long; every fourth driver looks for another way once a minute, by
-the travel times of now."""
+"""Every five minutes the busiest street is slow for as long; every third driver looks for another way once a minute,
+by the travel times of now."""
 import sys
 
 import traci

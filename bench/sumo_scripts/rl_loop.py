@@ -1,18 +1,20 @@
-"""The loop of a library for learning signal control, with its words: a seed that is drawn, labels, a first run that only
-reads lights, programs that are set anew, densities, queues and waiting times of each lane; greens go in turn."""
+"""The loop of a library for learning signal control, with its words: a seed that is drawn, labels, a first run that
+only reads lights, programs that are set anew, densities, queues and waiting times of each lane; greens go in turn."""
 import sys
 
 import traci
 
-WORDS = ["--max-depart-delay", "100000", "--waiting-time-memory", "10000", "--time-to-teleport", "-1", "--random",
-         "--no-warnings", "--no-step-log"]
+LIBRARY_WORDS = [
+    "--max-depart-delay", "100000", "--waiting-time-memory", "10000", "--time-to-teleport", "-1", "--random",
+    "--no-warnings", "--no-step-log",
+]
 DELTA, YELLOW = 5, 2
 
 traci.start([sys.argv[1], *sys.argv[3:], "--no-warnings", "--no-step-log"], label="init_connection0")
 conn = traci.getConnection("init_connection0")
 names = list(conn.trafficlight.getIDList())
 conn.close()
-traci.start([sys.argv[1], *sys.argv[3:], *WORDS], label="0")
+traci.start([sys.argv[1], *sys.argv[3:], *LIBRARY_WORDS], label="0")
 sumo = traci.getConnection("0")
 
 
@@ -41,9 +43,9 @@ class Signal:
 signals, arrived, step = [Signal(name) for name in names], 0, 0
 while sumo.simulation.getTime() < float(sys.argv[2]):
     for signal in signals if step % 6 == 5 else ():
-        old, signal.green = signal.greens[signal.green].state, (signal.green + 1) % len(signal.greens)
-        new = signal.greens[signal.green].state
-        yellow = "".join("y" if one in "gG" and other not in "gG" else one for one, other in zip(old, new))
+        old_state, signal.green = signal.greens[signal.green].state, (signal.green + 1) % len(signal.greens)
+        new_state = signal.greens[signal.green].state
+        yellow = "".join("y" if one in "gG" and other not in "gG" else one for one, other in zip(old_state, new_state))
         sumo.trafficlight.setRedYellowGreenState(signal.name, yellow)
     for second in range(DELTA):
         if second == YELLOW:

@@ -1,5 +1,5 @@
-"""A calibrator: from a state that is saved every ten minutes it tries three lengths of greens for five minutes each, loads
-the state again, and goes on with the best."""
+"""A calibrator: from a state that is saved every ten minutes it tries three lengths of greens for five minutes each,
+loads the state again, and goes on with the best."""
 import os
 import sys
 import tempfile
@@ -21,25 +21,25 @@ def set_greens(seconds):
 
 
 def steps(until):
-    """How many vehicles arrive in the steps until a clock."""
-    arrived = 0
+    """The names of the vehicles that arrive in the steps until a clock."""
+    names = set()
     while traci.simulation.getTime() < until:
         traci.simulationStep()
-        arrived += traci.simulation.getArrivedNumber()
-    return arrived
+        names.update(traci.simulation.getArrivedIDList())
+    return names
 
 
-arrived = 0
+arrived = set()
 with tempfile.TemporaryDirectory() as folder:
     path = os.path.join(folder, "state.xml")
     while (clock := traci.simulation.getTime()) < UNTIL:
         traci.simulation.saveState(path)
-        found = {}
+        arrived_by_green = {}
         for seconds in (20, 30, 40):
             set_greens(seconds)
-            found[seconds] = steps(min(UNTIL, clock + 300))
+            arrived_by_green[seconds] = len(steps(min(UNTIL, clock + 300)))
             traci.simulation.loadState(path)
-        set_greens(max(found, key=found.get))
-        arrived += steps(min(UNTIL, clock + 600))
+        set_greens(max(arrived_by_green, key=arrived_by_green.get))
+        arrived |= steps(min(UNTIL, clock + 600))
 traci.close()
-print(arrived)
+print(len(arrived))

@@ -14,7 +14,9 @@ from typing import Any
 
 from streetsim.base import limits
 from streetsim.base.arrays import Array, numpy as np
-from streetsim.simulation.conventions import NEXT_STEP, Discrete, Env, MultiDiscrete, ParallelEnv, VectorEnv, shares_space
+from streetsim.simulation.conventions import (
+    NEXT_STEP, Discrete, Env, MultiDiscrete, ParallelEnv, VectorEnv, shares_space,
+)  # fmt: skip
 from streetsim.simulation.lights import LightShow
 from streetsim.simulation.opening import is_on, open_session
 from streetsim.simulation.options import read_options
@@ -200,11 +202,15 @@ class SignalEnv:
         of the run}."""
         clock, view = self.running_session().clock, self.running_session().view
         standing = len(view.speed) - int(np.count_nonzero(view.speed))
-        return {"time": clock, "vehicles": len(view.numbers), "standing": standing, "arrived": self.end_count, "seed": self.seed}
+        return {
+            "time": clock, "vehicles": len(view.numbers), "standing": standing, "arrived": self.end_count,
+            "seed": self.seed,
+        }  # fmt: skip
 
     def text(self) -> str:
         """A line with the figures of the run, and one for each light: what it shows, and who stands before it."""
-        session, lines = self.running_session(), [", ".join(f"{name} {value}" for name, value in self.figures().items())]
+        session = self.running_session()
+        lines = [", ".join(f"{name} {value}" for name, value in self.figures().items())]
         for name, agent in self.agents.items():
             standing = sum(len(self.standing_on(lane)) for lane in agent.lanes)
             lines.append(f"{name}: {session.control.state(name)}, {standing} stand before it")

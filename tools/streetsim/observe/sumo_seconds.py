@@ -159,8 +159,8 @@ class Follower:
         trip.last_position = spot
 
     def add_link(self, trip: TripUnderWay, link: int) -> None:
-        """Adds to a trip the metres and free seconds of a link that it comes to, and of the junction before. SUMO counts as lost what a vehicle
-        loses by gaining speed, so it comes at the link's own limit."""
+        """Adds to a trip the metres and free seconds of a link that it comes to, and of the junction before. SUMO
+        counts as lost what a vehicle loses by gaining speed, so it comes at the link's own limit."""
         trip.free += trip.crossing + self.alone.on_link(link, link)
         trip.crossing = self.alone.across(link)
         trip.links.append(link)

@@ -35,9 +35,9 @@ def figures_of(trip: TripUnderWay, clock: int, stops: Sequence[Dwell]) -> TripFi
 
 
 class Tripinfo(XmlFile):
-    """tripinfo: a row for each vehicle that arrived, and where it is asked for of the others. It departs in the second in which it is first seen; `departDelay`
-    is since the wished departure, so that it and `duration` add up to the duration of trips.csv. Seconds at stops are
-    in `stopTime`, and neither in `waitingTime` nor in `timeLoss`."""
+    """tripinfo: a row for each vehicle that arrived, and where it is asked for of the others. It departs in the second
+    in which it is first seen; `departDelay` is since the wished departure, so that it and `duration` add up to the
+    duration of trips.csv. Seconds at stops are in `stopTime`, and neither in `waitingTime` nor in `timeLoss`."""
 
     root, schema = "tripinfos", "tripinfo_file"
 

@@ -1,5 +1,5 @@
-"""What Gymnasium and PettingZoo have environments be: their own classes where they are installed, else small ones of the
-same names that do the same."""
+"""What Gymnasium and PettingZoo have environments be: their own classes where they are installed, else small ones of
+the same names that do the same."""
 from __future__ import annotations
 
 from collections.abc import Mapping, Sequence

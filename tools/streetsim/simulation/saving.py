@@ -39,9 +39,9 @@ def digests_of(session: TraciSession) -> dict[str, str]:
 
 
 def load_state(session: TraciSession, path: str) -> None:
-    """Brings a session to a state that was saved of the same files and words; output files are written anew, as of a run
-    that came to the state. TraCIException where the file has no such state. Fault where it was changed after it was saved, or the program is gone; the
-    run can only be closed then."""
+    """Brings a session to a state that was saved of the same files and words; output files are written anew, as of a
+    run that came to the state. TraCIException where the file has no such state. Fault where it was changed after it was
+    saved, or the program is gone; the run can only be closed then."""
     try:
         with open_text(path) as file:
             text = file.read()

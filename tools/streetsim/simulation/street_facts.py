@@ -149,7 +149,8 @@ class Facts:
         """Notes a file that an element asks for; its path is from the folder of the additional file, as in SUMO. Of
         detectors one file has those that name it."""
         file, kind = os.path.join(os.path.dirname(path), file_of(element)), WRITTEN.get(element.tag, "")
-        measured, at_path = element.get("type", "performance"), [output for output in self.outputs if output.path == file]
+        measured = element.get("type", "performance")
+        at_path = [output for output in self.outputs if output.path == file]
         if kind == "edgedata" and measured not in ("", "performance", "traffic"):
             self.leave_out(element, file, f"edgeData of type {measured} is not reckoned here")
         elif not kind:
@@ -196,7 +197,8 @@ def edge_output(path: str, element: Element, file: str) -> OutputFile:
     """The file of an element edgeData."""
     period, span = "period" if element.get("period") is not None else "freq", at_least_zero(seconds)
     return OutputFile(
-        "edgedata", file, is_needed=False, name=attribute(path, element, "id"), period=optional(path, element, period, span, 0.0),
+        "edgedata", file, is_needed=False, name=attribute(path, element, "id"),
+        period=optional(path, element, period, span, 0.0),
         begin=optional(path, element, "begin", span, 0.0), end=optional(path, element, "end", span, inf),
         has_empty=element.get("excludeEmpty", "false").lower() not in (*TRUE, "defaults"),
     )  # fmt: skip

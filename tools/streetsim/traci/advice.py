@@ -2,7 +2,8 @@
 import re
 
 GREENS = (
-    "trafficlight.getNextSwitch and vehicle.getNextTLS tell when a light changes, and streetsim-signals coordinates lights"
+    "trafficlight.getNextSwitch and vehicle.getNextTLS tell when a light changes, and streetsim-signals coordinates "
+    "lights"
 )
 PLATOONS = "all keep the gaps of the rules; --dawdle and --drivers (of streetsim-calibrate) say how closely all follow"
 ALONE = (

@@ -42,7 +42,7 @@ OPTION_HELP = (
     ("--summary-output FILE", "a row for each second"),
     ("--queue-output FILE", "the queues of each second"),
     ("--fcd-output FILE", "each vehicle in each second"),
-    ("--vehroute-output FILE", "the edges of each vehicle that arrived; with --vehroute-output.exit-times when it left them"),
+    ("--vehroute-output FILE", "the way of each vehicle; with --vehroute-output.exit-times when it left edges"),
     ("--statistic-output FILE", "the counts and means of the whole run"),
     ("--edgedata-output FILE", "the sums of each edge over the whole run"),
     ("--stop-output FILE", "a row for each stop that a vehicle has left"),

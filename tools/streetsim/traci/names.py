@@ -67,8 +67,7 @@ def names_in(text: str, how: str) -> dict[int, str]:
     pairs = (pair.split(":") for pair in text.split())
     found = [(getattr(tc, constant), f"{how}{name}" if name[0].isupper() else name) for constant, name in pairs]
     gets = re.compile("get|swap|split|sample|convert|find")
-    whole = [(variable, name) for variable, name in found if name.startswith(how) or bool(gets.match(name)) == (how == "get")]
-    return dict(whole)
+    return {variable: name for variable, name in found if bool(gets.match(name)) == (how == "get")}
 
 
 def sumo_name(domain: str, variable: int, how: str) -> str:

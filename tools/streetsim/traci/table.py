@@ -129,7 +129,8 @@ GETS: Mapping[str, Table] = {
     **dict.fromkeys(ABSENT, LISTED),
     "person": {**LISTED, tc.VAR_TAXI_RESERVATIONS: Get("getTaxiReservations", "no parts", "i")},
     "simulation": {
-        tc.ID_COUNT: Get("getIDCount", "i"), tc.VAR_TIME: Get("getTime", "d"), tc.VAR_TIME_STEP: Get("getCurrentTime", "i"),
+        tc.ID_COUNT: Get("getIDCount", "i"), tc.VAR_TIME: Get("getTime", "d"),
+        tc.VAR_TIME_STEP: Get("getCurrentTime", "i"),
         tc.VAR_DELTA_T: Get("getDeltaT", "d"), tc.VAR_END: Get("getEndTime", "d"), tc.VAR_SCALE: Get("getScale", "d"),
         tc.VAR_NET_BOUNDING_BOX: Get("getNetBoundary", "p"), tc.VAR_COLLISIONS: Get("getCollisions", "none"),
         tc.VAR_MIN_EXPECTED_VEHICLES: Get("getMinExpectedNumber", "i"),
