@@ -13,10 +13,10 @@ from streetsim.report.page_words import how_sure, interval_name
 from streetsim.report.run_tables import ResultRow, Runs
 
 KEY = (
-    "Pictures: lanes with the movements that they lead to; bands as wide as flows, of the colour of their letter; "
-    "blue, and queue: the 95 % queue as a share of the room. L, T, R, U: left, straight on, right, back. Queues: what "
-    "half of the cycles and what 95 % of them do not exceed, and the greatest, of the room. Bars: the length of an "
-    "edge, and in it the same queues, dark, light and a line."
+    "Pictures (on paper of the first): lanes with the movements that they lead to; bands as wide as flows, of the "
+    "colour of their letter; blue, and queue: the 95 % queue as a share of the room. L, T, R, U: left, straight on, "
+    "right, back. Queues: what half of the cycles and what 95 % of them do not exceed, and the greatest, of the room. "
+    "Bars: the length of an edge, and in it the same queues, dark, light and a line."
 )
 MOST_MOVEMENTS = 25  # of changes on the page
 
@@ -116,8 +116,9 @@ def detail(runs: Runs, name: str, interval: tuple[int, int]) -> str:
         f'<section class="whole"><h3 id="{anchor(name)}">{escape(title_of(name, called))}: {junction.delay:.1f} s '
         f'{letter_mark(junction.letter())}, {values["vehicles_per_hour"]:,.0f} vehicles an hour, '
         f'{escape(junction.control)}</h3>{by_time(runs, name)}'
-        f'{doubted_places(runs, name)}<div class="picture">{junction_picture(runs, name, interval)}</div>'
-        f'{table(head, rows, names=3)}<div class="picture">{queue_picture(queues)}</div></section>'
+        f'{doubted_places(runs, name)}'
+        f'{table(head, rows, names=3)}<div class="picture pair">{junction_picture(runs, name, interval)}'
+        f'{queue_picture(queues)}</div></section>'
     )
 
 
