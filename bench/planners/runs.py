@@ -92,13 +92,13 @@ def measured(name, command, folder):
     return took, most
 
 
-def measured_family(command, folder, told=None):
-    """Runs a command in a folder; gives seconds of processors and most memory, MB, of it and all that it starts. told:
-    the file for what it says."""
+def measured_family(command, folder, log_path=None):
+    """Runs a command in a folder; gives seconds of processors and most memory, MB, of it and all that it starts.
+    log_path: the file for what it says."""
     seconds_before, greatest_memory = shared.children_seconds(), 0
     environment = {**shared.with_sumo(), "PYTHONDONTWRITEBYTECODE": ""}
     with contextlib.ExitStack() as files:
-        said = {"stdout": files.enter_context(open(told, "wb")), "stderr": subprocess.STDOUT} if told else {}
+        said = {"stdout": files.enter_context(open(log_path, "wb")), "stderr": subprocess.STDOUT} if log_path else {}
         process = files.enter_context(subprocess.Popen([*map(str, command)], cwd=folder, env=environment, **said))
         while process.poll() is None:
             greatest_memory = max(greatest_memory, sum(map(resident, family(process.pid))))

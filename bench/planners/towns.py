@@ -75,7 +75,8 @@ def main_towns(argv: list[str]) -> int | None:
     """
     parser = shared.parser_of(main_towns, work=True)
     shared.add_some(parser, "--only", TOWNS)
-    parser.add_argument("--beside", type=shared.whole_path, help="another repository, as a worktree of an earlier commit")
+    beside = "another repository, as a worktree of an earlier commit"
+    parser.add_argument("--beside", type=shared.whole_path, help=beside)
     parser.add_argument("--times", type=int, default=2)
     parser.add_argument("--sumo", action="store_true", help="run it in SUMO too")
     args = parser.parse_args(argv)
@@ -97,10 +98,10 @@ def main_towns(argv: list[str]) -> int | None:
 
 def report(name: str, step: str, times: int, turns: Mapping[str, Callable[[], tuple[float, float]]]) -> None:
     """Makes the turns of a step so often, and prints a row for each kind: the least seconds, the most memory."""
-    found = {by: [] for by in turns}
+    found = {tools: [] for tools in turns}
     for _ in range(times):
-        for by, make_turn in turns.items():
-            found[by].append(make_turn())
-    for by, each in found.items():
+        for tools, make_turn in turns.items():
+            found[tools].append(make_turn())
+    for tools, each in found.items():
         seconds, memory = zip(*each, strict=True)
-        print(f"| {name} | {step} | {by} | {min(seconds):.1f} | {max(memory):.0f} |", flush=True)
+        print(f"| {name} | {step} | {tools} | {min(seconds):.1f} | {max(memory):.0f} |", flush=True)

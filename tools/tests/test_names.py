@@ -146,7 +146,7 @@ class Written(Crossing):
         with gzip.open(self.out / "lanes.jsonl.gz", "wt") as file:
             file.write(json.dumps({"clock": 10, "lanes": lanes}))
         self.assertEqual({lane for lane, _ in longest_queues(folder, 9)[0]}, {"Hill Street n_0", "w_0"})
-        shown = [link["name"] for link in played(folder, 0, 100).data["links"]]
+        shown = [link["name"] for link in played(folder, 0, 100).run["links"]]
         self.assertEqual(sorted(shown), ["Hill Street", "Hill Street", "Market Street", "i", "w"])
 
     def test_the_page(self):

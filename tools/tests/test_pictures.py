@@ -253,9 +253,9 @@ class Player(Given):
     def test_what_charts_show(self):
         """By hand, of the four polls; who has arrived is known where the summary has the clock."""
         points = [[1, 1, 1, None], [2, 2, 1, None], [3, 2, 0, None], [4, 1, 0, None]]
-        self.assertEqual(played(self.given, 0, 9).data["chart"], points)
+        self.assertEqual(played(self.given, 0, 9).run["chart"], points)
         self.write("summary.csv", ",".join(SUMMARY) + "\n3,2,0,1,1,0,0\n4,2,0,1,0,1,0\n")
-        self.assertEqual([point[3] for point in played(self.given, 2, 4).data["chart"]], [None, 0, 1])
+        self.assertEqual([point[3] for point in played(self.given, 2, 4).run["chart"]], [None, 0, 1])
 
     @needs_chromium
     def test_charts(self):

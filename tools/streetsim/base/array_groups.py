@@ -2,7 +2,6 @@
 from __future__ import annotations
 
 from collections.abc import Callable
-from typing import Any
 
 from streetsim.base.arrays import Array
 from streetsim.base.arrays import numpy as np
@@ -22,7 +21,7 @@ def unbroken(holds: Array, begins: Array, group: Array) -> Array:
     return broken == (broken[begins] - ~holds[begins])[group]
 
 
-def texts_by_number(numbers: Array, text_of: Callable[[Any], str]) -> list[str]:
+def texts_by_number(numbers: Array, text_of: Callable[[int], str]) -> list[str]:
     """The texts of numbers, of equal ones made once."""
     values, places = np.unique(numbers, return_inverse=True)
     texts: list[str] = np.array([*map(text_of, values.tolist())], object)[places].tolist()

@@ -48,8 +48,8 @@ def main(arguments: list[str]) -> int:
         raise Fault("a page plays one run, or two side by side")
     complete_outputs(args, output=f"{stem_of(args.folders[0])}.play.html")
     runs = [played_of(path, args) for path in args.folders]
-    if len(runs) == 2 and runs[0].data["name"] == runs[1].data["name"]:
-        runs[0].data["name"], runs[1].data["name"] = args.folders
+    if len(runs) == 2 and runs[0].run["name"] == runs[1].run["name"]:
+        runs[0].run["name"], runs[1].run["name"] = args.folders
     text = f"[{','.join(run.text() for run in runs)}]"
     packed = base64.b64encode(gzip.compress(text.encode(), PACKING, mtime=0)).decode()
     if len(packed) > MOST_BYTES:

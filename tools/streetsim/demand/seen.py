@@ -149,7 +149,7 @@ def visits_in(folder: Folder, edge_of: Array) -> Visits:
             position = 2 * (part.slot[order] // 2) + (part.cell[order] < 0)
             fresh = np.append(True, vehicle[1:] != vehicle[:-1])[: len(vehicle)]
             before = np.where(fresh, slot[vehicle], np.append(0, position)[:-1])
-            clock = part.clocks[part.at[order]]
+            clock = part.clocks[part.clock_place[order]]
             rows = np.flatnonzero(position != before)
             parts.append((vehicle[rows], clock[rows], edge_of[position[rows] // 2], position[rows] % 2 == 1))
             slot[vehicle] = position

@@ -48,7 +48,7 @@ class RowsPart:
     changes: Sequence[Array] = field(default=())
 
     @cached_property
-    def at(self) -> Array:
+    def clock_place(self) -> Array:
         """By row the place of its clock."""
         return np.repeat(np.arange(len(self.clocks)), np.diff(self.first_rows))
 
@@ -58,19 +58,19 @@ class RowsPart:
         return self.slot // 2
 
     @cached_property
-    def on(self) -> Array:
+    def is_on_cells(self) -> Array:
         """By row whether it is on a lane's cells, not in the buffer behind."""
         return self.cell >= 0
 
-    def of(self, rows: Array) -> RowsPart:
+    def chosen(self, rows: Array) -> RowsPart:
         """Some rows of it, as the numbers of rows or by row whether it is one, without closed stretches."""
-        first_rows = np.append(0, np.cumsum(np.bincount(self.at[rows], minlength=len(self.clocks))))
+        first_rows = np.append(0, np.cumsum(np.bincount(self.clock_place[rows], minlength=len(self.clocks))))
         columns = (self.vehicle, self.slot, self.cell, self.speed, self.size)
         return RowsPart(self.clocks, first_rows, *(column[rows] for column in columns))
 
-    def frame(self, at: int, closed: Stretches) -> Json:
+    def frame(self, place: int, closed: Stretches) -> Json:
         """What stood on the lanes at a clock, by its place, as `Folder.polls` gives it."""
-        here = slice(*self.first_rows[at : at + 2])
+        here = slice(*self.first_rows[place : place + 2])
         lanes: dict[int, list[Any]] = {slot: [slot >> 1, slot & 1, [], [], one] for slot, one in closed.items() if one}
         columns = (one[here].tolist() for one in (self.vehicle, self.slot, self.cell, self.speed, self.size))
         for vehicle, slot, cell, speed, size in zip(*columns, strict=True):
@@ -79,7 +79,7 @@ class RowsPart:
                 lane[3].append(vehicle)
             else:
                 lane[2].append([vehicle, cell, speed] if size == 1 else [vehicle, cell, speed, size])
-        return {"clock": int(self.clocks[at]), "lanes": [lane for _, lane in sorted(lanes.items())]}
+        return {"clock": int(self.clocks[place]), "lanes": [lane for _, lane in sorted(lanes.items())]}
 
 
 def packed(clock: int, seconds: int, stays: Sequence[Array], rows: Sequence[Array], closed: Sequence[Array]) -> bytes:
@@ -171,9 +171,9 @@ def frames_in(path: FilePath, every: int, first_clock: int = 0, last_clock: int 
 
 def frame_texts_in(part: RowsPart, closed_at: Sequence[Stretches]) -> Iterator[str]:
     """What stood on the lanes at each clock of a part, as a text of JSON; closed_at: as of parts_in."""
-    begins, _ = groups_of(part.at * SLOTS + part.slot)
+    begins, _ = groups_of(part.clock_place * SLOTS + part.slot)
     texts = lane_texts(part, begins)
-    bounds = np.searchsorted(part.at[begins], np.arange(len(part.clocks) + 1)).tolist()
+    bounds = np.searchsorted(part.clock_place[begins], np.arange(len(part.clocks) + 1)).tolist()
     slots = part.slot[begins].tolist()
     for clock, closed, here in zip(part.clocks.tolist(), closed_at, starmap(slice, pairwise(bounds)), strict=True):
         yield f'{{"clock":{clock},"lanes":[{",".join(with_closed(slots[here], texts[here], closed))}]}}'
@@ -183,10 +183,10 @@ def lane_texts(part: RowsPart, begins: Array) -> list[str]:
     """The text of each lane up to its closed stretches; begins: where those of each lane begin in the rows."""
     names = texts_by_number(part.vehicle, str)
     places = (part.cell.astype(np.int64) * SPEEDS + part.speed) * SIZES + part.size
-    texts = texts_by_number(np.where(part.on, places, -1), place_text)
+    texts = texts_by_number(np.where(part.is_on_cells, places, -1), place_text)
     entries = [f"[{name}{text}" if text else name for name, text in zip(names, texts, strict=True)]
     ends = np.append(begins, len(entries))[1:]
-    waits = np.append(0, np.cumsum(~part.on))
+    waits = np.append(0, np.cumsum(~part.is_on_cells))
     fronts = ends - (waits[ends] - waits[begins])  # where those in the buffer begin
     return [
         f"[{slot >> 1},{slot & 1},[{','.join(entries[begin:front])}],[{','.join(entries[front:end])}],"

@@ -9,11 +9,12 @@ from types import MappingProxyType
 from typing import Any
 
 from streetsim.base.array_groups import texts_by_number
+from streetsim.base.arrays import Array
 from streetsim.base.files import Fault, FilePath, TextFile, open_text, reading, whole_file
 from streetsim.base.unpacking import lines_of
 
 Entry = tuple[Any, ...]  # a row of a table
-Column = Any  # the cells of a column: an array of NumPy, or a sequence
+Column = Array  # the cells of a column: an array of NumPy, or a sequence
 Namer = Callable[[str], str]  # gives the name of an id, empty where it has none
 SUFFIX = "_name"  # how the column of names beside one of ids is called
 AT_ONCE = 10_000  # rows that are looked at together
@@ -145,13 +146,13 @@ def write_table(path: FilePath, header: Sequence[str], rows: Iterable[Iterable[o
 
 
 def read_table(
-    path: FilePath, header: Sequence[str], wanted: Mapping[str, str] = MappingProxyType({})
+    path: FilePath, header: Sequence[str], wanted_texts: Mapping[str, str] = MappingProxyType({})
 ) -> list[dict[str, str]]:
     """The rows of a CSV table, as texts by column. Last columns of `header` that the table does not have, as tables of
     earlier versions, are empty; further columns, as those of names, are given too. Fault where it cannot be read, where
     an earlier column is absent, more than half of them are, or one is there twice, and for a row that is shorter or
-    longer, or has a text where a number belongs. wanted: the texts by column of those rows that are given, of all where
-    it is empty."""
+    longer, or has a text where a number belongs. wanted_texts: by column of those rows that are given, of all where it is
+    empty."""
     with reading(path), open_text(path) as file:
         rows = csv.reader(lines_of(file))
         names: list[str] = next(rows, [])
@@ -159,14 +160,14 @@ def read_table(
         if absent != [*header[len(header) - len(absent) :]] or 2 * len(absent) > len(header) or has_twice(names):
             raise Fault(f"{path}: expected the columns {', '.join(header)}")
         lacking = dict.fromkeys(absent, "")
-        places = [(names.index(name), text) for name, text in wanted.items()]
-        numbers = [at for at, name in enumerate(names) if name in header and name not in TEXTS]
+        places = [(names.index(name), text) for name, text in wanted_texts.items()]
+        numbers = [place for place, name in enumerate(names) if name in header and name not in TEXTS]
         entries: list[dict[str, str]] = []
         numbered = ((rows.line_num, row) for row in rows if row)
         while part := list(islice(numbered, AT_ONCE)):
             columns = checked_columns(path, names, numbers, part)
             rows_there = zip(*map(texts_without_guards, columns), strict=True)
-            rows_wanted = (row for row in rows_there if all(row[at] == text for at, text in places))
+            rows_wanted = (row for row in rows_there if all(row[place] == text for place, text in places))
             entries += (lacking | dict(zip(names, row)) for row in rows_wanted)
         return entries
 
@@ -184,16 +185,16 @@ def checked_columns(
     numbers."""
     if all(len(row) == len(names) for _, row in part):
         columns = list(zip(*(row for _, row in part)))
-        if all(map(is_number, set(chain.from_iterable(columns[at] for at in numbers)))):
+        if all(map(is_number, set(chain.from_iterable(columns[place] for place in numbers)))):
             return columns
     line, row = next(
         (line, row)
         for line, row in part
-        if len(row) != len(names) or not all(is_number(row[at]) for at in numbers)
+        if len(row) != len(names) or not all(is_number(row[place]) for place in numbers)
     )
     if len(row) != len(names):
         raise Fault(f"{path}: line {line}: expected {len(names)} cells")
-    wrong = next(at for at in numbers if not is_number(row[at]))
+    wrong = next(place for place in numbers if not is_number(row[place]))
     raise Fault(f"{path}: line {line}: {names[wrong]} = {row[wrong]!r} is no number")
 
 

@@ -39,7 +39,7 @@ class Queues(Observer):
         rows = np.flatnonzero(is_polled & seconds.on & self.polled_slots[seconds.slot])
         columns = (seconds.second, seconds.slot, seconds.cell, seconds.speed, seconds.size)
         queues = standing_at_stop_lines(LaneRows(*(column[rows] for column in columns)), self.cells)
-        clocks = seconds.clocks[queues.at]
+        clocks = seconds.clocks[queues.clock_place]
         self.log.add({"clock": clocks, "slot": queues.slot, "vehicles": queues.vehicles, "covered": queues.covered})
 
     def columns(self) -> Iterator[tuple[Array, ...]]:

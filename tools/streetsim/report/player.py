@@ -18,16 +18,16 @@ MOST_BYTES = 100_000_000  # of the packed data; browsers are slow with more
 
 @dataclass(frozen=True, slots=True)
 class Played:
-    """What the page plays of a run: `data`, as of player_data; and of each frame its text of JSON, a poll as
+    """What the page plays of a run: `run`, as of player_data; and of each frame its text of JSON, a poll as
     Folder.polls gives it."""
 
-    data: Json
+    run: Json
     frames: list[str]
 
     def text(self) -> str:
         """All of it as an object of JSON."""
-        chart = packed_json(self.data["chart"])
-        head = packed_json({name: value for name, value in self.data.items() if name != "chart"})
+        chart = packed_json(self.run["chart"])
+        head = packed_json({name: value for name, value in self.run.items() if name != "chart"})
         return f'{head[:-1]},"frames":[{",".join(self.frames)}],"chart":{chart}}}'
 
 
@@ -43,7 +43,7 @@ def played(folder: Folder, first_second: int, last_second: int, every: int | Non
     counts: list[list[int]] = []
     for part, closed_at in folder.polled_parts(first_second, last_second, every):
         frames += frame_texts_in(part, closed_at)
-        standing = np.bincount(part.at[part.on & (part.speed == 0)], minlength=len(part.clocks))
+        standing = np.bincount(part.clock_place[part.is_on_cells & (part.speed == 0)], minlength=len(part.clocks))
         counts += np.array([part.clocks, np.diff(part.first_rows), standing]).T.tolist()
     return Played(player_data(folder, every or folder.every, counts), frames)
 

@@ -6,7 +6,6 @@ from collections import Counter
 from collections.abc import Iterable, Iterator, Mapping, Sequence
 from itertools import pairwise, starmap
 from math import floor, inf, log10
-from typing import Any
 
 from streetsim.base import limits
 from streetsim.base.array_groups import rounded
@@ -22,7 +21,7 @@ from streetsim.model.timing import spans_of
 MOST_STEP = 5  # seconds of a piece of a vehicle's way
 Spot = tuple[float, float]  # second and metres
 TrackPiece = tuple[Spot, Spot, int, float]  # begin and end, speed in cells a step, metres of the vehicle's cells
-Fronts = dict[int, Sequence[Any]]  # by vehicle metres from a path's begin, speed, and metres of its cells
+Fronts = dict[int, tuple[float, int, float]]  # by vehicle metres from a path's begin, speed, and metres of its cells
 
 
 def links_and_length(folder: Folder, edges: Sequence[str]) -> tuple[dict[int, tuple[float, float, int]], float]:
@@ -43,9 +42,9 @@ def trajectories(folder: Folder, edges: Sequence[str], first_second: int, last_s
     placed, _ = links_and_length(folder, edges)
     is_on_path = np.isin(np.arange(len(folder.mapping.links)), [*placed])
     track_pieces: list[TrackPiece] = []
-    earlier, fronts = first_second, dict[int, Sequence[Any]]()
+    earlier, fronts = first_second, dict[int, tuple[float, int, float]]()
     for part, _ in folder.polled_parts(first_second, last_second, track_step(folder)):
-        on_path = part.of(part.on & is_on_path[part.link])
+        on_path = part.chosen(part.is_on_cells & is_on_path[part.link])
         for clock, fronts_there in zip(part.clocks.tolist(), fronts_along(on_path, placed), strict=True):
             for car, (place, speed, long) in fronts_there.items():
                 if car in fronts and fronts[car][0] <= place:
@@ -67,7 +66,8 @@ def fronts_along(part: RowsPart, placed: Mapping[int, tuple[float, float, int]])
     place, long = begin + (part.cell + 1) * metres / count, part.size * metres / count
     columns = [column.tolist() for column in (part.vehicle, place, part.speed, long)]
     for here in starmap(slice, pairwise(part.first_rows.tolist())):
-        yield {car: front for car, *front in zip(*(column[here] for column in columns), strict=True)}
+        fronts = zip(*(column[here] for column in columns), strict=True)
+        yield {car: (place, speed, long) for car, place, speed, long in fronts}
 
 
 def long_vehicle_strips(track_pieces: Iterable[TrackPiece]) -> Iterator[tuple[Spot, Spot, Spot, Spot]]:
@@ -186,7 +186,7 @@ def densities(folder: Folder) -> list[float]:
     standing, polls = np.zeros(len(links), np.int64), 0
     for part, _ in folder.polled_parts():
         polls += len(part.clocks)
-        standing += np.bincount(part.link[part.on], minlength=len(links))
+        standing += np.bincount(part.link[part.is_on_cells], minlength=len(links))
     if not polls:
         raise Fault(f"{folder.path}: nothing was polled")
     return [
@@ -217,9 +217,9 @@ def longest_queues(folder: Folder, most_lanes: int) -> tuple[list[tuple[str, dic
 def queues_in(part: RowsPart, cells: Array) -> tuple[Array, Array, Array]:
     """(clocks, lanes, cells covered) of the queues at stop lines at each clock of a part, where there are any. cells:
     of each link."""
-    on = part.of(part.on)
-    queues = standing_at_stop_lines(LaneRows(on.at, on.slot, on.cell, on.speed, on.size), cells)
-    return part.clocks[queues.at], queues.slot, queues.covered
+    on = part.chosen(part.is_on_cells)
+    queues = standing_at_stop_lines(LaneRows(on.clock_place, on.slot, on.cell, on.speed, on.size), cells)
+    return part.clocks[queues.clock_place], queues.slot, queues.covered
 
 
 def counted_densities_and_flows(folder: Folder, edges: Sequence[str]) -> list[tuple[float, float]]:
@@ -248,8 +248,8 @@ def middle_densities_and_flows(folder: Folder, edges: Sequence[str]) -> list[tup
         periods = (part.clocks - 1 - start) // folder.period
         polls.update(periods.tolist())
         first_cell, last_cell = thirds[part.link].T
-        middle = part.of((first_cell <= part.cell) & (part.cell < last_cell))
-        keys = list(zip(periods[middle.at].tolist(), middle.slot.tolist()))
+        middle = part.chosen((first_cell <= part.cell) & (part.cell < last_cell))
+        keys = list(zip(periods[middle.clock_place].tolist(), middle.slot.tolist()))
         sums.update(keys)
         for key, speed in zip(keys, middle.speed.tolist(), strict=True):
             speeds[key] += speed
@@ -261,7 +261,8 @@ def middle_densities_and_flows(folder: Folder, edges: Sequence[str]) -> list[tup
         if period < whole:
             first_cell, last_cell = thirds[slot // 2].tolist()
             looks = polls[period] * (last_cell - first_cell)
-            densities_and_flows.append((vehicles / looks / limits.CELL_METRES * 1000, speeds[period, slot] / looks * 3600))
+            flow = speeds[period, slot] / looks * 3600
+            densities_and_flows.append((vehicles / looks / limits.CELL_METRES * 1000, flow))
     return densities_and_flows
 
 

@@ -48,7 +48,7 @@ def works_places_of(folder: Folder) -> list[WorksPlace]:
     """The works of a run, in the order of its table works.csv; Fault where it had none, or ended before them."""
     vehicles_seen = Counter[int]()
     for part, _ in folder.polled_parts():
-        vehicles_seen.update(part.link[part.on].tolist())
+        vehicles_seen.update(part.link[part.is_on_cells].tolist())
     grouped: dict[tuple[str, ...], list[dict[str, str]]] = {}
     for row in folder.works():
         grouped.setdefault((row["edge"], row["lane"], row["from_m"], row["to_m"]), []).append(row)
@@ -95,8 +95,8 @@ def note_standing(folder: Folder, works_places: Sequence[WorksPlace]) -> None:
     all lanes of the way to it. Fault where the polls cannot be read."""
     links = folder.mapping.links
     for part, _ in folder.polled_parts():
-        standing = part.of(part.on & (part.speed == 0))
-        clocks, links_of_rows = standing.clocks[standing.at], standing.link
+        standing = part.chosen(part.is_on_cells & (part.speed == 0))
+        clocks, links_of_rows = standing.clocks[standing.clock_place], standing.link
         for place in works_places:
             is_during = (place.begin <= clocks) & (clocks <= place.end)
             for piece in place.way:
