@@ -10,7 +10,7 @@ from streetsim.base.arrays import numpy as np
 from streetsim.control.settings import Settings
 from streetsim.control.yielding import AFTER_STAND, SNEAK_SECONDS, LitYielding
 from streetsim.control.yielding_fullness import LitFullness
-from streetsim.control.yielding_plans import with_held_back
+from streetsim.control.yielding_plans import held_back, with_held_back
 from streetsim.control.yielding_ways import NO_CELL
 from streetsim.kernel.loop import Observer, own_line
 from streetsim.kernel.seconds import Block, Vehicles
@@ -165,6 +165,11 @@ class HeldBack(unittest.TestCase):
         self.assertEqual(found[:, 1].tolist(), [True] * 4 + [False])
         late = with_held_back(greens, np.array([9, 15, 9, 15, 40]), before)
         self.assertEqual(late[:, 1].tolist(), [False, True, False, True, False])
+
+    def test_a_long_pause_from_the_half_of_a_green_on(self):
+        """As a right turn has that is slow: 21 s, 11 s of pause, 10 s; not two greens of unlike length."""
+        self.assertEqual(held_back([True, False, True, False], [21, 11, 10, 48]), [True, True, True, False])
+        self.assertEqual(held_back([True, False, True, False], [8, 11, 23, 48]), [True, False, True, False])
 
 
 class Full(unittest.TestCase):

@@ -180,7 +180,7 @@ class LitYielding(Controller):
     def goes_as_planned(self, clock: int, front: Front) -> bool:
         """Whether one that need not look for a gap is shown green; behind one that gave way it keeps its distance."""
         free_at = self.free_at.get(front.slot, LONG_AGO)
-        is_free = front.way.gives or free_at <= clock + HALF
+        is_free = self.plans.gives(front.turn) or free_at <= clock + HALF
         return self.plans.is_green(front.turn) and is_free
 
     def has_gap(self, clock: int, front: Front, seen: LanesSeen, going: set[int]) -> bool:
@@ -199,8 +199,8 @@ class LitYielding(Controller):
 
     def waits(self, foe: int, seen: LanesSeen, going: set[int]) -> bool:
         """Whether one that goes first waits itself."""
-        way = self.ways.all[foe]
-        return way.gives and (way.slot in self.held or (way.slot in seen.held and foe not in going))
+        slot = self.ways.all[foe].slot
+        return self.plans.gives(foe) and (slot in self.held or (slot in seen.held and foe not in going))
 
     def show(self, shown: dict[int, bool]) -> None:
         """Shows turns green or not in the next second, where they are not shown so already."""

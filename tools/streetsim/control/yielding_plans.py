@@ -6,7 +6,7 @@ import heapq
 import json
 from collections import defaultdict
 from collections.abc import Iterable, Sequence
-from itertools import accumulate
+from itertools import accumulate, groupby
 from typing import NamedTuple
 
 from streetsim.base.arrays import Array, numpy as np
@@ -14,9 +14,10 @@ from streetsim.control.yielding_ways import NO_CELL, Lanes, Ways
 from streetsim.kernel.loop import own_line
 from streetsim.model.runs import Command, Line
 
-# Seconds of red between two greens of a turn, and at the begin of a green, that the import shows alone so that its
-# queue leaves as slowly as in SUMO: who gives way sees it green.
+# Seconds of red between two greens of a turn, and at the begin of a green, by which the import has its queue leave as
+# slowly as in SUMO: who gives way sees it green.
 HELD_BACK, HELD_AT_BEGIN = 8, 3
+MOST_HELD, ROUNDED = 0.4, 2.0  # share of a green that is held back from its half on, at most; seconds of rounding
 AS_PLANNED, CLOSED, OPENED = MODES = 0, 1, 2  # what a turn shows beside its plan
 
 
@@ -46,6 +47,7 @@ class NodePlan:
         comes = with_held_back(greens, np.array(seconds), goes_before)
         meets = greens & (comes.astype(np.int64) @ goes_before.T > 0)
         self.phases = [self.phase_of(ways, *rows) for rows in zip(greens, comes, meets)]
+        self.giving = frozenset[int]().union(*(phase.meets for phase in self.phases))  # turns that meet others in any
         self.lines: dict[tuple[int, tuple[int, ...]], Line] = {}
 
     def phase_of(self, ways: Ways, *rows: Array) -> ShownPhase:
@@ -73,12 +75,10 @@ class NodePlan:
 
 
 def with_held_back(greens: Array, seconds: Array, goes_before: Array) -> Array:
-    """By phase and turn whether somebody may come by it: where it is green, in reds of HELD_BACK seconds between its
-    greens, and in those of HELD_AT_BEGIN before one, where a turn that gives way to it has begun. greens: by phase and
-    turn; goes_before: by turn and another one 1 where that goes first, else 0."""
-    before, after = red_until(greens, seconds), red_until(greens[::-1], seconds[::-1])[::-1]
-    red = before + after - seconds[:, None]
-    comes = greens | (red <= HELD_BACK) & greens.any(axis=0)
+    """By phase and turn whether somebody may come by it: where it is green or held back, and in reds of HELD_AT_BEGIN
+    before one, where a turn that gives way to it has begun. greens: by phase and turn; goes_before: by turn and another
+    one 1 where that goes first, else 0."""
+    comes = np.array([held_back(turn, seconds.tolist()) for turn in greens.T.tolist()]).T
     is_short = (seconds <= HELD_AT_BEGIN)[:, None]
     begun = greens & ~np.roll(greens, 1, axis=0)
     begun |= greens & np.roll(begun & is_short, 1, axis=0)
@@ -88,13 +88,23 @@ def with_held_back(greens: Array, seconds: Array, goes_before: Array) -> Array:
     return comes
 
 
-def red_until(greens: Array, seconds: Array) -> Array:
-    """By phase and turn the seconds of red up to the phase's end since the last green; more than a cycle where there is
-    none."""
-    count, red, found = len(greens), np.zeros(greens.shape[1]), np.zeros(greens.shape)
-    for at in [*range(count)] * 2:
-        red = np.where(greens[at], 0, red + seconds[at])
-        found[at] = red
+def held_back(greens: Sequence[bool], seconds: Sequence[int]) -> list[bool]:
+    """By phase whether a turn is green, or red for HELD_BACK seconds, or red from the half of a longer green on, as the
+    import holds queues back. greens, seconds: by phase of a cycle."""
+    if all(greens) or not any(greens):
+        return [*greens]
+    begin = next(at for at in range(len(greens)) if greens[at] and not greens[at - 1])
+    order = [(begin + at) % len(greens) for at in range(len(greens))]
+    runs = [(green, [*own]) for green, own in groupby(order, key=lambda at: greens[at])]  # green and red by turns
+    lengths = [sum(seconds[at] for at in own) for _, own in runs]
+    found = [*greens]
+    for number, (green, own) in enumerate(runs):
+        before, red, after = lengths[number - 1], lengths[number], lengths[(number + 1) % len(runs)]
+        whole = before + red + after
+        from_half = abs(before - whole / 2) <= ROUNDED and red <= MOST_HELD * whole
+        if not green and (red <= HELD_BACK or from_half):
+            for at in own:
+                found[at] = True
     return found
 
 
@@ -164,9 +174,17 @@ class PlansInForce:
         """Whether a turn is green now and somebody may come before whom it gives way."""
         return turn in self.phase(turn).meets
 
+    def gives(self, turn: int) -> bool:
+        """Whether a turn meets others, before whom it gives way, in any phase of the plan in force."""
+        plan = self.plans.get(self.ways.all[turn].node)
+        return plan is not None and turn in plan.giving
+
     def seen_lanes(self, turn: int) -> set[int]:
-        """The lanes on which those are now who go before a turn, as far as they are seen."""
-        foes = self.ways.all[turn].foes.keys() & self.phase(turn).comes
+        """The lanes on which those are who go before a turn and may come, as far as they are seen; of one that has red,
+        who may have come, too."""
+        foes = {*self.ways.all[turn].foes}
+        if self.is_green(turn):
+            foes &= self.phase(turn).comes
         return {slot for foe in foes for slot in self.lanes.seen_by[foe]}
 
     def is_meeting(self, slot: int) -> bool:

@@ -80,7 +80,7 @@ def pairs_that_meet(
     signs: Mapping[int | None, str],
 ) -> Iterator[tuple[NetConnection, NetConnection]]:  # fmt: skip
     """The pairs of one that gives way and one that goes before it, by the junction's requests; not those of which the
-    first goes first in a state in which the second has green, nor two that wait together. signs: by request."""
+    first goes first in all states in which both have green, nor two that wait together. signs: by request."""
     by_request = {one.request: one for one in all_connections}
     for one in giving:
         yields = net.yields.get(net.edges[one.source].end, {})
@@ -92,8 +92,10 @@ def pairs_that_meet(
 
 
 def goes_first(own: str, other: str) -> bool:
-    """Whether one goes first in a state in which another one has green too; arguments: their letters by state."""
-    return any(sign in GREEN and beside in ANY_GREEN for sign, beside in zip(own, other))
+    """Whether one goes first in each state in which another one has green too, one at least; arguments: their letters
+    by state."""
+    both = [sign for sign, beside in zip(own, other) if sign in ANY_GREEN and beside in ANY_GREEN]
+    return bool(both) and all(sign in GREEN for sign in both)
 
 
 def wait_together(
