@@ -4,7 +4,7 @@ import unittest
 from support import Case
 from streetsim.kernel.loop import SentLine
 from streetsim.model.runs import Line
-from streetsim.search.run_hidden import hidden_shares, mean_shares, with_hidden
+from streetsim.search.run_hidden import hidden_shares, with_hidden
 
 MAIN, LEFT, SIDE = (0, 0, 3), (1, 0, 4), (2, 0, 5)
 PLAN = [[10, [[*MAIN], [*LEFT]]], [2, []], [6, [[*SIDE]]], [2, []]]
@@ -41,9 +41,6 @@ class Hidden(Case):
     def test_another_plan_is_one_of_its_own(self):
         lines = [sent(20, PLAN[2:] + PLAN[:2], False), sent(28, without(LEFT)[2:] + PLAN[:2]), sent(40, PLAN)]
         self.assertEqual(hidden_shares([signal(PLAN)], lines, 40), {})
-
-    def test_means_are_of_the_runs_in_which_a_turn_gave_way(self):
-        self.assertEqual(mean_shares([{LEFT: 0.2, SIDE: 0.1}, {LEFT: 0.4}]), {LEFT: 0.30000000000000004, SIDE: 0.1})
 
     def test_a_plan_hides_the_first_seconds_of_a_green(self):
         shown = [[4, [[*MAIN]]], [6, [[*MAIN], [*LEFT]]], [2, []], [6, [[*SIDE]]], [2, []]]

@@ -3,7 +3,6 @@ import argparse
 import sys
 from collections.abc import Iterator, Sequence
 from contextlib import contextmanager
-from itertools import islice
 from statistics import fmean, stdev
 from time import monotonic
 
@@ -37,7 +36,6 @@ from streetsim.search.signal_search import PlanSearch, search_plan
 from streetsim.search.signal_town import Reading, Runner, SignalTown, read_town, sessions_of
 
 FINALISTS = 20  # plans that are judged by runs in which turns give way by who comes
-SHARE_RUNS = 2  # runs of the given plan that tell for how long others have them wait
 RESERVE = 80  # a chance of slowing down, of 1,000, by which a tenth fewer pass in a green
 
 
@@ -307,7 +305,7 @@ def runner_of(args: argparse.Namespace, town: SignalTown, check: Sequence[int]) 
     with machines(args.jobs, args.cluster, sessions) as workers:
         runner = Runner(workers, town, places)
         if town.estimates:
-            runner.hide_as(town.base, known[:SHARE_RUNS])
+            runner.hide_as(town.base, (given_seeds(args) or known)[0])
         yield runner
 
 
@@ -334,9 +332,7 @@ def judge_finalists(search: PlanSearch, runner: Runner, seeds: Sequence[int], mo
     lights by who comes; the best of these is then the best of the search."""
     given = "given", runner.town.base
     plans = [given, *(one for one in search.finalists(most) if search.key_of(one[1]) != search.key_of(given[1]))]
-    trips = (seconds for seconds, _ in runner.live_trips([plan for _, plan in plans], seeds))
-    means = [fmean(islice(trips, len(seeds))) for _ in plans]
-    search.judge(zip(plans, means, strict=True))
+    search.judge(zip(plans, runner.live_means([plan for _, plan in plans], seeds), strict=True))
 
 
 def search_for_plan(args: argparse.Namespace, runner: Runner, check: Sequence[int]) -> tuple[PlanSearch, bool]:

@@ -101,12 +101,6 @@ class HiddenSeconds(Observer):
         self.shares = hidden_shares([line.command for line in self.kernel.run.first], self.kernel.sent_lines, clock)
 
 
-def mean_shares(several: Sequence[HiddenShares]) -> dict[TurnKey, float]:
-    """The means of some runs, over those in which a turn gave way."""
-    turns = {turn for shares in several for turn in shares}
-    return {turn: fmean(shares[turn] for shares in several if turn in shares) for turn in turns}
-
-
 def with_hidden(phases: Phases, shares: HiddenShares) -> list[list]:
     """The phases with turns hidden in the first seconds of their greens; as they are where that takes more phases than
     a plan has."""

@@ -22,7 +22,7 @@ MeanTripsOf = Callable[[Sequence[Any]], Generator[float, None, None]]  # of plan
 SHARES = (0.25, 0.12, 0.06, 0.03)  # of the cycle, by which offsets are moved
 SECONDS = (8, 4, 2, 1)  # of green that are moved between phases
 FEW_CLIMBS = 5  # climbs that tell nothing of those to come
-PLANS_EACH = 10  # plans that are tried for each finalist
+PLANS_EACH = 50  # plans that are tried for each finalist
 
 
 class SearchEnded(Exception):

@@ -3,6 +3,8 @@ import json
 import sys
 from collections.abc import Collection, Iterable, Iterator, Mapping, Sequence
 from dataclasses import dataclass, replace
+from itertools import product
+from statistics import fmean
 from types import MappingProxyType
 from typing import Any, NamedTuple
 
@@ -17,12 +19,13 @@ from streetsim.model.runs import Line, Run, read_with_map
 from streetsim.search.run_giving_way import (
     acts_beside_lights, for_search, gap_lines, giving_session, live_trial, outcome_giving_way, seconds_of_run,
 )
-from streetsim.search.run_hidden import HiddenShares, mean_shares
+from streetsim.search.run_hidden import HiddenShares
 from streetsim.search.run_machines import Function, Machines
 from streetsim.search.run_prepared import Outcome, PreparedRun, vehicle_seconds
 from streetsim.search.signal_lines import LightLines, read_plans
 from streetsim.search.signal_plans import Plan, PlannedLight, light_and_timing, why_kept
 from streetsim.search.signal_promises import Promises
+from streetsim.search.signal_search import Key, key_of
 from streetsim.sumo.net import STATIC, SumoNet
 
 EXACT, CAREFUL = 0, 1  # places of sessions: that of the report, that of the search
@@ -188,6 +191,7 @@ class Runner:
         are run; giving: by seed the place of its session, as sessions_of gives it."""
         self.workers, self.town, self.giving, self.cars = workers, town, giving, len(town.session.departs)
         self.hidden_lines = town.lines  # of the plans of estimates
+        self.known_trips: dict[tuple[Key, int], float] = {}  # of live_trips, by plan and seed
 
     def mean_trips(self, plans: Iterable[Plan], seeds: Sequence[int]) -> Iterator[float]:
         """For each plan with each seed, in this order, the mean trip in seconds by the session of the search; where
@@ -197,14 +201,24 @@ class Runner:
         for seconds in self.ordered(function, plans, seeds, self.giving, CAREFUL, self.hidden_lines):
             yield seconds / self.cars
 
-    def live_trips(self, plans: Iterable[Plan], seeds: Sequence[int]) -> Iterator[tuple[float, HiddenShares]]:
-        """The same, where who gives way at lights does so by who comes, with the seconds for which they were hidden."""
-        for seconds, shares in self.ordered(live_trial, plans, seeds, self.giving, CAREFUL):
-            yield seconds / self.cars, shares
+    def live_trips(self, plans: Sequence[Plan], seeds: Sequence[int]) -> Iterator[HiddenShares]:
+        """Takes into known_trips the mean trips of plans with each seed, where who gives way at lights does so by who
+        comes; gives for each run for how long they were hidden."""
+        runs = self.ordered(live_trial, plans, seeds, self.giving, CAREFUL)
+        for (plan, seed), (seconds, shares) in zip(product(plans, seeds), runs):
+            self.known_trips[key_of(plan), seed] = seconds / self.cars
+            yield shares
 
-    def hide_as(self, plan: Plan, seeds: Sequence[int]) -> None:
-        """Has estimates hide turns that give way at lights as they are under a plan in runs with these seeds."""
-        shares = mean_shares([shares for _, shares in self.live_trips([plan], seeds)])
+    def live_means(self, plans: Sequence[Plan], seeds: Sequence[int]) -> list[float]:
+        """The mean trips of plans over seeds, as live_trips has them; of runs that were made already none is made."""
+        new_plans = [plan for plan in plans if any((key_of(plan), seed) not in self.known_trips for seed in seeds)]
+        for _ in self.live_trips(new_plans, seeds):
+            pass
+        return [fmean(self.known_trips[key_of(plan), seed] for seed in seeds) for plan in plans]
+
+    def hide_as(self, plan: Plan, seed: int) -> None:
+        """Has estimates hide turns that give way at lights as they are under a plan in a run with a seed."""
+        [shares] = self.live_trips([plan], [seed])
         self.hidden_lines = self.town.lines.hiding(shares)
 
     def outcomes(self, plans: Sequence[Plan], seeds: Sequence[int], jobs: int) -> list[list[Outcome]]:
