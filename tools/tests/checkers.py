@@ -59,7 +59,8 @@ class Box(Space):
         super().__init__(shape, dtype)
         self.low, self.high = low, high
     def contains(self, x):
-        return np.can_cast(x.dtype, self.dtype) and x.shape == self.shape and bool(np.all((self.low <= x) & (x <= self.high)))
+        fits = np.can_cast(x.dtype, self.dtype) and x.shape == self.shape
+        return fits and bool(np.all((self.low <= x) & (x <= self.high)))
 class MultiDiscrete(Space):
     def __init__(self, nvec):
         super().__init__((len(nvec),), np.int64)

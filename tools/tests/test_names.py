@@ -141,7 +141,8 @@ class Written(Crossing):
         self.assertEqual(junction_name_on_path(names, "M", ["n", "s"]), "Market Street")
         self.assertEqual(junction_name_on_path(names, "W", ["n", "s"]), "W")
         links = folder.mapping.links
-        lanes = [[link, 0, [[0, links[link].cells - 1, 0]], [], []] for [link] in map(folder.mapping.links_of.get, "nw")]
+        numbers = [number for [number] in map(folder.mapping.links_of.get, "nw")]
+        lanes = [[link, 0, [[0, links[link].cells - 1, 0]], [], []] for link in numbers]
         (self.out / "rows.bin").unlink()
         with gzip.open(self.out / "lanes.jsonl.gz", "wt") as file:
             file.write(json.dumps({"clock": 10, "lanes": lanes}))

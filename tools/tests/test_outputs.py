@@ -128,7 +128,8 @@ class ByHand(Case):
         self.assertEqual(trips, [("8.00", "142.50", ""), ("-1.00", "60.00", "end")])
 
     def test_statistics(self):
-        """One trip of 142.5 m, from the end of its first cell, and 8 s; the other vehicle has departed 2 s late, and nobody waits."""
+        """One trip of 142.5 m, from the end of its first cell, and 8 s; the other vehicle has departed 2 s late,
+        and nobody waits."""
         [root] = self.rows("statistic", "statistics")
         [counts], [means] = self.rows("statistic", "vehicles"), self.rows("statistic", "vehicleTripStatistics")
         self.assertEqual(counts, {"loaded": "2", "inserted": "2", "running": "1", "waiting": "0"})

@@ -572,7 +572,8 @@ class Command(Case):
         self.assertNotIn("warning", self.run_command("--check", self.write("good.py", good)).stdout)
         os_words = "import os, simpla\nos.environ['LIBSUMO_AS_TRACI'] = '1'\n" + good
         told = self.run_command("--check", self.write("good.py", os_words)).stdout
-        self.assertRegex(told, r"warning: simpla \(line 1\) platoons are not here: .*\nwarning: LIBSUMO_AS_TRACI \(line 2\)")
+        pattern = r"warning: simpla \(line 1\) platoons are not here: .*\nwarning: LIBSUMO_AS_TRACI \(line 2\)"
+        self.assertRegex(told, pattern)
         told = self.run_command("--check", self.write("x.py", "import ("), status=2).stderr
         self.assertIn("is no script of Python", told)
 
@@ -687,7 +688,8 @@ class Clients(Case):
         self.variables["PYTHONPATH"] = path
         done = subprocess.run(
             list(map(str, [
-                "/usr/bin/python3", f"{EVERY}.py", client, listed, TOOLS / "streetsim-sumo", *words, "-a", f"{EVERY}.add.xml",
+                "/usr/bin/python3", f"{EVERY}.py", client, listed, TOOLS / "streetsim-sumo", *words,
+                "-a", f"{EVERY}.add.xml",
             ])), env=self.variables, capture_output=True, text=True, check=False, cwd=self.folder,
         )  # fmt: skip
         self.assertIn("TOLD ", done.stdout, done.stderr)
@@ -709,8 +711,9 @@ class Clients(Case):
     @needs_sumo_tools
     def test_the_page_has_each_call_that_is_not_here(self):
         """Each is in the table of PYTHON.md, where each pattern names some of them, and none that is here."""
-        page = (TOOLS / "PYTHON.md").read_text(encoding="utf-8").split("| Calls that are not here |")[1].split("\n\n")[0]
-        patterns = [part for line in page.splitlines()[2:] for part in re.findall("`([^`]+)`", line.split("|")[1])]
+        page = (TOOLS / "PYTHON.md").read_text(encoding="utf-8")
+        table = page.split("| Calls that are not here |")[1].split("\n\n")[0]
+        patterns = [part for line in table.splitlines()[2:] for part in re.findall("`([^`]+)`", line.split("|")[1])]
         here, absent = [], []
         for call in sumo_calls():
             domain, name = call.split(".")

@@ -483,15 +483,18 @@ class Vehicles(Started):
             traci.start([*words, "-a", additional, "-W", "--output-prefix", "my-", "--emission-output", "s.xml"])
         told = [line for line in said.getvalue().splitlines() if "not written" in line]
         for part in (
-            "--emission-output s.xml is not written: emissions", "x of <laneAreaDetector> is not written: another element",
-            "gas.xml of <edgeData> is not written: edgeData of type emissions", "e3.xml of <e3Detector> is not written:",
+            "--emission-output s.xml is not written: emissions",
+            "x of <laneAreaDetector> is not written: another element",
+            "gas.xml of <edgeData> is not written: edgeData of type emissions",
+            "e3.xml of <e3Detector> is not written:",
             "i.xml: ",
         ):  # fmt: skip
             self.assertEqual(sum(part in line for line in told), 1, told)
         self.assertEqual(len(told), 5)
         self.steps(60)
         traci.close()
-        read = {name: ElementTree.parse(self.folder / f"my-{name}").getroot() for name in ("edges.xml", "more.xml", "x")}
+        names = "edges.xml", "more.xml", "x"
+        read = {name: ElementTree.parse(self.folder / f"my-{name}").getroot() for name in names}
         spans = {name: [(one.get("begin"), one.get("end")) for one in root] for name, root in read.items()}
         self.assertEqual(spans["edges.xml"], [("0.00", "30.00"), ("30.00", "60.00")])
         self.assertEqual(spans["more.xml"], [("10.00", "50.00")])

@@ -60,10 +60,12 @@ class Marks(unittest.TestCase):
         self.assertTrue(told.endswith("most of all b, a"))
 
     def test_lanes_that_wait_for_gaps_are_full(self):
-        """Above one passage of them in five vehicles; of the demand's full lanes those are passed over that runs show."""
+        """Above one passage of them in five vehicles; those of the demand's full lanes are passed over that runs
+        show."""
         self.assertEqual(list(trust.gap_doubts(300, {"a": 60})), [])
         (told,) = trust.gap_doubts(300, {"a": 21, "b": 40})
-        self.assertTrue(told.startswith("queues that wait for gaps at lights did not end, for 61 passages of 300"), told)
+        begin = "queues that wait for gaps at lights did not end, for 61 passages of 300"
+        self.assertTrue(told.startswith(begin), told)
         self.assertTrue(told.endswith("most of all at the end of b, a"), told)
         waiting, turning = (FullLane("J", name, "left", name, "b", 1.2, 90, waits=name == "a") for name in "ac")
         self.assertEqual(Fullness((waiting, turning), 150, 300).unseen(), Fullness((turning,), 90, 300))

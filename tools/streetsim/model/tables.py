@@ -151,8 +151,8 @@ def read_table(
     """The rows of a CSV table, as texts by column. Last columns of `header` that the table does not have, as tables of
     earlier versions, are empty; further columns, as those of names, are given too. Fault where it cannot be read, where
     an earlier column is absent, more than half of them are, or one is there twice, and for a row that is shorter or
-    longer, or has a text where a number belongs. wanted_texts: by column of those rows that are given, of all where it is
-    empty."""
+    longer, or has a text where a number belongs. wanted_texts: by column of those rows that are given, of all where it
+    is empty."""
     with reading(path), open_text(path) as file:
         rows = csv.reader(lines_of(file))
         names: list[str] = next(rows, [])

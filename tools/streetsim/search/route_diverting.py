@@ -107,10 +107,10 @@ def give_ways_of_file(trips: Sequence[Trip], routed_trips: Trips, graph: Graph, 
 def check_works(
     texts: Sequence[str], signs: Sequence[str], trips: Sequence[Trip], town: RouteTown, until: int
 ) -> tuple[str, ...]:
-    """Gives the lanes that works make joint, so that runs without them have these joint too. Refuses by a Fault, before anything runs, works (texts, as --close takes them) that have another form or name no
-    lane or metres of the network, end by the start or begin at until (a clock in seconds) or later, signs on unknown
-    edges, and trips that begin on an edge while it is shut (shut_edges). Which trips end there is known only after the
-    runs without works."""
+    """Gives the lanes that works make joint, so that runs without them have these joint too. Refuses by a Fault, before
+    anything runs, works (texts, as --close takes them) that have another form or name no lane or metres of the network,
+    end by the start or begin at until (a clock in seconds) or later, signs on unknown edges, and trips that begin on an
+    edge while it is shut (shut_edges). Which trips end there is known only after the runs without works."""
     mapping = map_without_routes(town.net, town.options)
     works = [works_of(text, mapping) for text in texts]
     if over := [site.text for site in works if site.end <= town.options.begin]:

@@ -50,9 +50,10 @@ class Verified:
         """Both means and their difference, as one line for the user."""
         difference, half = self.difference_and_half()
         moved = f", {self.teleports[0]:,} and {self.teleports[1]:,} teleports" if any(self.teleports) else ""
+        seeds = f"the same {len(self.means_before)} seeds{moved}"
         return (
             f"in SUMO {fmean(self.means_before):.1f} s as given, {fmean(self.means_after):.1f} s as found: "
-            f"{difference:+.1f} s ± {half:.1f} (95 % interval of the mean change, the same {len(self.means_before)} seeds{moved})"
+            f"{difference:+.1f} s ± {half:.1f} (95 % interval of the mean change, {seeds})"
         )
 
 

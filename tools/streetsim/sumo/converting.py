@@ -120,8 +120,8 @@ def map_of(network: Network, lights: list[tuple[str, int]], names: list[str], re
         ],
         turns=[
             MapTurn(
-                *key, turn.next_lane, turn.light, turn.index, turn.added, turn.speed, turn.limit, turn.accel, turn.apart,
-                turn.inside,
+                *key, turn.next_lane, turn.light, turn.index, turn.added, turn.speed, turn.limit, turn.accel,
+                turn.apart, turn.inside,
             )  # fmt: skip
             for key, turn in network.turns.items()
         ],
