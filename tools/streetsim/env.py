@@ -10,12 +10,11 @@ from dataclasses import dataclass, field
 from itertools import accumulate
 from multiprocessing import get_context
 from multiprocessing.connection import Connection
-from typing import Any
 
 from streetsim.base import limits
 from streetsim.base.arrays import Array, numpy as np
 from streetsim.simulation.conventions import (
-    NEXT_STEP, Discrete, Env, MultiDiscrete, ParallelEnv, VectorEnv, shares_space,
+    NEXT_STEP, Discrete, Draws, Env, MultiDiscrete, ParallelEnv, PlainBox, PlainDiscrete, VectorEnv, shares_space,
 )  # fmt: skip
 from streetsim.simulation.lights import LightShow
 from streetsim.simulation.opening import is_on, open_session
@@ -23,7 +22,8 @@ from streetsim.simulation.options import read_options
 from streetsim.simulation.session import TraciSession
 
 GREEN = "Gg"
-RENDERED: Mapping[str, Any] = {"render_modes": ["ansi"], "render_fps": 1}
+RENDER_MODES = ["ansi"]
+RENDERED: Mapping[str, object] = {"render_modes": RENDER_MODES, "render_fps": 1}
 Observation = list[float]
 
 
@@ -272,11 +272,11 @@ class ParallelSignals(ParallelEnv):
         self.observation_spaces = {name: shares_space(len(values)) for name, values in observations.items()}
         self.action_spaces = {name: Discrete(self.env.actions(name)) for name in observations}
 
-    def observation_space(self, agent: str) -> Any:
+    def observation_space(self, agent: str) -> PlainBox:
         """The space of an agent's observations."""
         return self.observation_spaces[agent]
 
-    def action_space(self, agent: str) -> Any:
+    def action_space(self, agent: str) -> PlainDiscrete:
         """The space of an agent's actions."""
         return self.action_spaces[agent]
 
@@ -351,13 +351,13 @@ class OneSignal(Env):
 
 
 def checked_mode(render_mode: str | None) -> str | None:
-    """A render_mode; ValueError where it is none of RENDERED."""
-    if render_mode not in (None, *RENDERED["render_modes"]):
+    """A render_mode; ValueError where it is none of RENDER_MODES."""
+    if render_mode not in (None, *RENDER_MODES):
         raise ValueError(f"render_mode {render_mode!r}: there is 'ansi'; streetsim-live shows runs")
     return render_mode
 
 
-def drawn_from(draws: Any) -> int:
+def drawn_from(draws: Draws) -> int:
     """A seed of a run, of NumPy's generator."""
     return int(draws.integers(1 << 31))
 

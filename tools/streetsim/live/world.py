@@ -4,7 +4,6 @@ from collections.abc import Collection, Iterable
 from dataclasses import dataclass
 from functools import cached_property
 from operator import attrgetter
-from typing import Any
 
 from streetsim.base import limits
 from streetsim.base.arrays import Array
@@ -133,13 +132,13 @@ class World:
     def message(self) -> Json:
         """What a page is to know of the last second beside its rows: all, or what is new since the last message."""
         kernel, ledger, clock = self.kernel, self.ledger, self.clock
-        whole = self.cars_sent < 0
+        is_first = self.cars_sent < 0
         plans, shown_signals = self.signals()
         cars, self.cars_sent = max(0, self.cars_sent), kernel.vehicles.entered
         points = max(0, self.points_sent) if ledger.every == self.every_sent else 0
         self.points_sent, self.every_sent = len(ledger.points), ledger.every
-        page_message: dict[str, Any] = {
-            "whole": whole, "first": points, "clock": clock, "arrived": kernel.last_second.arrived_count,
+        page_message: Json = {
+            "whole": is_first, "first": points, "clock": clock, "arrived": kernel.last_second.arrived_count,
             "coming": int(np.count_nonzero(~ledger.has_departed)),
             "owners": kernel.vehicles.owner[cars : self.cars_sent].tolist(), "points": ledger.points_from(points),
             "plans": plans, "shown": shown_signals, "waiting": self.waiting(), "detectors": self.hand.detectors,

@@ -4,9 +4,12 @@ from __future__ import annotations
 
 from collections.abc import Mapping, Sequence
 from importlib import import_module
-from typing import TYPE_CHECKING, Any
+from typing import TYPE_CHECKING, Any, Self, TypeVar
 
 from streetsim.base.arrays import Array, numpy as np
+
+Draws = Any  # NumPy's generator
+Plain = TypeVar("Plain")
 
 
 class PlainDiscrete:
@@ -33,7 +36,7 @@ class PlainDiscrete:
 class PlainBox:
     """A space of arrays of numbers from low to high."""
 
-    def __init__(self, low: float, high: float, shape: tuple[int, ...], dtype: Any = np.float32) -> None:
+    def __init__(self, low: float, high: float, shape: tuple[int, ...], dtype: type = np.float32) -> None:
         """shape: of the arrays; dtype: of their numbers."""
         self.low, self.high = np.full(shape, low, dtype), np.full(shape, high, dtype)
         self.shape, self.dtype = shape, dtype
@@ -72,17 +75,17 @@ class PlainEnv:
     metadata: Mapping[str, object] = {"render_modes": []}
     render_mode: str | None = None
     spec = None
-    _np_random: Any = None
+    _np_random: Draws = None
 
     @property
-    def np_random(self) -> Any:
+    def np_random(self) -> Draws:
         """NumPy's generator of what is drawn; of a seed that nobody knows before a seeded reset."""
         if self._np_random is None:
             self._np_random = np.random.default_rng()
         return self._np_random
 
     @np_random.setter
-    def np_random(self, draws: Any) -> None:
+    def np_random(self, draws: Draws) -> None:
         """Takes another generator."""
         self._np_random = draws
 
@@ -92,14 +95,14 @@ class PlainEnv:
             self._np_random = np.random.default_rng(seed)
 
     @property
-    def unwrapped(self) -> Any:
+    def unwrapped(self) -> Self:
         """The environment itself."""
         return self
 
     def close(self) -> None:
         """Ends what is under way."""
 
-    def __enter__(self) -> Any:
+    def __enter__(self) -> Self:
         """Gives the environment."""
         return self
 
@@ -126,12 +129,12 @@ class PlainParallelEnv:
         return len(self.possible_agents)
 
     @property
-    def unwrapped(self) -> Any:
+    def unwrapped(self) -> Self:
         """The environment itself."""
         return self
 
 
-def installed(module: str, name: str, plain: Any) -> Any:
+def installed(module: str, name: str, plain: Plain) -> Plain:
     """What a module has by a name; plain where it is not installed, or has none."""
     try:
         return getattr(import_module(module), name, plain)
@@ -147,14 +150,13 @@ else:
     Env = installed("gymnasium", "Env", PlainEnv)
     ParallelEnv = installed("pettingzoo", "ParallelEnv", PlainParallelEnv)
     VectorEnv = installed("gymnasium.vector", "VectorEnv", PlainEnv)
-Box, Discrete, MultiDiscrete = (
-    installed("gymnasium.spaces", name, plain)
-    for name, plain in (("Box", PlainBox), ("Discrete", PlainDiscrete), ("MultiDiscrete", PlainMultiDiscrete))
-)
+Box = installed("gymnasium.spaces", "Box", PlainBox)
+Discrete = installed("gymnasium.spaces", "Discrete", PlainDiscrete)
+MultiDiscrete = installed("gymnasium.spaces", "MultiDiscrete", PlainMultiDiscrete)
 # A new run begins in the step after the last one of a run, as Gymnasium's vector environments name it.
 NEXT_STEP = getattr(installed("gymnasium.vector", "AutoresetMode", None), "NEXT_STEP", "NextStep")
 
 
-def shares_space(*shape: int) -> Any:
+def shares_space(*shape: int) -> PlainBox:
     """The space of arrays of a shape whose numbers are 0 to 1."""
     return Box(0.0, 1.0, shape, np.float32)
