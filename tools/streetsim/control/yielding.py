@@ -84,8 +84,10 @@ class LitYielding(Controller):
         fronts = self.find_fronts(clock, now)
         meeting = ((front.slot, front.car) for front in fronts if self.plans.is_meeting(front.slot))
         self.fullness.note_second(clock, self.plans.alert_cell, meeting)
-        if clock < self.kernel.until:
+        if fronts and clock < self.kernel.until:
             self.decide(clock, now, fronts)
+        else:
+            self.held, self.let_go = {}, []
 
     def full_passages(self) -> dict[str, int]:
         """By edge with lanes that were full, from which some give way: vehicles that passed these then; the part under
